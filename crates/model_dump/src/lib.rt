@@ -1,0 +1,33 @@
+//! The dump format: which bytes read as which map, and where reading stops. Definitions for the crates above, with
+//! their laws.
+#![tactic(auto)]
+
+mod examples;
+
+ghost use Rattle.std.specs.Prelude.{◌≡◌, List, ℕ};
+ghost use Rattle.model_maps.specs.KeyMap.{KeyMap};
+ghost use Rattle.model_dump.specs.Record.{Record};
+ghost use Rattle.model_dump.specs.Adds.{Progress, Adds};
+ghost use Rattle.model_dump.specs.Dump.{Reads, Stops};
+
+pub use examples::{faults_stop_at_their_lines, small_dumps_read};
+
+/// A record makes one map of the map before it.
+pub fn a_record_adds_one_way()
+    ensures { (before : Progress) (r : Record) (a b : Progress) → Adds before r a → Adds before r b → a ≡ b }
+{}
+
+/// Bytes read as at most one map.
+pub fn bytes_read_as_one_map()
+    ensures { (bytes : List ℕ) (a b : KeyMap) → Reads Adds bytes a → Reads Adds bytes b → a ≡ b }
+{}
+
+/// Bytes that read as a map stop nowhere.
+pub fn what_reads_stops_nowhere()
+    ensures { (bytes : List ℕ) (keys : KeyMap) (place : ℕ) → Reads Adds bytes keys → Stops Adds bytes place → ⊥ }
+{}
+
+/// Bytes stop at one place at most.
+pub fn bytes_stop_at_one_place()
+    ensures { (bytes : List ℕ) (p q : ℕ) → Stops Adds bytes p → Stops Adds bytes q → p ≡ q }
+{}

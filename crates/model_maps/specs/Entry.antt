@@ -1,0 +1,49 @@
+-- What a key holds: a value, and metadata by name. (Elektra's API documentation: a key has a value and metadata.)
+use Rattle.std.specs.Coded.{Coded, code_by, coded×, coded_list, coded_ℕ}
+use Rattle.std.specs.Prelude.{refl, ℕ, ◌+◌, ◌<◌, ◌≤◌, List, length, sum_by}
+use Rattle.std.specs.Ordering.{nat_cmp}
+use Rattle.std.specs.Cmp.Lexicographic.{slice_cmp}
+use Rattle.std.specs.FinMap as map
+use Rattle.std.specs.FinMap.{FinMap}
+use Rattle.std.specs.Str.{IsUtf8}
+use Rattle.std.specs.declared.cmp.Ordering.{Ordering}
+
+-- texts sort by their bytes
+abbrev pub text_cmp : List ℕ → List ℕ → Ordering
+text_cmp = slice_cmp nat_cmp
+
+-- metadata: a text for each of some names, by bytes
+abbrev pub Meta : Type 0
+Meta = FinMap text_cmp (List ℕ)
+
+-- a value and its metadata
+pub record Entry : Type 0 where
+  pub value : List ℕ
+  pub meta : Meta
+
+-- an entry with this value and no metadata
+abbrev pub plain_entry : List ℕ → Entry
+plain_entry value = record { value = value; meta = map.empty }
+
+-- the most bytes of a value and of a metadata text
+abbrev pub longest_value : ℕ
+longest_value = 65536
+
+-- a text that may be stored as a value or as metadata
+pub record IsValue (text : List ℕ) : Type 0 where
+  pub utf8 : IsUtf8 text
+  pub limit : length text ≤ longest_value
+
+-- a name that metadata may have: 1 to 4,096 bytes
+pub record IsMetaName (name : List ℕ) : Type 0 where
+  pub utf8 : IsUtf8 name
+  pub some : 0 < length name
+  pub limit : length name ≤ 4096
+
+-- the bytes of metadata: its names and texts
+abbrev pub meta_bytes : Meta → ℕ
+meta_bytes meta = sum_by (λ m. length m.0 + length m.1) (map.entries meta)
+
+-- how a proof tells entries apart
+abbrev pub coded_entry : Coded Entry
+coded_entry = code_by (List ℕ × Meta) (coded× (coded_list coded_ℕ) (map.code (coded_list coded_ℕ) (coded_list coded_ℕ))) (λ e. (e.value, e.meta)) (λ p. record { value = p.0; meta = p.1 }) (λ _. refl)

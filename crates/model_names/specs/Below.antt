@@ -1,0 +1,14 @@
+-- Which names stand below which. (Elektra's API documentation, keyIsBelow, in this profile.)
+use Rattle.std.specs.Prelude.{◌≡◌, ◌≢◌, ◌⊎◌, List, [], ◌++◌}
+use Rattle.model_names.specs.Name.{Part, Name}
+
+-- a name is below another: in one namespace, the other's parts are a front of its parts, and some follow
+pub record IsBelow (name above : Name) : Type 0 where
+  pub same_namespace : name.namespace ≡ above.namespace
+  pub more : List Part
+  pub some_more : more ≢ []
+  pub parts : name.parts ≡ above.parts ++ more
+
+-- the name itself, or one below it
+abbrev pub IsBelowOrSame : Name → Name → Type 0
+IsBelowOrSame name above = (name ≡ above) ⊎ IsBelow name above

@@ -1,0 +1,3 @@
+pub use Rattle.model_names.specs.Name
+pub use Rattle.model_names.specs.Spelling
+pub mod Quoted
