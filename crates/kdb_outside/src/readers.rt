@@ -1,0 +1,110 @@
+//! Input from a reader of the system.
+ghost use Rattle.std.specs.Prelude.{◌≡◌, ◌≤◌, length, None, IfOk};
+ghost use Rattle.std.specs.Io.KnownBytes.{ReadConsumes};
+ghost use Rattle.kdb_outside.specs.Faults.{HasCause};
+ghost use Rattle.kdb_outside.specs.Edge.{CountsFault};
+
+use crate::counts::FaultCount;
+use crate::{Failed, Source};
+use std::io::{ErrorKind, Read};
+use std::marker::Model;
+
+/// A source over any reader. A call that a signal interrupts is made again, and every other error is a fault.
+#[derive(Debug, Drop)]
+pub struct ReaderSource<R> {
+    reader: R,
+    faults: FaultCount,
+}
+
+impl<R> Model for ReaderSource<R> {
+    ghost use Rattle.kdb_outside.specs.Edge.{Edge};
+
+    ghost Value = { Edge R };
+
+    ghost view = { λ s. record { inner = s.reader; faults = s.faults } };
+}
+
+impl<R> ReaderSource<R> {
+    pub fn new(reader: R) -> ReaderSource<R>
+        ensures { result ≡ record { inner = reader; faults = 0 } }
+    {
+        ReaderSource {
+            reader,
+            faults: FaultCount::new(),
+        }
+    }
+}
+
+impl<R: Read> Source for ReaderSource<R> {
+    ghost left = { λ _. None };
+
+    ghost faults = { λ edge. edge.faults };
+
+    fn take(&mut self, buf: &mut [u8]) -> Result<usize, Failed>
+        ensures bytes { ReadConsumes (R.remaining self.old.inner) (R.remaining self.new.inner) result buf.new }
+        ensures counted { CountsFault self.old.faults self.new.faults result }
+
+        ensures within { IfOk result (λ n. n ≤ length buf.old) }
+        ensures cause { HasCause self.old.faults self.new.faults result }
+        ensures later { self.old.faults ≤ self.new.faults }
+    {
+        for _ in 0..u64::MAX {
+            match self.reader.read(buf) {
+                Ok(count) => return Ok(count),
+                Err(error) if error.kind() == ErrorKind::Interrupted => {}
+                Err(_) => break,
+            }
+        }
+        Err(self.faults.fail())
+    }
+}
+
+#[cfg(test)]
+mod tests {
+    use super::*;
+    use std::io;
+    use std::test::Fail;
+
+    /// Gives an `a` at every third call from the first on, an interruption at the next, and an error at the one after.
+    #[derive(Drop)]
+    struct Hiccups {
+        calls: u8,
+    }
+
+    impl Read for Hiccups {
+        fn read(&mut self, buf: &mut [u8]) -> io::Result<usize> {
+            let call = self.calls;
+            self.calls = self.calls.wrapping_add(1);
+            match call % 3 {
+                0 if !buf.is_empty() => {
+                    buf[0] = b'a';
+                    Ok(1)
+                }
+                0 => Ok(0),
+                1 => Err(io::Error::from(ErrorKind::Interrupted)),
+                _ => Err(io::Error::from(ErrorKind::Other)),
+            }
+        }
+    }
+
+    #[test]
+    fn gives_what_the_reader_gives(rt: HostRuntime) -> Result<(), Fail> {
+        let mut source = ReaderSource::new(b"abc".as_slice());
+        let mut buf = [b'.'; 2];
+        for (count, now) in [(2, b"ab"), (1, b"cb"), (0, b"cb")] {
+            assert_eq!(rt; source.take(&mut buf), Ok(count));
+            assert_eq!(rt; &buf, now);
+        }
+        Ok(())
+    }
+
+    #[test]
+    fn hides_interruptions_and_no_other_error(rt: HostRuntime) {
+        let mut source = ReaderSource::new(Hiccups { calls: 0 });
+        let mut buf = [b'.'; 2];
+        for count in [Ok(1), Err(Failed), Ok(1), Err(Failed)] {
+            assert_eq!(rt; source.take(&mut buf), count);
+        }
+        assert_eq!(rt; &buf, b"a.");
+    }
+}
