@@ -1,0 +1,8 @@
+-- A `KeyName` is seen as its name.
+use Rattle.std.specs.Prelude.{map, string_bytes}
+use Rattle.key_name.specs.declared.names.KeyName.TheInside.{Inside}
+use Rattle.model_names.specs.Name.{Name}
+
+-- the namespace and the bytes of each part
+abbrev pub name_of : Inside → Name
+name_of inside = record { namespace = inside.namespace; parts = map (λ part. string_bytes part) inside.parts.items }
