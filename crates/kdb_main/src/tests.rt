@@ -1,0 +1,109 @@
+//! The tool over real files.
+use crate::disk_real::RealDisk;
+use kdb_outside::{Disk, FileName, MemSink, OpenGate, SureSource};
+use kdb_tool::run;
+use key_meta::Text;
+use std::alloc::Global;
+use std::test::Fail;
+use std::{env, fs, process};
+
+const ONE_KEY: &[u8] = b"kdbOpen 2\n$key string 4 1\nsw/a\n1\n$end\n";
+
+/// A folder of this process's own.
+fn folder(rt: HostRuntime, name: &str) -> Result<String, Fail> {
+    let place = env::temp_dir(&rt)?;
+    let number = process::id(rt.process());
+    let place = place.as_path().to_str().ok_or("the path is text")?;
+    let folder = format!(in rt.alloc(); "{place}/kdb-{name}-{number}")?;
+    fs::create_dir_all(&rt, folder.as_str())?;
+    Ok(folder)
+}
+
+fn texts(alloc: Global, words: &[&str]) -> Result<Vec<Text>, Fail> {
+    let mut texts = Vec::new(alloc);
+    for word in words {
+        texts.push(Text::new(alloc, word)?)?;
+    }
+    Ok(texts)
+}
+
+#[test]
+fn prints_what_the_files_of_a_folder_hold(rt: HostRuntime) -> Result<(), Fail> {
+    let place = folder(rt, "get")?;
+    let file = format!(in rt.alloc(); "{place}/user.ecf")?;
+    let rows: [(&[u8], &[&str], u8, &str, &str); 8] = [
+        (ONE_KEY, &["get", "user:/sw/a"], 0, "1\n", ""),
+        (
+            ONE_KEY,
+            &["get", "user:/sw/none"],
+            11,
+            "",
+            "kdb: not found: user:/sw/none\n",
+        ),
+        (
+            ONE_KEY,
+            &["get", "system:/sw/a"],
+            2,
+            "",
+            "kdb: not built: system:/sw/a\n",
+        ),
+        (ONE_KEY, &[], 4, "", "kdb: no command\n"),
+        (ONE_KEY, &["frob"], 4, "", "kdb: unknown command frob\n"),
+        (ONE_KEY, &["get"], 1, "", "kdb: options refused\n"),
+        (
+            b"",
+            &["get", "user:/sw/a"],
+            11,
+            "",
+            "kdb: not found: user:/sw/a\n",
+        ),
+        (
+            b"x",
+            &["get", "user:/sw/a"],
+            5,
+            "",
+            "kdb: C03100 bad-file user:/ 1\n",
+        ),
+    ];
+    for (bytes, words, status, out_text, err_text) in rows {
+        fs::write(&rt, file.as_str(), bytes)?;
+        let mut out = MemSink::new(rt.alloc(), Vec::new(rt.alloc()));
+        let mut err = MemSink::new(rt.alloc(), Vec::new(rt.alloc()));
+        let mut input = SureSource::new(Vec::new(rt.alloc()));
+        let words = texts(rt.alloc(), words)?;
+        let disk = RealDisk::new(rt, place.as_str())?;
+        let (ended, _) = run(
+            rt.alloc(),
+            &words,
+            &mut input,
+            &mut out,
+            &mut err,
+            disk,
+            &OpenGate,
+        );
+        assert_eq!(rt; ended.code(), status, "{err_text}");
+        assert_eq!(rt; out.bytes(), out_text.as_bytes(), "{err_text}");
+        assert_eq!(rt; err.bytes(), err_text.as_bytes(), "{err_text}");
+    }
+    fs::remove_dir_all(&rt, place.as_str())?;
+    Ok(())
+}
+
+#[test]
+fn reads_real_files_from_any_place(rt: HostRuntime) -> Result<(), Fail> {
+    let place = folder(rt, "disk")?;
+    let path = format!(in rt.alloc(); "{place}/user.ecf")?;
+    fs::write(&rt, path.as_str(), b"abcdef")?;
+    let mut disk = RealDisk::new(rt, place.as_str())?;
+    let user = FileName::new(rt.alloc(), "user.ecf")?.ok_or("it is a name")?;
+    let missing = FileName::new(rt.alloc(), "missing")?.ok_or("it is a name")?;
+    assert_eq!(rt; disk.length(&user), Ok(6));
+    assert_eq!(rt; disk.length(&missing), Ok(0));
+    let mut buf = [b'.'; 4];
+    assert_eq!(rt; disk.read_at(&user, 3, &mut buf), Ok(3));
+    assert_eq!(rt; &buf, b"def.");
+    assert_eq!(rt; disk.read_at(&user, 9, &mut buf), Ok(0));
+    assert_eq!(rt; disk.read_at(&missing, 0, &mut buf), Ok(0));
+    fs::remove_dir_all(&rt, place.as_str())?;
+    Ok(())
+}

@@ -1,0 +1,11 @@
+pub mod QuotedLemmas
+pub mod AnswersOnce
+pub mod FileLemmas
+pub mod PlainLemmas
+pub mod RequestLemmas
+pub mod EndLemmas
+pub mod PlainKeyLemmas
+pub mod SizeLemmas
+pub mod RecordLemmas
+pub mod ReadingLemmas
+pub mod SpellingLength

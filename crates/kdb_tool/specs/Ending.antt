@@ -1,0 +1,17 @@
+-- What a run puts out in the end: its answer, or why there is none. (This project's own.)
+use Rattle.std.specs.Prelude.{Result, Ok, Err}
+use Rattle.kdb_tool.specs.declared.answers.Answer as code
+use Rattle.kdb_tool.specs.declared.answers.Stop.{Stop}
+use Rattle.kdb_tool.specs.declared.answers.Stop.TheVariants as stops
+use Rattle.kdb_tool.specs.Lines.{disk_fault, out_of_memory}
+use Rattle.kdb_tool.specs.Answer.{Answer, refused}
+use Rattle.kdb_tool.specs.AnswerView.{answer_of}
+
+-- the line that tells why there is no answer, with its status
+abbrev pub stopped : Stop → Answer
+stopped stops.Memory = refused 70 out_of_memory
+stopped stops.DiskFault = refused 74 disk_fault
+
+abbrev pub ending : Result code.Answer Stop → Answer
+ending (Ok answer) = answer_of answer
+ending (Err stop) = stopped stop

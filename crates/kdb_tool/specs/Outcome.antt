@@ -1,0 +1,55 @@
+-- How a run ends: what out and err have gained, and where a fault came from. (This project's own.)
+use Rattle.std.specs.Prelude.{◌≡◌, ℕ, ◌≤◌, List, ◌++◌, length, take, Option, Some, IfSome}
+use Rattle.kdb_outside.specs.Faults.{HasRisen}
+use Rattle.kdb_tool.specs.Lines.{line, write_fault}
+use Rattle.kdb_tool.specs.Answer.{Answer}
+
+-- a sink that tells its bytes has gained these
+abbrev pub Gains : Option (List ℕ) → Option (List ℕ) → List ℕ → Type 0
+Gains before now bytes = IfSome before (λ held. now ≡ Some (held ++ bytes))
+
+-- a sink holds what it held and a front of some bytes
+pub record HoldsFrontOf (held bytes : List ℕ) (now : Option (List ℕ)) : Type 0 where
+  pub count : ℕ
+  pub within : count ≤ length bytes
+  pub is : now ≡ Some (held ++ take count bytes)
+
+-- a sink that tells its bytes has gained a front of these
+abbrev pub GainsFront : Option (List ℕ) → Option (List ℕ) → List ℕ → Type 0
+GainsFront before now bytes = IfSome before (λ held. HoldsFrontOf held bytes now)
+
+-- a sink before a call and after it: the bytes that it tells, and its count of faults
+pub record Change : Type 0 where
+  pub held_before : Option (List ℕ)
+  pub held_now : Option (List ℕ)
+  pub faults_before : ℕ
+  pub faults_now : ℕ
+
+-- its count of faults has risen
+abbrev pub Failed : Change → Type 0
+Failed change = HasRisen change.faults_before change.faults_now
+
+-- the run gave an answer: its status, and out and err have gained its bytes
+pub record Gives (answer : Answer) (status : ℕ) (out err : Change) : Type 0 where
+  pub status_is : status ≡ answer.status
+  pub out_gains : Gains out.held_before out.held_now answer.out
+  pub err_gains : Gains err.held_before err.held_now answer.err
+
+-- out failed, has gained a front of what it was given, and err tells so
+pub record LosesOut (text : List ℕ) (status : ℕ) (out err : Change) : Type 0 where
+  pub out_failed : Failed out
+  pub status_is : status ≡ 74
+  pub out_front : GainsFront out.held_before out.held_now text
+  pub err_gains : Gains err.held_before err.held_now (line write_fault)
+
+-- err failed, and out has gained a front of what it was given
+pub record LosesErr (text : List ℕ) (status : ℕ) (out err : Change) : Type 0 where
+  pub err_failed : Failed err
+  pub status_is : status ≡ 74
+  pub out_front : GainsFront out.held_before out.held_now text
+
+-- what became of an answer: it was given, or one of the sinks failed
+pub data Delivers (answer : Answer) (status : ℕ) (out err : Change) : Type 0 where
+  Whole : Gives answer status out err → Delivers answer status out err
+  OutFails : LosesOut answer.out status out err → Delivers answer status out err
+  ErrFails : LosesErr answer.out status out err → Delivers answer status out err

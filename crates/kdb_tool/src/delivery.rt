@@ -1,0 +1,97 @@
+//! Puts an answer on out and err. A fault of either turns the status into that of a fault.
+ghost use Rattle.std.specs.Prelude.{◌≡◌, ◌≤◌, OnOk, OnErr};
+ghost use Rattle.kdb_outside.specs.Faults.{HasRisen};
+ghost use Rattle.kdb_tool.specs.Outcome.{Change, Delivers, Gains, GainsFront};
+ghost use Rattle.kdb_tool.specs.Delivery.{Tells};
+ghost use Rattle.kdb_tool.specs.Ending.{ending, stopped};
+
+use crate::answers::{Answer, Stop};
+use crate::status::{FAULT, OUT_OF_MEMORY, Status};
+use kdb_outside::{Failed, Sink};
+
+/// Puts a line on err, where there is one, and ends with the status.
+fn tell<E: Sink>(status: Status, line: &str, err: &mut E) -> Status
+    ensures told { Tells status line.now result (E.held err.old) (E.held err.new) (E.faults err.old) (E.faults err.new) }
+    ensures later { E.faults err.old ≤ E.faults err.new }
+{
+    if line.is_empty() {
+        return status;
+    }
+    match err.put(line.as_bytes()) {
+        Ok(()) => status,
+        Err(_) => Status::new(FAULT),
+    }
+}
+
+/// Puts a text on out, where there is one.
+fn put_out<K: Sink>(text: &str, out: &mut K) -> Result<(), Failed>
+    ensures whole { OnOk result (Gains (K.held out.old) (K.held out.new) text.now) }
+    ensures front { GainsFront (K.held out.old) (K.held out.new) text.now }
+    ensures cause { OnErr result (HasRisen (K.faults out.old) (K.faults out.new)) }
+    ensures later { K.faults out.old ≤ K.faults out.new }
+{
+    if text.is_empty() {
+        return Ok(());
+    }
+    out.put(text.as_bytes())
+}
+
+/// Puts the texts of an answer on out and on err.
+fn deliver<K: Sink, E: Sink>(
+    status: Status,
+    out_text: &str,
+    err_text: &str,
+    out: &mut K,
+    err: &mut E,
+) -> Status
+    ensures delivered { Delivers (record { status = status; out = out_text.now; err = err_text.now }) result
+        (record { held_before = K.held out.old; held_now = K.held out.new; faults_before = K.faults out.old; faults_now = K.faults out.new })
+        (record { held_before = E.held err.old; held_now = E.held err.new; faults_before = E.faults err.old; faults_now = E.faults err.new }) }
+    ensures later_out { K.faults out.old ≤ K.faults out.new }
+    ensures later_err { E.faults err.old ≤ E.faults err.new }
+{
+    match put_out(out_text, out) {
+        Ok(()) => tell(status, err_text, err),
+        Err(_) => tell(Status::new(FAULT), "kdb: C01100 write-fault\n", err),
+    }
+}
+
+/// Ends a run with its answer, or with the line that tells why there is none.
+pub fn finish<K: Sink, E: Sink>(answer: &Result<Answer, Stop>, out: &mut K, err: &mut E) -> Status
+    ensures finished { Delivers (ending answer.now) result
+        (record { held_before = K.held out.old; held_now = K.held out.new; faults_before = K.faults out.old; faults_now = K.faults out.new })
+        (record { held_before = E.held err.old; held_now = E.held err.new; faults_before = E.faults err.old; faults_now = E.faults err.new }) }
+    ensures later_out { K.faults out.old ≤ K.faults out.new }
+    ensures later_err { E.faults err.old ≤ E.faults err.new }
+{
+    match answer {
+        Ok(answer) => deliver(
+            answer.status,
+            answer.out.as_str(),
+            answer.err.as_str(),
+            out,
+            err,
+        ),
+        Err(stop) => give_up(*stop, out, err),
+    }
+}
+
+/// Ends a run that has no answer. It takes no memory.
+fn give_up<K: Sink, E: Sink>(stop: Stop, out: &mut K, err: &mut E) -> Status
+    ensures finished { Delivers (stopped stop) result
+        (record { held_before = K.held out.old; held_now = K.held out.new; faults_before = K.faults out.old; faults_now = K.faults out.new })
+        (record { held_before = E.held err.old; held_now = E.held err.new; faults_before = E.faults err.old; faults_now = E.faults err.new }) }
+    ensures later_out { K.faults out.old ≤ K.faults out.new }
+    ensures later_err { E.faults err.old ≤ E.faults err.new }
+{
+    match stop {
+        Stop::Memory => deliver(
+            Status::new(OUT_OF_MEMORY),
+            "",
+            "kdb: C01110 out of memory\n",
+            out,
+            err,
+        ),
+        Stop::DiskFault => deliver(Status::new(FAULT), "", "kdb: C01100 disk-fault\n", out, err),
+    }
+}

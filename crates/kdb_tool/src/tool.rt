@@ -1,0 +1,70 @@
+//! The top call. The whole answer is made before anything is put out.
+ghost use Rattle.std.specs.Prelude.{◌≡◌, ◌≢◌, ◌≤◌, List, ℕ, true};
+ghost use Rattle.kdb_outside.specs.Faults.{HasRisen};
+ghost use Rattle.kdb_tool.specs.Answer.{Answer};
+ghost use Rattle.kdb_tool.specs.Answers.{Answers};
+ghost use Rattle.kdb_tool.specs.Request.{request};
+ghost use Rattle.kdb_tool.specs.Outcome.{Change, GainsFront};
+ghost use Rattle.kdb_tool.specs.Ends.{EndsAsAnswered, EndsByWords, EndsWithoutMemory, EndsInFault};
+
+use crate::answers::work_out;
+use crate::delivery::finish;
+use crate::status::Status;
+use kdb_outside::{Disk, Gate, Sink, Source};
+use key_meta::Text;
+use std::alloc::Global;
+
+/// Carries out a command line, whose words come without the program's name, and gives the disk back.
+pub fn run<S: Source, K: Sink, E: Sink, D: Disk + Send, G: Gate + Sync>(
+    alloc: Global,
+    words: &[Text],
+    input: &mut S,
+    out: &mut K,
+    err: &mut E,
+    disk: D,
+    gate: &G,
+) -> (Status, D)
+    // The status, out and err are those of the answer.
+    ensures answered { D.tells disk ≡ true → EndsAsAnswered words.now (D.seen disk) result.0
+        (record { held_before = K.held out.old; held_now = K.held out.new; faults_before = K.faults out.old; faults_now = K.faults out.new })
+        (record { held_before = E.held err.old; held_now = E.held err.new; faults_before = E.faults err.old; faults_now = E.faults err.new }) }
+
+    // Words that ask for nothing decide alone, whatever the disk does.
+    ensures words { EndsByWords (request words.now) result.0
+        (record { held_before = K.held out.old; held_now = K.held out.new; faults_before = K.faults out.old; faults_now = K.faults out.new })
+        (record { held_before = E.held err.old; held_now = E.held err.new; faults_before = E.faults err.old; faults_now = E.faults err.new }) }
+
+    // However the run ends, out has gained a front of what the answer puts there.
+    ensures prefix { D.tells disk ≡ true → (answer : Answer) → Answers words.now (D.seen disk) answer → GainsFront (K.held out.old) (K.held out.new) answer.out }
+
+    // Want of memory puts nothing on out and its line on err.
+    ensures memory { EndsWithoutMemory result.0
+        (record { held_before = K.held out.old; held_now = K.held out.new; faults_before = K.faults out.old; faults_now = K.faults out.new })
+        (record { held_before = E.held err.old; held_now = E.held err.new; faults_before = E.faults err.old; faults_now = E.faults err.new }) }
+
+    // A fault has its cause in this call, and err tells which where err itself didn't fail.
+    ensures fault { EndsInFault (HasRisen (D.faults disk) (D.faults result.1)) result.0
+        (record { held_before = K.held out.old; held_now = K.held out.new; faults_before = K.faults out.old; faults_now = K.faults out.new })
+        (record { held_before = E.held err.old; held_now = E.held err.new; faults_before = E.faults err.old; faults_now = E.faults err.new }) }
+
+    // So without a fault the run ends with the answer's status, or in want of memory.
+    ensures complete { (HasRisen (D.faults disk) (D.faults result.1) → ⊥) → (HasRisen (K.faults out.old) (K.faults out.new) → ⊥) → (HasRisen (E.faults err.old) (E.faults err.new) → ⊥) → result.0 ≢ 74 }
+
+    // The files are as they were, and no input is taken.
+    ensures untouched { D.tells disk ≡ true → D.seen result.1 ≡ D.seen disk }
+    ensures tells { D.tells result.1 ≡ D.tells disk }
+    ensures input { input.new ≡ input.old }
+
+    // No count of faults falls.
+    ensures later_disk { D.faults disk ≤ D.faults result.1 }
+    ensures later_out { K.faults out.old ≤ K.faults out.new }
+    ensures later_err { E.faults err.old ≤ E.faults err.new }
+{
+    let mut disk = disk;
+    let answer = work_out(alloc, words, &mut disk);
+    let status = finish(&answer, out, err);
+    (status, disk)
+}
+
+#[cfg(test)]
+mod tests;

@@ -1,0 +1,242 @@
+//! What `run` prints and how it ends, by examples whose bytes are written out by hand. No run here meets want of memory.
+ghost use Rattle.std.specs.Prelude.{◌≤◌, [], false};
+ghost use Rattle.kdb_outside.specs.Faults.{HasCause};
+
+use super::*;
+use kdb_outside::{Failed, FileName, MemSink, OpenGate, SureSource};
+use key_meta::Memory;
+use std::process::Abort;
+use std::test::Fail;
+
+const FILE: &str = "kdbOpen 2\n$key string 4 1\nsw/a\n1\n$end\n";
+
+/// A disk with one file. Its calls are counted from 1, and one of them may fail. It tells no contents.
+#[derive(Drop)]
+struct OneFile {
+    name: &'static str,
+    bytes: Vec<u8>,
+    failing: u64,
+    calls: u64,
+    faults: u64,
+}
+
+impl OneFile {
+    fn new(name: &'static str, bytes: Vec<u8>, failing: u64) -> OneFile {
+        OneFile {
+            name,
+            bytes,
+            failing,
+            calls: 0,
+            faults: 0,
+        }
+    }
+
+    fn begin(&mut self) -> Result<(), Failed>
+        ensures cause { HasCause self.old.faults self.new.faults result }
+        ensures later { self.old.faults ≤ self.new.faults }
+    {
+        self.calls = self.calls.saturating_add(1);
+        if self.calls == self.failing {
+            self.faults = self.faults.saturating_add(1);
+            return Err(Failed);
+        }
+        Ok(())
+    }
+
+    fn bytes_of(&self, file: &FileName) -> &[u8] {
+        if file.text() == self.name {
+            &self.bytes
+        } else {
+            &[]
+        }
+    }
+}
+
+impl Disk for OneFile {
+    ghost tells = { λ _. false };
+
+    ghost seen = { λ _ _. [] };
+
+    ghost faults = { λ disk. disk.faults };
+
+    fn length(&mut self, file: &FileName) -> Result<u64, Failed> {
+        self.begin()?;
+        Ok(self.bytes_of(file).len() as u64)
+    }
+
+    fn read_at(&mut self, file: &FileName, at: u64, buf: &mut [u8]) -> Result<usize, Failed> {
+        self.begin()?;
+        let bytes = self.bytes_of(file);
+        let rest = &bytes[bytes.len().min(at as usize)..];
+        let count = rest.len().min(buf.len());
+        buf[..count].copy_from_slice(&rest[..count]);
+        Ok(count)
+    }
+}
+
+/// What came of a run.
+#[derive(Drop)]
+struct Ended {
+    status: u8,
+    out: MemSink,
+    err: MemSink,
+    disk: OneFile,
+}
+
+/// Runs words over a disk. One call of out may fail, and one of err; calls are counted from 1.
+fn end_of(
+    alloc: Global,
+    words: &[&str],
+    disk: OneFile,
+    out_failing: u64,
+    err_failing: u64,
+) -> Result<Ended, Memory> {
+    let mut texts = Vec::new(alloc);
+    for word in words {
+        texts.push(Text::new(alloc, word)?)?;
+    }
+    let mut input = SureSource::new(Vec::new(alloc));
+    let mut out = MemSink::new(alloc, vec![in alloc; out_failing]?);
+    let mut err = MemSink::new(alloc, vec![in alloc; err_failing]?);
+    let (status, disk) = run(
+        alloc, &texts, &mut input, &mut out, &mut err, disk, &OpenGate,
+    );
+    Ok(Ended {
+        status: status.code(),
+        out,
+        err,
+        disk,
+    })
+}
+
+/// Runs words over a file of the users' root, with nothing failing.
+fn end_over(alloc: Global, words: &[&str], bytes: &[u8]) -> Result<Ended, Memory> {
+    let disk = OneFile::new("user.ecf", bytes.to_vec(alloc)?, 0);
+    end_of(alloc, words, disk, 0, 0)
+}
+
+fn assert_ended(rt: &impl Abort, ended: &Ended, status: u8, out: &str, err: &str) {
+    assert_eq!(rt; ended.status, status, "{out:?} {err:?}");
+    assert_eq!(rt; ended.out.bytes(), out.as_bytes(), "{out:?} {err:?}");
+    assert_eq!(rt; ended.err.bytes(), err.as_bytes(), "{out:?} {err:?}");
+}
+
+#[test]
+fn refuses_words_without_a_look_at_the_disk(rt: HostRuntime) -> Result<(), Fail> {
+    let rows: [(&[&str], u8, &str); 12] = [
+        (&[], 4, "kdb: no command\n"),
+        (&["frob"], 4, "kdb: unknown command frob\n"),
+        (&["fr ob"], 4, "kdb: unknown command \"fr ob\"\n"),
+        (&["", "get"], 4, "kdb: unknown command \n"),
+        (&["get"], 1, "kdb: options refused\n"),
+        (&["get", "a", "b"], 1, "kdb: options refused\n"),
+        (&["get", "-x"], 1, "kdb: options refused\n"),
+        (&["get", "-"], 2, "kdb: not built: -\n"),
+        (
+            &["get", "system:/sw/a"],
+            2,
+            "kdb: not built: system:/sw/a\n",
+        ),
+        (&["get", "user:/a%"], 2, "kdb: not built: user:/a%\n"),
+        (&["get", ""], 2, "kdb: not built: \n"),
+        (&["get", "/sw/a"], 2, "kdb: not built: /sw/a\n"),
+    ];
+    for (words, status, err) in rows {
+        let ended = end_over(rt.alloc(), words, FILE.as_bytes())?;
+        assert_ended(&rt, &ended, status, "", err);
+        assert_eq!(rt; ended.disk.calls, 0, "{err}");
+    }
+    Ok(())
+}
+
+#[test]
+fn prints_the_value_of_a_key(rt: HostRuntime) -> Result<(), Fail> {
+    let lines = "kdbOpen 2\n$key string 4 4\nsw/a\n1\n\n2\n$end\n";
+    let none = "kdbOpen 2\n$key string 4 0\nsw/a\n\n$end\n";
+    let rows = [
+        (FILE, "user:/sw/a", "1\n"),
+        (FILE, "user:/sw//./a/../a", "1\n"),
+        (lines, "user:/sw/a", "1\n\n2\n"),
+        (none, "user:/sw/a", "\n"),
+    ];
+    for (file, name, out) in rows {
+        let ended = end_over(rt.alloc(), &["get", name], file.as_bytes())?;
+        assert_ended(&rt, &ended, 0, out, "");
+    }
+    Ok(())
+}
+
+#[test]
+fn tells_which_key_is_not_there(rt: HostRuntime) -> Result<(), Fail> {
+    // The file, the name of the disk's only file, the name of the key, and the line.
+    let rows = [
+        (
+            FILE,
+            "user.ecf",
+            "user:/sw/none",
+            "kdb: not found: user:/sw/none\n",
+        ),
+        (
+            FILE,
+            "user.ecf",
+            "user:/sw/./no such",
+            "kdb: not found: \"user:/sw/no such\"\n",
+        ),
+        ("", "user.ecf", "user:/sw/a", "kdb: not found: user:/sw/a\n"),
+        (
+            FILE,
+            "system.ecf",
+            "user:/sw/a",
+            "kdb: not found: user:/sw/a\n",
+        ),
+    ];
+    for (file, held, name, err) in rows {
+        let disk = OneFile::new(held, file.as_bytes().to_vec(rt.alloc())?, 0);
+        let ended = end_of(rt.alloc(), &["get", name], disk, 0, 0)?;
+        assert_ended(&rt, &ended, 11, "", err);
+    }
+    Ok(())
+}
+
+#[test]
+fn refuses_a_file_that_is_no_dump_or_too_long(rt: HostRuntime) -> Result<(), Fail> {
+    let rows = [
+        (1, "kdb: C03100 bad-file user:/ 1\n"),
+        (1_048_576, "kdb: C03100 bad-file user:/ 1\n"),
+        (1_048_577, "kdb: C01100 too-long user:/ 1048577\n"),
+    ];
+    for (count, err) in rows {
+        let bytes = vec![in rt.alloc(); b'x'; count]?;
+        let ended = end_over(rt.alloc(), &["get", "user:/sw/a"], &bytes)?;
+        assert_ended(&rt, &ended, 5, "", err);
+    }
+    Ok(())
+}
+
+#[test]
+fn tells_which_call_failed(rt: HostRuntime) -> Result<(), Fail> {
+    // The word, the failing calls of the disk, of out and of err, and the status with what is on out and on err.
+    let rows = [
+        ("user:/sw/a", [1, 0, 0], 74, "", "kdb: C01100 disk-fault\n"),
+        ("user:/sw/a", [2, 0, 0], 74, "", "kdb: C01100 disk-fault\n"),
+        ("user:/sw/a", [0, 1, 0], 74, "", "kdb: C01100 write-fault\n"),
+        ("user:/sw/b", [0, 0, 1], 74, "", ""),
+        ("user:/sw/a", [1, 0, 1], 74, "", ""),
+        ("user:/sw/a", [0, 1, 1], 74, "", ""),
+        // A call that isn't made doesn't fail.
+        ("user:/sw/a", [3, 2, 1], 0, "1\n", ""),
+        (
+            "user:/sw/b",
+            [0, 1, 0],
+            11,
+            "",
+            "kdb: not found: user:/sw/b\n",
+        ),
+    ];
+    for (name, failing, status, out, err) in rows {
+        let disk = OneFile::new("user.ecf", FILE.as_bytes().to_vec(rt.alloc())?, failing[0]);
+        let ended = end_of(rt.alloc(), &["get", name], disk, failing[1], failing[2])?;
+        assert_ended(&rt, &ended, status, out, err);
+    }
+    Ok(())
+}
