@@ -1,9 +1,8 @@
 pub mod QuotedLemmas
 pub mod AnswersOnce
 pub mod FileLemmas
-pub mod PlainLemmas
-pub mod RequestLemmas
 pub mod EndLemmas
+pub mod RisingLemmas
 pub mod PlainKeyLemmas
 pub mod SizeLemmas
 pub mod RecordLemmas

@@ -4,6 +4,7 @@ pub mod Request
 pub mod RequestView
 pub mod PlainRecords
 pub mod PlainKeys
+pub mod Rising
 pub mod DumpReading
 pub mod Holding
 pub mod WholeFile

@@ -7,7 +7,7 @@ ghost use Rattle.model_names.specs.Name.{Name};
 ghost use Rattle.model_names.specs.Spells.{Spells};
 ghost use Rattle.kdb_tool.specs.Lines.{no_command, unknown_command, options_refused, not_built, not_found, too_long, bad_file};
 ghost use Rattle.kdb_tool.specs.Answer.{done, refused};
-ghost use Rattle.kdb_tool.specs.Request.{request, is_plain_user_name};
+ghost use Rattle.kdb_tool.specs.Request.{request};
 ghost use Rattle.kdb_tool.specs.Holding.{longest_file};
 ghost use Rattle.kdb_tool.specs.Answers.{Answers, AnswersGet, found_answer, get_answer, relative, user_file, user_root};
 ghost use Rattle.kdb_tool.specs.declared.answers.Stop.TheVariants.{Memory as OutOfMemory};
@@ -152,9 +152,8 @@ fn look_up_read(alloc: Global, name: &KeyName, read: FileRead) -> Result<Answer,
     }
 }
 
-/// The name that a plain text spells.
+/// The name that a text spells. The words were tested, so want of memory is all that can refuse it.
 fn parse(alloc: Global, text: &str) -> Result<KeyName, Memory>
-    requires { is_plain_user_name text.now ≡ true }
     ensures { IfOk result (λ name. Spells text.now name) }
 {
     match KeyName::parse(alloc, text) {
@@ -165,7 +164,6 @@ fn parse(alloc: Global, text: &str) -> Result<KeyName, Memory>
 
 /// The answer of `get` to the text of a name.
 fn get<D: Disk>(alloc: Global, text: &str, disk: &mut D) -> Result<Answer, Stop>
-    requires { is_plain_user_name text.now ≡ true }
     ensures told { D.tells disk.old ≡ true → IfOk result (λ answer. AnswersGet text.now (D.seen disk.old) (answer_of answer)) }
     ensures kinds { IfOk result (λ answer. IsGetStatus (answer_of answer)) }
     ensures cause { result ≡ Err Stop.DiskFault → HasRisen (D.faults disk.old) (D.faults disk.new) }

@@ -27,7 +27,7 @@ letter_at c k b d lt small e =
     let at_zero : get_or (encode_utf8 c) k 0 ≡ b = get_or_default (encode_utf8 c) k 0 d lt ∙ e in
     inside_one c [] (encode_utf8 c) k (sym (append-nil (encode_utf8 c))) lt (rw at_zero small) ∙ at_zero
 
-IsUnescaped-encode_utf8 : (c : ℕ) → c ≢ 92 → c ≢ 47 → AllByRecursion IsUnescaped (encode_utf8 c)
+pub IsUnescaped-encode_utf8 : (c : ℕ) → c ≢ 92 → c ≢ 47 → AllByRecursion IsUnescaped (encode_utf8 c)
 IsUnescaped-encode_utf8 c no_backslash no_slash =
     recursion_from_All IsUnescaped (encode_utf8 c) (λ k d lt. record {
       no_backslash = λ e. no_backslash (letter_at c k 92 d lt (lit< tt) e);

@@ -5,3 +5,6 @@ pub use Rattle.model_names.specs.Order
 pub mod Comparing
 pub mod KeyName
 pub mod Plain
+pub mod Raws
+pub mod Refused
+pub mod Arrays

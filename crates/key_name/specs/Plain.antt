@@ -1,6 +1,5 @@
--- The texts that `parse` takes so far: none of their bytes has a meaning of its own but the slash and the dot.
--- (This project's own. Every text is to be taken in the end.)
-use Rattle.std.specs.Prelude.{◌≡◌, ◌≢◌, ℕ, ◌<◌, ◌≤◌, ◌==◌, ◌||◌, if◌then◌else◌, List, ◌∷◌, ◌++◌, length, drop, codes}
+-- Plain texts: none of their bytes has a meaning of its own in a name but the slash and the dot. (This project's own.)
+use Rattle.std.specs.Prelude.{◌≢◌, ℕ, ◌<◌, ◌≤◌, ◌==◌, ◌||◌, if◌then◌else◌, List, length, drop, codes}
 use Rattle.std.specs.List.{AllByRecursion, position_or_len}
 use Rattle.model_names.specs.Name.{Part}
 use Rattle.model_names.specs.Spelling.{is_text}
@@ -21,11 +20,6 @@ from_first_slash text = drop (position_or_len (λ b. b == 47) text) text
 pub record IsPlain (text : List ℕ) : Type 0 where
   pub bytes : AllByRecursion IsPlainByte text
   pub limit : length (from_first_slash text) ≤ longest_path
-
--- a text begins like a cascading name, or like one of a user
-pub data BeginsPlainly (text : List ℕ) : Type 0 where
-  AtSlash : (rest : List ℕ) → text ≡ 47 ∷ rest → BeginsPlainly text
-  AtUser : (rest : List ℕ) → text ≡ codes "user:/" ++ rest → BeginsPlainly text
 
 -- what a raw part of such bytes does to the path so far
 abbrev pub plain_move : List ℕ → Move

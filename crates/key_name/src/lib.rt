@@ -1,10 +1,15 @@
 //! Names of keys: parsed from texts, spelled, and ordered.
 #![tactic(auto)]
 
+mod arrays;
+mod cutting;
 mod faults;
 mod names;
 mod parsing;
+mod raw_parts;
+mod refusing;
 mod spelling;
+mod walking;
 
 pub use faults::{Memory, NameFault};
 pub use model_names::Namespace;

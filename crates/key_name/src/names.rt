@@ -1,21 +1,28 @@
 //! A key's name, seen by contracts as its namespace and its parts.
-ghost use Rattle.std.specs.Prelude.{◌≡◌, ◌-◌, Some, [], length, IfOk, IsOkUnless, slice_get, map, string_bytes, refl};
+ghost use Rattle.std.specs.Prelude.{◌≡◌, ◌-◌, Some, [], length, None, IfErr, IfOk, OnOk, slice_get, map, string_bytes, refl};
 ghost use Rattle.std.specs.Cmp.{partial_equiv_from_equiv, partial_order_from_agreeing_total};
 ghost use Rattle.std.specs.Option.{option_map};
 ghost use Rattle.model_names.specs.Order.{name_cmp, name_eq};
+ghost use Rattle.model_names.specs.Refuses.{refusal_of};
 ghost use Rattle.model_names.specs.Spells.{Spells};
 ghost use Rattle.model_names.specs.Spelling.{spelling};
 ghost use Rattle.model_names.proofs.OrderLemmas.{name_cmp_total};
 ghost use Rattle.key_name.specs.Comparing.{name_eq_equiv, name_ties};
-ghost use Rattle.key_name.specs.Plain.{IsPlain, BeginsPlainly};
+ghost use Rattle.key_name.specs.Refused.{IsRefusal};
 
-use crate::parsing::{cut_namespace, parts_of};
-use crate::spelling::{push_path, word};
+use crate::cutting::cut;
+use crate::parsing::cut_namespace;
+use crate::refusing::{first_bad_array, first_bad_escape, first_nul};
+use crate::spelling::{path_len, push_path, word};
+use crate::walking::walk;
 use crate::{Memory, NameFault};
 use model_names::Namespace;
 use std::alloc::{Allocator, Global};
 use std::cmp::Ordering;
 use std::marker::Model;
+
+/// The most bytes that the path of a name may have.
+const LONGEST_PATH: usize = 4096;
 
 /// A namespace and a list of parts.
 #[derive(Debug, Drop)]
@@ -35,15 +42,28 @@ impl Model for KeyName {
 }
 
 impl KeyName {
-    /// The name that a text spells. So far only plain texts are taken that begin with `/` or `user:/`.
+    /// The name that a text spells, or the first refusal of the text.
     pub fn parse(alloc: Global, text: &str) -> Result<KeyName, NameFault>
-        requires plain { IsPlain text.now }
-        requires begins { BeginsPlainly text.now }
         ensures spelled { IfOk result (λ name. Spells text.now name) }
-        ensures refused { IsOkUnless result NameFault.Memory }
+        ensures accepted { OnOk result (refusal_of text.now ≡ None) }
+        ensures refused { IfErr result (λ fault. IsRefusal text.now fault) }
     {
-        let (namespace, path) = cut_namespace(text);
-        let parts = parts_of(alloc, path)?;
+        let (namespace, path) = cut_namespace(text)?;
+        let raws = cut(alloc, text, path)?;
+        if let Some(at) = first_bad_escape(&raws) {
+            return Err(NameFault::BadEscape { at });
+        }
+        if let Some(at) = first_bad_array(&raws) {
+            return Err(NameFault::BadArray { at });
+        }
+        if let Some(at) = first_nul(text) {
+            return Err(NameFault::Nul { at });
+        }
+        let parts = walk(alloc, &raws)?;
+        let bytes = path_len(alloc, &parts)?;
+        if bytes > LONGEST_PATH {
+            return Err(NameFault::TooLong { bytes });
+        }
         Ok(KeyName { namespace, parts })
     }
 

@@ -1,49 +1,43 @@
-//! From a text to a namespace and parts.
-ghost use Rattle.std.specs.Prelude.{◌≡◌, ◌+◌, ◌≤◌, ◌++◌, ◌∷◌, [], IfOk, OnOk, Some, length, map, string_bytes};
-ghost use Rattle.std.specs.List.{AllByRecursion};
-ghost use Rattle.model_names.specs.RawParts.{raw_parts};
-ghost use Rattle.model_names.specs.Spelling.{word_of, path_of_parts};
-ghost use Rattle.model_names.specs.Spells.{walked};
-ghost use Rattle.key_name.specs.Plain.{BeginsPlainly, IsPlainByte, plain_step};
+//! From a text to a namespace and what stands behind its first slash.
+ghost use Rattle.std.specs.Prelude.{◌≡◌, ◌++◌, ◌∷◌, IfErr, IfOk};
+ghost use Rattle.model_names.specs.Refuses.{namespace_of_word};
+ghost use Rattle.model_names.specs.Spelling.{word_of};
+ghost use Rattle.key_name.specs.Refused.{IsRefusal};
 
-use crate::Memory;
+use crate::NameFault;
 use model_names::Namespace;
-use std::alloc::Global;
 
 /// The namespace of a text, and what stands behind its first slash.
-pub fn cut_namespace(text: &str) -> (Namespace, &str)
-    requires { BeginsPlainly text.now }
-    ensures { text.now ≡ word_of result.0 ++ 47 ∷ result.1.now }
+pub fn cut_namespace(text: &str) -> Result<(Namespace, &str), NameFault>
+    ensures cut { IfOk result (λ cut. text.now ≡ word_of cut.0 ++ 47 ∷ cut.1.now) }
+    ensures refused { IfErr result (λ fault. IsRefusal text.now fault) }
 {
-    match text.strip_prefix("user:/") {
-        Some(path) => (Namespace::User, path),
-        None => (Namespace::Cascading, &text[1..]),
+    if let Some(path) = text.strip_prefix('/') {
+        return Ok((Namespace::Cascading, path));
+    }
+    let Some((word, behind)) = text.split_once(':') else {
+        return Err(NameFault::NoNamespace);
+    };
+    let Some(namespace) = namespace_of(word) else {
+        return Err(NameFault::UnknownNamespace);
+    };
+    match behind.strip_prefix('/') {
+        Some(path) => Ok((namespace, path)),
+        None => Err(NameFault::NoSlash),
     }
 }
 
-/// The parts that the raw parts of a plain text lead to. Their path is spelled no longer than a slash and the text.
-pub fn parts_of(alloc: Global, path: &str) -> Result<Vec<String>, Memory>
-    requires { AllByRecursion IsPlainByte path.now }
-    ensures leads { IfOk result (λ parts. walked [] (raw_parts path.now) ≡ Some (map (λ part. string_bytes part) parts.items)) }
-    ensures short { IfOk result (λ parts. length (path_of_parts (map (λ part. string_bytes part) parts.items)) ≤ length path.now + 1) }
+/// The namespace that a word names.
+fn namespace_of(word: &str) -> Option<Namespace>
+    ensures { result ≡ namespace_of_word word.now }
 {
-    let mut parts = Vec::new(alloc);
-    for raw in path.split('/') {
-        step(alloc, &mut parts, raw)?;
+    match word {
+        "spec" => Some(Namespace::Spec),
+        "proc" => Some(Namespace::Proc),
+        "dir" => Some(Namespace::Dir),
+        "user" => Some(Namespace::User),
+        "system" => Some(Namespace::System),
+        "default" => Some(Namespace::Default),
+        _ => None,
     }
-    Ok(parts)
-}
-
-/// Goes on by one raw part: an empty one and `.` stay, `..` goes up, and any other is a part.
-fn step(alloc: Global, parts: &mut Vec<String>, raw: &str) -> Result<(), Memory>
-    ensures { OnOk result (map (λ part. string_bytes part) parts.new.items ≡ plain_step (map (λ part. string_bytes part) parts.old.items) raw.now) }
-{
-    match raw {
-        "" | "." => {}
-        ".." => {
-            parts.pop();
-        }
-        _ => parts.push(String::from_str(alloc, raw)?)?,
-    }
-    Ok(())
 }

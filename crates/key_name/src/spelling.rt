@@ -1,10 +1,11 @@
 //! From a namespace and parts to their canonical spelling.
-ghost use Rattle.std.specs.Prelude.{◌≡◌, ◌++◌, OnOk, map, string_bytes, encode_utf8};
+ghost use Rattle.std.specs.Prelude.{◌≡◌, ◌++◌, IfOk, OnOk, length, map, string_bytes, encode_utf8};
 ghost use Rattle.std.specs.List.{flat_map};
 ghost use Rattle.model_names.specs.Spelling.{word_of, escaped, spelled, path_of_parts};
 
 use crate::Memory;
 use model_names::Namespace;
+use std::alloc::Global;
 
 /// What stands before the first slash of a name.
 pub fn word(namespace: Namespace) -> &'static str
@@ -33,6 +34,15 @@ pub fn push_path(text: &mut String, parts: &[String]) -> Result<(), Memory>
         push_spelled(text, part)?;
     }
     Ok(())
+}
+
+/// How many bytes the path of some parts has. It is spelled to count them, so that no count can overflow.
+pub fn path_len(alloc: Global, parts: &[String]) -> Result<usize, Memory>
+    ensures { IfOk result (λ bytes. bytes ≡ length (path_of_parts (map (λ part. string_bytes part) parts.now))) }
+{
+    let mut path = String::new(alloc);
+    push_path(&mut path, parts)?;
+    Ok(path.len())
 }
 
 fn push_spelled(text: &mut String, part: &str) -> Result<(), Memory>

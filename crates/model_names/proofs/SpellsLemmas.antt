@@ -31,7 +31,7 @@ namespace_of-word User rest = refl
 namespace_of-word System rest = refl
 namespace_of-word Default rest = refl
 
-drop-word : (n : Namespace) (rest : List ℕ) → drop (length (word_of n) + 1) (word_of n ++ 47 ∷ rest) ≡ rest
+pub drop-word : (n : Namespace) (rest : List ℕ) → drop (length (word_of n) + 1) (word_of n ++ 47 ∷ rest) ≡ rest
 drop-word Cascading rest = refl
 drop-word Spec rest = refl
 drop-word Proc rest = refl

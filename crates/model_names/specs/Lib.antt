@@ -6,3 +6,4 @@ pub mod Spells
 pub mod Order
 pub mod Below
 pub mod Glob
+pub mod Refuses

@@ -6,6 +6,7 @@ ghost use Rattle.model_names.specs.Name.{Name};
 ghost use Rattle.model_names.specs.Order.{name_cmp};
 ghost use Rattle.model_names.specs.Spelling.{spelling};
 ghost use Rattle.model_names.specs.Spells.{Spells};
+ghost use Rattle.model_names.specs.Refuses.{NoNamespace, UnknownNamespace, NoSlash, BadEscape, BadArray, Nul, refusal_of};
 
 /// Empty parts, `.` and `..` are dropped, and an array part gets its underscores.
 pub fn spelled_names_are_reduced()
@@ -35,4 +36,16 @@ pub fn spellings_are_canonical()
     ensures root { spelling (record { namespace = User; parts = [] }) ≡ codes "user:/" }
     ensures escaped { spelling (record { namespace = User; parts = codes "a/b" ∷ [] ∷ [] }) ≡ codes "user:/a\\/b/%" }
     ensures reserved { spelling (record { namespace = User; parts = codes ".." ∷ codes "%" ∷ [] }) ≡ codes "user:/\\../\\%" }
+{}
+
+/// Each refusal, with its place.
+pub fn refused_texts_have_their_refusals()
+    ensures no_namespace { refusal_of (codes "sw/a") ≡ Some NoNamespace }
+    ensures unknown { refusal_of (codes "me:/a") ≡ Some UnknownNamespace }
+    ensures no_slash { refusal_of (codes "user:a") ≡ Some NoSlash }
+    ensures escape { refusal_of (codes "user:/a\\b") ≡ Some (BadEscape 7) }
+    ensures underscore { refusal_of (codes "user:/#_1") ≡ Some (BadArray 6) }
+    ensures zero { refusal_of (codes "user:/#00") ≡ Some (BadArray 6) }
+    ensures nul { refusal_of (codes "user:/a" ++ 0 ∷ []) ≡ Some (Nul 7) }
+    ensures name { refusal_of (codes "user:/a\\/b/%/#10") ≡ None }
 {}

@@ -7,8 +7,11 @@ mod laws;
 mod namespaces;
 
 pub use examples::{
-    names_are_ordered_by_parts, refused_texts_spell_no_name, spelled_names_are_reduced,
-    spellings_are_canonical,
+    names_are_ordered_by_parts, refused_texts_have_their_refusals, refused_texts_spell_no_name,
+    spelled_names_are_reduced, spellings_are_canonical,
 };
-pub use laws::{one_name_ties_with_itself_alone, one_text_spells_one_name, order_is_total};
+pub use laws::{
+    a_spelled_text_has_no_refusal, a_text_without_refusal_spells_a_name,
+    one_name_ties_with_itself_alone, one_text_spells_one_name, order_is_total,
+};
 pub use namespaces::Namespace;

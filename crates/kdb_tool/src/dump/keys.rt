@@ -48,7 +48,8 @@ pub fn name_of(alloc: Global, text: &[u8]) -> Result<Option<KeyName>, Memory>
     let Ok(text) = str::from_utf8(text) else {
         return Ok(None);
     };
-    let mut name = String::from_str(alloc, "/")?;
+    let mut name = String::with_capacity(alloc, 1 + text.len())?;
+    name.push_str("/")?;
     name.push_str(text)?;
     match KeyName::parse(alloc, &name) {
         Ok(name) => Ok(Some(name)),

@@ -1,54 +1,32 @@
 //! Names by examples.
-ghost use Rattle.std.specs.Prelude.{All};
-ghost use Rattle.std.specs.Bool.{OnTrue};
-ghost use Rattle.key_name.specs.Plain.{BeginsPlainly, IsPlain, IsPlainByte};
 
 use super::KeyName;
-use crate::Namespace;
+use crate::{NameFault, Namespace};
 use std::cmp::Ordering;
-use std::process::Abort;
 use std::test::Fail;
 
-fn has_plain_bytes(bytes: &[u8]) -> bool
-    ensures { OnTrue result (All IsPlainByte bytes.now) }
-{
-    bytes
-        .iter()
-        .all(|b| *b != b'\\' && *b != b'%' && *b != b'#' && *b > 0)
-}
-
-fn is_plain(text: &str) -> bool
-    ensures { OnTrue result (IsPlain text.now) }
-{
-    has_plain_bytes(text.as_bytes()) && text.len() <= 4096
-}
-
-fn begins_plainly(text: &str) -> bool
-    ensures { OnTrue result (BeginsPlainly text.now) }
-{
-    text.strip_prefix('/').is_some() || text.strip_prefix("user:/").is_some()
-}
-
-/// The name that a text spells which `parse` takes.
-fn name(rt: &(impl Abort + AllocGlobal), text: &str) -> Result<KeyName, Fail> {
-    assert!(rt; is_plain(text));
-    assert!(rt; begins_plainly(text));
-    Ok(KeyName::parse(rt.alloc(), text)?)
-}
-
 #[test]
-fn reduces_empty_parts_and_dots(rt: HostRuntime) -> Result<(), Fail> {
+fn spells_names_canonically(rt: HostRuntime) -> Result<(), Fail> {
     let rows = [
         ("user://a/./b/../c/", "user:/a/c"),
         ("user:/..", "user:/"),
         ("user:/..../a", "user:/..../a"),
         ("user:/../../a/...", "user:/a/..."),
         ("user:/gr\u{fc}n/a b", "user:/gr\u{fc}n/a b"),
+        ("user:/a\\/b/%", "user:/a\\/b/%"),
+        ("user:/\\%/\\./\\../a\\\\", "user:/\\%/\\./\\../a\\\\"),
+        ("user:/#x", "user:/#x"),
+        ("user:/#0/#10/#_10", "user:/#0/#_10/#_10"),
+        (
+            "user:/#9223372036854775807",
+            "user:/#__________________9223372036854775807",
+        ),
+        ("default:/a/..", "default:/"),
         ("/", "/"),
         ("/a//b/", "/a/b"),
     ];
     for (text, spelled) in rows {
-        let name = name(&rt, text)?;
+        let name = KeyName::parse(rt.alloc(), text)?;
         assert_eq!(rt; name.text()?.as_str(), spelled, "of {text}");
         assert_eq!(rt;
             name.copy()?.text()?.as_str(),
@@ -60,28 +38,62 @@ fn reduces_empty_parts_and_dots(rt: HostRuntime) -> Result<(), Fail> {
 }
 
 #[test]
-fn takes_a_path_of_4096_bytes(rt: HostRuntime) -> Result<(), Fail> {
-    let mut text = String::from_str(rt.alloc(), "/")?;
-    for _ in 0..4095 {
-        text.push('a')?;
-    }
-    let name = name(&rt, text.as_str())?;
-    assert_eq!(rt; name.len(), 1);
-    assert_eq!(rt; name.text()?.as_str(), text.as_str());
-    Ok(())
-}
-
-#[test]
 fn tells_its_namespace_and_parts(rt: HostRuntime) -> Result<(), Fail> {
-    let name = name(&rt, "user:/a/b")?;
+    let name = KeyName::parse(rt.alloc(), "user:/a/b")?;
     assert_eq!(rt; name.namespace(), Namespace::User);
     assert_eq!(rt; name.len(), 2);
     assert_eq!(rt; name.part(0), Some("a"));
     assert_eq!(rt; name.part(2), None);
     assert_eq!(rt; name.base_name(), Some("b"));
+    let escaped = KeyName::parse(rt.alloc(), "user:/a\\/b/%")?;
+    assert_eq!(rt; escaped.part(0), Some("a/b"));
+    assert_eq!(rt; escaped.base_name(), Some(""));
     let root = KeyName::root(rt.alloc(), Namespace::Spec);
     assert_eq!(rt; root.text()?.as_str(), "spec:/");
     assert_eq!(rt; root.base_name(), None);
+    Ok(())
+}
+
+#[test]
+fn refuses_by_the_first_fault_of_the_table(rt: HostRuntime) -> Result<(), Fail> {
+    let rows = [
+        ("", NameFault::NoNamespace),
+        ("sw/a", NameFault::NoNamespace),
+        ("me:/a", NameFault::UnknownNamespace),
+        ("user:a", NameFault::NoSlash),
+        ("user:/a\\b", NameFault::BadEscape { at: 7 }),
+        ("user:/a\\", NameFault::BadEscape { at: 7 }),
+        ("user:/#_1", NameFault::BadArray { at: 6 }),
+        ("user:/#00", NameFault::BadArray { at: 6 }),
+        ("user:/#9223372036854775808", NameFault::BadArray { at: 6 }),
+        (
+            "/#99999999999999999999999999",
+            NameFault::BadArray { at: 1 },
+        ),
+        ("/a\0", NameFault::Nul { at: 2 }),
+        ("/\0/#00/\\x", NameFault::BadEscape { at: 7 }),
+        ("/\0/#00", NameFault::BadArray { at: 3 }),
+    ];
+    for (text, fault) in rows {
+        assert_eq!(rt;
+            KeyName::parse(rt.alloc(), text).err(),
+            Some(fault),
+            "of {text:?}"
+        );
+    }
+    Ok(())
+}
+
+#[test]
+fn limits_a_path_to_4096_bytes(rt: HostRuntime) -> Result<(), Fail> {
+    let mut text = String::from_str(rt.alloc(), "user:/")?;
+    for _ in 0..4095 {
+        text.push('a')?;
+    }
+    assert_eq!(rt; KeyName::parse(rt.alloc(), text.as_str())?.len(), 1);
+    text.push('a')?;
+    let long = KeyName::parse(rt.alloc(), text.as_str()).err();
+    assert_eq!(rt; long, Some(NameFault::TooLong { bytes: 4097 }));
     Ok(())
 }
 
@@ -96,8 +108,8 @@ fn orders_by_namespace_and_then_by_parts(rt: HostRuntime) -> Result<(), Fail> {
         ("/a", "user:/a", Ordering::Less),
     ];
     for (left, right, order) in rows {
-        let a = name(&rt, left)?;
-        let b = name(&rt, right)?;
+        let a = KeyName::parse(rt.alloc(), left)?;
+        let b = KeyName::parse(rt.alloc(), right)?;
         assert_eq!(rt; a.cmp(&b), order, "{left} beside {right}");
         assert_eq!(rt; a == b, order == Ordering::Equal, "{left} beside {right}");
         assert_eq!(rt; a < b, order == Ordering::Less, "{left} beside {right}");
@@ -107,7 +119,7 @@ fn orders_by_namespace_and_then_by_parts(rt: HostRuntime) -> Result<(), Fail> {
 
 #[test]
 fn keeps_the_parts_in_another_namespace(rt: HostRuntime) -> Result<(), Fail> {
-    let name = name(&rt, "/sw/a")?.with_namespace(Namespace::System)?;
+    let name = KeyName::parse(rt.alloc(), "/sw/a")?.with_namespace(Namespace::System)?;
     assert_eq!(rt; name.text()?.as_str(), "system:/sw/a");
     Ok(())
 }

@@ -1,16 +1,25 @@
-use Rattle.std.proofs.Common.{◌≡◌, ◌≢◌, ℕ, List, ◌∷◌, ◌++◌, codes, drop, get_or, length, sym, ap, ◌∙◌, arith}
-use Rattle.std.proofs.lemmas.Str.{lead_after_ascii}
-use Rattle.key_name.specs.Plain.{BeginsPlainly, AtSlash, AtUser}
+use Rattle.std.proofs.Common.{None, Some, lit<, sym}
+use Rattle.std.proofs.lemmas.Str.Pattern.{strip_prefix_char, split_once_first}
+use Rattle.key_name.proofs.RefusedLemmas.{no_slash, IsCut, refusal_of-no_namespace, refusal_of-unknown, refusal_of-no_slash}
 use Rattle.key_name.proofs.parsing.cut_namespace.Goals as goal
 
--- a text that begins plainly, and not like one of a user, begins with a slash
-slash_first : (text : List ℕ) → BeginsPlainly text → ((rest : List ℕ) → text ≢ codes "user:/" ++ rest) → text ≡ 47 ∷ drop 1 text
-slash_first text (AtSlash rest e) h = e ∙ ap (λ t. 47 ∷ drop 1 t) (sym e)
-slash_first text (AtUser rest e) h = absurd (h rest e)
-
-pub range_from-requires : goal.range_from-requires
-range_from-requires c =
+pub returns-in_default-split_once-clause-refused : goal.returns-in_default-split_once-clause-refused
+returns-in_default-split_once-clause-refused c =
     let text = c.args.text.now in
-    let slash = slash_first text c.requires c.in-None.ensures.cases in
-    let first : get_or text 0 0 ≡ 47 = ap (λ t. get_or t 0 0) slash in
-    λ _. (omega (arith, ap length slash), lead_after_ascii text 0 c.utf8.text (omega (arith, first)))
+    let slash = no_slash text (strip_prefix_char 47 text None c.in_default.ensures.cases (lit< tt)) in
+    refusal_of-no_namespace text slash (split_once_first 58 text None c.in_default-split_once.ensures.cases (lit< tt))
+
+pub returns-in_default-namespace_of-clause-refused : goal.returns-in_default-namespace_of-clause-refused
+returns-in_default-namespace_of-clause-refused c =
+    let text = c.args.text.now in
+    let slash = no_slash text (strip_prefix_char 47 text None c.in_default.ensures.cases (lit< tt)) in
+    let cut : IsCut text c.in-Some-split_once.word.now c.in-Some-split_once.behind.now = let found = split_once_first 58 text (Some (c.in-Some-split_once.word, c.in-Some-split_once.behind)) c.in-Some-split_once.ensures.cases (lit< tt) in record { within = found.0; word_is_before = found.1; behind_is_after = found.2 } in
+    refusal_of-unknown text _ _ slash cut (sym c.in_default-namespace_of.ensures)
+
+pub returns-in-None-clause-refused : goal.returns-in-None-clause-refused
+returns-in-None-clause-refused c =
+    let text = c.args.text.now in
+    let slash = no_slash text (strip_prefix_char 47 text None c.in_default.ensures.cases (lit< tt)) in
+    let cut : IsCut text c.in-Some-split_once.word.now c.in-Some-split_once.behind.now = let found = split_once_first 58 text (Some (c.in-Some-split_once.word, c.in-Some-split_once.behind)) c.in-Some-split_once.ensures.cases (lit< tt) in record { within = found.0; word_is_before = found.1; behind_is_after = found.2 } in
+    let behind = no_slash c.in-Some-split_once.behind.now (strip_prefix_char 47 _ None c.in-None.ensures.cases (lit< tt)) in
+    refusal_of-no_slash text _ _ c.in-Some-namespace_of.namespace slash cut (sym c.in-Some-namespace_of.ensures) behind

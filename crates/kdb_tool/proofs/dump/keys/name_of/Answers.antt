@@ -1,8 +1,7 @@
 -- Bytes that are no text spell nothing, and a slash stands before the others.
-use Rattle.std.proofs.Common.{ℕ, List, ◌∷◌, ◌++◌, sym, ap, ap₂, ◌∙◌, arith}
+use Rattle.std.proofs.Common.{ℕ, List, ◌∷◌, ◌++◌, sym, ap, arith}
 use Rattle.std.specs.Str.{IsUtf8}
 use Rattle.std.proofs.lemmas.Str.{encode_ascii, IsUtf8-past_char}
-use Rattle.key_name.specs.Plain.{AtSlash}
 use Rattle.kdb_tool.proofs.dump.keys.name_of.Goals as goal
 
 -- what stands behind a slash is a text where both are
@@ -11,7 +10,3 @@ IsUtf8-after_slash text utf8 = IsUtf8-past_char (47 ∷ text) text 47 utf8 (ap (
 
 pub returns-in_default : goal.returns-in_default
 returns-in_default c name spells = c.in_default.ensures.cases.0 (IsUtf8-after_slash c.args.text.now spells.spelled.utf8)
-
-pub parse-requires-clause-begins : goal.parse-requires-clause-begins
-parse-requires-clause-begins c =
-    AtSlash c.args.text.now (c.deref.ensures ∙ c.in_ok-push_str.ensures.bytes ∙ ap₂ (λ front back. front ++ back) c.in_ok-name.ensures.ok c.in-Ok.ensures.cases.0)

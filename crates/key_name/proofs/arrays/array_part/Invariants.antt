@@ -1,0 +1,5 @@
+use Rattle.std.proofs.Common.{◌≡◌, ◌∷◌, replicate, string_bytes}
+use Rattle.key_name.proofs.arrays.array_part.Given as goal
+
+abbrev pub invariant-loop-written : goal.invariant-loop-written
+invariant-loop-written l = string_bytes l.part ≡ 35 ∷ replicate l._written 95

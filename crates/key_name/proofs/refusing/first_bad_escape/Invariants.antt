@@ -1,0 +1,7 @@
+use Rattle.std.proofs.Common.{◌≡◌, drop}
+use Rattle.model_names.specs.Refuses.{bad_escape, first_some}
+use Rattle.key_name.specs.Raws.{with_places}
+use Rattle.key_name.proofs.refusing.first_bad_escape.Given as goal
+
+abbrev pub invariant-loop-raw : goal.invariant-loop-raw
+invariant-loop-raw l = first_some bad_escape (with_places l.raws) ≡ first_some bad_escape (with_places (drop l.raw-index l.raws))
