@@ -11,11 +11,13 @@ use Rattle.std.proofs.lemmas.Bool.{cond-true, cond-false, cond_both, and_parts, 
 use Rattle.std.proofs.lemmas.Fmt.{decimal-digits_value, decimal_digit, first_decimal, decimal_is_IsNumeral}
 use Rattle.std.proofs.lemmas.List.{length-replicate}
 use Rattle.std.proofs.lemmas.Slice.Eq.{bytes_eq-Decides}
-use Rattle.std.proofs.lemmas.Str.Parse.{IsDigitsTest, IsNumeralModel, numerals_by_value, digit_at}
+use Rattle.std.proofs.lemmas.Str.Parse.{IsDigitsTest, IsNumeralModel, numerals_by_value}
 use Rattle.model_names.specs.Name.{Part}
 use Rattle.model_names.specs.ArrayPart.{last_index, array_part, without_underscores, are_digits, is_array_like, canonical_part}
 use Rattle.model_names.specs.Spells.{unescaped_from}
 use Rattle.model_names.specs.Refuses.{bad_array}
+use Rattle.model_names.proofs.EscapeLemmas.{IsUnescaped}
+use Rattle.model_names.proofs.PartLemmas.{decimal-first, without_underscores-leads}
 use Rattle.model_names.proofs.RefusesLemmas.{from_map, cond_some}
 use Rattle.key_name.specs.Arrays.{IsIndex}
 
@@ -93,18 +95,6 @@ leads_all (b ∷ bytes) =
 length-leads : (bytes digits : List ℕ) (l : Leads bytes digits) → length bytes ≡ l.count + length digits
 length-leads bytes digits l = ap length l.split ∙ length-append (replicate l.count 95) digits ∙ ap (λ n. n + length digits) (length-replicate l.count 95)
 
-without_underscores-leads : (n : ℕ) (digits : List ℕ) → get_or digits 0 0 ≢ 95 → without_underscores (replicate n 95 ++ digits) ≡ digits
-without_underscores-leads zero [] h = refl
-without_underscores-leads zero (d ∷ digits) h = cond-false (d == 95) _ _ (ne_eqb d 95 h)
-without_underscores-leads (suc n) digits h = without_underscores-leads n digits h
-
-decimal-first : (n : ℕ) → n ≤ last_index → get_or (decimal n) 0 0 ≢ 95
-decimal-first n within =
-    let small : n < 2 ^ 64 = omega arith in
-    let numeral = (decimal_is_IsNumeral n small).0 in
-    let range = digit_at (decimal n) 0 numeral.1 numeral.0 in
-    λ e. omega (arith, range.1)
-
 -- ---- the canonical form
 
 -- the part that an index's digits stand for
@@ -168,6 +158,13 @@ form_of_bytes bytes canonical h =
   where
     some_part : (a b : Part) → ◌≡◌ {A = Option Part} (Some a) (Some b) → a ≡ b
     some_part a b e = cc
+
+-- and it looks like an array's, since its digits are left where its underscores go
+pub is_array_like-canonical : (digits : List ℕ) → are_digits digits ≡ true → IsIndex digits → is_array_like (part_of_digits digits) ≡ true
+unfolding part_of_digits
+is_array_like-canonical digits h index =
+    let first : get_or digits 0 0 ≢ 95 = λ e. decimal-first (digits_value 10 digits) index.within (ap (λ d. get_or d 0 0) index.spelled ∙ e) in
+    ap are_digits (without_underscores-leads (length digits - 1) digits first) ∙ h
 
 pub HasForm-from_canonical : (part canonical : List ℕ) → is_array_like part ≡ true → canonical_part part ≡ Some canonical → HasForm part (without_underscores (drop 1 part)) canonical
 HasForm-from_canonical [] canonical like h = absurd cc
@@ -260,19 +257,14 @@ unescaped_from-array (b ∷ bytes) like =
     let digits = and_parts (ltb 0 (length (without_underscores bytes))) (list_all is_ascii_digit (without_underscores bytes)) parts.1 in
     as_it_is b bytes (λ q. omega arith) (bytes_unescaped bytes digits.1)
 
--- a byte that is never escaped
-pub record IsOrdinary (b : ℕ) : Type 0 where
-  pub no_backslash : b ≢ 92
-  pub no_slash : b ≢ 47
-
-digits_ordinary : (digits : List ℕ) → list_all is_ascii_digit digits ≡ true → AllByRecursion IsOrdinary digits
+digits_ordinary : (digits : List ℕ) → list_all is_ascii_digit digits ≡ true → AllByRecursion IsUnescaped digits
 digits_ordinary [] h = tt
 digits_ordinary (d ∷ digits) h =
     let both = and_parts (is_ascii_digit d) (list_all is_ascii_digit digits) h in
     let range = digit_range d both.0 in
     (record { no_backslash = λ e. omega (arith, range.1); no_slash = λ e. omega (arith, range.0) }, digits_ordinary digits both.1)
 
-bytes_ordinary : (bytes : List ℕ) → list_all is_ascii_digit (without_underscores bytes) ≡ true → AllByRecursion IsOrdinary bytes
+bytes_ordinary : (bytes : List ℕ) → list_all is_ascii_digit (without_underscores bytes) ≡ true → AllByRecursion IsUnescaped bytes
 bytes_ordinary [] h = tt
 bytes_ordinary (b ∷ bytes) h =
     elim (cases_Bool (b == 95)) [
@@ -280,7 +272,8 @@ bytes_ordinary (b ∷ bytes) h =
       | inr e ↦ digits_ordinary (b ∷ bytes) (sym (ap (list_all is_ascii_digit) (cond-false (b == 95) (without_underscores bytes) (b ∷ bytes) e)) ∙ h)
     ]
 
-array_ordinary : (text : List ℕ) → is_array_like text ≡ true → AllByRecursion IsOrdinary text
+-- a part that looks like an array's has no byte that is escaped
+pub array_ordinary : (text : List ℕ) → is_array_like text ≡ true → AllByRecursion IsUnescaped text
 array_ordinary [] like = tt
 array_ordinary (b ∷ bytes) like =
     let parts = like_parts b bytes like in
@@ -289,22 +282,22 @@ array_ordinary (b ∷ bytes) like =
     (record { no_backslash = λ q. omega arith; no_slash = λ q. omega arith }, bytes_ordinary bytes digits.1)
 
 -- a text without backslashes and slashes is unescaped from itself alone
-from_itself : (raw text : List ℕ) → unescaped_from false raw ≡ Some text → AllByRecursion IsOrdinary text → raw ≡ text
+from_itself : (raw text : List ℕ) → unescaped_from false raw ≡ Some text → AllByRecursion IsUnescaped text → raw ≡ text
 from_itself [] text h ordinary = cc
 from_itself (b ∷ raw) text h ordinary =
     elim (cases_Bool (b == 92)) [
       | inl e ↦ let escaped = sym (ap (λ t. cond t (unescaped_from t raw) (option_map (λ part. b ∷ part) (unescaped_from t raw))) e) ∙ h in absurd (no_escape raw text escaped ordinary)
       | inr e ↦ let rest = from_map (λ part. b ∷ part) (unescaped_from false raw) text (sym (ap (λ t. cond t (unescaped_from t raw) (option_map (λ part. b ∷ part) (unescaped_from t raw))) e) ∙ h) in
-          let same = from_itself raw rest.0 rest.1 (subst (λ (t : List ℕ). AllByRecursion IsOrdinary t) (sym rest.2) ordinary).1 in
+          let same = from_itself raw rest.0 rest.1 (subst (λ (t : List ℕ). AllByRecursion IsUnescaped t) (sym rest.2) ordinary).1 in
           ap (λ r. b ∷ r) same ∙ rest.2
     ]
   where
-    no_escape : (raw text : List ℕ) → unescaped_from true raw ≡ Some text → AllByRecursion IsOrdinary text → ⊥
+    no_escape : (raw text : List ℕ) → unescaped_from true raw ≡ Some text → AllByRecursion IsUnescaped text → ⊥
     no_escape [] text h ordinary = absurd cc
     no_escape (c ∷ raw) text h ordinary =
         let escapes = cond_some ((c == 92) || (c == 47)) (option_map (λ part. c ∷ part) (unescaped_from false raw)) text h in
         let rest = from_map (λ part. c ∷ part) (unescaped_from false raw) text escapes.1 in
-        let first = (subst (λ (t : List ℕ). AllByRecursion IsOrdinary t) (sym rest.2) ordinary).0 in
+        let first = (subst (λ (t : List ℕ). AllByRecursion IsUnescaped t) (sym rest.2) ordinary).0 in
         elim (or_cases (c == 92) (c == 47) escapes.0) [ inl e ↦ first.no_backslash (eqb-true c 92 e) | inr e ↦ first.no_slash (eqb-true c 47 e) ]
 
 -- what is unescaped from a raw part that does not look like an array's does not either

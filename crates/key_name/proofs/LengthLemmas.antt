@@ -7,7 +7,7 @@ use Rattle.model_names.specs.Name.{Part}
 use Rattle.model_names.specs.Spelling.{is_text, spelled, path_of_parts}
 use Rattle.model_names.specs.Spells.{Move, moved}
 use Rattle.key_name.specs.Plain.{IsPlainByte, plain_step}
-use Rattle.key_name.proofs.EscapeLemmas.{IsUnescaped, flat_map-escaped-same}
+use Rattle.model_names.proofs.EscapeLemmas.{IsUnescaped, flat_map-escaped-same}
 use Rattle.key_name.proofs.RawLemmas.{IsRawByte, ArePlain, ArePlain-split}
 
 -- the bytes of parts with a slash before each

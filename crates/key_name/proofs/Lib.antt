@@ -1,4 +1,3 @@
-pub mod EscapeLemmas
 pub mod LengthLemmas
 pub mod RawLemmas
 pub mod CutLemmas
@@ -6,3 +5,5 @@ pub mod ArrayLemmas
 pub mod PassLemmas
 pub mod WalkLemmas
 pub mod RefusedLemmas
+pub mod WellFormedLemmas
+pub mod MeasureLemmas

@@ -1,14 +1,15 @@
 -- A text's first refusal, by what the code finds.
-use Rattle.std.proofs.Common.{◌≡◌, ◌≢◌, ℕ, ◌+◌, ◌-◌, ◌<◌, false, eqb, ◌==◌, List, [], ◌∷◌, ◌++◌, length, map, Some, None, refl, sym, ap, ap₂, ◌∙◌, arith, length-append}
+use Rattle.std.proofs.Common.{◌≡◌, ◌≢◌, ℕ, ◌+◌, ◌-◌, ◌<◌, ◌≤◌, false, eqb, ◌==◌, List, [], ◌∷◌, ◌++◌, length, map, Some, None, refl, sym, ap, ap₂, ◌∙◌, arith, length-append}
 use Rattle.std.specs.List.{position, position_or_len, before_first, after_first}
+use Rattle.std.specs.Str.{IsUtf8}
 use Rattle.std.proofs.lemmas.Bool.{cond-true, cond-false, ne_eqb, lt-ltb}
 use Rattle.model_names.specs.declared.namespaces.Namespace.{Namespace}
-use Rattle.model_names.specs.Name.{Part}
+use Rattle.model_names.specs.Name.{Name, Part}
 use Rattle.model_names.specs.Spelling.{word_of, path_of_parts}
 use Rattle.model_names.specs.RawParts.{raw_parts}
-use Rattle.model_names.specs.Spells.{walked, longest_path}
+use Rattle.model_names.specs.Spells.{Spells, walked, longest_path}
 use Rattle.model_names.specs.Refuses.{NoNamespace, UnknownNamespace, NoSlash, BadEscape, BadArray, Nul, TooLong, namespace_of_word, begins_with_slash, start_of_text, placed, bad_escape, bad_array, first_some, too_long, refusal_of}
-use Rattle.model_names.proofs.RefusesLemmas.{start_at, start_of_text-no_colon, start_of_text-colon, refusal_of-refused, refusal_of-behind, first_refusal, too_long-at, AreFine-from_walked, walked-fine, word_is, word_cut, colon_cut}
+use Rattle.model_names.proofs.RefusesLemmas.{no_nul-from_position, start_at, start_of_text-no_colon, start_of_text-colon, refusal_of-refused, refusal_of-behind, first_refusal, too_long-at, AreFine-from_walked, walked-fine, word_is, word_cut, colon_cut}
 use Rattle.key_name.specs.declared.raw_parts.Raw.{Raw}
 use Rattle.key_name.specs.Raws.{with_places, texts}
 
@@ -119,3 +120,8 @@ refusal_of-long text path namespace parts cut nul leads long =
     let fine = AreFine-from_walked (length (word_of namespace) + 1) (raw_parts path) [] parts leads in
     let over = too_long-at (raw_parts path) parts leads ∙ cond-true _ _ _ (lt-ltb longest_path (length (path_of_parts parts)) long) in
     refusal_of-behind namespace path text cut ∙ (λ i. first_refusal (fine.escapes i) (fine.arrays i) (nul i) (over i))
+
+-- a text that no pass refuses spells the name that its path leads to
+pub Spells-found : (text path : List ℕ) (name : Name) → text ≡ word_of name.namespace ++ 47 ∷ path → IsUtf8 text → position (λ b. b == 0) text ≡ None → walked [] (raw_parts path) ≡ Some name.parts → length (path_of_parts name.parts) ≤ longest_path → Spells text name
+Spells-found text path name cut utf8 no_nul leads limit =
+    record { rest = path; cut = cut; leads = leads; utf8 = utf8; no_nul = no_nul-from_position text no_nul; limit = limit }

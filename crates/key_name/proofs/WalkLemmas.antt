@@ -1,12 +1,12 @@
 -- A walk over raw parts, and the escapes of one.
-use Rattle.std.proofs.Common.{◌≡◌, ◌≢◌, ℕ, ◌+◌, ◌<◌, Bool, true, false, not, cond, ◌==◌, ◌&&◌, ◌||◌, List, [], ◌∷◌, ◌++◌, length, drop, get_or, codes, map, Option, Some, None, option_and_then, refl, sym, ap, ap₂, subst, ◌∙◌, inl, inr, arith, append_assoc}
-use Rattle.std.specs.List.{AllByRecursion}
+use Rattle.std.proofs.Common.{◌≡◌, ◌≢◌, ℕ, ◌+◌, ◌<◌, Bool, true, false, not, cond, ◌==◌, ◌&&◌, ◌||◌, List, [], ◌∷◌, ◌++◌, length, drop, get_or, codes, map, Option, Some, option_and_then, refl, sym, ap, ap₂, subst, ◌∙◌, inl, inr, arith, append_assoc}
+use Rattle.std.specs.List.{list_any}
 use Rattle.std.specs.Option.{option_map}
 use Rattle.std.specs.Prelude.{encode_utf8, encode_utf8_all}
-use Rattle.std.proofs.lemmas.Bool.{cond-true, cond-false, and_right, ne_eqb, eq-eqb, or_from, cases_eq}
+use Rattle.std.proofs.lemmas.Bool.{cond-true, cond-false, and_right, ne_eqb, eq-eqb, or_from, or_parts, cases_eq}
 use Rattle.std.proofs.lemmas.List.{append-nil}
 use Rattle.std.specs.Str.{IsUtf8, chars}
-use Rattle.std.proofs.lemmas.Str.{encodes-chars, encode_ascii, encodes-append, length-encode, len_utf8_bounds}
+use Rattle.std.proofs.lemmas.Str.{encodes-chars, encode_ascii, encodes-append}
 use Rattle.model_names.specs.Name.{Part}
 use Rattle.model_names.specs.ArrayPart.{is_array_like, canonical_part, without_underscores}
 use Rattle.model_names.specs.Spelling.{is_text}
@@ -15,7 +15,7 @@ use Rattle.model_names.proofs.RefusesLemmas.{branch_taken, from_map, from_and_th
 use Rattle.key_name.specs.declared.raw_parts.Raw.{Raw}
 use Rattle.key_name.specs.Raws.{texts}
 use Rattle.key_name.proofs.ArrayLemmas.{HasForm-from_canonical, part_of_digits, unescaped_from-array, is_array_like-unescaped}
-use Rattle.key_name.proofs.EscapeLemmas.{IsUnescaped, IsUnescaped-encode_utf8}
+use Rattle.model_names.proofs.EscapeLemmas.{IsUnescaped-encode_utf8, read_all, escapes_no_letter}
 use Rattle.key_name.proofs.PassLemmas.{drop-item, other_text, same_text}
 
 -- ---- what a raw part means
@@ -65,6 +65,14 @@ part_of_text-plain raw part other h =
 
 -- ---- escapes
 
+-- a raw part without a backslash is read as it is
+pub unescaped_from-bare : (raw part : List ℕ) → list_any (λ b. b == 92) raw ≡ false → unescaped_from false raw ≡ Some part → raw ≡ part
+unescaped_from-bare [] part h reads = cc
+unescaped_from-bare (b ∷ raw) part h reads =
+    let tests = or_parts (b == 92) (list_any (λ b. b == 92) raw) h in
+    let rest = from_map (λ part. b ∷ part) (unescaped_from false raw) part (sym (ap (λ t. cond t (unescaped_from t raw) (option_map (λ part. b ∷ part) (unescaped_from t raw))) tests.0) ∙ reads) in
+    ap (λ r. b ∷ r) (unescaped_from-bare raw rest.0 tests.1 rest.1) ∙ rest.2
+
 -- what is read of a part so far is written, and what is left of its text leads to the rest of the part
 pub record Leads (waits : Bool) (written left part : List ℕ) : Type 0 where
   pub rest : Part
@@ -83,31 +91,13 @@ Leads-end false written part h =
     some_is : (a b : List ℕ) → ◌≡◌ {A = Option (List ℕ)} (Some a) (Some b) → a ≡ b
     some_is a b e = cc
 
--- bytes without a backslash are read as they are
-read_all : (bytes left : List ℕ) → AllByRecursion IsUnescaped bytes → (rest : List ℕ) → unescaped_from false (bytes ++ left) ≡ Some rest → (tail : List ℕ) × (unescaped_from false left ≡ Some tail) × (rest ≡ bytes ++ tail)
-read_all [] left ordinary rest h = (rest, h, refl)
-read_all (b ∷ bytes) left ordinary rest h =
-    let plain = sym (ap (λ t. cond t (unescaped_from t (bytes ++ left)) (option_map (λ part. b ∷ part) (unescaped_from t (bytes ++ left)))) (ne_eqb b 92 ordinary.0.no_backslash)) ∙ h in
-    let behind = from_map (λ part. b ∷ part) (unescaped_from false (bytes ++ left)) rest plain in
-    let tail = read_all bytes left ordinary.1 behind.0 behind.1 in
-    (tail.0, tail.1, sym behind.2 ∙ ap (λ t. b ∷ t) tail.2)
-
--- a backslash waits for a byte that it can escape
-escapes_none : (bytes left : List ℕ) → AllByRecursion IsUnescaped bytes → 0 < length bytes → unescaped_from true (bytes ++ left) ≡ None
-escapes_none [] left ordinary h = absurd (omega arith)
-escapes_none (b ∷ bytes) left ordinary h =
-    cond-false ((b == 92) || (b == 47)) _ _ (or_from _ _ (ne_eqb b 92 ordinary.0.no_backslash) (ne_eqb b 47 ordinary.0.no_slash))
-
 one_letter : (letter left : List ℕ) (b : ℕ) → letter ≡ b ∷ [] → letter ++ left ≡ b ∷ left
 one_letter letter left b e = ap (λ bytes. bytes ++ left) e
-
-letter_bytes : (c : ℕ) → 0 < length (encode_utf8 c)
-letter_bytes c = let bounds = len_utf8_bounds c in omega (arith, length-encode c)
 
 -- a letter that is neither a backslash nor a slash
 pub Leads-ordinary : (waits : Bool) (written left part : List ℕ) (c : ℕ) → c ≢ 92 → c ≢ 47 → Leads waits written (encode_utf8 c ++ left) part → Leads false (written ++ encode_utf8 c) left part
 Leads-ordinary true written left part c no_backslash no_slash h =
-    let none = escapes_none (encode_utf8 c) left (IsUnescaped-encode_utf8 c no_backslash no_slash) (letter_bytes c) in
+    let none = escapes_no_letter c left no_backslash no_slash in
     let reads = h.reads in
     absurd (cc)
 Leads-ordinary false written left part c no_backslash no_slash h =

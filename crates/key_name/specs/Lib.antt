@@ -3,6 +3,7 @@ pub use Rattle.model_names.specs.Spelling
 pub use Rattle.model_names.specs.Spells
 pub use Rattle.model_names.specs.Order
 pub mod Comparing
+pub mod Joining
 pub mod KeyName
 pub mod Plain
 pub mod Raws

@@ -4,6 +4,7 @@
 mod arrays;
 mod cutting;
 mod faults;
+mod measuring;
 mod names;
 mod parsing;
 mod raw_parts;

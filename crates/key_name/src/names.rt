@@ -1,20 +1,25 @@
 //! A key's name, seen by contracts as its namespace and its parts.
-ghost use Rattle.std.specs.Prelude.{◌≡◌, ◌-◌, Some, [], length, None, IfErr, IfOk, OnOk, slice_get, map, string_bytes, refl};
+ghost use Rattle.std.specs.Prelude.{◌≡◌, ◌≤◌, ◌-◌, ◌++◌, IfSome, Some, [], length, None, IfErr, IfOk, OnOk, slice_get, map, nat_eq, string_bytes, refl};
+ghost use Rattle.std.specs.Bool.{Decides};
 ghost use Rattle.std.specs.Cmp.{partial_equiv_from_equiv, partial_order_from_agreeing_total};
 ghost use Rattle.std.specs.Option.{option_map};
+ghost use Rattle.std.specs.Ordering.{nat_cmp};
+ghost use Rattle.model_names.specs.declared.namespaces.Namespace.TheVariants.{Cascading};
+ghost use Rattle.model_names.specs.Below.{IsBelow, IsBelowOrSame, is_at_or_below};
+ghost use Rattle.model_names.specs.Name.{rank};
 ghost use Rattle.model_names.specs.Order.{name_cmp, name_eq};
 ghost use Rattle.model_names.specs.Refuses.{refusal_of};
-ghost use Rattle.model_names.specs.Spells.{Spells};
-ghost use Rattle.model_names.specs.Spelling.{spelling};
+ghost use Rattle.model_names.specs.Spells.{Spells, longest_path};
+ghost use Rattle.model_names.specs.Spelling.{path, spelling};
+ghost use Rattle.model_names.specs.WellFormed.{IsName};
 ghost use Rattle.model_names.proofs.OrderLemmas.{name_cmp_total};
 ghost use Rattle.key_name.specs.Comparing.{name_eq_equiv, name_ties};
+ghost use Rattle.key_name.specs.Joining.{joined, way_to, IsTooLong};
 ghost use Rattle.key_name.specs.Refused.{IsRefusal};
 
-use crate::cutting::cut;
-use crate::parsing::cut_namespace;
-use crate::refusing::{first_bad_array, first_bad_escape, first_nul};
-use crate::spelling::{path_len, push_path, word};
-use crate::walking::walk;
+use crate::measuring::{joined_len, path_len};
+use crate::parsing::{cut_namespace, parts_of};
+use crate::spelling::{push_path, word};
 use crate::{Memory, NameFault};
 use model_names::Namespace;
 use std::alloc::{Allocator, Global};
@@ -24,7 +29,7 @@ use std::marker::Model;
 /// The most bytes that the path of a name may have.
 const LONGEST_PATH: usize = 4096;
 
-/// A namespace and a list of parts.
+/// A namespace and a list of parts, such as some text spells.
 #[derive(Debug, Drop)]
 pub struct KeyName {
     namespace: Namespace,
@@ -36,9 +41,11 @@ impl Model for KeyName {
 
     ghost Value = { Name };
 
-    ghost use Rattle.key_name.specs.KeyName.{name_of};
+    ghost use Rattle.key_name.specs.KeyName.{name_of, MeansName};
 
     ghost view = { name_of };
+
+    ghost invariant = { MeansName };
 }
 
 impl KeyName {
@@ -49,27 +56,18 @@ impl KeyName {
         ensures refused { IfErr result (λ fault. IsRefusal text.now fault) }
     {
         let (namespace, path) = cut_namespace(text)?;
-        let raws = cut(alloc, text, path)?;
-        if let Some(at) = first_bad_escape(&raws) {
-            return Err(NameFault::BadEscape { at });
-        }
-        if let Some(at) = first_bad_array(&raws) {
-            return Err(NameFault::BadArray { at });
-        }
-        if let Some(at) = first_nul(text) {
-            return Err(NameFault::Nul { at });
-        }
-        let parts = walk(alloc, &raws)?;
-        let bytes = path_len(alloc, &parts)?;
+        let parts = parts_of(alloc, text, path)?;
+        let bytes = path_len(&parts);
         if bytes > LONGEST_PATH {
             return Err(NameFault::TooLong { bytes });
         }
         Ok(KeyName { namespace, parts })
     }
 
-    /// The canonical spelling.
+    /// The canonical spelling, which spells this name.
     pub fn text(&self) -> Result<String, Memory>
-        ensures { IfOk result (λ text. string_bytes text ≡ spelling self.now) }
+        ensures canonical { IfOk result (λ text. string_bytes text ≡ spelling self.now) }
+        ensures spells { IfOk result (λ text. Spells (string_bytes text) self.now) }
     {
         let mut text = String::from_str(*self.parts.allocator(), word(self.namespace))?;
         push_path(&mut text, &self.parts)?;
@@ -93,6 +91,53 @@ impl KeyName {
         })
     }
 
+    /// This name with the parts of a relative one, which is a cascading name, behind its own.
+    pub fn join(&self, relative: &KeyName) -> Result<KeyName, NameFault>
+        requires cascading { relative.now.namespace ≡ Cascading }
+        ensures ok { IfOk result (λ name. name ≡ joined self.now relative.now) }
+        ensures limit { OnOk result (length (path (joined self.now relative.now)) ≤ longest_path) }
+        ensures err { IfErr result (λ fault. IsTooLong (joined self.now relative.now) fault) }
+    {
+        let bytes = joined_len(&self.parts, &relative.parts);
+        if bytes > LONGEST_PATH {
+            return Err(NameFault::TooLong { bytes });
+        }
+        Ok(KeyName {
+            namespace: self.namespace,
+            parts: joined_parts(*self.parts.allocator(), &self.parts, &relative.parts)?,
+        })
+    }
+
+    /// The cascading name that leads here from another. There is none where this name is neither that one nor below it.
+    pub fn relative_to(&self, above: &KeyName) -> Result<Option<KeyName>, Memory>
+        ensures way { IfOk result (λ found. found ≡ way_to above.now self.now) }
+        ensures back { IfOk result (λ found. IfSome found (λ way. joined above.now way ≡ self.now)) }
+    {
+        if !self.is_below_or_same(above) {
+            return Ok(None);
+        }
+        let rest = &self.parts[above.len()..];
+        Ok(Some(KeyName {
+            namespace: Namespace::Cascading,
+            parts: copy_of(*self.parts.allocator(), rest)?,
+        }))
+    }
+
+    /// Whether it stands below another name, in one namespace.
+    pub fn is_below(&self, above: &KeyName) -> bool
+        ensures { Decides result (IsBelow self.now above.now) }
+    {
+        self.len() > above.len() && self.is_below_or_same(above)
+    }
+
+    /// Whether it is another name, or stands below it.
+    pub fn is_below_or_same(&self, above: &KeyName) -> bool
+        ensures test { result ≡ is_at_or_below above.now self.now }
+        ensures relation { Decides result (IsBelowOrSame self.now above.now) }
+    {
+        same_namespace(self.namespace, above.namespace) && self.parts.starts_with(&above.parts)
+    }
+
     /// The name of a namespace's root, which has no parts.
     pub fn root(alloc: Global, namespace: Namespace) -> KeyName
         ensures { result ≡ record { namespace = namespace; parts = [] } }
@@ -111,9 +156,25 @@ impl KeyName {
 
     /// How many parts it has.
     pub fn len(&self) -> usize
-        ensures { result ≡ length self.now.parts }
+        ensures parts { result ≡ length self.now.parts }
+        ensures well_formed { IsName self.now }
     {
         self.parts.len()
+    }
+
+    /// How many bytes its path has, from its first slash on.
+    pub fn path_bytes(&self) -> usize
+        ensures bytes { result ≡ length (path self.now) }
+        ensures limit { result ≤ longest_path }
+    {
+        path_len(&self.parts)
+    }
+
+    /// How many bytes its canonical spelling has.
+    pub fn text_bytes(&self) -> usize
+        ensures { result ≡ length (spelling self.now) }
+    {
+        word(self.namespace).len() + self.path_bytes()
     }
 
     /// A part by its place, unescaped.
@@ -171,11 +232,23 @@ impl Ord for KeyName {
     ghost matches_eq = { name_ties };
 
     fn cmp(&self, other: &KeyName) -> Ordering {
-        match self.namespace.cmp(&other.namespace) {
+        match namespace_cmp(self.namespace, other.namespace) {
             Ordering::Equal => self.parts.cmp(&other.parts),
             decided => decided,
         }
     }
+}
+
+fn namespace_cmp(left: Namespace, right: Namespace) -> Ordering
+    ensures { result ≡ nat_cmp (rank left) (rank right) }
+{
+    left.cmp(&right)
+}
+
+fn same_namespace(left: Namespace, right: Namespace) -> bool
+    ensures { result ≡ nat_eq (rank left) (rank right) }
+{
+    left == right
 }
 
 /// The same texts again.
@@ -187,6 +260,17 @@ fn copy_of(alloc: Global, parts: &[String]) -> Result<Vec<String>, Memory>
         copied.push(part.clone()?)?;
     }
     Ok(copied)
+}
+
+/// The texts of two lists, one list behind the other.
+fn joined_parts(alloc: Global, front: &[String], back: &[String]) -> Result<Vec<String>, Memory>
+    ensures { IfOk result (λ all. map (λ part. string_bytes part) all.items ≡ map (λ part. string_bytes part) front.now ++ map (λ part. string_bytes part) back.now) }
+{
+    let mut all = copy_of(alloc, front)?;
+    for part in back {
+        all.push(part.clone()?)?;
+    }
+    Ok(all)
 }
 
 #[cfg(test)]

@@ -1,11 +1,19 @@
-//! From a text to a namespace and what stands behind its first slash.
-ghost use Rattle.std.specs.Prelude.{◌≡◌, ◌++◌, ◌∷◌, IfErr, IfOk};
+//! From a text to a namespace and the parts that its path leads to.
+ghost use Rattle.std.specs.Prelude.{◌≡◌, ◌++◌, ◌∷◌, [], ◌==◌, IfErr, IfOk, OnOk, Some, None, map, string_bytes};
+ghost use Rattle.std.specs.List.{position};
+ghost use Rattle.model_names.specs.RawParts.{raw_parts};
 ghost use Rattle.model_names.specs.Refuses.{namespace_of_word};
 ghost use Rattle.model_names.specs.Spelling.{word_of};
+ghost use Rattle.model_names.specs.Spells.{walked};
+ghost use Rattle.key_name.specs.Raws.{EndsIn};
 ghost use Rattle.key_name.specs.Refused.{IsRefusal};
 
 use crate::NameFault;
+use crate::cutting::cut;
+use crate::refusing::{first_bad_array, first_bad_escape, first_nul};
+use crate::walking::walk;
 use model_names::Namespace;
+use std::alloc::Global;
 
 /// The namespace of a text, and what stands behind its first slash.
 pub fn cut_namespace(text: &str) -> Result<(Namespace, &str), NameFault>
@@ -25,6 +33,27 @@ pub fn cut_namespace(text: &str) -> Result<(Namespace, &str), NameFault>
         Some(path) => Ok((namespace, path)),
         None => Err(NameFault::NoSlash),
     }
+}
+
+/// The parts that the path at the end of a text leads to. The first fault of the text is told, where it is not the length of
+/// its path.
+pub fn parts_of(alloc: Global, text: &str, path: &str) -> Result<Vec<String>, NameFault>
+    requires cut { EndsIn text.now path.now }
+    ensures leads { IfOk result (λ parts. walked [] (raw_parts path.now) ≡ Some (map (λ part. string_bytes part) parts.items)) }
+    ensures no_nul { OnOk result (position (λ b. b == 0) text.now ≡ None) }
+    ensures refused { IfErr result (λ fault. IsRefusal text.now fault) }
+{
+    let raws = cut(alloc, text, path)?;
+    if let Some(at) = first_bad_escape(&raws) {
+        return Err(NameFault::BadEscape { at });
+    }
+    if let Some(at) = first_bad_array(&raws) {
+        return Err(NameFault::BadArray { at });
+    }
+    if let Some(at) = first_nul(text) {
+        return Err(NameFault::Nul { at });
+    }
+    Ok(walk(alloc, &raws)?)
 }
 
 /// The namespace that a word names.

@@ -1,11 +1,11 @@
 //! From a namespace and parts to their canonical spelling.
-ghost use Rattle.std.specs.Prelude.{◌≡◌, ◌++◌, IfOk, OnOk, length, map, string_bytes, encode_utf8};
+ghost use Rattle.std.specs.Prelude.{◌≡◌, ◌++◌, OnOk, map, string_bytes, encode_utf8};
 ghost use Rattle.std.specs.List.{flat_map};
 ghost use Rattle.model_names.specs.Spelling.{word_of, escaped, spelled, path_of_parts};
 
 use crate::Memory;
+use crate::measuring::escapes;
 use model_names::Namespace;
-use std::alloc::Global;
 
 /// What stands before the first slash of a name.
 pub fn word(namespace: Namespace) -> &'static str
@@ -36,15 +36,6 @@ pub fn push_path(text: &mut String, parts: &[String]) -> Result<(), Memory>
     Ok(())
 }
 
-/// How many bytes the path of some parts has. It is spelled to count them, so that no count can overflow.
-pub fn path_len(alloc: Global, parts: &[String]) -> Result<usize, Memory>
-    ensures { IfOk result (λ bytes. bytes ≡ length (path_of_parts (map (λ part. string_bytes part) parts.now))) }
-{
-    let mut path = String::new(alloc);
-    push_path(&mut path, parts)?;
-    Ok(path.len())
-}
-
 fn push_spelled(text: &mut String, part: &str) -> Result<(), Memory>
     ensures { OnOk result (string_bytes text.new ≡ string_bytes text.old ++ spelled part.now) }
 {
@@ -58,7 +49,18 @@ fn push_spelled(text: &mut String, part: &str) -> Result<(), Memory>
     push_escaped(text, part)
 }
 
+/// Appends a part with its escapes. Most have none, and are copied as they are.
 fn push_escaped(text: &mut String, part: &str) -> Result<(), Memory>
+    ensures { OnOk result (string_bytes text.new ≡ string_bytes text.old ++ flat_map escaped part.now) }
+{
+    if escapes(part) == 0 {
+        text.push_str(part)
+    } else {
+        push_letters(text, part)
+    }
+}
+
+fn push_letters(text: &mut String, part: &str) -> Result<(), Memory>
     ensures { OnOk result (string_bytes text.new ≡ string_bytes text.old ++ flat_map escaped part.now) }
 {
     for letter in part.chars() {

@@ -57,8 +57,18 @@ fn part_of_text(alloc: Global, raw: &str) -> Result<String, Memory>
     }
 }
 
-/// A raw part without its escapes.
+/// A raw part without its escapes. Most have none, and are copied as they are.
 fn unescaped(alloc: Global, raw: &str) -> Result<String, Memory>
+    ensures { IfOk result (λ text. (part : Part) → unescaped_from false raw.now ≡ Some part → string_bytes text ≡ part) }
+{
+    if raw.as_bytes().contains(&b'\\') {
+        without_escapes(alloc, raw)
+    } else {
+        String::from_str(alloc, raw)
+    }
+}
+
+fn without_escapes(alloc: Global, raw: &str) -> Result<String, Memory>
     ensures { IfOk result (λ text. (part : Part) → unescaped_from false raw.now ≡ Some part → string_bytes text ≡ part) }
 {
     let mut text = String::new(alloc);

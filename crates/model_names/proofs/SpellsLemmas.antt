@@ -65,11 +65,11 @@ both_true : (a b : Bool) → (a && b) ≡ true → (a ≡ true) × (b ≡ true)
 both_true true b e = (refl, e)
 both_true false b e = absurd cc
 
-no_nul-from_test : (text : List ℕ) → AllByRecursion (λ b. is_ascii_text_byte b ≡ true) text → AllByRecursion (λ b. 0 < b) text
+pub no_nul-from_test : (text : List ℕ) → AllByRecursion (λ b. is_ascii_text_byte b ≡ true) text → AllByRecursion (λ b. 0 < b) text
 no_nul-from_test [] h = tt
 no_nul-from_test (b ∷ text) h = (ltb-true 0 b (both_true _ _ h.0).0, no_nul-from_test text h.1)
 
-is_ascii-from_test : (text : List ℕ) → AllByRecursion (λ b. is_ascii_text_byte b ≡ true) text → AllByRecursion (λ b. b < 128) text
+pub is_ascii-from_test : (text : List ℕ) → AllByRecursion (λ b. is_ascii_text_byte b ≡ true) text → AllByRecursion (λ b. b < 128) text
 is_ascii-from_test [] h = tt
 is_ascii-from_test (b ∷ text) h = (ltb-true b 128 (both_true _ _ h.0).1, is_ascii-from_test text h.1)
 

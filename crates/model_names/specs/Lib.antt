@@ -3,6 +3,7 @@ pub mod ArrayPart
 pub mod Spelling
 pub mod RawParts
 pub mod Spells
+pub mod WellFormed
 pub mod Order
 pub mod Below
 pub mod Glob

@@ -1,12 +1,17 @@
 //! The laws of names that everything above stands on.
-ghost use Rattle.std.specs.Prelude.{◌≡◌, List, ℕ, None};
+ghost use Rattle.std.specs.Prelude.{◌≡◌, List, ℕ, None, true};
+ghost use Rattle.std.specs.Bool.{Decides};
 ghost use Rattle.std.specs.Cmp.{IsTotalOrder};
 ghost use Rattle.std.specs.FinMap.{IsAntisymmetric};
 ghost use Rattle.std.specs.Str.{IsUtf8};
+ghost use Rattle.model_names.specs.declared.namespaces.Namespace.TheVariants.{Cascading};
+ghost use Rattle.model_names.specs.Below.{IsBelowOrSame, is_at_or_below};
 ghost use Rattle.model_names.specs.Name.{Name};
 ghost use Rattle.model_names.specs.Order.{name_cmp};
-ghost use Rattle.model_names.specs.Refuses.{refusal_of};
+ghost use Rattle.model_names.specs.Refuses.{begins_with_slash, refusal_of};
+ghost use Rattle.model_names.specs.Spelling.{spelling};
 ghost use Rattle.model_names.specs.Spells.{Spells};
+ghost use Rattle.model_names.specs.WellFormed.{IsName};
 
 /// A text spells at most one name.
 pub fn one_text_spells_one_name()
@@ -21,6 +26,32 @@ pub fn a_spelled_text_has_no_refusal()
 /// A text that has no refusal spells a name.
 pub fn a_text_without_refusal_spells_a_name()
     ensures { (text : List ℕ) → IsUtf8 text → refusal_of text ≡ None → (name : Name) × Spells text name }
+{}
+
+/// The canonical spelling of a well-formed name spells it.
+pub fn a_canonical_spelling_spells_its_name()
+    ensures { (name : Name) → IsName name → Spells (spelling name) name }
+{}
+
+/// What a text spells is well formed.
+pub fn what_a_text_spells_is_well_formed()
+    ensures { (text : List ℕ) (name : Name) → Spells text name → IsName name }
+{}
+
+/// Well-formed names that are spelled alike are one.
+pub fn one_spelling_one_name()
+    ensures { (a b : Name) → IsName a → IsName b → spelling a ≡ spelling b → a ≡ b }
+{}
+
+/// A text with a slash in front spells a cascading name only, and such a name is spelled so.
+pub fn a_slash_in_front_means_cascading()
+    ensures texts { (text : List ℕ) (name : Name) → begins_with_slash text ≡ true → Spells text name → name.namespace ≡ Cascading }
+    ensures spellings { (name : Name) → name.namespace ≡ Cascading → begins_with_slash (spelling name) ≡ true }
+{}
+
+/// The test of the names at or below a name tells just those that are it or below it.
+pub fn the_test_of_names_at_or_below_decides()
+    ensures { (above name : Name) → Decides (is_at_or_below above name) (IsBelowOrSame name above) }
 {}
 
 /// The order of names is total.

@@ -123,3 +123,116 @@ fn keeps_the_parts_in_another_namespace(rt: HostRuntime) -> Result<(), Fail> {
     assert_eq!(rt; name.text()?.as_str(), "system:/sw/a");
     Ok(())
 }
+
+#[test]
+fn counts_the_bytes_of_a_path(rt: HostRuntime) -> Result<(), Fail> {
+    let rows = [
+        ("user:/", 1),
+        ("user:/a", 2),
+        ("/a/b", 4),
+        ("/%", 2),
+        ("/\\./\\..", 7),
+        ("/a\\/b\\\\", 7),
+        ("system:/#10", 5),
+        ("system:/gr\u{fc}n", 6),
+    ];
+    for (text, bytes) in rows {
+        assert_eq!(rt;
+            KeyName::parse(rt.alloc(), text)?.path_bytes(),
+            bytes,
+            "of {text}"
+        );
+    }
+    Ok(())
+}
+
+#[test]
+fn joins_a_relative_name(rt: HostRuntime) -> Result<(), Fail> {
+    let rows = [
+        ("user:/sw/app", "/a/b", "user:/sw/app/a/b"),
+        ("user:/", "/a", "user:/a"),
+        ("dir:/a", "/", "dir:/a"),
+        ("/a", "/b\\/c/%", "/a/b\\/c/%"),
+    ];
+    for (front, relative, whole) in rows {
+        let name = KeyName::parse(rt.alloc(), front)?;
+        let way = KeyName::parse(rt.alloc(), relative)?.with_namespace(Namespace::Cascading)?;
+        let joined = name.join(&way)?;
+        assert_eq!(rt; joined.text()?.as_str(), whole, "{front} and {relative}");
+    }
+    Ok(())
+}
+
+#[test]
+fn joins_no_name_whose_path_is_too_long(rt: HostRuntime) -> Result<(), Fail> {
+    let mut half = String::from_str(rt.alloc(), "user:/")?;
+    for _ in 0..2047 {
+        half.push('a')?;
+    }
+    let name = KeyName::parse(rt.alloc(), half.as_str())?;
+    let way = name.with_namespace(Namespace::Cascading)?;
+    assert_eq!(rt; name.join(&way)?.path_bytes(), 4096);
+    half.push('a')?;
+    let longer = KeyName::parse(rt.alloc(), half.as_str())?;
+    let long = longer.join(&way).err();
+    assert_eq!(rt; long, Some(NameFault::TooLong { bytes: 4097 }));
+    Ok(())
+}
+
+#[test]
+fn reads_its_spellings_back(rt: HostRuntime) -> Result<(), Fail> {
+    let rows = ["user:/", "/a\\/b/%", "spec:/\\%/\\.", "dir:/#_10"];
+    for text in rows {
+        let name = KeyName::parse(rt.alloc(), text)?;
+        let again = KeyName::parse(rt.alloc(), name.text()?.as_str())?;
+        assert_eq!(rt; again == name, true, "of {text}");
+    }
+    Ok(())
+}
+
+#[test]
+fn tells_which_names_are_below_which(rt: HostRuntime) -> Result<(), Fail> {
+    let rows = [
+        ("user:/a/b", "user:/a", true, true),
+        ("user:/a/b/c", "user:/", true, true),
+        ("user:/a", "user:/a", false, true),
+        ("user:/a", "user:/a/b", false, false),
+        ("user:/a-b", "user:/a", false, false),
+        ("user:/a\\/b", "user:/a", false, false),
+        ("system:/a/b", "user:/a", false, false),
+        ("/a/b", "user:/a", false, false),
+    ];
+    for (text, other, below, same_too) in rows {
+        let name = KeyName::parse(rt.alloc(), text)?;
+        let above = KeyName::parse(rt.alloc(), other)?;
+        assert_eq!(rt; name.is_below(&above), below, "{text} below {other}");
+        assert_eq!(rt;
+            name.is_below_or_same(&above),
+            same_too,
+            "{text} at or below {other}"
+        );
+    }
+    Ok(())
+}
+
+#[test]
+fn tells_the_way_from_a_name_above(rt: HostRuntime) -> Result<(), Fail> {
+    let rows = [
+        ("user:/sw/app/a/b", "user:/sw/app", Some("/a/b")),
+        ("user:/a", "user:/", Some("/a")),
+        ("user:/a", "user:/a", Some("/")),
+        ("user:/a-b", "user:/a", None),
+        ("user:/a", "user:/a/b", None),
+        ("user:/a/b", "system:/a", None),
+    ];
+    for (text, above, expected) in rows {
+        let name = KeyName::parse(rt.alloc(), text)?;
+        let way = name.relative_to(&KeyName::parse(rt.alloc(), above)?)?;
+        let spelled = match &way {
+            Some(way) => Some(way.text()?),
+            None => None,
+        };
+        assert_eq!(rt; spelled.as_deref(), expected, "{text} from {above}");
+    }
+    Ok(())
+}

@@ -1,5 +1,5 @@
 use Rattle.std.proofs.Common.{◌≢◌, arith, rules}
-use Rattle.key_name.proofs.EscapeLemmas.{flat_map-escaped-letter}
+use Rattle.model_names.proofs.EscapeLemmas.{flat_map-escaped-letter}
 use Rattle.key_name.proofs.spelling.push_letter.Goals as goal
 
 pub returns-in_default : goal.returns-in_default

@@ -1,0 +1,315 @@
+-- What a raw part of a text stands for is a well-formed part.
+use Rattle.std.specs.Prelude.{◌≡◌, ◌≢◌, ℕ, ◌+◌, ◌-◌, ◌^◌, ◌<◌, ◌≤◌, Bool, true, false, not, nat_eq, nat_le, ◌&&◌, ◌||◌, ◌==◌, List, [], ◌∷◌, ◌++◌, length, replicate, Option, Some, None, option_and_then, codes, encode_utf8, encode_utf8_all}
+use Rattle.std.proofs.Common.{zero, suc, get_or, take, cond, refl, sym, ap, subst, ◌∙◌, inl, inr, arith, lit<, length-append}
+use Rattle.std.specs.Cmp.Lexicographic.{pointwise}
+use Rattle.std.specs.Fmt.{decimal}
+use Rattle.std.specs.Int.{IsInRange}
+use Rattle.std.specs.List.{AllByRecursion, list_all, flat_map}
+use Rattle.std.specs.Option.{option_map}
+use Rattle.std.specs.Str.{IsUtf8, all_scalars}
+use Rattle.std.specs.Str.Parse.{digits_value}
+use Rattle.std.proofs.lemmas.Bool.{true≢false, cond-true, cond-false, and_from, or_left, le-leb, leb-true, ne_eqb, and_parts, cases_eq, cases_Bool, eqb-true}
+use Rattle.std.proofs.lemmas.Fmt.{decimal_is_IsNumeral}
+use Rattle.std.proofs.lemmas.List.{append-nil, get_or_default}
+use Rattle.std.proofs.lemmas.List.Elements.{All-from_recursion, recursion_from_All}
+use Rattle.std.proofs.lemmas.List.Sums.{AllPass-from_list_all}
+use Rattle.std.proofs.lemmas.Slice.Eq.{bytes_eq-Decides}
+use Rattle.std.proofs.lemmas.Str.{IsUtf8-append, IsUtf8-take, IsUtf8-drop, IsUtf8-nil, IsUtf8-from_ascii, IsUtf8-encode, IsCharBoundary-before_ascii, IsCharBoundary-after_ascii, encode_ascii}
+use Rattle.std.proofs.lemmas.Str.Ascii.{IsAscii-from_all}
+use Rattle.std.proofs.lemmas.Str.Parse.{digit_at}
+use Rattle.std.proofs.Math.Seq.{take-append_seam, drop-append-add}
+use Rattle.model_names.specs.Name.{Part}
+use Rattle.model_names.specs.ArrayPart.{last_index, array_part, is_array_like, canonical_part, index_of, without_underscores}
+use Rattle.model_names.specs.RawParts.{raw_parts_from, put_before}
+use Rattle.model_names.specs.Spelling.{is_text}
+use Rattle.model_names.specs.Spells.{Move, Adds, Stays, GoesUp, meaning, moved, walked, part_of_text, unescaped_from}
+use Rattle.model_names.specs.WellFormed.{IsPart}
+use Rattle.model_names.proofs.EscapeLemmas.{IsUnescaped-encode_utf8, read_all, escapes_no_letter}
+use Rattle.model_names.proofs.RefusesLemmas.{from_map, from_and_then, cond_some, branch_taken}
+use Rattle.model_names.proofs.SpellsLemmas.{is_ascii_text_byte, no_nul-from_test, is_ascii-from_test}
+
+-- ---- texts
+
+-- bytes that are a text without NUL
+pub record IsText (bytes : List ℕ) : Type 0 where
+  pub utf8 : IsUtf8 bytes
+  pub no_nul : AllByRecursion (λ b. 0 < b) bytes
+
+IsUtf8-tail : (b : ℕ) (bytes : List ℕ) → b < 128 → IsUtf8 (b ∷ bytes) → IsUtf8 bytes
+IsUtf8-tail b bytes small h = IsUtf8-drop (b ∷ bytes) 1 h (IsCharBoundary-after_ascii (b ∷ bytes) 0 h (omega arith) small)
+
+pub IsUtf8-byte : (b : ℕ) → b < 128 → IsUtf8 (b ∷ [])
+IsUtf8-byte b small = IsUtf8-from_ascii (b ∷ []) (IsAscii-from_all (b ∷ []) (All-from_recursion (λ b. b < 128) (b ∷ []) (small, tt)))
+
+pub IsUtf8-cons : (b : ℕ) (bytes : List ℕ) → b < 128 → IsUtf8 bytes → IsUtf8 (b ∷ bytes)
+IsUtf8-cons b bytes small h = IsUtf8-append (b ∷ []) bytes (IsUtf8-byte b small) h
+
+all_front : {A : Type 0} (P : A → Type 0) (xs ys : List A) → AllByRecursion P (xs ++ ys) → AllByRecursion P xs
+all_front P [] ys h = tt
+all_front P (x ∷ xs) ys h = (h.0, all_front P xs ys h.1)
+
+pub all_back : {A : Type 0} (P : A → Type 0) (xs ys : List A) → AllByRecursion P (xs ++ ys) → AllByRecursion P ys
+all_back P [] ys h = h
+all_back P (x ∷ xs) ys h = all_back P xs ys h.1
+
+pub all_append : {A : Type 0} (P : A → Type 0) (xs ys : List A) → AllByRecursion P xs → AllByRecursion P ys → AllByRecursion P (xs ++ ys)
+all_append P [] ys p q = q
+all_append P (x ∷ xs) ys p q = (p.0, all_append P xs ys p.1 q)
+
+pub text_from_ascii : (bytes : List ℕ) → AllByRecursion (λ b. (0 < b) × (b < 128)) bytes → IsText bytes
+text_from_ascii bytes h = record { utf8 = IsUtf8-from_ascii bytes (IsAscii-from_all bytes (All-from_recursion (λ b. b < 128) bytes (all_small bytes h))); no_nul = all_some bytes h }
+  where
+    all_small : (bytes : List ℕ) → AllByRecursion (λ b. (0 < b) × (b < 128)) bytes → AllByRecursion (λ b. b < 128) bytes
+    all_small [] h = tt
+    all_small (b ∷ bytes) h = (h.0.1, all_small bytes h.1)
+
+    all_some : (bytes : List ℕ) → AllByRecursion (λ b. (0 < b) × (b < 128)) bytes → AllByRecursion (λ b. 0 < b) bytes
+    all_some [] h = tt
+    all_some (b ∷ bytes) h = (h.0.0, all_some bytes h.1)
+
+-- the same by a test, for a text that is written out
+pub text_from_test : (bytes : List ℕ) → list_all is_ascii_text_byte bytes ≡ true → IsText bytes
+text_from_test bytes h =
+    let pass = recursion_from_All (λ b. is_ascii_text_byte b ≡ true) bytes (AllPass-from_list_all is_ascii_text_byte bytes h) in
+    record { utf8 = IsUtf8-from_ascii bytes (IsAscii-from_all bytes (All-from_recursion (λ b. b < 128) bytes (is_ascii-from_test bytes pass))); no_nul = no_nul-from_test bytes pass }
+
+at_seam : (xs ys : List ℕ) → get_or (xs ++ 47 ∷ ys) (length xs) 0 ≡ 47
+at_seam [] ys = refl
+at_seam (x ∷ xs) ys = at_seam xs ys
+
+utf8_before_slash : (xs ys : List ℕ) → IsUtf8 (xs ++ 47 ∷ ys) → IsUtf8 xs
+utf8_before_slash xs ys h =
+    let bs = xs ++ 47 ∷ ys in
+    let at = at_seam xs ys in
+    let within : length xs < length bs = omega (arith, length-append xs (47 ∷ ys)) in
+    subst (λ (t : List ℕ). IsUtf8 t) (take-append_seam xs (47 ∷ ys)) (IsUtf8-take bs (length xs) h (IsCharBoundary-before_ascii bs (length xs) within (omega (arith, at))))
+
+pub utf8_behind_slash : (xs ys : List ℕ) → IsUtf8 (xs ++ 47 ∷ ys) → IsUtf8 ys
+utf8_behind_slash xs ys h =
+    let bs = xs ++ 47 ∷ ys in
+    let at = at_seam xs ys in
+    let within : length xs < length bs = omega (arith, length-append xs (47 ∷ ys)) in
+    subst (λ (t : List ℕ). IsUtf8 t) (drop-append-add xs (47 ∷ ys) 1) (IsUtf8-drop bs (length xs + 1) h (IsCharBoundary-after_ascii bs (length xs) h within (omega (arith, at))))
+
+-- ---- raw parts
+
+-- raw parts with a slash before each are the text again
+slashed-put_before : (cuts : Bool) (b : ℕ) (bytes : List ℕ) (raws : List (List ℕ)) → (cuts ≡ true → b ≡ 47) → flat_map (λ raw. 47 ∷ raw) raws ≡ 47 ∷ bytes → flat_map (λ raw. 47 ∷ raw) (put_before cuts b raws) ≡ 47 ∷ b ∷ bytes
+slashed-put_before true b bytes raws slash h = ap (λ t. 47 ∷ t) h ∙ ap (λ b. 47 ∷ b ∷ bytes) (sym (slash refl))
+slashed-put_before false b bytes [] slash h = absurd cc
+slashed-put_before false b bytes (raw ∷ raws) slash h = ap (λ t. 47 ∷ b ∷ t) (behind (raw ++ flat_map (λ raw. 47 ∷ raw) raws) bytes h)
+  where
+    behind : (x y : List ℕ) → 47 ∷ x ≡ 47 ∷ y → x ≡ y
+    behind x y e = cc
+
+cut_is_slash : (is_escaped : Bool) (b : ℕ) → (not is_escaped && (b == 47)) ≡ true → b ≡ 47
+cut_is_slash is_escaped b h = let parts = and_parts (not is_escaped) (b == 47) h in eqb-true b 47 parts.1
+
+pub slashed-raw_parts : (is_escaped : Bool) (bytes : List ℕ) → flat_map (λ raw. 47 ∷ raw) (raw_parts_from is_escaped bytes) ≡ 47 ∷ bytes
+slashed-raw_parts is_escaped [] = refl
+slashed-raw_parts is_escaped (b ∷ bytes) =
+    slashed-put_before (not is_escaped && (b == 47)) b bytes (raw_parts_from (not is_escaped && (b == 92)) bytes) (cut_is_slash is_escaped b) (slashed-raw_parts (not is_escaped && (b == 92)) bytes)
+
+all_texts : (raws : List (List ℕ)) → IsUtf8 (flat_map (λ raw. 47 ∷ raw) raws) → AllByRecursion (λ b. 0 < b) (flat_map (λ raw. 47 ∷ raw) raws) → AllByRecursion IsText raws
+all_texts [] h no_nul = tt
+all_texts (raw ∷ []) h no_nul =
+    let whole = append-nil raw in
+    (record { utf8 = subst (λ (t : List ℕ). IsUtf8 t) whole (IsUtf8-tail 47 _ (lit< tt) h); no_nul = all_front (λ b. 0 < b) raw [] no_nul.1 }, tt)
+all_texts (raw ∷ next ∷ raws) h no_nul =
+    let rest = next ++ flat_map (λ raw. 47 ∷ raw) raws in
+    let tail = IsUtf8-tail 47 (raw ++ 47 ∷ rest) (lit< tt) h in (
+      record { utf8 = utf8_before_slash raw rest tail; no_nul = all_front (λ b. 0 < b) raw (47 ∷ rest) no_nul.1 },
+      all_texts (next ∷ raws) (IsUtf8-cons 47 rest (lit< tt) (utf8_behind_slash raw rest tail)) (all_back (λ b. 0 < b) raw (47 ∷ rest) no_nul.1),
+    )
+
+-- each raw part of a text is a text
+pub IsText-raw_parts : (bytes : List ℕ) → IsUtf8 (47 ∷ bytes) → AllByRecursion (λ b. 0 < b) (47 ∷ bytes) → AllByRecursion IsText (raw_parts_from false bytes)
+IsText-raw_parts bytes h no_nul =
+    let whole = sym (slashed-raw_parts false bytes) in
+    all_texts (raw_parts_from false bytes) (subst (λ (t : List ℕ). IsUtf8 t) whole h) (subst (λ (t : List ℕ). AllByRecursion (λ b. 0 < b) t) whole no_nul)
+
+-- ---- what is unescaped
+
+some_is : (a b : List ℕ) → ◌≡◌ {A = Option (List ℕ)} (Some a) (Some b) → a ≡ b
+some_is a b e = cc
+
+unescaped_no_nul : (waits : Bool) (raw : List ℕ) (part : Part) → unescaped_from waits raw ≡ Some part → AllByRecursion (λ b. 0 < b) raw → AllByRecursion (λ b. 0 < b) part
+unescaped_no_nul false [] part h bytes = subst (λ (t : List ℕ). AllByRecursion (λ b. 0 < b) t) (some_is [] part h) tt
+unescaped_no_nul true [] part h bytes = absurd cc
+unescaped_no_nul true (b ∷ raw) part h bytes =
+    let escapes = cond_some ((b == 92) || (b == 47)) (option_map (λ part. b ∷ part) (unescaped_from false raw)) part h in
+    let rest = from_map (λ part. b ∷ part) (unescaped_from false raw) part escapes.1 in
+    subst (λ (t : List ℕ). AllByRecursion (λ b. 0 < b) t) rest.2 (bytes.0, unescaped_no_nul false raw rest.0 rest.1 bytes.1)
+unescaped_no_nul false (b ∷ raw) part h bytes =
+    branch_taken (b == 92) (unescaped_from (b == 92) raw) _ _ h
+    (λ _ e. unescaped_no_nul (b == 92) raw part e bytes.1)
+    (λ e. let rest = from_map (λ part. b ∷ part) (unescaped_from (b == 92) raw) part e in
+    subst (λ (t : List ℕ). AllByRecursion (λ b. 0 < b) t) rest.2 (bytes.0, unescaped_no_nul (b == 92) raw rest.0 rest.1 bytes.1))
+
+-- one letter more
+utf8_backslash : (waits : Bool) (left : List ℕ) (part : Part) → unescaped_from waits (92 ∷ left) ≡ Some part → ((waits : Bool) (part : Part) → unescaped_from waits left ≡ Some part → IsUtf8 part) → IsUtf8 part
+utf8_backslash false left part h more = more true part h
+utf8_backslash true left part h more =
+    let rest = from_map (λ part. 92 ∷ part) (unescaped_from false left) part h in
+    subst (λ (t : List ℕ). IsUtf8 t) rest.2 (IsUtf8-cons 92 rest.0 (lit< tt) (more false rest.0 rest.1))
+
+utf8_slash : (waits : Bool) (left : List ℕ) (part : Part) → unescaped_from waits (47 ∷ left) ≡ Some part → ((waits : Bool) (part : Part) → unescaped_from waits left ≡ Some part → IsUtf8 part) → IsUtf8 part
+utf8_slash false left part h more =
+    let rest = from_map (λ part. 47 ∷ part) (unescaped_from false left) part h in
+    subst (λ (t : List ℕ). IsUtf8 t) rest.2 (IsUtf8-cons 47 rest.0 (lit< tt) (more false rest.0 rest.1))
+utf8_slash true left part h more =
+    let rest = from_map (λ part. 47 ∷ part) (unescaped_from false left) part h in
+    subst (λ (t : List ℕ). IsUtf8 t) rest.2 (IsUtf8-cons 47 rest.0 (lit< tt) (more false rest.0 rest.1))
+
+utf8_ordinary : (waits : Bool) (c : ℕ) (left : List ℕ) (part : Part) → c ≢ 92 → c ≢ 47 → IsUtf8 (encode_utf8 c) → unescaped_from waits (encode_utf8 c ++ left) ≡ Some part → ((waits : Bool) (part : Part) → unescaped_from waits left ≡ Some part → IsUtf8 part) → IsUtf8 part
+utf8_ordinary true c left part no_backslash no_slash letter h more = let none = escapes_no_letter c left no_backslash no_slash in absurd (cc)
+utf8_ordinary false c left part no_backslash no_slash letter h more =
+    let tail = read_all (encode_utf8 c) left (IsUnescaped-encode_utf8 c no_backslash no_slash) part h in
+    subst (λ (t : List ℕ). IsUtf8 t) (sym tail.2) (IsUtf8-append (encode_utf8 c) tail.0 letter (more false tail.0 tail.1))
+
+read_letter : (waits : Bool) (c b : ℕ) (left : List ℕ) (part : Part) → c ≡ b → b < 128 → unescaped_from waits (encode_utf8 c ++ left) ≡ Some part → unescaped_from waits (b ∷ left) ≡ Some part
+read_letter waits c b left part e small h =
+    let bytes : encode_utf8 c ≡ b ∷ [] = encode_ascii c (omega arith) ∙ ap (λ b. b ∷ []) e in
+    sym (ap (λ bytes. unescaped_from waits (bytes ++ left)) bytes) ∙ h
+
+unescaped_utf8 : (letters : List ℕ) (waits : Bool) (part : Part) → all_scalars letters ≡ true → unescaped_from waits (encode_utf8_all letters) ≡ Some part → IsUtf8 part
+unescaped_utf8 [] false part scalars h = subst (λ (t : List ℕ). IsUtf8 t) (some_is [] part h) IsUtf8-nil
+unescaped_utf8 [] true part scalars h = absurd cc
+unescaped_utf8 (c ∷ letters) waits part scalars h =
+    let both = and_parts _ (all_scalars letters) scalars in
+    let more : (waits : Bool) (part : Part) → unescaped_from waits (encode_utf8_all letters) ≡ Some part → IsUtf8 part = λ waits part e. unescaped_utf8 letters waits part both.1 e in
+    elim (cases_eq c 92) [
+      | inl e ↦ utf8_backslash waits (encode_utf8_all letters) part (read_letter waits c 92 (encode_utf8_all letters) part e (lit< tt) h) more
+      | inr no_backslash ↦ elim (cases_eq c 47) [
+        | inl e ↦ utf8_slash waits (encode_utf8_all letters) part (read_letter waits c 47 (encode_utf8_all letters) part e (lit< tt) h) more
+        | inr no_slash ↦ utf8_ordinary waits c (encode_utf8_all letters) part no_backslash no_slash (IsUtf8-encode c both.0) h more
+      ]
+    ]
+
+IsText-unescaped : (raw : List ℕ) (part : Part) → IsText raw → unescaped_from false raw ≡ Some part → IsText part
+IsText-unescaped raw part text h =
+    let letters = text.utf8 in
+    record {
+      utf8 = unescaped_utf8 letters.0 false part letters.1.0 (ap (unescaped_from false) letters.1.1 ∙ h);
+      no_nul = unescaped_no_nul false raw part h text.no_nul;
+    }
+
+-- ---- array parts
+
+all_replicate : {A : Type 0} (P : A → Type 0) (n : ℕ) (x : A) → P x → AllByRecursion P (replicate n x)
+all_replicate P zero x p = tt
+all_replicate P (suc n) x p = (p, all_replicate P n x p)
+
+pub without_underscores-leads : (n : ℕ) (digits : List ℕ) → get_or digits 0 0 ≢ 95 → without_underscores (replicate n 95 ++ digits) ≡ digits
+without_underscores-leads zero [] h = refl
+without_underscores-leads zero (d ∷ digits) h = cond-false (d == 95) _ _ (ne_eqb d 95 h)
+without_underscores-leads (suc n) digits h = without_underscores-leads n digits h
+
+pub decimal-first : (n : ℕ) → n ≤ last_index → get_or (decimal n) 0 0 ≢ 95
+decimal-first n within =
+    let small : n < 2 ^ 64 = omega arith in
+    let numeral = (decimal_is_IsNumeral n small).0 in
+    let range = digit_at (decimal n) 0 numeral.1 numeral.0 in
+    λ e. omega (arith, range.1)
+
+-- the part of an index is canonical
+canonical_part-array_part : (index : ℕ) → index ≤ last_index → canonical_part (array_part index) ≡ Some (array_part index)
+canonical_part-array_part index within =
+    let digits = decimal index in
+    let small : index < 2 ^ 64 = omega arith in
+    let behind : without_underscores (replicate (length digits - 1) 95 ++ digits) ≡ digits = without_underscores-leads (length digits - 1) digits (decimal-first index within) in
+    let value : digits_value 10 (without_underscores (replicate (length digits - 1) 95 ++ digits)) ≡ index = ap (digits_value 10) behind ∙ (decimal_is_IsNumeral index small).1 in
+    ap (λ n. cond (nat_le n last_index && (pointwise nat_eq (array_part index) (array_part n) || pointwise nat_eq (array_part index) (35 ∷ decimal n))) (Some (array_part n)) None) value
+    ∙ cond-true (nat_le index last_index && (pointwise nat_eq (array_part index) (array_part index) || pointwise nat_eq (array_part index) (35 ∷ digits))) _ _ (and_from _ _ (le-leb index last_index within) (or_left _ _ ((bytes_eq-Decides (array_part index) (array_part index)).1 refl)))
+
+digit_bytes : (n : ℕ) → n ≤ last_index → AllByRecursion (λ b. (0 < b) × (b < 128)) (decimal n)
+digit_bytes n within =
+    let small : n < 2 ^ 64 = omega arith in
+    let numeral = (decimal_is_IsNumeral n small).0 in
+    recursion_from_All (λ b. (0 < b) × (b < 128)) (decimal n) (λ k d lt. let range = in_digits (get_or (decimal n) k 0) (digit_at (decimal n) k numeral.1 lt) in subst (λ (b : ℕ). (0 < b) × (b < 128)) (get_or_default (decimal n) k 0 d lt) range)
+  where
+    in_digits : (b : ℕ) → IsInRange 48 57 b → (0 < b) × (b < 128)
+    in_digits b range = (omega (arith, range.0), omega (arith, range.1))
+
+pub IsPart-array_part : (index : ℕ) → index ≤ last_index → IsPart (array_part index)
+IsPart-array_part index within =
+    let digits = decimal index in
+    let bytes = text_from_ascii (array_part index) ((lit< tt, lit< tt), all_append (λ b. (0 < b) × (b < 128)) (replicate (length digits - 1) 95) digits (all_replicate (λ b. (0 < b) × (b < 128)) (length digits - 1) 95 (lit< tt, lit< tt)) (digit_bytes index within)) in
+    record { utf8 = bytes.utf8; no_nul = bytes.no_nul; canonical = λ _. canonical_part-array_part index within }
+
+-- a canonical form is that of an index
+canonical_is : (part canonical : Part) → canonical_part part ≡ Some canonical → (index : ℕ) × (index ≤ last_index) × (array_part index ≡ canonical)
+canonical_is part canonical h =
+    let index = index_of part in
+    let chosen = cond_some (nat_le index last_index && (pointwise nat_eq part (array_part index) || pointwise nat_eq part (35 ∷ decimal index))) (Some (array_part index)) canonical h in
+    let tests = and_parts (nat_le index last_index) _ chosen.0 in
+    (index, leb-true index last_index tests.0, some_is (array_part index) canonical chosen.1)
+
+-- ---- what raw parts add
+
+IsPart-from_text : (text part : Part) → IsText text → part_of_text text ≡ Some part → IsPart part
+IsPart-from_text text part is h =
+    elim (cases_Bool (is_array_like text)) [
+      | inl like ↦
+          let index = canonical_is text part (sym (cond-true (is_array_like text) (canonical_part text) (Some text) like) ∙ h) in
+          subst IsPart index.2 (IsPart-array_part index.0 index.1)
+      | inr other ↦
+          let same = some_is text part (sym (cond-false (is_array_like text) (canonical_part text) (Some text) other) ∙ h) in
+          subst IsPart same (record { utf8 = is.utf8; no_nul = is.no_nul; canonical = λ like. absurd (true≢false (sym like ∙ other)) })
+    ]
+
+-- the part that a move adds is well formed
+abbrev pub AddsPart : Move → Type 0
+AddsPart (Adds part) = IsPart part
+AddsPart Stays = Unit {0}
+AddsPart GoesUp = Unit {0}
+
+adds_at : (m n : Move) → ◌≡◌ {A = Option Move} (Some m) (Some n) → AddsPart m → AddsPart n
+adds_at m n e h = subst AddsPart (by m n e) h
+  where
+    by : (m n : Move) → ◌≡◌ {A = Option Move} (Some m) (Some n) → m ≡ n
+    by m n e = cc
+
+plain_part : (part : Part) → IsText part → is_array_like part ≡ false → IsPart part
+plain_part part text other = record { utf8 = text.utf8; no_nul = text.no_nul; canonical = λ like. absurd (true≢false (sym like ∙ other)) }
+
+text_adds : (raw : List ℕ) (move : Move) → IsText raw → option_map Adds (option_and_then part_of_text (unescaped_from false raw)) ≡ Some move → AddsPart move
+text_adds raw move text h =
+    let adds = from_map Adds (option_and_then part_of_text (unescaped_from false raw)) move h in
+    let part = from_and_then part_of_text (unescaped_from false raw) adds.0 adds.1 in
+    subst AddsPart adds.2 (IsPart-from_text part.0 adds.0 (IsText-unescaped raw part.0 text part.1) part.2)
+
+-- what a raw part of a text means adds a well-formed part, if any
+pub AddsPart-meaning : (raw : List ℕ) (move : Move) → IsText raw → meaning raw ≡ Some move → AddsPart move
+AddsPart-meaning raw move text h =
+    let empty : AddsPart (Adds []) = plain_part [] (text_from_test [] refl) refl in
+    let percent : AddsPart (Adds (codes "%")) = plain_part (codes "%") (text_from_test (codes "%") refl) refl in
+    let dot : AddsPart (Adds (codes ".")) = plain_part (codes ".") (text_from_test (codes ".") refl) refl in
+    let dots : AddsPart (Adds (codes "..")) = plain_part (codes "..") (text_from_test (codes "..") refl) refl in
+    branch_taken ((length raw == 0) || is_text raw (codes ".")) _ _ _ h (λ _ e. adds_at Stays move e tt)
+    (λ h. branch_taken (is_text raw (codes "..")) _ _ _ h (λ _ e. adds_at GoesUp move e tt)
+    (λ h. branch_taken (is_text raw (codes "%")) _ _ _ h (λ _ e. adds_at (Adds []) move e empty)
+    (λ h. branch_taken (is_text raw (92 ∷ codes "%")) _ _ _ h (λ _ e. adds_at (Adds (codes "%")) move e percent)
+    (λ h. branch_taken (is_text raw (92 ∷ codes ".")) _ _ _ h (λ _ e. adds_at (Adds (codes ".")) move e dot)
+    (λ h. branch_taken (is_text raw (92 ∷ codes "..")) _ _ _ h (λ _ e. adds_at (Adds (codes "..")) move e dots)
+    (λ h. text_adds raw move text h))))))
+
+all_take : {A : Type 0} (P : A → Type 0) (n : ℕ) (xs : List A) → AllByRecursion P xs → AllByRecursion P (take n xs)
+all_take P zero xs h = tt
+all_take P (suc n) [] h = tt
+all_take P (suc n) (x ∷ xs) h = (h.0, all_take P n xs h.1)
+
+moved_parts : (path : List Part) (move : Move) → AllByRecursion IsPart path → AddsPart move → AllByRecursion IsPart (moved path move)
+moved_parts path (Adds part) h p = all_append IsPart path (part ∷ []) h (p, tt)
+moved_parts path Stays h p = h
+moved_parts path GoesUp h p = all_take IsPart (length path - 1) path h
+
+-- raw parts of a text lead from well-formed parts to well-formed parts
+pub walked_parts : (path : List Part) (raws : List (List ℕ)) (parts : List Part) → AllByRecursion IsPart path → AllByRecursion IsText raws → walked path raws ≡ Some parts → AllByRecursion IsPart parts
+walked_parts path [] parts h texts leads = subst (λ (p : List Part). AllByRecursion IsPart p) (same path parts leads) h
+  where
+    same : (a b : List Part) → ◌≡◌ {A = Option (List Part)} (Some a) (Some b) → a ≡ b
+    same a b e = cc
+walked_parts path (raw ∷ raws) parts h texts leads =
+    let move = from_and_then (λ move. walked (moved path move) raws) (meaning raw) parts leads in
+    walked_parts (moved path move.0) raws parts (moved_parts path move.0 h (AddsPart-meaning raw move.0 texts.0 move.1)) texts.1 move.2
