@@ -1,10 +1,13 @@
 //! What keys carry beside their names: texts, and lists of them.
 #![tactic(auto)]
 
+mod item_names;
 mod lists;
+mod metas;
 mod texts;
 
 pub use lists::List;
+pub use metas::Meta;
 use std::alloc::AllocError;
 pub use texts::Text;
 

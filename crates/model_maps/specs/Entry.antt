@@ -1,12 +1,13 @@
 -- What a key holds: a value, and metadata by name. (Elektra's API documentation: a key has a value and metadata.)
 use Rattle.std.specs.Coded.{Coded, code_by, coded×, coded_list, coded_ℕ}
-use Rattle.std.specs.Prelude.{refl, ℕ, ◌+◌, ◌<◌, ◌≤◌, List, length, sum_by}
+use Rattle.std.specs.Prelude.{◌≡◌, refl, ℕ, ◌+◌, ◌<◌, ◌≤◌, List, ◌∷◌, ◌++◌, length, sum_by, slice_get, None}
 use Rattle.std.specs.Ordering.{nat_cmp}
 use Rattle.std.specs.Cmp.Lexicographic.{slice_cmp}
 use Rattle.std.specs.FinMap as map
 use Rattle.std.specs.FinMap.{FinMap}
 use Rattle.std.specs.Str.{IsUtf8}
 use Rattle.std.specs.declared.cmp.Ordering.{Ordering}
+use Rattle.model_names.specs.ArrayPart.{array_part}
 
 -- texts sort by their bytes
 abbrev pub text_cmp : List ℕ → List ℕ → Ordering
@@ -15,6 +16,10 @@ text_cmp = slice_cmp nat_cmp
 -- metadata: a text for each of some names, by bytes
 abbrev pub Meta : Type 0
 Meta = FinMap text_cmp (List ℕ)
+
+-- how a proof tells metadata apart
+abbrev pub coded_meta : Coded Meta
+coded_meta = map.code (coded_list coded_ℕ) (coded_list coded_ℕ)
 
 -- a value and its metadata
 pub record Entry : Type 0 where
@@ -44,6 +49,15 @@ pub record IsMetaName (name : List ℕ) : Type 0 where
 abbrev pub meta_bytes : Meta → ℕ
 meta_bytes meta = sum_by (λ m. length m.0 + length m.1) (map.entries meta)
 
+-- the metadata name of an array's item: behind the array's name and a slash stands the part of its index
+abbrev pub item_name : List ℕ → ℕ → List ℕ
+item_name prefix index = prefix ++ (47 ∷ array_part index)
+
+-- the texts of an array of metadata, which ends at the first item that is missing
+pub record IsArray (meta : Meta) (prefix : List ℕ) (texts : List (List ℕ)) : Type 0 where
+  pub items : (i : ℕ) → i < length texts → map.get meta (item_name prefix i) ≡ slice_get texts i
+  pub ends : map.get meta (item_name prefix (length texts)) ≡ None
+
 -- how a proof tells entries apart
 abbrev pub coded_entry : Coded Entry
-coded_entry = code_by (List ℕ × Meta) (coded× (coded_list coded_ℕ) (map.code (coded_list coded_ℕ) (coded_list coded_ℕ))) (λ e. (e.value, e.meta)) (λ p. record { value = p.0; meta = p.1 }) (λ _. refl)
+coded_entry = code_by (List ℕ × Meta) (coded× (coded_list coded_ℕ) coded_meta) (λ e. (e.value, e.meta)) (λ p. record { value = p.0; meta = p.1 }) (λ _. refl)

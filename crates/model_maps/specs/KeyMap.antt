@@ -1,9 +1,10 @@
 -- What a store holds: an entry for each of some names, in name order. (Elektra's KeySet. The weights are this project's own.)
-use Rattle.std.specs.Prelude.{ℕ, ◌+◌, length, sum_by}
+use Rattle.std.specs.Prelude.{ℕ, ◌+◌, not, length, sum_by}
 use Rattle.std.specs.Coded.{Coded}
 use Rattle.std.specs.FinMap as map
 use Rattle.std.specs.FinMap.{FinMap}
 use Rattle.model_names.specs.Name.{Name, coded_name}
+use Rattle.model_names.specs.Below.{is_at_or_below}
 use Rattle.model_names.specs.Order.{name_cmp}
 use Rattle.model_names.specs.Spelling.{spelling}
 use Rattle.model_maps.specs.Entry.{Entry, meta_bytes, coded_entry}
@@ -30,3 +31,11 @@ heaviest_map = 16777216
 -- how a proof tells maps apart
 abbrev pub coded_keys : Coded KeyMap
 coded_keys = map.code coded_name coded_entry
+
+-- the keys that are a name or below it
+abbrev pub at_or_below : Name → KeyMap → KeyMap
+at_or_below above keys = map.retain_keys keys (is_at_or_below above)
+
+-- the keys that are neither
+abbrev pub not_below : Name → KeyMap → KeyMap
+not_below above keys = map.retain_keys keys (λ name. not (is_at_or_below above name))

@@ -3,3 +3,4 @@ pub use Rattle.model_names.specs.Spelling
 pub use Rattle.model_names.specs.Order
 pub mod Entry
 pub mod KeyMap
+pub mod Together

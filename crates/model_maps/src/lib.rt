@@ -7,6 +7,7 @@ ghost use Rattle.model_names.specs.declared.namespaces.Namespace.TheVariants.{Us
 ghost use Rattle.model_names.specs.Name.{Name};
 ghost use Rattle.model_maps.specs.Entry.{Entry, plain_entry};
 ghost use Rattle.model_maps.specs.KeyMap.{KeyMap, no_keys, weight, weight_of_key};
+ghost use Rattle.model_maps.specs.Together.{StandTogether};
 
 /// The empty map weighs nothing, and a new key adds its own weight.
 pub fn a_new_key_adds_its_weight()
@@ -17,4 +18,9 @@ pub fn a_new_key_adds_its_weight()
 /// A key weighs 64, and the bytes of its canonical name and of its value.
 pub fn a_key_weighs_its_texts()
     ensures { weight_of_key (record { namespace = User; parts = codes "a" ∷ [] }) (plain_entry (codes "x")) ≡ 72 }
+{}
+
+/// The keys that are a name or below it stand together in name order.
+pub fn keys_below_a_name_stand_together()
+    ensures { (above : Name) (keys : KeyMap) → StandTogether above keys }
 {}

@@ -1,0 +1,4 @@
+pub mod RisingLemmas
+pub mod MapLemmas
+pub mod SeenLemmas
+pub mod RangeLemmas
