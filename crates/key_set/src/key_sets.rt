@@ -1,0 +1,143 @@
+//! A finite map from names to entries, over one sorted vector. No contract speaks of the vector.
+ghost use Rattle.std.specs.Prelude.{◌≡◌, ◌-◌, ◌^◌, length, min, IfOk, OnOk, OnErr, slice_get};
+ghost use Rattle.std.specs.Option.{option_map};
+ghost use Rattle.std.specs.FinMap as map;
+ghost use Rattle.model_maps.specs.KeyMap.{no_keys, weight, at_or_below, not_below};
+ghost use Rattle.key_set.specs.EntryView.{entry_of};
+
+use crate::ranges::range_below;
+use crate::weights::weight_of_all;
+use crate::{Entry, KeySetIter};
+use key_meta::Memory;
+use key_name::KeyName;
+use sorted_map::SortedMap;
+use std::alloc::Global;
+use std::marker::Model;
+
+/// An entry for each of some names.
+#[derive(Debug, Drop)]
+pub struct KeySet {
+    keys: SortedMap<KeyName, Entry>,
+}
+
+impl Model for KeySet {
+    ghost use Rattle.model_maps.specs.KeyMap.{KeyMap, coded_keys};
+    ghost use Rattle.key_set.specs.EntryView.{keys_of};
+
+    ghost Value = { KeyMap };
+
+    ghost coded = { coded_keys };
+
+    ghost view = { λ s. keys_of s.keys };
+}
+
+impl KeySet {
+    pub fn new(alloc: Global) -> KeySet
+        ensures { result ≡ no_keys }
+    {
+        KeySet {
+            keys: SortedMap::new(alloc),
+        }
+    }
+
+    /// How many keys there are.
+    pub fn len(&self) -> usize
+        ensures { result ≡ length (map.entries self.now) }
+    {
+        self.keys.len()
+    }
+
+    /// The name and the entry at a place in name order.
+    pub fn at(&self, i: usize) -> Option<(&KeyName, &Entry)>
+        ensures { option_map (λ key. (key.0.now, entry_of key.1.now)) result ≡ slice_get (map.entries self.now) i }
+    {
+        self.keys.at(i)
+    }
+
+    /// The entry of a name.
+    pub fn lookup(&self, name: &KeyName) -> Option<&Entry>
+        ensures { option_map (λ entry. entry_of entry.now) result ≡ map.get self.now name.now }
+    {
+        self.keys.get(name)
+    }
+
+    /// Gives a name an entry, and answers the entry that it had.
+    pub fn append(&mut self, name: KeyName, entry: Entry) -> Result<Option<Entry>, Memory>
+        ensures former { IfOk result (λ former. option_map entry_of former ≡ map.get self.old name) }
+        ensures ok { OnOk result (self.new ≡ map.insert self.old name (entry_of entry)) }
+        ensures err { OnErr result (self.new ≡ self.old) }
+    {
+        self.keys.insert(name, entry)
+    }
+
+    /// Takes a name out, and answers the entry that it had.
+    pub fn remove(&mut self, name: &KeyName) -> Option<Entry>
+        ensures former { option_map entry_of result ≡ map.get self.old name.now }
+        ensures removed { self.new ≡ map.remove self.old name.now }
+    {
+        self.keys.remove(name)
+    }
+
+    /// Takes out the keys that are a name or below it, and answers them.
+    pub fn cut(&mut self, at: &KeyName) -> Result<KeySet, Memory>
+        ensures taken { IfOk result (λ taken. taken ≡ at_or_below at.now self.old) }
+        ensures ok { OnOk result (self.new ≡ not_below at.now self.old) }
+        ensures err { OnErr result (self.new ≡ self.old) }
+    {
+        let (from, to) = range_below(self.keys.entries(), at);
+        let keys = self.keys.take_range(from, to)?;
+        Ok(KeySet { keys })
+    }
+
+    /// A copy of the keys that are a name or below it.
+    pub fn below(&self, at: &KeyName) -> Result<KeySet, Memory>
+        ensures { IfOk result (λ copied. copied ≡ at_or_below at.now self.now) }
+    {
+        let keys = self.keys.entries();
+        let (from, to) = range_below(keys, at);
+        let copied = copy_of(self.keys.allocator(), &keys[from..to])?;
+        Ok(KeySet {
+            keys: SortedMap::from_sorted(copied),
+        })
+    }
+
+    /// The keys, in name order.
+    pub fn iter(&self) -> KeySetIter<'_>
+        ensures { result ≡ map.entries self.now }
+    {
+        KeySetIter {
+            rest: self.keys.entries(),
+        }
+    }
+
+    /// The same keys again, in memory of their own.
+    pub fn copy(&self) -> Result<KeySet, Memory>
+        ensures { IfOk result (λ copied. copied ≡ self.now) }
+    {
+        let keys = copy_of(self.keys.allocator(), self.keys.entries())?;
+        Ok(KeySet {
+            keys: SortedMap::from_sorted(keys),
+        })
+    }
+
+    /// What the keys weigh. A weight beyond the type's end is given as its last value.
+    pub fn weight(&self) -> u64
+        ensures { result ≡ min (weight self.now) (2 ^ 64 - 1) }
+    {
+        weight_of_all(self.keys.entries())
+    }
+}
+
+/// The same keys again.
+fn copy_of(alloc: Global, keys: &[(KeyName, Entry)]) -> Result<Vec<(KeyName, Entry)>, Memory>
+    ensures { IfOk result (λ copied. copied.items ≡ keys.now) }
+{
+    let mut copied = Vec::with_capacity(alloc, keys.len())?;
+    for key in keys {
+        copied.push((key.0.copy()?, key.1.copy()?))?;
+    }
+    Ok(copied)
+}
+
+#[cfg(test)]
+mod tests;

@@ -1,0 +1,12 @@
+//! Keys with their entries, as a finite map in name order.
+#![tactic(auto)]
+
+mod entries;
+mod iters;
+mod key_sets;
+mod ranges;
+mod weights;
+
+pub use entries::Entry;
+pub use iters::KeySetIter;
+pub use key_sets::KeySet;
