@@ -5,3 +5,5 @@ pub use Rattle.model_maps.specs.KeyMap
 pub mod Record
 pub mod Adds
 pub mod Dump
+pub mod Text
+pub mod Storable

@@ -3,6 +3,7 @@
 #![tactic(auto)]
 
 mod examples;
+mod laws;
 
 ghost use Rattle.std.specs.Prelude.{◌≡◌, List, ℕ};
 ghost use Rattle.model_maps.specs.KeyMap.{KeyMap};
@@ -10,7 +11,14 @@ ghost use Rattle.model_dump.specs.Record.{Record};
 ghost use Rattle.model_dump.specs.Adds.{Progress, Adds};
 ghost use Rattle.model_dump.specs.Dump.{Reads, Stops};
 
-pub use examples::{faults_stop_at_their_lines, small_dumps_read};
+pub use examples::{
+    faults_stop_at_their_lines, records_without_reading_stop, small_dumps_read,
+    small_maps_have_their_texts,
+};
+pub use laws::{
+    a_text_reads_as_its_map, a_text_reads_as_no_other_map, different_maps_have_different_texts,
+    what_reads_has_a_text, what_reads_is_storable,
+};
 
 /// A record makes one map of the map before it.
 pub fn a_record_adds_one_way()

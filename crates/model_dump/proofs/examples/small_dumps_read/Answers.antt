@@ -1,4 +1,4 @@
-use Rattle.std.specs.Prelude.{◌≡◌, ℕ, ◌+◌, ◌<◌, List, [], ◌∷◌, length, codes, Option, None, Some}
+use Rattle.std.specs.Prelude.{◌≡◌, ℕ, ◌+◌, List, [], ◌∷◌, codes, Option, None, Some}
 use Rattle.std.specs.Fmt.{digits}
 use Rattle.std.specs.FinMap as map
 use Rattle.std.proofs.Common.{refl, sym, ap, ap₂, ◌∙◌, arith, get_or, lit<, lit≤, inl, inr}
@@ -11,10 +11,11 @@ use Rattle.model_names.proofs.OrderLemmas.{name_cmp_total, name_cmp-IsAntisymmet
 use Rattle.model_names.proofs.SpellsLemmas.{Spells-from_tests}
 use Rattle.model_maps.specs.Entry.{Entry, plain_entry, text_cmp}
 use Rattle.model_maps.specs.KeyMap.{KeyMap, no_keys, weight, weight_of_key}
-use Rattle.model_dump.specs.Record.{Record, IsSized, KeyKind, MetaKind, CopyKind}
+use Rattle.model_dump.specs.Record.{Record, KeyKind, MetaKind, CopyKind}
 use Rattle.model_dump.specs.Adds.{Progress, start, Adds, with_meta}
 use Rattle.model_dump.specs.Dump.{Leads}
 use Rattle.model_dump.proofs.Begins.{Begins-start}
+use Rattle.model_dump.proofs.SmallDumps.{small, name_a, plain_a, record_a, after_a, plain_a_has, adds_a}
 use Rattle.model_dump.proofs.MapLemmas.{insert-insert, weight-insert, weight-no_keys, weight_of_key-plain, weight_of_key-meta, IsValue-from_ascii}
 use Rattle.model_dump.proofs.examples.small_dumps_read.Goals as goal
 
@@ -24,19 +25,13 @@ returns-clause-no_line_feed c = inr (record { records = []; progress = start; re
 pub returns-clause-no_records : goal.returns-clause-no_records
 returns-clause-no_records c = inr (record { records = []; progress = start; rest = codes "$end\n"; begins = Begins-start Adds _ _ refl; ends = inr refl; made = refl })
 
-abbrev name_a : Name
-name_a = record { namespace = Cascading; parts = codes "a" ∷ [] }
-
 abbrev name_b : Name
 name_b = record { namespace = Cascading; parts = codes "b" ∷ [] }
 
 abbrev typed : List ℕ → Entry
 typed value = with_meta (plain_entry value) (codes "type") (codes "string")
 
--- the map after the first record, after its metadata, and with the second key
-abbrev plain_a : KeyMap
-plain_a = map.insert no_keys name_a (plain_entry (codes "1"))
-
+-- the map after the first key's metadata, and with the second key
 abbrev only_a : KeyMap
 only_a = map.insert no_keys name_a (typed (codes "1"))
 
@@ -56,9 +51,6 @@ copy_made = insert-insert name_cmp_total name_cmp-IsAntisymmetric only_a name_b 
 b_is_new : map.get only_a name_b ≡ None
 b_is_new = map.get-insert name_cmp_total no_keys name_a _ name_b ∙ map.get-empty name_cmp name_b
 
-plain_a_has : map.get plain_a name_a ≡ Some (plain_entry (codes "1"))
-plain_a_has = map.get-insert name_cmp_total no_keys name_a _ name_a
-
 plain_b_has_a : map.get plain_b name_a ≡ Some (typed (codes "1"))
 plain_b_has_a = map.get-insert name_cmp_total only_a name_b _ name_a ∙ map.get-insert name_cmp_total no_keys name_a _ name_a
 
@@ -68,9 +60,6 @@ plain_b_has_b = map.get-insert name_cmp_total only_a name_b _ name_b
 -- what they weigh
 typed_weighs : (name : Name) (value : List ℕ) → weight_of_key name (typed value) ≡ weight_of_key name (plain_entry value) + 10
 typed_weighs name value = omega (arith, weight_of_key-meta name (plain_entry value) (codes "type") (codes "string") (map.get-empty text_cmp (codes "type")))
-
-plain_a_weighs : weight plain_a ≡ 67
-plain_a_weighs = weight-insert no_keys name_a _ (map.get-empty name_cmp name_a) ∙ ap₂ (λ m n. m + n) weight-no_keys (weight_of_key-plain name_a (codes "1"))
 
 only_a_weighs : weight only_a ≡ 77
 only_a_weighs = weight-insert no_keys name_a _ (map.get-empty name_cmp name_a) ∙ ap₂ (λ m n. m + n) weight-no_keys (typed_weighs name_a (codes "1") ∙ ap (λ n. n + 10) (weight_of_key-plain name_a (codes "1")))
@@ -82,9 +71,6 @@ both_weighs : weight both ≡ 154
 both_weighs = weight-insert only_a name_b _ b_is_new ∙ ap₂ (λ m n. m + n) only_a_weighs (typed_weighs name_b (codes "2") ∙ ap (λ n. n + 10) (weight_of_key-plain name_b (codes "2")))
 
 -- the records
-abbrev record_a : Record
-record_a = record { kind = KeyKind; first = codes "a"; second = codes "1" }
-
 abbrev record_meta : Record
 record_meta = record { kind = MetaKind; first = codes "type"; second = codes "string" }
 
@@ -95,9 +81,6 @@ abbrev record_copy : Record
 record_copy = record { kind = CopyKind; first = codes "a"; second = codes "type" }
 
 -- how far a dump was read behind each of them
-abbrev after_a : Progress
-after_a = record { keys = plain_a; present = Some name_a }
-
 abbrev after_meta : Progress
 after_meta = record { keys = only_a; present = Some name_a }
 
@@ -108,18 +91,6 @@ abbrev after_copy : Progress
 after_copy = record { keys = both; present = Some name_b }
 
 -- what each of them adds
-adds_a : Adds start record_a after_a
-adds_a = record {
-  adds = record {
-    name = name_a;
-    spelled = Spells-from_tests _ _ (codes "a") refl refl refl (lit≤ tt);
-    is_new = map.get-empty name_cmp name_a;
-    is_value = IsValue-from_ascii (codes "1") (omega arith) (lit≤ tt);
-    added = refl;
-  };
-  light = omega (arith, plain_a_weighs);
-}
-
 adds_meta : Adds after_a record_meta after_meta
 adds_meta = record {
   adds = record {
@@ -173,9 +144,6 @@ copies = record {
   };
   light = omega (arith, both_weighs);
 }
-
-small : (r : Record) → length r.first < 10 → length r.second < 10 → IsSized r
-small r first second = record { first = omega arith; second = omega arith }
 
 abbrev records : List Record
 records = record_a ∷ record_meta ∷ record_b ∷ record_copy ∷ []
