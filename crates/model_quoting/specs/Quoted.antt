@@ -1,5 +1,5 @@
 -- How a text and a name are shown on one line. (This project's own.)
-use Rattle.std.specs.Prelude.{ℕ, ◌+◌, ◌/◌, ◌%◌, nat_lt, Bool, not, ◌&&◌, ◌||◌, ◌==◌, if◌then◌else◌, List, [], ◌∷◌, ◌++◌}
+use Rattle.std.specs.Prelude.{ℕ, ◌+◌, ◌/◌, ◌%◌, nat_lt, nat_le, Bool, not, ◌&&◌, ◌||◌, ◌==◌, if◌then◌else◌, List, [], ◌∷◌, ◌++◌}
 use Rattle.std.specs.List.{flat_map, list_all}
 use Rattle.model_names.specs.Name.{Name}
 use Rattle.model_names.specs.Spelling.{spelling}
@@ -33,3 +33,7 @@ shown_text text = if list_all is_plain_byte text then text else quoted text
 -- a name is shown by its canonical spelling
 abbrev pub shown : Name → List ℕ
 shown name = shown_text (spelling name)
+
+-- a byte that may stand inside a line: it is no control byte, so no line feed
+abbrev pub is_line_byte : ℕ → Bool
+is_line_byte b = nat_le 32 b && not (b == 127)

@@ -1,0 +1,3 @@
+pub mod QuotedAs
+pub mod AlikeLemmas
+pub mod LineLemmas
