@@ -1,0 +1,9 @@
+pub mod SizeLemmas
+pub mod RecordLemmas
+pub mod NameLemmas
+pub mod MapLemmas
+pub mod ProgressLemmas
+pub mod StepLemmas
+pub mod ReadingLemmas
+pub mod WritingLemmas
+pub mod EarlierLemmas

@@ -1,0 +1,6 @@
+pub mod Pieces
+pub mod RecordView
+pub mod Texts
+pub mod ProgressView
+pub mod Reading
+pub mod EarlierView

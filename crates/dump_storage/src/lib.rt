@@ -1,0 +1,15 @@
+//! Maps of keys as dumps: the bytes of a file read, and a map written as its text.
+#![tactic(auto)]
+
+mod earlier;
+mod pieces;
+mod progress;
+mod reading;
+mod records;
+#[cfg(test)]
+mod tests;
+mod texts;
+mod writing;
+
+pub use reading::read;
+pub use writing::write;
