@@ -1,8 +1,6 @@
 //! The program `kdb`: the tool over the files of the folder `.kdb`, and the real input and output.
 #![tactic(auto)]
 
-mod disk_real;
-
 use disk_real::RealDisk;
 use kdb_outside::{OpenGate, ReaderSource, Sink, WriterSink};
 use kdb_tool::run;

@@ -1,6 +1,6 @@
 //! The tool over real files.
-use crate::disk_real::RealDisk;
-use kdb_outside::{Disk, FileName, MemSink, OpenGate, SureSource};
+use disk_real::RealDisk;
+use kdb_outside::{MemSink, OpenGate, SureSource};
 use kdb_tool::run;
 use key_meta::Text;
 use std::alloc::Global;
@@ -85,25 +85,6 @@ fn prints_what_the_files_of_a_folder_hold(rt: HostRuntime) -> Result<(), Fail> {
         assert_eq!(rt; out.bytes(), out_text.as_bytes(), "{err_text}");
         assert_eq!(rt; err.bytes(), err_text.as_bytes(), "{err_text}");
     }
-    fs::remove_dir_all(&rt, place.as_str())?;
-    Ok(())
-}
-
-#[test]
-fn reads_real_files_from_any_place(rt: HostRuntime) -> Result<(), Fail> {
-    let place = folder(rt, "disk")?;
-    let path = format!(in rt.alloc(); "{place}/user.ecf")?;
-    fs::write(&rt, path.as_str(), b"abcdef")?;
-    let mut disk = RealDisk::new(rt, place.as_str())?;
-    let user = FileName::new(rt.alloc(), "user.ecf")?.ok_or("it is a name")?;
-    let missing = FileName::new(rt.alloc(), "missing")?.ok_or("it is a name")?;
-    assert_eq!(rt; disk.length(&user), Ok(6));
-    assert_eq!(rt; disk.length(&missing), Ok(0));
-    let mut buf = [b'.'; 4];
-    assert_eq!(rt; disk.read_at(&user, 3, &mut buf), Ok(3));
-    assert_eq!(rt; &buf, b"def.");
-    assert_eq!(rt; disk.read_at(&user, 9, &mut buf), Ok(0));
-    assert_eq!(rt; disk.read_at(&missing, 0, &mut buf), Ok(0));
     fs::remove_dir_all(&rt, place.as_str())?;
     Ok(())
 }

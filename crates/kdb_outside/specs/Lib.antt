@@ -4,3 +4,4 @@ pub mod FileName
 pub mod Calls
 pub mod MemStream
 pub mod Edge
+pub mod Files

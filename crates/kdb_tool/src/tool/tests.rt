@@ -72,6 +72,18 @@ impl Disk for OneFile {
         buf[..count].copy_from_slice(&rest[..count]);
         Ok(count)
     }
+
+    fn write_at(&mut self, _file: &FileName, _at: u64, _bytes: &[u8]) -> Result<(), Failed> {
+        self.begin()
+    }
+
+    fn cut(&mut self, _file: &FileName, _new_length: u64) -> Result<(), Failed> {
+        self.begin()
+    }
+
+    fn sync(&mut self, _file: &FileName) -> Result<(), Failed> {
+        self.begin()
+    }
 }
 
 /// What came of a run.

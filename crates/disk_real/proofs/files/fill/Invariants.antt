@@ -1,5 +1,6 @@
+-- The buffer has room for what was read.
 use Rattle.std.proofs.Common.{◌≤◌, length}
-use Rattle.kdb_main.proofs.disk_real.RealDisk.fill.Given as goal
+use Rattle.disk_real.proofs.files.fill.Given as goal
 
 abbrev pub invariant-loop : goal.invariant-loop
 invariant-loop l = l.filled ≤ length l.buf

@@ -1,0 +1,8 @@
+//! A disk over memory that tells its contents, and whose calls fail as its maker asks.
+#![tactic(auto)]
+
+mod mem_disks;
+mod mem_files;
+mod places;
+
+pub use mem_disks::MemDisk;

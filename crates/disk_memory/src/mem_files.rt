@@ -1,0 +1,115 @@
+//! Files in memory by their names.
+ghost use Rattle.std.specs.Prelude.{◌≡◌, ◌≤◌, map, length, take, bytes_eq, position, IfOk, OnOk, OnErr};
+ghost use Rattle.kdb_outside.specs.Files.{written, ChangesTo};
+ghost use Rattle.disk_memory.specs.DiskState.{file_of, bytes_of};
+
+use crate::places;
+use kdb_outside::{FileName, Memory};
+use std::alloc::Global;
+use std::marker::Model;
+
+/// A file, seen as its name and its bytes.
+#[derive(Debug, Drop)]
+pub(crate) struct MemFile {
+    name: FileName,
+    bytes: Vec<u8>,
+}
+
+impl Model for MemFile {
+    ghost use Rattle.disk_memory.specs.DiskState.{File};
+
+    ghost Value = { File };
+
+    ghost view = { λ f. record { name = f.name; bytes = f.bytes.items } };
+}
+
+impl MemFile {
+    fn new(name: FileName, bytes: Vec<u8>) -> MemFile
+        ensures { result ≡ record { name = name; bytes = bytes.items } }
+    {
+        MemFile { name, bytes }
+    }
+
+    fn is_named(&self, name: &FileName) -> bool
+        ensures { result ≡ bytes_eq self.now.name name.now }
+    {
+        self.name == *name
+    }
+
+    fn bytes(&self) -> &[u8]
+        ensures { result.now ≡ self.now.bytes }
+    {
+        &self.bytes
+    }
+
+    fn write(&mut self, at: usize, piece: &[u8]) -> Result<(), Memory>
+        requires { at ≤ length self.old.bytes }
+        ensures ok { OnOk result (self.new ≡ record self.old { bytes = written self.old.bytes at piece.now }) }
+        ensures err { OnErr result (self.new ≡ self.old) }
+    {
+        places::write(&mut self.bytes, at, piece)
+    }
+
+    fn cut(&mut self, to: usize)
+        ensures { self.new ≡ record self.old { bytes = take to self.old.bytes } }
+    {
+        self.bytes.truncate(to);
+    }
+}
+
+pub(crate) fn stored(alloc: Global, files: Vec<(FileName, Vec<u8>)>) -> Result<Vec<MemFile>, Memory>
+    ensures { IfOk result (λ all. all.items ≡ map file_of files.items) }
+{
+    files
+        .into_iter()
+        .map(|(name, bytes)| MemFile::new(name, bytes))
+        .collect(alloc)
+}
+
+fn place_of(files: &[MemFile], name: &FileName) -> Option<usize>
+    ensures { result ≡ position (λ f. bytes_eq f.name name.now) files.now }
+{
+    files.iter().position(|file| file.is_named(name))
+}
+
+/// The bytes of a file, and none of one that is missing.
+pub(crate) fn bytes_in<'a>(files: &'a [MemFile], name: &FileName) -> &'a [u8]
+    ensures { result.now ≡ bytes_of files.now name.now }
+{
+    match place_of(files, name) {
+        Some(place) => files[place].bytes(),
+        None => &[],
+    }
+}
+
+/// Writes a piece into a file, which is made if it is missing. At an error the files are as they were.
+pub(crate) fn write_in(
+    alloc: Global,
+    files: &mut Vec<MemFile>,
+    name: &FileName,
+    at: usize,
+    piece: &[u8],
+) -> Result<(), Memory>
+    requires { at ≤ length (bytes_of files.old.items name.now) }
+    ensures ok { OnOk result (ChangesTo name.now (written (bytes_of files.old.items name.now) at piece.now)
+        (bytes_of files.old.items) (bytes_of files.new.items)) }
+    ensures err { OnErr result (files.new.items ≡ files.old.items) }
+{
+    match place_of(files, name) {
+        Some(place) => files[place].write(at, piece),
+        None => {
+            let file = MemFile::new(name.copy()?, Vec::from_slice(alloc, piece)?);
+            files.push(file)?;
+            Ok(())
+        }
+    }
+}
+
+/// Cuts a file off.
+pub(crate) fn cut_in(files: &mut [MemFile], name: &FileName, to: usize)
+    ensures { ChangesTo name.now (take to (bytes_of files.old name.now)) (bytes_of files.old) (bytes_of files.new) }
+{
+    if let Some(place) = place_of(files, name) {
+        files[place].cut(to);
+    }
+}

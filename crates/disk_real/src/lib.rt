@@ -1,0 +1,7 @@
+//! A disk over the files of a real folder, one user of the folder at a time.
+#![tactic(auto)]
+
+mod files;
+mod real_disks;
+
+pub use real_disks::RealDisk;
