@@ -7,6 +7,8 @@ use std::alloc::Global;
 use std::test::Fail;
 use std::{env, fs, process};
 
+mod commands;
+
 const ONE_KEY: &[u8] = b"kdbOpen 2\n$key string 4 1\nsw/a\n1\n$end\n";
 
 /// A folder of this process's own.

@@ -1,54 +1,61 @@
 -- How a run ends, from the answer that was worked out and what became of it on out and err.
-use Rattle.std.specs.Prelude.{◌≡◌, ◌≢◌, ◌⊎◌, ℕ, zero, suc, List, [], ◌++◌, length, take, Option, Some, None, Result, Ok, Err, IfOk}
-use Rattle.std.proofs.Common.{refl, sym, ap, ◌∙◌, subst, arith}
+use Rattle.std.specs.Prelude.{◌≡◌, ◌≢◌, ℕ, ◌⊎◌, nat_eq, true, false, zero, suc, List, [], ◌++◌, length, take, Option, Some, None, Result, Ok, Err, IfOk}
+use Rattle.std.proofs.Common.{refl, sym, ap, ◌∙◌, subst, inl, inr, arith}
+use Rattle.std.proofs.lemmas.Bool.Decides.{eqb_tells}
 use Rattle.std.proofs.Math.Seq.{take-length}
 use Rattle.kdb_tool.specs.declared.answers.Answer as code
 use Rattle.kdb_tool.specs.declared.answers.Stop.{Stop}
 use Rattle.kdb_tool.specs.declared.answers.Stop.TheVariants as stops
 use Rattle.kdb_tool.specs.Lines.{disk_fault, out_of_memory}
-use Rattle.kdb_tool.specs.Answer.{Answer, refused}
-use Rattle.kdb_tool.specs.Request.{Request, Refuses, Get}
+use Rattle.model_names.specs.Name.{Name}
+use Rattle.kdb_tool.specs.Answer.{Report, Answer, warned, LeavesFiles}
+use Rattle.kdb_tool.specs.Request.{Action, Request, Refuses, Asks}
 use Rattle.kdb_tool.specs.Answers.{Answers}
-use Rattle.kdb_tool.specs.AnswerView.{answer_of, AnswersUntold, IsGetStatus}
+use Rattle.kdb_tool.specs.AnswerView.{report_of, answer_of}
+use Rattle.kdb_tool.specs.Untold as untold
+use Rattle.kdb_tool.specs.Untold.{IsStatusOf, AnswersUntoldKey, AnswersUntold}
+use Rattle.kdb_tool.specs.Work.{Leaves, Stores}
 use Rattle.kdb_tool.specs.Ending.{ending}
 use Rattle.kdb_tool.specs.Outcome.{Change, Failed, Gives, Gains, GainsFront, Delivers, Whole, OutFails, ErrFails}
-use Rattle.kdb_tool.specs.Ends.{IsAnswered, EndsAsAnswered, EndsByWords, EndsWithoutMemory, EndsInFault, FaultCause, OfDisk, OfOut, OfErr}
+use Rattle.kdb_tool.specs.Ends.{IsAnswered, EndsAsAnswered, GivesAnswer, EndsOnKey, Outside, Inside, EndsByWords, EndsWithoutMemory, EndsInFault, FaultCause, OfDisk, OfOut, OfErr, LeftBy, Unwritten, Left}
 use Rattle.kdb_tool.proofs.AnswersOnce.{Answers-once}
 
 not_fault : (status : ℕ) → status ≡ 70 → status ≢ 74
 not_fault status e f = absurd (omega arith)
 
 -- a run that ended in no fault gave its answer whole
-whole : (answer : Answer) (status : ℕ) (out err : Change) → Delivers answer status out err → status ≢ 74 → Gives answer status out err
+whole : (report : Report) (status : ℕ) (out err : Change) → Delivers report status out err → status ≢ 74 → Gives report status out err
 whole answer status out err (Whole gives) no_fault = gives
 whole answer status out err (OutFails loses) no_fault = absurd (no_fault loses.status_is)
 whole answer status out err (ErrFails loses) no_fault = absurd (no_fault loses.status_is)
 
-pub answered : (r : Result code.Answer Stop) (words : List (List ℕ)) (files : List ℕ → List ℕ) (status : ℕ) (out err : Change) → IfOk r (λ answer. Answers words files (answer_of answer)) → Delivers (ending r) status out err → EndsAsAnswered words files status out err
-answered (Ok answer) words files status out err answers delivers =
-    λ is. record { answer = answer_of answer; answers = answers; gives = whole (answer_of answer) status out err delivers is.1 }
-answered (Err stops.Memory) words files status out err answers delivers =
-    λ is. absurd (is.0 (whole (refused 70 out_of_memory) status out err delivers is.1).status_is)
-answered (Err stops.DiskFault) words files status out err answers delivers =
-    λ is. absurd (is.1 (whole (refused 74 disk_fault) status out err delivers is.1).status_is)
+pub answered : (r : Result code.Answer Stop) (words : List (List ℕ)) (before after : List ℕ → List ℕ) (status : ℕ) (out err : Change) → IfOk r (λ answer. Answers words before (answer_of answer)) → Leaves words r before after → Delivers (ending r) status out err → EndsAsAnswered words before after status out err
+answered (Ok answer) words before after status out err answers leaves delivers =
+    λ is. record { answer = answer_of answer; answers = answers; gives = whole (report_of answer) status out err delivers is.1; leaves = leaves }
+answered (Err stops.Memory) words before after status out err answers leaves delivers =
+    λ is. absurd (is.0 (whole (warned 70 out_of_memory) status out err delivers is.1).status_is)
+answered (Err stops.DiskFault) words before after status out err answers leaves delivers =
+    λ is. absurd (is.1 (whole (warned 74 disk_fault) status out err delivers is.1).status_is)
 
-by_request : (asked : Request) (answer : Answer) (status : ℕ) (out err : Change) → AnswersUntold asked answer → (status ≢ 74 → Gives answer status out err) → EndsByWords asked status out err
-by_request (Refuses code text) answer status out err is gives = λ answered. subst (λ (a : Answer). Gives a status out err) is (gives answered.1)
-by_request (Get name) answer status out err is gives = λ answered. get_status answer status is (gives answered.1).status_is
-  where
-    get_status : (answer : Answer) (status : ℕ) → IsGetStatus answer → status ≡ answer.status → (status ≡ 0) ⊎ (status ≡ 5) ⊎ (status ≡ 11)
-    get_status answer status is e = subst (λ (s : ℕ). (s ≡ 0) ⊎ (s ≡ 5) ⊎ (s ≡ 11)) (sym e) is
+on_key : (name : Name) (action : Action) (answer : Answer) (status : ℕ) (out err : Change) → AnswersUntoldKey name action answer → Gives answer.report status out err → EndsOnKey name action status out err
+on_key name action answer status out err (untold.Outside outside is) gives = Outside outside (subst (λ (a : Answer). Gives a.report status out err) is gives)
+on_key name action answer status out err (untold.Inside inside is) gives = Inside inside (subst (IsStatusOf action) (sym gives.status_is) is)
 
-stopped_by : (asked : Request) (code : ℕ) (answer : Answer) (status : ℕ) (out err : Change) → (IsAnswered status → ⊥) → EndsByWords asked status out err
+by_request : (asked : Request) (answer : Answer) (status : ℕ) (out err : Change) → AnswersUntold asked answer → (status ≢ 74 → Gives answer.report status out err) → EndsByWords asked status out err
+by_request (Refuses code text) answer status out err is gives = λ answered. subst (λ (a : Answer). Gives a.report status out err) is (gives answered.1)
+by_request (Asks text action) answer status out err is gives = λ answered.
+    record { name = is.name; spelled = is.spelled; ends = on_key is.name action answer status out err is.answers (gives answered.1) }
+
+stopped_by : (asked : Request) (code : ℕ) (answer : Report) (status : ℕ) (out err : Change) → (IsAnswered status → ⊥) → EndsByWords asked status out err
 stopped_by (Refuses number text) code answer status out err never = λ answered. absurd (never answered)
-stopped_by (Get name) code answer status out err never = λ answered. absurd (never answered)
+stopped_by (Asks text action) code answer status out err never = λ answered. absurd (never answered)
 
 pub by_words : (r : Result code.Answer Stop) (asked : Request) (status : ℕ) (out err : Change) → IfOk r (λ answer. AnswersUntold asked (answer_of answer)) → Delivers (ending r) status out err → EndsByWords asked status out err
-by_words (Ok answer) asked status out err untold delivers = by_request asked (answer_of answer) status out err untold (whole (answer_of answer) status out err delivers)
+by_words (Ok answer) asked status out err untold delivers = by_request asked (answer_of answer) status out err untold (whole (report_of answer) status out err delivers)
 by_words (Err stops.Memory) asked status out err untold delivers =
-    stopped_by asked 70 (refused 70 out_of_memory) status out err (λ is. is.0 (whole (refused 70 out_of_memory) status out err delivers is.1).status_is)
+    stopped_by asked 70 (warned 70 out_of_memory) status out err (λ is. is.0 (whole (warned 70 out_of_memory) status out err delivers is.1).status_is)
 by_words (Err stops.DiskFault) asked status out err untold delivers =
-    stopped_by asked 74 (refused 74 disk_fault) status out err (λ is. is.1 (whole (refused 74 disk_fault) status out err delivers is.1).status_is)
+    stopped_by asked 74 (warned 74 disk_fault) status out err (λ is. is.1 (whole (warned 74 disk_fault) status out err delivers is.1).status_is)
 
 -- what is gained whole or as a front of nothing is gained as a front
 front-whole : (before now : Option (List ℕ)) (bytes : List ℕ) → Gains before now bytes → GainsFront before now bytes
@@ -64,27 +71,27 @@ front-none (Some held) now bytes front =
     record { count = 0; within = omega arith; is = front.is ∙ ap (λ b. Some (held ++ b)) (take-nil front.count) }
 front-none None now bytes front = tt
 
-front : (answer : Answer) (status : ℕ) (out err : Change) → Delivers answer status out err → GainsFront out.held_before out.held_now answer.out
-front answer status out err (Whole gives) = front-whole out.held_before out.held_now answer.out gives.out_gains
-front answer status out err (OutFails loses) = loses.out_front
-front answer status out err (ErrFails loses) = loses.out_front
+front : (report : Report) (status : ℕ) (out err : Change) → Delivers report status out err → GainsFront out.held_before out.held_now report.out
+front report status out err (Whole gives) = front-whole out.held_before out.held_now report.out gives.out_gains
+front report status out err (OutFails loses) = loses.out_front
+front report status out err (ErrFails loses) = loses.out_front
 
 pub prefix : (r : Result code.Answer Stop) (words : List (List ℕ)) (files : List ℕ → List ℕ) (status : ℕ) (out err : Change) → IfOk r (λ answer. Answers words files (answer_of answer)) → Delivers (ending r) status out err
-    → (answer : Answer) → Answers words files answer → GainsFront out.held_before out.held_now answer.out
+    → (answer : Answer) → Answers words files answer → GainsFront out.held_before out.held_now answer.report.out
 prefix (Ok made) words files status out err answers delivers = λ answer other.
-    subst (λ (a : Answer). GainsFront out.held_before out.held_now a.out) (Answers-once words files (answer_of made) answer answers other) (front (answer_of made) status out err delivers)
-prefix (Err stops.Memory) words files status out err answers delivers = λ answer other. front-none out.held_before out.held_now answer.out (front (refused 70 out_of_memory) status out err delivers)
-prefix (Err stops.DiskFault) words files status out err answers delivers = λ answer other. front-none out.held_before out.held_now answer.out (front (refused 74 disk_fault) status out err delivers)
+    subst (λ (a : Answer). GainsFront out.held_before out.held_now a.report.out) (Answers-once words files (answer_of made) answer answers other) (front (report_of made) status out err delivers)
+prefix (Err stops.Memory) words files status out err answers delivers = λ answer other. front-none out.held_before out.held_now answer.report.out (front (warned 70 out_of_memory) status out err delivers)
+prefix (Err stops.DiskFault) words files status out err answers delivers = λ answer other. front-none out.held_before out.held_now answer.report.out (front (warned 74 disk_fault) status out err delivers)
 
 -- an answer that was worked out has a status of its own, which is neither that of want of memory nor that of a fault
 pub without_memory : (r : Result code.Answer Stop) (status : ℕ) (out err : Change) → IfOk r (λ answer. IsAnswered answer.status) → Delivers (ending r) status out err → EndsWithoutMemory status out err
 without_memory (Ok answer) status out err own delivers = λ e.
-    absurd (own.0 (sym (whole (answer_of answer) status out err delivers (not_fault status e)).status_is ∙ e))
-without_memory (Err stops.Memory) status out err own delivers = λ e. whole (refused 70 out_of_memory) status out err delivers (not_fault status e)
+    absurd (own.0 (sym (whole (report_of answer) status out err delivers (not_fault status e)).status_is ∙ e))
+without_memory (Err stops.Memory) status out err own delivers = λ e. whole (warned 70 out_of_memory) status out err delivers (not_fault status e)
 without_memory (Err stops.DiskFault) status out err own delivers = λ e.
-    absurd (not_fault status e (whole (refused 74 disk_fault) status out err delivers (not_fault status e)).status_is)
+    absurd (not_fault status e (whole (warned 74 disk_fault) status out err delivers (not_fault status e)).status_is)
 
-fault_of_sinks : (disk_failed : Type 0) (answer : Answer) (status : ℕ) (out err : Change) → Delivers answer status out err → (Gives answer status out err → FaultCause disk_failed status out err) → FaultCause disk_failed status out err
+fault_of_sinks : (disk_failed : Type 0) (answer : Report) (status : ℕ) (out err : Change) → Delivers answer status out err → (Gives answer status out err → FaultCause disk_failed status out err) → FaultCause disk_failed status out err
 fault_of_sinks disk_failed answer status out err (Whole gives) given = given gives
 fault_of_sinks disk_failed answer status out err (OutFails loses) given = OfOut loses.out_failed loses.err_gains
 fault_of_sinks disk_failed answer status out err (ErrFails loses) given = OfErr loses.err_failed
@@ -92,11 +99,11 @@ fault_of_sinks disk_failed answer status out err (ErrFails loses) given = OfErr 
 -- the cause of a fault
 pub in_fault : (disk_failed : Type 0) (r : Result code.Answer Stop) (status : ℕ) (out err : Change) → IfOk r (λ answer. IsAnswered answer.status) → (r ≡ Err stops.DiskFault → disk_failed) → Delivers (ending r) status out err → EndsInFault disk_failed status out err
 in_fault disk_failed (Ok answer) status out err own cause delivers = λ e.
-    fault_of_sinks disk_failed (answer_of answer) status out err delivers (λ gives. absurd (own.1 (sym gives.status_is ∙ e)))
+    fault_of_sinks disk_failed (report_of answer) status out err delivers (λ gives. absurd (own.1 (sym gives.status_is ∙ e)))
 in_fault disk_failed (Err stops.Memory) status out err own cause delivers = λ e.
-    fault_of_sinks disk_failed (refused 70 out_of_memory) status out err delivers (λ gives. absurd (not_fault status gives.status_is e))
+    fault_of_sinks disk_failed (warned 70 out_of_memory) status out err delivers (λ gives. absurd (not_fault status gives.status_is e))
 in_fault disk_failed (Err stops.DiskFault) status out err own cause delivers = λ e.
-    fault_of_sinks disk_failed (refused 74 disk_fault) status out err delivers (λ gives. OfDisk (cause refl) gives)
+    fault_of_sinks disk_failed (warned 74 disk_fault) status out err delivers (λ gives. OfDisk (cause refl) gives)
 
 -- a fault has one of three causes
 one_of_three : (disk_failed : Type 0) (status : ℕ) (out err : Change) → FaultCause disk_failed status out err → (disk_failed → ⊥) → (Failed out → ⊥) → (Failed err → ⊥) → ⊥
@@ -107,3 +114,41 @@ one_of_three disk_failed status out err (OfErr risen) no_disk no_out no_err = no
 -- without a fault of the disk, of out or of err the status is not that of a fault
 pub complete : (disk_failed : Type 0) (status : ℕ) (out err : Change) → EndsInFault disk_failed status out err → (disk_failed → ⊥) → (Failed out → ⊥) → (Failed err → ⊥) → status ≢ 74
 complete disk_failed status out err ends no_disk no_out no_err = λ e. one_of_three disk_failed status out err (ends e) no_disk no_out no_err
+
+-- at want of memory the files are as they were
+pub unwritten : (r : Result code.Answer Stop) (words : List (List ℕ)) (before after : List ℕ → List ℕ) (status : ℕ) (out err : Change) → IfOk r (λ answer. IsAnswered answer.status) → Leaves words r before after → Delivers (ending r) status out err → status ≡ 70 → after ≡ before
+unwritten (Ok answer) words before after status out err own leaves delivers e =
+    absurd (own.0 (sym (whole (report_of answer) status out err delivers (not_fault status e)).status_is ∙ e))
+unwritten (Err stops.Memory) words before after status out err own leaves delivers e = leaves
+unwritten (Err stops.DiskFault) words before after status out err own leaves delivers e =
+    absurd (not_fault status e (whole (warned 74 disk_fault) status out err delivers (not_fault status e)).status_is)
+
+left_none : (bytes : Option (List ℕ)) (before after : List ℕ → List ℕ) → bytes ≡ None → LeavesFiles bytes before after → after ≡ before
+left_none None before after is leaves = leaves
+left_none (Some bytes) before after is leaves = absurd cc
+
+-- where the answer stores nothing, the files are as they were, however the run ends
+pub untouched : (r : Result code.Answer Stop) (words : List (List ℕ)) (before after : List ℕ → List ℕ) → IfOk r (λ answer. Answers words before (answer_of answer)) → Leaves words r before after
+    → (answer : Answer) → Answers words before answer → answer.stored ≡ None → after ≡ before
+untouched (Ok made) words before after answers leaves = λ answer other nothing.
+    left_none (answer_of made).stored before after (ap (λ (a : Answer). a.stored) (Answers-once words before (answer_of made) answer answers other) ∙ nothing) leaves
+untouched (Err stops.Memory) words before after answers leaves = λ answer other nothing. leaves
+untouched (Err stops.DiskFault) words before after answers leaves = leaves
+
+-- the files behind a run without a fault
+pub left : (words : List (List ℕ)) (before after : List ℕ → List ℕ) (status : ℕ) (out err : Change) → EndsAsAnswered words before after status out err → (status ≡ 70 → after ≡ before) → status ≢ 74 → LeftBy words before after status
+left words before after status out err ends same no_fault = by_test (eqb_tells status 70)
+  where
+    from_answer : GivesAnswer words before after status out err → LeftBy words before after status
+    from_answer given = Left given.answer given.answers given.gives.status_is given.leaves
+
+    by_test : ((nat_eq status 70 ≡ true) × (status ≡ 70)) ⊎ ((nat_eq status 70 ≡ false) × (status ≢ 70)) → LeftBy words before after status
+    by_test (inl is) = Unwritten is.1 (same is.1)
+    by_test (inr is_not) = from_answer (ends (is_not.1, no_fault))
+
+-- what storing an answer did to the files
+pub Leaves-stored : (words : List (List ℕ)) (answer : code.Answer) (r : Result code.Answer Stop) (before after : List ℕ → List ℕ) → Answers words before (answer_of answer) → IfOk r (λ given. given ≡ answer) → Stores answer r before after → Leaves words r before after
+Leaves-stored words answer (Ok given) before after answers is stores = subst (λ (a : code.Answer). LeavesFiles (answer_of a).stored before after) (sym is) stores
+Leaves-stored words answer (Err stops.Memory) before after answers is stores = absurd stores
+Leaves-stored words answer (Err stops.DiskFault) before after answers is stores = λ other others nothing.
+    absurd (stores (ap (λ (a : Answer). a.stored) (Answers-once words before (answer_of answer) other answers others) ∙ nothing))

@@ -1,10 +1,6 @@
-pub mod QuotedLemmas
 pub mod AnswersOnce
 pub mod FileLemmas
+pub mod WordLemmas
+pub mod StoredLemmas
+pub mod StatusLemmas
 pub mod EndLemmas
-pub mod RisingLemmas
-pub mod PlainKeyLemmas
-pub mod SizeLemmas
-pub mod RecordLemmas
-pub mod ReadingLemmas
-pub mod SpellingLength

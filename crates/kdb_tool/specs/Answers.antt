@@ -1,49 +1,35 @@
--- The answer to a command line over the files of a store. A later command is one more case. (This project's own.)
-use Rattle.std.specs.Prelude.{◌≡◌, ℕ, List, [], ◌∷◌, ◌++◌, Option, None, Some, codes}
-use Rattle.std.specs.FinMap as map
-use Rattle.model_names.specs.declared.namespaces.Namespace.TheVariants.{Cascading}
+-- The answer to a command line over the files of a store. (This project's own.)
+use Rattle.std.specs.Prelude.{◌≡◌, ◌≢◌, ℕ, List}
+use Rattle.model_names.specs.declared.namespaces.Namespace.TheVariants.{User}
 use Rattle.model_names.specs.Name.{Name}
 use Rattle.model_names.specs.Spells.{Spells}
-use Rattle.model_maps.specs.Entry.{Entry}
-use Rattle.kdb_tool.specs.Lines.{not_found, too_long, bad_file}
-use Rattle.kdb_tool.specs.Answer.{Answer, done, refused}
-use Rattle.kdb_tool.specs.Request.{Request, Refuses, Get, request}
-use Rattle.kdb_tool.specs.Holding.{Holding, Holds, IsTooLong, IsBad, Means}
+use Rattle.kdb_tool.specs.Lines.{not_built}
+use Rattle.kdb_tool.specs.Answer.{Answer, refused, user_file}
+use Rattle.kdb_tool.specs.Request.{Action, Request, Refuses, Asks, request}
+use Rattle.kdb_tool.specs.Holding.{Holding, Means}
+use Rattle.kdb_tool.specs.Commands.{answer_over}
 
--- the file of the users' root, and its mountpoint as it is shown
-abbrev pub user_file : List ℕ
-user_file = codes "user.ecf"
+-- the answer to an action on a user's key, over the bytes of the users' file
+pub record AnswersFrom (name : Name) (action : Action) (bytes : List ℕ) (answer : Answer) : Type 0 where
+  pub holding : Holding
+  pub means : Means bytes holding
+  pub is : answer ≡ answer_over holding name action
 
-abbrev pub user_root : List ℕ
-user_root = codes "user:/"
+-- the answer to an action on a key: keys of other namespaces than the users' can't be reached so far
+pub data AnswersKey (name : Name) (action : Action) (files : List ℕ → List ℕ) (answer : Answer) : Type 0 where
+  Outside : name.namespace ≢ User → answer ≡ refused 2 (not_built name) → AnswersKey name action files answer
+  Inside : name.namespace ≡ User → AnswersFrom name action (files user_file) answer → AnswersKey name action files answer
 
--- a name as the file of its namespace's root has it
-abbrev pub relative : Name → Name
-relative name = record { namespace = Cascading; parts = name.parts }
-
--- the value of a key that is there, with a line feed
-abbrev pub found_answer : Name → Option Entry → Answer
-found_answer name None = refused 11 (not_found name)
-found_answer name (Some entry) = done (entry.value ++ 10 ∷ [])
-
--- `get` looks a name up in what its file holds
-abbrev pub get_answer : Name → Holding → Answer
-get_answer name (Holds keys) = found_answer name (map.get keys (relative name))
-get_answer name (IsTooLong bytes) = refused 5 (too_long user_root bytes)
-get_answer name (IsBad number) = refused 5 (bad_file user_root number)
-
--- the answer of `get` to the text of a name
-pub record AnswersGet (text : List ℕ) (files : List ℕ → List ℕ) (answer : Answer) : Type 0 where
+-- the answer to an action on the key that a text names
+pub record AnswersText (text : List ℕ) (action : Action) (files : List ℕ → List ℕ) (answer : Answer) : Type 0 where
   pub name : Name
   pub spelled : Spells text name
-  pub holding : Holding
-  pub means : Means (files user_file) holding
-  pub is : answer ≡ get_answer name holding
+  pub answers : AnswersKey name action files answer
 
 -- the answer to a request
 abbrev pub AnswersRequest : Request → (List ℕ → List ℕ) → Answer → Type 0
 AnswersRequest (Refuses status text) files answer = answer ≡ refused status text
-AnswersRequest (Get text) files answer = AnswersGet text files answer
+AnswersRequest (Asks text action) files answer = AnswersText text action files answer
 
 -- the answer to a command line, where files gives each file name its bytes
 abbrev pub Answers : List (List ℕ) → (List ℕ → List ℕ) → Answer → Type 0

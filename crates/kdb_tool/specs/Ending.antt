@@ -4,14 +4,14 @@ use Rattle.kdb_tool.specs.declared.answers.Answer as code
 use Rattle.kdb_tool.specs.declared.answers.Stop.{Stop}
 use Rattle.kdb_tool.specs.declared.answers.Stop.TheVariants as stops
 use Rattle.kdb_tool.specs.Lines.{disk_fault, out_of_memory}
-use Rattle.kdb_tool.specs.Answer.{Answer, refused}
-use Rattle.kdb_tool.specs.AnswerView.{answer_of}
+use Rattle.kdb_tool.specs.Answer.{Report, warned}
+use Rattle.kdb_tool.specs.AnswerView.{report_of}
 
 -- the line that tells why there is no answer, with its status
-abbrev pub stopped : Stop → Answer
-stopped stops.Memory = refused 70 out_of_memory
-stopped stops.DiskFault = refused 74 disk_fault
+abbrev pub stopped : Stop → Report
+stopped stops.Memory = warned 70 out_of_memory
+stopped stops.DiskFault = warned 74 disk_fault
 
-abbrev pub ending : Result code.Answer Stop → Answer
-ending (Ok answer) = answer_of answer
+abbrev pub ending : Result code.Answer Stop → Report
+ending (Ok answer) = report_of answer
 ending (Err stop) = stopped stop

@@ -1,8 +1,8 @@
 -- What the file of a mount holds. (This project's own.)
 use Rattle.std.specs.Prelude.{◌≡◌, ℕ, ◌<◌, ◌≤◌, List, length}
 use Rattle.model_maps.specs.KeyMap.{KeyMap}
+use Rattle.model_dump.specs.Adds.{Adds}
 use Rattle.model_dump.specs.Dump.{Reads, Stops, line_at}
-use Rattle.kdb_tool.specs.PlainRecords.{AddsPlain}
 
 -- the most bytes of a file
 abbrev pub longest_file : ℕ
@@ -17,13 +17,13 @@ pub data Holding : Type 0 where
 -- the bytes of a short file read as these keys
 pub record HoldsKeys (bytes : List ℕ) (keys : KeyMap) : Type 0 where
   pub short : length bytes ≤ longest_file
-  pub reads : Reads AddsPlain bytes keys
+  pub reads : Reads Adds bytes keys
 
 -- the bytes of a short file stop at a place of this line
 pub record IsBadAt (bytes : List ℕ) (number : ℕ) : Type 0 where
   pub short : length bytes ≤ longest_file
   pub place : ℕ
-  pub stops : Stops AddsPlain bytes place
+  pub stops : Stops Adds bytes place
   pub is : number ≡ line_at bytes place
 
 -- what the bytes of a file mean

@@ -2,7 +2,7 @@
 use Rattle.std.specs.Prelude.{◌≡◌, ℕ, ◌≤◌, List, ◌++◌, length, take, Option, Some, IfSome}
 use Rattle.kdb_outside.specs.Faults.{HasRisen}
 use Rattle.kdb_tool.specs.Lines.{line, write_fault}
-use Rattle.kdb_tool.specs.Answer.{Answer}
+use Rattle.kdb_tool.specs.Answer.{Report}
 
 -- a sink that tells its bytes has gained these
 abbrev pub Gains : Option (List ℕ) → Option (List ℕ) → List ℕ → Type 0
@@ -29,11 +29,11 @@ pub record Change : Type 0 where
 abbrev pub Failed : Change → Type 0
 Failed change = HasRisen change.faults_before change.faults_now
 
--- the run gave an answer: its status, and out and err have gained its bytes
-pub record Gives (answer : Answer) (status : ℕ) (out err : Change) : Type 0 where
-  pub status_is : status ≡ answer.status
-  pub out_gains : Gains out.held_before out.held_now answer.out
-  pub err_gains : Gains err.held_before err.held_now answer.err
+-- the run told this: it has the status, and out and err have gained the bytes
+pub record Gives (report : Report) (status : ℕ) (out err : Change) : Type 0 where
+  pub status_is : status ≡ report.status
+  pub out_gains : Gains out.held_before out.held_now report.out
+  pub err_gains : Gains err.held_before err.held_now report.err
 
 -- out failed, has gained a front of what it was given, and err tells so
 pub record LosesOut (text : List ℕ) (status : ℕ) (out err : Change) : Type 0 where
@@ -48,8 +48,8 @@ pub record LosesErr (text : List ℕ) (status : ℕ) (out err : Change) : Type 0
   pub status_is : status ≡ 74
   pub out_front : GainsFront out.held_before out.held_now text
 
--- what became of an answer: it was given, or one of the sinks failed
-pub data Delivers (answer : Answer) (status : ℕ) (out err : Change) : Type 0 where
-  Whole : Gives answer status out err → Delivers answer status out err
-  OutFails : LosesOut answer.out status out err → Delivers answer status out err
-  ErrFails : LosesErr answer.out status out err → Delivers answer status out err
+-- what became of what a run tells: it was given, or one of the sinks failed
+pub data Delivers (report : Report) (status : ℕ) (out err : Change) : Type 0 where
+  Whole : Gives report status out err → Delivers report status out err
+  OutFails : LosesOut report.out status out err → Delivers report status out err
+  ErrFails : LosesErr report.out status out err → Delivers report status out err

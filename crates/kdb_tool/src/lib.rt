@@ -6,14 +6,15 @@ ghost use Rattle.kdb_tool.specs.Answer.{Answer};
 ghost use Rattle.kdb_tool.specs.Answers.{Answers};
 
 mod answers;
+mod commands;
 mod delivery;
-mod dump;
-mod plain_keys;
-mod printing;
+mod refusing;
 mod status;
+mod storing;
 mod tool;
 mod whole_file;
 mod words;
+mod work;
 
 pub use status::Status;
 pub use tool::run;

@@ -1,15 +1,16 @@
-//! The top call. The whole answer is made before anything is put out.
-ghost use Rattle.std.specs.Prelude.{◌≡◌, ◌≢◌, ◌≤◌, List, ℕ, true};
+//! The top call. The whole answer is made before anything is stored or put out.
+ghost use Rattle.std.specs.Prelude.{◌≡◌, ◌≢◌, ◌≤◌, List, ℕ, None, true};
 ghost use Rattle.kdb_outside.specs.Faults.{HasRisen};
-ghost use Rattle.kdb_tool.specs.Answer.{Answer};
+ghost use Rattle.kdb_outside.specs.Files.{KeepsOthers};
+ghost use Rattle.kdb_tool.specs.Answer.{Answer, user_file};
 ghost use Rattle.kdb_tool.specs.Answers.{Answers};
 ghost use Rattle.kdb_tool.specs.Request.{request};
 ghost use Rattle.kdb_tool.specs.Outcome.{Change, GainsFront};
-ghost use Rattle.kdb_tool.specs.Ends.{EndsAsAnswered, EndsByWords, EndsWithoutMemory, EndsInFault};
+ghost use Rattle.kdb_tool.specs.Ends.{EndsAsAnswered, EndsByWords, EndsWithoutMemory, EndsInFault, LeftBy};
 
-use crate::answers::work_out;
 use crate::delivery::finish;
 use crate::status::Status;
+use crate::work::carry_out;
 use kdb_outside::{Disk, Gate, Sink, Source};
 use key_meta::Text;
 use std::alloc::Global;
@@ -24,8 +25,8 @@ pub fn run<S: Source, K: Sink, E: Sink, D: Disk + Send, G: Gate + Sync>(
     disk: D,
     gate: &G,
 ) -> (Status, D)
-    // The status, out and err are those of the answer.
-    ensures answered { D.tells disk ≡ true → EndsAsAnswered words.now (D.seen disk) result.0
+    // The status, out, err and the files are those of the answer.
+    ensures answered { D.tells disk ≡ true → EndsAsAnswered words.now (D.seen disk) (D.seen result.1) result.0
         (record { held_before = K.held out.old; held_now = K.held out.new; faults_before = K.faults out.old; faults_now = K.faults out.new })
         (record { held_before = E.held err.old; held_now = E.held err.new; faults_before = E.faults err.old; faults_now = E.faults err.new }) }
 
@@ -35,7 +36,7 @@ pub fn run<S: Source, K: Sink, E: Sink, D: Disk + Send, G: Gate + Sync>(
         (record { held_before = E.held err.old; held_now = E.held err.new; faults_before = E.faults err.old; faults_now = E.faults err.new }) }
 
     // However the run ends, out has gained a front of what the answer puts there.
-    ensures prefix { D.tells disk ≡ true → (answer : Answer) → Answers words.now (D.seen disk) answer → GainsFront (K.held out.old) (K.held out.new) answer.out }
+    ensures prefix { D.tells disk ≡ true → (answer : Answer) → Answers words.now (D.seen disk) answer → GainsFront (K.held out.old) (K.held out.new) answer.report.out }
 
     // Want of memory puts nothing on out and its line on err.
     ensures memory { EndsWithoutMemory result.0
@@ -50,18 +51,27 @@ pub fn run<S: Source, K: Sink, E: Sink, D: Disk + Send, G: Gate + Sync>(
     // So without a fault the run ends with the answer's status, or in want of memory.
     ensures complete { (HasRisen (D.faults disk) (D.faults result.1) → ⊥) → (HasRisen (K.faults out.old) (K.faults out.new) → ⊥) → (HasRisen (E.faults err.old) (E.faults err.new) → ⊥) → result.0 ≢ 74 }
 
-    // The files are as they were, and no input is taken.
-    ensures untouched { D.tells disk ≡ true → D.seen result.1 ≡ D.seen disk }
-    ensures tells { D.tells result.1 ≡ D.tells disk }
-    ensures input { input.new ≡ input.old }
+    // Without a fault the files are those that the answer leaves, and at want of memory as they were.
+    ensures files { D.tells disk ≡ true → (HasRisen (D.faults disk) (D.faults result.1) → ⊥) → (HasRisen (K.faults out.old) (K.faults out.new) → ⊥) → (HasRisen (E.faults err.old) (E.faults err.new) → ⊥) → LeftBy words.now (D.seen disk) (D.seen result.1) result.0 }
 
-    // No count of faults falls.
+    // Want of memory never comes behind a write.
+    ensures unwritten { D.tells disk ≡ true → result.0 ≡ 70 → D.seen result.1 ≡ D.seen disk }
+
+    // Where the answer stores nothing, the files are as they were, whatever fails.
+    ensures untouched { D.tells disk ≡ true → (answer : Answer) → Answers words.now (D.seen disk) answer → answer.stored ≡ None → D.seen result.1 ≡ D.seen disk }
+
+    // No file but the users' is ever changed.
+    ensures others { D.tells disk ≡ true → KeepsOthers user_file (D.seen disk) (D.seen result.1) }
+    ensures tells { D.tells result.1 ≡ D.tells disk }
+
+    // No input is taken, and no count of faults falls.
+    ensures input { input.new ≡ input.old }
     ensures later_disk { D.faults disk ≤ D.faults result.1 }
     ensures later_out { K.faults out.old ≤ K.faults out.new }
     ensures later_err { E.faults err.old ≤ E.faults err.new }
 {
     let mut disk = disk;
-    let answer = work_out(alloc, words, &mut disk);
+    let answer = carry_out(alloc, words, &mut disk);
     let status = finish(&answer, out, err);
     (status, disk)
 }

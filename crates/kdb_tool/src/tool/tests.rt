@@ -135,23 +135,75 @@ fn assert_ended(rt: &impl Abort, ended: &Ended, status: u8, out: &str, err: &str
 
 #[test]
 fn refuses_words_without_a_look_at_the_disk(rt: HostRuntime) -> Result<(), Fail> {
-    let rows: [(&[&str], u8, &str); 12] = [
+    let rows: [(&[&str], u8, &str); 36] = [
         (&[], 4, "kdb: no command\n"),
         (&["frob"], 4, "kdb: unknown command frob\n"),
         (&["fr ob"], 4, "kdb: unknown command \"fr ob\"\n"),
         (&["", "get"], 4, "kdb: unknown command \n"),
+        (&["-h"], 4, "kdb: unknown command -h\n"),
+        (&["--", "get", "user:/a"], 4, "kdb: unknown command --\n"),
         (&["get"], 1, "kdb: options refused\n"),
+        (&["get", "--"], 1, "kdb: options refused\n"),
         (&["get", "a", "b"], 1, "kdb: options refused\n"),
+        (&["get", "a", "--", "b"], 1, "kdb: options refused\n"),
         (&["get", "-x"], 1, "kdb: options refused\n"),
-        (&["get", "-"], 2, "kdb: not built: -\n"),
+        (&["get", "--help"], 1, "kdb: options refused\n"),
+        (
+            &["get", "-x", "--", "user:/sw/a"],
+            1,
+            "kdb: options refused\n",
+        ),
+        (
+            &["get", "--", "--", "user:/sw/a"],
+            1,
+            "kdb: options refused\n",
+        ),
+        (&["set", "user:/sw/a"], 1, "kdb: options refused\n"),
+        (&["set", "user:/sw/a", "-5"], 1, "kdb: options refused\n"),
+        (
+            &["set", "user:/sw/a", "1", "2"],
+            1,
+            "kdb: options refused\n",
+        ),
+        (&["rm"], 1, "kdb: options refused\n"),
+        (&["rm", "-r", "user:/sw"], 1, "kdb: options refused\n"),
+        (
+            &["rm", "user:/sw", "user:/sw/a"],
+            1,
+            "kdb: options refused\n",
+        ),
+        (&["get", "-"], 2, "kdb: C01320 name: no namespace\n"),
+        (&["get", "--", "-x"], 2, "kdb: C01320 name: no namespace\n"),
+        (&["get", "--", "--"], 2, "kdb: C01320 name: no namespace\n"),
+        (&["get", ""], 2, "kdb: C01320 name: no namespace\n"),
+        (&["set", "sw/a", "1"], 2, "kdb: C01320 name: no namespace\n"),
+        (&["rm", "me:/a"], 2, "kdb: C01320 name: unknown namespace\n"),
+        (&["get", "user:a"], 2, "kdb: C01320 name: no slash\n"),
+        (
+            &["get", "user:/a\\b"],
+            2,
+            "kdb: C01320 name: bad escape at 7\n",
+        ),
+        (
+            &["get", "user:/#_1"],
+            2,
+            "kdb: C01320 name: bad array at 6\n",
+        ),
+        (&["get", "user:/a\0b"], 2, "kdb: C01320 name: nul at 7\n"),
         (
             &["get", "system:/sw/a"],
             2,
             "kdb: not built: system:/sw/a\n",
         ),
-        (&["get", "user:/a%"], 2, "kdb: not built: user:/a%\n"),
-        (&["get", ""], 2, "kdb: not built: \n"),
-        (&["get", "/sw/a"], 2, "kdb: not built: /sw/a\n"),
+        (&["get", "/sw//./a"], 2, "kdb: not built: /sw/a\n"),
+        (
+            &["set", "default:/a", "1"],
+            2,
+            "kdb: not built: default:/a\n",
+        ),
+        (&["rm", "dir:/a b"], 2, "kdb: not built: \"dir:/a b\"\n"),
+        (&["get", "spec:/#10"], 2, "kdb: not built: spec:/#_10\n"),
+        (&["get", "proc:/%"], 2, "kdb: not built: proc:/%\n"),
     ];
     for (words, status, err) in rows {
         let ended = end_over(rt.alloc(), words, FILE.as_bytes())?;
@@ -165,9 +217,11 @@ fn refuses_words_without_a_look_at_the_disk(rt: HostRuntime) -> Result<(), Fail>
 fn prints_the_value_of_a_key(rt: HostRuntime) -> Result<(), Fail> {
     let lines = "kdbOpen 2\n$key string 4 4\nsw/a\n1\n\n2\n$end\n";
     let none = "kdbOpen 2\n$key string 4 0\nsw/a\n\n$end\n";
+    let escaped = "kdbOpen 2\n$key string 11 1\na\\/b/%/#_10\nx\n$meta 1 1\nm\n1\n$end\n";
     let rows = [
         (FILE, "user:/sw/a", "1\n"),
         (FILE, "user:/sw//./a/../a", "1\n"),
+        (escaped, "user:/a\\/b/%/#10", "x\n"),
         (lines, "user:/sw/a", "1\n\n2\n"),
         (none, "user:/sw/a", "\n"),
     ];
@@ -227,27 +281,109 @@ fn refuses_a_file_that_is_no_dump_or_too_long(rt: HostRuntime) -> Result<(), Fai
 
 #[test]
 fn tells_which_call_failed(rt: HostRuntime) -> Result<(), Fail> {
-    // The word, the failing calls of the disk, of out and of err, and the status with what is on out and on err.
-    let rows = [
-        ("user:/sw/a", [1, 0, 0], 74, "", "kdb: C01100 disk-fault\n"),
-        ("user:/sw/a", [2, 0, 0], 74, "", "kdb: C01100 disk-fault\n"),
-        ("user:/sw/a", [0, 1, 0], 74, "", "kdb: C01100 write-fault\n"),
-        ("user:/sw/b", [0, 0, 1], 74, "", ""),
-        ("user:/sw/a", [1, 0, 1], 74, "", ""),
-        ("user:/sw/a", [0, 1, 1], 74, "", ""),
-        // A call that isn't made doesn't fail.
-        ("user:/sw/a", [3, 2, 1], 0, "1\n", ""),
+    // The words, the failing calls of the disk, of out and of err, and the status with what is on out and on err.
+    let rows: [(&[&str], [u64; 3], u8, &str, &str); 17] = [
         (
-            "user:/sw/b",
+            &["get", "user:/sw/a"],
+            [1, 0, 0],
+            74,
+            "",
+            "kdb: C01100 disk-fault\n",
+        ),
+        (
+            &["get", "user:/sw/a"],
+            [2, 0, 0],
+            74,
+            "",
+            "kdb: C01100 disk-fault\n",
+        ),
+        (
+            &["get", "user:/sw/a"],
+            [0, 1, 0],
+            74,
+            "",
+            "kdb: C01100 write-fault\n",
+        ),
+        (&["get", "user:/sw/b"], [0, 0, 1], 74, "", ""),
+        (&["get", "user:/sw/a"], [1, 0, 1], 74, "", ""),
+        (&["get", "user:/sw/a"], [0, 1, 1], 74, "", ""),
+        // A call that isn't made doesn't fail.
+        (&["get", "user:/sw/a"], [3, 2, 1], 0, "1\n", ""),
+        (
+            &["get", "user:/sw/b"],
             [0, 1, 0],
             11,
             "",
             "kdb: not found: user:/sw/b\n",
         ),
+        // A set asks for the length, reads, writes, cuts and syncs.
+        (
+            &["set", "user:/sw/a", "2"],
+            [1, 0, 0],
+            74,
+            "",
+            "kdb: C01100 disk-fault\n",
+        ),
+        (
+            &["set", "user:/sw/a", "2"],
+            [2, 0, 0],
+            74,
+            "",
+            "kdb: C01100 disk-fault\n",
+        ),
+        (
+            &["set", "user:/sw/a", "2"],
+            [3, 0, 0],
+            74,
+            "",
+            "kdb: C01100 disk-fault\n",
+        ),
+        (
+            &["set", "user:/sw/a", "2"],
+            [4, 0, 0],
+            74,
+            "",
+            "kdb: C01100 disk-fault\n",
+        ),
+        (
+            &["set", "user:/sw/a", "2"],
+            [5, 0, 0],
+            74,
+            "",
+            "kdb: C01100 disk-fault\n",
+        ),
+        (
+            &["set", "user:/sw/a", "2"],
+            [6, 0, 0],
+            0,
+            "Set string to \"2\"\n",
+            "",
+        ),
+        (
+            &["set", "user:/sw/a", "1"],
+            [3, 0, 0],
+            0,
+            "Set string to \"1\"\n",
+            "",
+        ),
+        (
+            &["set", "user:/sw/a", "2"],
+            [0, 1, 0],
+            74,
+            "",
+            "kdb: C01100 write-fault\n",
+        ),
+        (
+            &["rm", "user:/sw/b"],
+            [3, 0, 0],
+            11,
+            "",
+            "kdb: not found: user:/sw/b\n",
+        ),
     ];
-    for (name, failing, status, out, err) in rows {
+    for (words, failing, status, out, err) in rows {
         let disk = OneFile::new("user.ecf", FILE.as_bytes().to_vec(rt.alloc())?, failing[0]);
-        let ended = end_of(rt.alloc(), &["get", name], disk, failing[1], failing[2])?;
+        let ended = end_of(rt.alloc(), words, disk, failing[1], failing[2])?;
         assert_ended(&rt, &ended, status, out, err);
     }
     Ok(())

@@ -1,28 +1,40 @@
 use Rattle.kdb_outside.specs.Faults.{HasRisen}
 use Rattle.kdb_tool.specs.Request.{request}
-use Rattle.kdb_tool.proofs.EndLemmas.{answered, by_words, prefix, without_memory, in_fault, complete}
+use Rattle.kdb_tool.proofs.EndLemmas.{answered, by_words, prefix, without_memory, in_fault, complete, unwritten, untouched, left}
 use Rattle.kdb_tool.proofs.tool.run.Goals as goal
 
 pub returns-clause-answered : goal.returns-clause-answered
 returns-clause-answered g c = λ tells.
-    answered c.work_out-answer.result c.args.words.now (g.D.Disk.seen c.args.disk) c.finish-status.result _ _ (c.work_out-answer.ensures.told tells) c.finish-status.ensures.finished
+    answered c.carry_out-answer.result c.args.words.now (g.D.Disk.seen c.args.disk) (g.D.Disk.seen c.carry_out-answer.new.disk) c.finish-status.result _ _ (c.carry_out-answer.ensures.told tells) (c.carry_out-answer.ensures.leaves tells) c.finish-status.ensures.finished
 
 pub returns-clause-words : goal.returns-clause-words
 returns-clause-words g c =
-    by_words c.work_out-answer.result (request c.args.words.now) c.finish-status.result _ _ c.work_out-answer.ensures.untold c.finish-status.ensures.finished
+    by_words c.carry_out-answer.result (request c.args.words.now) c.finish-status.result _ _ c.carry_out-answer.ensures.untold c.finish-status.ensures.finished
 
 pub returns-clause-prefix : goal.returns-clause-prefix
 returns-clause-prefix g c = λ tells.
-    prefix c.work_out-answer.result c.args.words.now (g.D.Disk.seen c.args.disk) c.finish-status.result _ _ (c.work_out-answer.ensures.told tells) c.finish-status.ensures.finished
+    prefix c.carry_out-answer.result c.args.words.now (g.D.Disk.seen c.args.disk) c.finish-status.result _ _ (c.carry_out-answer.ensures.told tells) c.finish-status.ensures.finished
 
 pub returns-clause-memory : goal.returns-clause-memory
 returns-clause-memory g c =
-    without_memory c.work_out-answer.result c.finish-status.result _ _ c.work_out-answer.ensures.own c.finish-status.ensures.finished
+    without_memory c.carry_out-answer.result c.finish-status.result _ _ c.carry_out-answer.ensures.own c.finish-status.ensures.finished
 
 pub returns-clause-fault : goal.returns-clause-fault
 returns-clause-fault g c =
-    in_fault (HasRisen (g.D.Disk.faults c.args.disk) (g.D.Disk.faults c.work_out-answer.new.disk)) c.work_out-answer.result c.finish-status.result _ _ c.work_out-answer.ensures.own c.work_out-answer.ensures.cause c.finish-status.ensures.finished
+    in_fault (HasRisen (g.D.Disk.faults c.args.disk) (g.D.Disk.faults c.carry_out-answer.new.disk)) c.carry_out-answer.result c.finish-status.result _ _ c.carry_out-answer.ensures.own c.carry_out-answer.ensures.cause c.finish-status.ensures.finished
 
 pub returns-clause-complete : goal.returns-clause-complete
 returns-clause-complete g c =
-    complete (HasRisen (g.D.Disk.faults c.args.disk) (g.D.Disk.faults c.work_out-answer.new.disk)) c.finish-status.result _ _ (returns-clause-fault g c)
+    complete (HasRisen (g.D.Disk.faults c.args.disk) (g.D.Disk.faults c.carry_out-answer.new.disk)) c.finish-status.result _ _ (returns-clause-fault g c)
+
+pub returns-clause-unwritten : goal.returns-clause-unwritten
+returns-clause-unwritten g c = λ tells.
+    unwritten c.carry_out-answer.result c.args.words.now (g.D.Disk.seen c.args.disk) (g.D.Disk.seen c.carry_out-answer.new.disk) c.finish-status.result _ _ c.carry_out-answer.ensures.own (c.carry_out-answer.ensures.leaves tells) c.finish-status.ensures.finished
+
+pub returns-clause-untouched : goal.returns-clause-untouched
+returns-clause-untouched g c = λ tells.
+    untouched c.carry_out-answer.result c.args.words.now (g.D.Disk.seen c.args.disk) (g.D.Disk.seen c.carry_out-answer.new.disk) (c.carry_out-answer.ensures.told tells) (c.carry_out-answer.ensures.leaves tells)
+
+pub returns-clause-files : goal.returns-clause-files
+returns-clause-files g c = λ tells no_disk no_out no_err.
+    left c.args.words.now (g.D.Disk.seen c.args.disk) (g.D.Disk.seen c.carry_out-answer.new.disk) c.finish-status.result _ _ (returns-clause-answered g c tells) (returns-clause-unwritten g c tells) (returns-clause-complete g c no_disk no_out no_err)

@@ -1,0 +1,346 @@
+//! The commands over a disk in memory, by bytes and lines that are written out by hand.
+use super::texts;
+use disk_memory::MemDisk;
+use kdb_outside::{FileName, MemSink, OpenGate, SureSource};
+use kdb_tool::run;
+use std::alloc::Global;
+use std::process::Abort;
+use std::test::Fail;
+
+const ONE: &str = "kdbOpen 2\n$key string 4 1\nsw/a\n1\n$end\n";
+
+const TWO: &str = "kdbOpen 2\n$key string 4 1\nsw/a\n2\n$end\n";
+
+fn user_file(alloc: Global) -> Result<FileName, Fail> {
+    Ok(FileName::new(alloc, "user.ecf")?.ok_or("it is a name")?)
+}
+
+/// A disk whose users' file has these bytes.
+fn disk_with(
+    alloc: Global,
+    bytes: &[u8],
+    failing: Vec<u64>,
+    stop_after: Option<u64>,
+) -> Result<MemDisk, Fail> {
+    let files = vec![in alloc; (user_file(alloc)?, bytes.to_vec(alloc)?)]?;
+    Ok(MemDisk::new(alloc, files, failing, stop_after)?)
+}
+
+/// What a command line prints and how it ends.
+#[derive(Clone, Copy)]
+struct Told {
+    status: u8,
+    out: &'static str,
+    err: &'static str,
+}
+
+fn ending(status: u8, out: &'static str, err: &'static str) -> Told {
+    Told { status, out, err }
+}
+
+/// Runs words over a disk, compares what they print, and gives the disk back.
+fn run_over(
+    rt: &impl Abort,
+    alloc: Global,
+    words: &[&str],
+    disk: MemDisk,
+    want: Told,
+) -> Result<MemDisk, Fail> {
+    let mut out = MemSink::new(alloc, Vec::new(alloc));
+    let mut err = MemSink::new(alloc, Vec::new(alloc));
+    let mut input = SureSource::new(Vec::new(alloc));
+    let texts = texts(alloc, words)?;
+    let (status, disk) = run(
+        alloc, &texts, &mut input, &mut out, &mut err, disk, &OpenGate,
+    );
+    assert_eq!(rt; status.code(), want.status, "{words:?}");
+    assert_eq!(rt; out.bytes(), want.out.as_bytes(), "{words:?}");
+    assert_eq!(rt; err.bytes(), want.err.as_bytes(), "{words:?}");
+    Ok(disk)
+}
+
+#[test]
+fn keeps_what_was_set_from_command_to_command(rt: HostRuntime) -> Result<(), Fail> {
+    // The words, what they print, and the users' file behind them.
+    let rows: [(&[&str], Told, &str); 12] = [
+        (
+            &["set", "user:/sw/a", "1"],
+            ending(0, "Create a new key user:/sw/a with string \"1\"\n", ""),
+            ONE,
+        ),
+        (
+            &["set", "user:/sw/a", "2"],
+            ending(0, "Set string to \"2\"\n", ""),
+            TWO,
+        ),
+        (&["get", "user:/sw/a"], ending(0, "2\n", ""), TWO),
+        (
+            &["set", "user:/sw/./a", "2"],
+            ending(0, "Set string to \"2\"\n", ""),
+            TWO,
+        ),
+        (
+            &["rm", "user:/sw"],
+            ending(11, "", "kdb: not found: user:/sw\n"),
+            TWO,
+        ),
+        (
+            &["set", "user:/", "root"],
+            ending(0, "Create a new key user:/ with string \"root\"\n", ""),
+            "kdbOpen 2\n$key string 0 4\n\nroot\n$key string 4 1\nsw/a\n2\n$end\n",
+        ),
+        (
+            &["set", "user:/a", "--", "-5"],
+            ending(0, "Create a new key user:/a with string \"-5\"\n", ""),
+            "kdbOpen 2\n$key string 0 4\n\nroot\n$key string 1 2\na\n-5\n$key string 4 1\nsw/a\n2\n$end\n",
+        ),
+        (
+            &["get", "user:/a"],
+            ending(0, "-5\n", ""),
+            "kdbOpen 2\n$key string 0 4\n\nroot\n$key string 1 2\na\n-5\n$key string 4 1\nsw/a\n2\n$end\n",
+        ),
+        (
+            &["rm", "user:/"],
+            ending(0, "", ""),
+            "kdbOpen 2\n$key string 1 2\na\n-5\n$key string 4 1\nsw/a\n2\n$end\n",
+        ),
+        (&["rm", "user:/a"], ending(0, "", ""), TWO),
+        (
+            &["rm", "user:/sw/a"],
+            ending(0, "", ""),
+            "kdbOpen 2\n$end\n",
+        ),
+        (
+            &["rm", "user:/sw/a"],
+            ending(11, "", "kdb: not found: user:/sw/a\n"),
+            "kdbOpen 2\n$end\n",
+        ),
+    ];
+    let user = user_file(rt.alloc())?;
+    let mut disk = MemDisk::new(rt.alloc(), Vec::new(rt.alloc()), Vec::new(rt.alloc()), None)?;
+    for (words, want, file) in rows {
+        disk = run_over(&rt, rt.alloc(), words, disk, want)?;
+        assert_eq!(rt; disk.bytes(&user), file.as_bytes(), "{words:?}");
+    }
+    Ok(())
+}
+
+#[test]
+fn stores_values_as_they_are_and_prints_them_quoted(rt: HostRuntime) -> Result<(), Fail> {
+    // The value, what `set` prints of it, and what `get` prints.
+    let rows = [
+        ("", "Create a new key user:/v with string \"\"\n", "\n"),
+        (
+            "a\nb\n",
+            "Create a new key user:/v with string \"a\\nb\\n\"\n",
+            "a\nb\n\n",
+        ),
+        (
+            "\"\\\t\r",
+            "Create a new key user:/v with string \"\\\"\\\\\\t\\r\"\n",
+            "\"\\\t\r\n",
+        ),
+        (
+            "\x01\x7f\0",
+            "Create a new key user:/v with string \"\\x01\\x7f\\x00\"\n",
+            "\x01\x7f\0\n",
+        ),
+        (
+            "gr\u{fc}n \u{9375}",
+            "Create a new key user:/v with string \"gr\u{fc}n \u{9375}\"\n",
+            "gr\u{fc}n \u{9375}\n",
+        ),
+        (
+            "$end",
+            "Create a new key user:/v with string \"$end\"\n",
+            "$end\n",
+        ),
+    ];
+    for (value, created, got) in rows {
+        let disk = disk_with(rt.alloc(), b"", Vec::new(rt.alloc()), None)?;
+        let words = ["set", "user:/v", "--", value];
+        let disk = run_over(&rt, rt.alloc(), &words, disk, ending(0, created, ""))?;
+        let words = ["get", "user:/v"];
+        let disk = run_over(&rt, rt.alloc(), &words, disk, ending(0, got, ""))?;
+        let words = ["rm", "user:/v"];
+        let disk = run_over(&rt, rt.alloc(), &words, disk, ending(0, "", ""))?;
+        let user = user_file(rt.alloc())?;
+        assert_eq!(rt; disk.bytes(&user), b"kdbOpen 2\n$end\n".as_slice());
+    }
+    Ok(())
+}
+
+#[test]
+fn names_the_key_in_every_spelling(rt: HostRuntime) -> Result<(), Fail> {
+    // The name, what `set` prints of it, and the users' file.
+    let rows = [
+        (
+            "user://a/./b/../c/",
+            "Create a new key user:/a/c with string \"x\"\n",
+            "kdbOpen 2\n$key string 3 1\na/c\nx\n$end\n",
+        ),
+        (
+            "user:/..",
+            "Create a new key user:/ with string \"x\"\n",
+            "kdbOpen 2\n$key string 0 1\n\nx\n$end\n",
+        ),
+        (
+            "user:/#10",
+            "Create a new key user:/#_10 with string \"x\"\n",
+            "kdbOpen 2\n$key string 4 1\n#_10\nx\n$end\n",
+        ),
+        (
+            "user:/a\\/b/%",
+            "Create a new key user:/a\\/b/% with string \"x\"\n",
+            "kdbOpen 2\n$key string 6 1\na\\/b/%\nx\n$end\n",
+        ),
+        (
+            "user:/no such",
+            "Create a new key \"user:/no such\" with string \"x\"\n",
+            "kdbOpen 2\n$key string 7 1\nno such\nx\n$end\n",
+        ),
+    ];
+    let user = user_file(rt.alloc())?;
+    for (name, created, file) in rows {
+        let disk = disk_with(rt.alloc(), b"", Vec::new(rt.alloc()), None)?;
+        let words = ["set", name, "x"];
+        let disk = run_over(&rt, rt.alloc(), &words, disk, ending(0, created, ""))?;
+        assert_eq!(rt; disk.bytes(&user), file.as_bytes(), "{name}");
+    }
+    Ok(())
+}
+
+#[test]
+fn keeps_metadata_and_spells_it_out(rt: HostRuntime) -> Result<(), Fail> {
+    let file =
+        "kdbOpen 2\n$key string 1 1\nb\n2\n$meta 4 6\ntype\nstring\n$key string 1 1\na\n1\n$copymeta 1 4\nb\ntype\n$end";
+    let left =
+        "kdbOpen 2\n$key string 1 1\na\n3\n$meta 4 6\ntype\nstring\n$key string 1 1\nb\n2\n$meta 4 6\ntype\nstring\n$end\n";
+    let user = user_file(rt.alloc())?;
+    let disk = disk_with(rt.alloc(), file.as_bytes(), Vec::new(rt.alloc()), None)?;
+    let want = ending(0, "Set string to \"3\"\n", "");
+    let disk = run_over(&rt, rt.alloc(), &["set", "user:/a", "3"], disk, want)?;
+    assert_eq!(rt; disk.bytes(&user), left.as_bytes());
+    Ok(())
+}
+
+#[test]
+fn makes_five_calls_of_which_each_may_fail(rt: HostRuntime) -> Result<(), Fail> {
+    // The call that fails, how it ends, the calls made, and the users' file: length, read, write, cut, sync.
+    let fault = ending(74, "", "kdb: C01100 disk-fault\n");
+    let done = ending(0, "Set string to \"22\"\n", "");
+    let now = "kdbOpen 2\n$key string 4 2\nsw/a\n22\n$end\n";
+    let rows = [
+        (1, fault, 1, ONE),
+        (2, fault, 2, ONE),
+        (3, fault, 3, ONE),
+        (4, fault, 4, now),
+        (5, fault, 5, now),
+        (6, done, 5, now),
+    ];
+    let user = user_file(rt.alloc())?;
+    for (failing, want, calls, file) in rows {
+        let listed = vec![in rt.alloc(); failing]?;
+        let disk = disk_with(rt.alloc(), ONE.as_bytes(), listed, None)?;
+        let disk = run_over(&rt, rt.alloc(), &["set", "user:/sw/a", "22"], disk, want)?;
+        assert_eq!(rt; disk.calls(), calls, "{failing}");
+        assert_eq!(rt; disk.bytes(&user), file.as_bytes(), "{failing}");
+    }
+    Ok(())
+}
+
+#[test]
+fn stops_behind_any_call(rt: HostRuntime) -> Result<(), Fail> {
+    // How many calls go through, and the users' file then. The shorter text has the old tail until it is cut.
+    let fault = ending(74, "", "kdb: C01100 disk-fault\n");
+    let done = ending(0, "", "");
+    let torn = "kdbOpen 2\n$end\nstring 4 1\nsw/a\n1\n$end\n";
+    let rows = [
+        (0, fault, ONE),
+        (1, fault, ONE),
+        (2, fault, ONE),
+        (3, fault, torn),
+        (4, fault, "kdbOpen 2\n$end\n"),
+        (5, done, "kdbOpen 2\n$end\n"),
+    ];
+    let user = user_file(rt.alloc())?;
+    for (last, want, file) in rows {
+        let none = Vec::new(rt.alloc());
+        let disk = disk_with(rt.alloc(), ONE.as_bytes(), none, Some(last))?;
+        let disk = run_over(&rt, rt.alloc(), &["rm", "user:/sw/a"], disk, want)?;
+        assert_eq!(rt; disk.bytes(&user), file.as_bytes(), "{last}");
+    }
+    Ok(())
+}
+
+#[test]
+fn writes_nothing_where_nothing_changes_or_all_is_refused(rt: HostRuntime) -> Result<(), Fail> {
+    let long = vec![in rt.alloc(); b'v'; 65537]?;
+    let long = String::from_utf8(long).map_err(|_| "it is text")?;
+    let rows: [(&[&str], Told); 4] = [
+        (
+            &["set", "user:/sw/a", "1"],
+            ending(0, "Set string to \"1\"\n", ""),
+        ),
+        (
+            &["rm", "user:/sw/b"],
+            ending(11, "", "kdb: not found: user:/sw/b\n"),
+        ),
+        (&["get", "user:/sw/a"], ending(0, "1\n", "")),
+        (
+            &["set", "user:/sw/b", long.as_str()],
+            ending(5, "", "kdb: C01100 value-too-long user:/sw/b 65537\n"),
+        ),
+    ];
+    let user = user_file(rt.alloc())?;
+    for (words, want) in rows {
+        let disk = disk_with(rt.alloc(), ONE.as_bytes(), Vec::new(rt.alloc()), None)?;
+        let disk = run_over(&rt, rt.alloc(), words, disk, want)?;
+        assert_eq!(rt; disk.calls(), 2);
+        assert_eq!(rt; disk.bytes(&user), ONE.as_bytes());
+    }
+    Ok(())
+}
+
+/// A file with one key `a` of a value of 65,536 bytes, and keys with that value as metadata.
+fn heavy_file(alloc: Global, copies: u64) -> Result<Vec<u8>, Fail> {
+    let value = vec![in alloc; b'v'; 65536]?;
+    let mut bytes = b"kdbOpen 2\n$key string 1 1\na\n1\n$meta 1 65536\nm\n".to_vec(alloc)?;
+    bytes.extend_from_slice(&value)?;
+    bytes.extend_from_slice(b"\n")?;
+    for number in 0..copies {
+        let name = format!(in alloc; "k{number}")?;
+        let size = name.len();
+        let record = format!(in alloc; "$key string {size} 0\n{name}\n\n$copymeta 1 1\na\nm\n")?;
+        bytes.extend_from_slice(record.as_bytes())?;
+    }
+    bytes.extend_from_slice(b"$end\n")?;
+    Ok(bytes)
+}
+
+#[test]
+fn refuses_a_map_that_is_too_heavy_or_too_long(rt: HostRuntime) -> Result<(), Fail> {
+    // Copied metadata make a short file a heavy map. How often it is copied, the size of one more key's value, and the line.
+    let rows = [
+        (14, 0, ""),
+        (15, 0, "kdb: C01100 file-too-large user:/ 1049207\n"),
+        (254, 0, "kdb: C01100 file-too-large user:/ 16721547\n"),
+        (254, 65536, "kdb: C01100 file-too-large user:/ 16795020\n"),
+    ];
+    let user = user_file(rt.alloc())?;
+    for (copies, size, err) in rows {
+        let bytes = heavy_file(rt.alloc(), copies)?;
+        let disk = disk_with(rt.alloc(), &bytes, Vec::new(rt.alloc()), None)?;
+        let value = String::from_utf8(vec![in rt.alloc(); b'v'; size]?);
+        let value = value.map_err(|_| "it is text")?;
+        let want = if err.is_empty() {
+            ending(0, "Create a new key user:/z with string \"\"\n", "")
+        } else {
+            ending(5, "", err)
+        };
+        let words = ["set", "user:/z", value.as_str()];
+        let disk = run_over(&rt, rt.alloc(), &words, disk, want)?;
+        assert_eq!(rt; disk.bytes(&user) == bytes.as_slice(), want.status == 5);
+    }
+    Ok(())
+}

@@ -1,0 +1,22 @@
+-- Where the first of some words stands.
+use Rattle.std.specs.Prelude.{◌≡◌, ℕ, Bool, true, false, nat_lt, not, cond, List, length, Some, None}
+use Rattle.std.proofs.Common.{refl, arith}
+use Rattle.std.specs.List.{position, position_or_len}
+use Rattle.std.proofs.lemmas.Bool.{ltb-false}
+use Rattle.std.proofs.lemmas.List.Sums.{prefix_len-le-length}
+
+-- the place of the first that passes is the count of those before it
+pub count-at : {X : Type 0} (p : X → Bool) (xs : List X) (at : ℕ) → position p xs ≡ Some at → at ≡ position_or_len p xs
+count-at p xs at is = by_test (nat_lt (position_or_len p xs) (length xs)) is
+  where
+    by_test : (b : Bool) → cond b (Some (position_or_len p xs)) None ≡ Some at → at ≡ position_or_len p xs
+    by_test true is = cc
+    by_test false is = absurd cc
+
+-- where none passes, all are before it
+pub count-all : {X : Type 0} (p : X → Bool) (xs : List X) → position p xs ≡ None → length xs ≡ position_or_len p xs
+count-all p xs is = by_test (nat_lt (position_or_len p xs) (length xs)) refl is
+  where
+    by_test : (b : Bool) → nat_lt (position_or_len p xs) (length xs) ≡ b → cond b (Some (position_or_len p xs)) None ≡ None → length xs ≡ position_or_len p xs
+    by_test true within is = absurd cc
+    by_test false past is = omega (arith, ltb-false (position_or_len p xs) (length xs) past, prefix_len-le-length (λ x. not (p x)) xs)

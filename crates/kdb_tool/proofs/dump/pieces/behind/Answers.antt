@@ -1,7 +1,0 @@
--- What is left without a front is what stands behind it.
-use Rattle.std.proofs.lemmas.Bool.Decides.{Decides-eqb}
-use Rattle.std.proofs.lemmas.Slice.Eq.{strip_prefix_is}
-use Rattle.kdb_tool.proofs.dump.pieces.behind.Goals as goal
-
-pub returns : goal.returns
-returns c = strip_prefix_is Decides-eqb c.args.bytes.now c.args.front.now c.strip_prefix.result c.strip_prefix.ensures.cases

@@ -1,7 +1,0 @@
--- The digits so far write the number so far.
-use Rattle.std.proofs.Common.{◌≡◌, take}
-use Rattle.std.specs.Str.Parse.{digits_value}
-use Rattle.kdb_tool.proofs.dump.pieces.number.Given as goal
-
-abbrev pub invariant-loop-digit : goal.invariant-loop-digit
-invariant-loop-digit l = l.number ≡ digits_value 10 (take l.digit-index l.digits)

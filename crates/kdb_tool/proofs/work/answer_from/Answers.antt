@@ -1,0 +1,14 @@
+use Rattle.std.proofs.lemmas.Result.{IfOk-weaker}
+use Rattle.kdb_tool.specs.AnswerView.{answer_of}
+use Rattle.kdb_tool.specs.RequestView.{action_of}
+use Rattle.kdb_tool.proofs.FileLemmas.{from_keys, from_bad}
+use Rattle.kdb_tool.proofs.work.answer_from.Goals as goal
+
+pub returns-in-Ok : goal.returns-in-Ok
+returns-in-Ok c =
+    IfOk-weaker c.answer_in.result _ _ (λ answer is. from_keys c.args.name.now (action_of c.args.action) c.args.bytes.now c.in-Ok.keys (answer_of answer) c.requires c.in-Ok.ensures is) c.answer_in.ensures
+
+pub returns-in-Err-BadFile : goal.returns-in-Err-BadFile
+returns-in-Err-BadFile c =
+    let stops = rw c.in-Err-BadFile.field-0-is at c.in-Err-BadFile.ensures in
+    IfOk-weaker c.refuse_bad_file.result _ _ (λ answer is. from_bad c.args.name.now (action_of c.args.action) c.args.bytes.now stops.place c.in-Err-BadFile.line (answer_of answer) c.requires stops.stops stops.is is) c.refuse_bad_file.ensures
