@@ -40,10 +40,10 @@ fn main() {
 RUST
 rustc -O -o "$work/theirs" "$work/theirs.rs"
 
-# seconds PROGRAM COUNT APPEND ROUNDS: the least time of some runs, or of one where there are many names. Appending names in
-# mixed order moves those behind, so 100,000 take about a minute.
+# seconds PROGRAM COUNT APPEND ROUNDS: the least time of some runs, or of three where there are many names. Appending names in
+# mixed order moves those behind, so 100,000 take some ten seconds.
 seconds() {
-  if [ "$2" -gt 10000 ]; then runs=1; else runs=7; fi
+  if [ "$2" -gt 10000 ]; then runs=3; else runs=7; fi
   hyperfine -N --runs "$runs" --export-csv "$work/times.csv" "$1 $2 $3 $4" >/dev/null 2>&1
   awk -F, 'NR == 2 { print $(NF - 1) }' "$work/times.csv"
 }
@@ -57,7 +57,7 @@ rates() {
     'BEGIN { printf "%.0f %.0f", count / (appended - made), count * rounds / (looked_up - appended) }'
 }
 
-for pair in "1000 2000" "10000 200" "100000 20"; do
+for pair in "1000 2000" "10000 200" "100000 100"; do
   set -- $pair
   read -r our_appends our_lookups <<<"$(rates "$ours" "$1" "$2")"
   read -r their_appends their_lookups <<<"$(rates "$work/theirs" "$1" "$2")"
