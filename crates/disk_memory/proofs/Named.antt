@@ -1,7 +1,7 @@
 -- The place of a file of a name, and what a change there leaves. This project's own.
-use Rattle.std.proofs.Common.{◌≡◌, ◌≢◌, ℕ, zero, suc, ◌<◌, ◌≤◌, Bool, true, false, cond, List, [], ◌∷◌, ◌++◌, length, None, Some, bytes_eq, slice_index_or, slice_set, refl, sym, ap, ◌∙◌, subst, arith, append-nil}
+use Rattle.std.proofs.Common.{◌≡◌, ◌≢◌, ◌⊎◌, inl, inr, ℕ, zero, suc, ◌<◌, ◌≤◌, Bool, true, false, cond, List, [], ◌∷◌, ◌++◌, length, None, Some, bytes_eq, slice_index_or, slice_set, refl, sym, ap, ◌∙◌, subst, arith, append-nil}
 use Rattle.std.specs.List.{position, position_or_len}
-use Rattle.std.proofs.lemmas.Bool.{cond-true, cond-false, false_from_ne_true}
+use Rattle.std.proofs.lemmas.Bool.{cond-true, cond-false, false_from_ne_true, false≢true}
 use Rattle.std.proofs.lemmas.Bool.Decides.{nat_tests}
 use Rattle.std.proofs.lemmas.List.Quantifiers.{position-Some}
 use Rattle.std.proofs.lemmas.List.Sums.{fails_before_first}
@@ -50,6 +50,27 @@ later_first file files name i first = record {
 
 later_missing : (file : File) (files : List File) (name : List ℕ) → IsMissing (file ∷ files) name → IsMissing files name
 later_missing file files name missing = record { none = λ k d h. missing.none (suc k) d (omega arith) }
+
+-- a name is that of its file
+pub is_this_name : (name : List ℕ) → bytes_eq name name ≡ true
+is_this_name name = (bytes_eq-Decides name name).1 refl
+
+-- a name is not that of another file
+pub is_other_name : (name other : List ℕ) → other ≢ name → bytes_eq name other ≡ false
+is_other_name name other differ = false_from_ne_true (bytes_eq name other) (λ is. differ (sym ((bytes_eq-Decides name other).0 is)))
+
+-- whether a name is that of another file
+same_or_other_by : (name other : List ℕ) (is : Bool) → bytes_eq name other ≡ is → (name ≡ other) ⊎ (other ≢ name)
+same_or_other_by name other true e = inl ((bytes_eq-Decides name other).0 e)
+same_or_other_by name other false e = inr (λ same. false≢true (sym e ∙ (bytes_eq-Decides name other).1 (sym same)))
+
+-- a name is that of this file or of another one
+pub same_or_other : (name other : List ℕ) → (name ≡ other) ⊎ (other ≢ name)
+same_or_other name other = same_or_other_by name other (bytes_eq name other) refl
+
+-- what holds of the file that changed and of every other one
+pub every_file : (P : List ℕ → Type 0) (name : List ℕ) → P name → ((other : List ℕ) → other ≢ name → P other) → (file : List ℕ) → P file
+every_file P name this others file = elim (same_or_other name file) [ inl same ↦ subst P same this | inr differ ↦ others file differ ]
 
 -- a file of this name has no other one
 other_name : (given name other : List ℕ) → bytes_eq given name ≡ true → other ≢ name → bytes_eq given other ≡ false

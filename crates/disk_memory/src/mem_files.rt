@@ -1,8 +1,11 @@
 //! Files in memory by their names.
 ghost use Rattle.std.specs.Prelude.{◌≡◌, ◌≤◌, map, length, take, bytes_eq, position, IfOk, OnOk, OnErr};
 ghost use Rattle.kdb_outside.specs.Files.{written, ChangesTo};
+ghost use Rattle.disk_memory.specs.declared.changes.Step.TheVariants.{Wrote};
+ghost use Rattle.disk_memory.specs.Steps.{after};
 ghost use Rattle.disk_memory.specs.DiskState.{file_of, bytes_of};
 
+use crate::changes::{Change, Step};
 use crate::places;
 use kdb_outside::{FileName, Memory};
 use std::alloc::Global;
@@ -42,6 +45,18 @@ impl MemFile {
         &self.bytes
     }
 
+    fn copy(&self, alloc: Global) -> Result<MemFile, Memory>
+        ensures { IfOk result (λ file. file ≡ self.now) }
+    {
+        Ok(MemFile::new(self.name.copy()?, Vec::from_slice(alloc, &self.bytes)?))
+    }
+
+    fn put(&mut self, bytes: Vec<u8>)
+        ensures { self.new ≡ record self.old { bytes = bytes.items } }
+    {
+        self.bytes = bytes;
+    }
+
     fn write(&mut self, at: usize, piece: &[u8]) -> Result<(), Memory>
         requires { at ≤ length self.old.bytes }
         ensures ok { OnOk result (self.new ≡ record self.old { bytes = written self.old.bytes at piece.now }) }
@@ -66,6 +81,17 @@ pub(crate) fn stored(alloc: Global, files: Vec<(FileName, Vec<u8>)>) -> Result<V
         .collect(alloc)
 }
 
+/// The same files once more.
+pub(crate) fn copies(alloc: Global, files: &[MemFile]) -> Result<Vec<MemFile>, Memory>
+    ensures { IfOk result (λ all. all.items ≡ files.now) }
+{
+    let mut all = Vec::new(alloc);
+    for file in files {
+        all.push(file.copy(alloc)?)?;
+    }
+    Ok(all)
+}
+
 fn place_of(files: &[MemFile], name: &FileName) -> Option<usize>
     ensures { result ≡ position (λ f. bytes_eq f.name name.now) files.now }
 {
@@ -83,7 +109,7 @@ pub(crate) fn bytes_in<'a>(files: &'a [MemFile], name: &FileName) -> &'a [u8]
 }
 
 /// Writes a piece into a file, which is made if it is missing. At an error the files are as they were.
-pub(crate) fn write_in(
+fn write_in(
     alloc: Global,
     files: &mut Vec<MemFile>,
     name: &FileName,
@@ -105,11 +131,71 @@ pub(crate) fn write_in(
     }
 }
 
+/// Writes a piece into a file, unless it would begin past the end. At an error the files are as they were.
+fn write_within(
+    alloc: Global,
+    files: &mut Vec<MemFile>,
+    name: &FileName,
+    at: usize,
+    piece: &[u8],
+) -> Result<(), Memory>
+    ensures ok { OnOk result (ChangesTo name.now (after (bytes_of files.old.items name.now) (Wrote at piece.now))
+        (bytes_of files.old.items) (bytes_of files.new.items)) }
+    ensures err { OnErr result (files.new.items ≡ files.old.items) }
+{
+    if at <= bytes_in(files, name).len() {
+        write_in(alloc, files, name, at, piece)
+    } else {
+        Ok(())
+    }
+}
+
 /// Cuts a file off.
-pub(crate) fn cut_in(files: &mut [MemFile], name: &FileName, to: usize)
+fn cut_in(files: &mut [MemFile], name: &FileName, to: usize)
     ensures { ChangesTo name.now (take to (bytes_of files.old name.now)) (bytes_of files.old) (bytes_of files.new) }
 {
     if let Some(place) = place_of(files, name) {
         files[place].cut(to);
+    }
+}
+
+/// Gives a file these bytes, and makes it if it is missing.
+pub(crate) fn put_in(
+    files: &mut Vec<MemFile>,
+    name: &FileName,
+    bytes: Vec<u8>,
+) -> Result<(), Memory>
+    ensures { OnOk result (ChangesTo name.now bytes.items (bytes_of files.old.items) (bytes_of files.new.items)) }
+{
+    match place_of(files, name) {
+        Some(place) => files[place].put(bytes),
+        None => files.push(MemFile::new(name.copy()?, bytes))?,
+    }
+    Ok(())
+}
+
+/// Makes a change in the files. At an error they are as they were.
+pub(crate) fn apply_in(
+    alloc: Global,
+    files: &mut Vec<MemFile>,
+    change: &Change,
+) -> Result<(), Memory>
+    ensures ok { OnOk result (ChangesTo change.now.file (after (bytes_of files.old.items change.now.file) change.now.step)
+        (bytes_of files.old.items) (bytes_of files.new.items)) }
+    ensures err { OnErr result (files.new.items ≡ files.old.items) }
+{
+    match &change.step {
+        Step::Wrote { at, bytes } => write_within(
+            alloc,
+            files,
+            &change.file,
+            *at as usize,
+            bytes.bytes(),
+        ),
+        Step::Cut { new_length } => {
+            cut_in(files, &change.file, *new_length as usize);
+            Ok(())
+        }
+        Step::Synced => Ok(()),
     }
 }

@@ -1,5 +1,5 @@
 //! The disk.
-ghost use Rattle.std.specs.Prelude.{◌≡◌, ◌≤◌, [], false, length, IfOk};
+ghost use Rattle.std.specs.Prelude.{◌≡◌, ◌≤◌, [], false, length, IfOk, ⊤};
 ghost use Rattle.kdb_outside.specs.Faults.{HasCause};
 ghost use Rattle.kdb_outside.specs.Edge.{CountsFault};
 
@@ -199,7 +199,19 @@ impl Disk for RealDisk {
 
     ghost seen = { λ _ _. [] };
 
+    ghost may_leave = { λ _ _ _. ⊤ };
+
+    ghost moment = { λ _. 0 };
+
+    ghost left_since = { λ _ _ _. ⊤ };
+
     ghost faults = { λ disk. disk.faults };
+
+    ghost read_is_image = { λ _ _ _. tt };
+
+    ghost counts_now = { λ _ _ _ _ _ _. tt };
+
+    ghost only_now = { λ _ _ _ _ _. tt };
 
     fn length(&mut self, file: &FileName) -> Result<u64, Failed>
         ensures folder { self.new.inner ≡ self.old.inner }

@@ -1,2 +1,5 @@
 pub mod Fronts
+pub mod Moments
+pub mod SteadyBytes
+pub mod TornLemmas
 pub mod Written

@@ -1,7 +1,10 @@
 pub mod Faults
 pub mod Bytes
 pub mod FileName
+pub mod Kind
 pub mod Calls
 pub mod MemStream
 pub mod Edge
 pub mod Files
+pub mod Images
+pub mod Crashes

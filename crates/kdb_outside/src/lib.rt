@@ -4,8 +4,11 @@
 mod calls;
 mod counts;
 mod disks;
+mod examples;
 mod faults;
 mod gates;
+mod kinds;
+mod laws;
 mod mem_sinks;
 mod mem_sources;
 mod names;
@@ -15,8 +18,19 @@ mod sources;
 mod writers;
 
 pub use disks::Disk;
+pub use examples::{
+    a_crash_tears_a_cut, a_crash_tears_a_write, a_crash_tears_no_more_than_a_cut,
+    a_crash_tears_no_more_than_a_write, only_synced_bytes_are_sure,
+};
 pub use faults::{Failed, Memory};
 pub use gates::{Gate, OpenGate};
+pub use kinds::Kind;
+pub use laws::{
+    ContentProperty, ImageProperty, a_byte_out_of_reach_stays, a_byte_written_again_stays,
+    a_run_begins_now, a_run_goes_on_over_a_call, a_run_goes_on_over_a_read,
+    calls_on_other_files_touch_no_property, images_have_what_contents_have,
+    weaker_properties_hold_too,
+};
 pub use mem_sinks::MemSink;
 pub use mem_sources::{MemSource, SureSource};
 pub use names::FileName;

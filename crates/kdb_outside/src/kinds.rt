@@ -1,0 +1,56 @@
+//! The formats of files.
+ghost use Rattle.std.specs.Prelude.{◌≡◌, ◌≢◌, Some, IfSome, IfNone};
+ghost use Rattle.kdb_outside.specs.declared.kinds.Kind.{Kind};
+ghost use Rattle.kdb_outside.specs.Kind.{kind_word, kind_of};
+
+/// How a file holds its keys.
+#[derive(Clone, Copy, Debug, PartialEq, Eq)]
+pub enum Kind {
+    /// Each key with its value and its metadata.
+    Dump,
+}
+
+impl Kind {
+    /// The format of a word.
+    pub fn of(word: &str) -> Option<Kind>
+        ensures kind { result ≡ kind_of word.now }
+        ensures some { IfSome result (λ kind. kind_word kind ≡ word.now) }
+        ensures none { IfNone result ((kind : Kind) → kind_word kind ≢ word.now) }
+    {
+        match word {
+            "dump" => Some(Kind::Dump),
+            _ => None,
+        }
+    }
+
+    /// The word of a format.
+    pub fn word(self) -> &'static str
+        ensures word { result.now ≡ kind_word self }
+        ensures kind { kind_of result.now ≡ Some self }
+    {
+        match self {
+            Kind::Dump => "dump",
+        }
+    }
+}
+
+#[cfg(test)]
+mod tests {
+    use super::*;
+    use std::test::Fail;
+
+    #[test]
+    fn tells_formats_by_their_words(rt: HostRuntime) -> Result<(), Fail> {
+        for (word, kind) in [
+            ("dump", Some(Kind::Dump)),
+            ("Dump", None),
+            ("dump ", None),
+            ("dum", None),
+            ("", None),
+        ] {
+            assert_eq!(rt; Kind::of(word), kind, "{word:?}");
+        }
+        assert_eq!(rt; Kind::Dump.word(), "dump");
+        Ok(())
+    }
+}
