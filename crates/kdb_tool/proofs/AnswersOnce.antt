@@ -7,11 +7,12 @@ use Rattle.model_dump.specs.Adds.{Adds}
 use Rattle.model_dump.specs.Dump.{line_at}
 use Rattle.model_dump.proofs.AddsOnce.{Adds-once}
 use Rattle.model_dump.proofs.Readings.{Reads-once, Reads-or-stops, Stops-once}
-use Rattle.kdb_tool.specs.Request.{Action, Request, Refuses, Asks, request}
+use Rattle.kdb_tool.specs.Lines.{not_built}
+use Rattle.kdb_tool.specs.Request.{Action, Get, Set, Remove, Names, GetMeta, SetMeta, MetaNames, Bring, Request, Refuses, IsOutside, Asks, SpellsAction, request}
 use Rattle.kdb_tool.specs.Holding.{Holding, Holds, IsTooLong, IsBad, Means, longest_file}
-use Rattle.kdb_tool.specs.Answer.{Answer, user_file}
+use Rattle.kdb_tool.specs.Answer.{Answer, refused, user_file}
 use Rattle.kdb_tool.specs.Commands.{answer_over}
-use Rattle.kdb_tool.specs.Answers.{AnswersFrom, AnswersKey, Outside, Inside, AnswersText, AnswersRequest, Answers}
+use Rattle.kdb_tool.specs.Answers.{AnswersFrom, AnswersText, AnswersOutside, AnswersRequest, Answers}
 
 too_long_for : (bytes : List ℕ) → longest_file < length bytes → length bytes ≤ longest_file → ⊥
 too_long_for bytes long short = omega arith
@@ -29,22 +30,34 @@ Means-once bytes (IsBad m) (IsTooLong n) p q = absurd (too_long_for bytes q.0 p.
 Means-once bytes (IsBad m) (IsBad n) p q =
     ap IsBad (p.is ∙ ap (line_at bytes) (Stops-once Adds Adds-once bytes p.place q.place p.stops q.stops) ∙ sym q.is)
 
-AnswersFrom-once : (name : Name) (action : Action) (bytes : List ℕ) (a b : Answer) → AnswersFrom name action bytes a → AnswersFrom name action bytes b → a ≡ b
+-- texts spell one action
+action_once : (by : Action (List ℕ)) (a b : Action Name) → SpellsAction by a → SpellsAction by b → a ≡ b
+action_once Get a b p q = p ∙ sym q
+action_once (Set value) a b p q = p ∙ sym q
+action_once (Remove extent) a b p q = p ∙ sym q
+action_once Names a b p q = p ∙ sym q
+action_once (GetMeta meta) a b p q = p ∙ sym q
+action_once (SetMeta meta text) a b p q = p ∙ sym q
+action_once MetaNames a b p q = p ∙ sym q
+action_once (Bring way extent text) a b p q = p.is ∙ ap (Bring way extent) (Spells-once text p.other q.other p.spelled q.spelled) ∙ sym q.is
+
+AnswersFrom-once : (name : Name) (action : Action Name) (bytes : List ℕ) (a b : Answer) → AnswersFrom name action bytes a → AnswersFrom name action bytes b → a ≡ b
 AnswersFrom-once name action bytes a b p q = p.is ∙ ap (λ h. answer_over h name action) (Means-once bytes p.holding q.holding p.means q.means) ∙ sym q.is
 
-AnswersKey-once : (name : Name) (action : Action) (files : List ℕ → List ℕ) (a b : Answer) → AnswersKey name action files a → AnswersKey name action files b → a ≡ b
-AnswersKey-once name action files a b (Outside _ is) (Outside _ also) = is ∙ sym also
-AnswersKey-once name action files a b (Outside outside is) (Inside inside from) = absurd (outside inside)
-AnswersKey-once name action files a b (Inside inside from) (Outside outside is) = absurd (outside inside)
-AnswersKey-once name action files a b (Inside _ from) (Inside _ also) = AnswersFrom-once name action (files user_file) a b from also
+AnswersText-once : (text : List ℕ) (by : Action (List ℕ)) (files : List ℕ → List ℕ) (a b : Answer) → AnswersText text by files a → AnswersText text by files b → a ≡ b
+AnswersText-once text by files a b p q =
+    let same_name = sym (Spells-once text p.name q.name p.spelled q.spelled) in
+    let same_action = sym (action_once by p.action q.action p.action_spelled q.action_spelled) in
+    let from = subst (λ n. AnswersFrom n q.action (files user_file) b) same_name q.from in
+    AnswersFrom-once p.name p.action (files user_file) a b p.from (subst (λ act. AnswersFrom p.name act (files user_file) b) same_action from)
 
-AnswersText-once : (text : List ℕ) (action : Action) (files : List ℕ → List ℕ) (a b : Answer) → AnswersText text action files a → AnswersText text action files b → a ≡ b
-AnswersText-once text action files a b p q =
-    AnswersKey-once p.name action files a b p.answers (subst (λ n. AnswersKey n action files b) (sym (Spells-once text p.name q.name p.spelled q.spelled)) q.answers)
+AnswersOutside-once : (text : List ℕ) (a b : Answer) → AnswersOutside text a → AnswersOutside text b → a ≡ b
+AnswersOutside-once text a b p q = p.is ∙ ap (λ name. refused 2 (not_built name)) (Spells-once text p.name q.name p.spelled q.spelled) ∙ sym q.is
 
 AnswersRequest-once : (r : Request) (files : List ℕ → List ℕ) (a b : Answer) → AnswersRequest r files a → AnswersRequest r files b → a ≡ b
 AnswersRequest-once (Refuses status text) files a b p q = p ∙ sym q
-AnswersRequest-once (Asks text action) files a b p q = AnswersText-once text action files a b p q
+AnswersRequest-once (IsOutside text) files a b p q = AnswersOutside-once text a b p q
+AnswersRequest-once (Asks text by) files a b p q = AnswersText-once text by files a b p q
 
 pub Answers-once : (words : List (List ℕ)) (files : List ℕ → List ℕ) (a b : Answer) → Answers words files a → Answers words files b → a ≡ b
 Answers-once words files a b = AnswersRequest-once (request words) files a b

@@ -7,17 +7,15 @@ use Rattle.kdb_tool.specs.declared.answers.Answer as code
 use Rattle.kdb_tool.specs.declared.answers.Stop.{Stop}
 use Rattle.kdb_tool.specs.declared.answers.Stop.TheVariants as stops
 use Rattle.kdb_tool.specs.Lines.{disk_fault, out_of_memory}
-use Rattle.model_names.specs.Name.{Name}
 use Rattle.kdb_tool.specs.Answer.{Report, Answer, warned, LeavesFiles}
-use Rattle.kdb_tool.specs.Request.{Action, Request, Refuses, Asks}
-use Rattle.kdb_tool.specs.Answers.{Answers}
+use Rattle.kdb_tool.specs.Request.{Request, Refuses, IsOutside, Asks}
+use Rattle.kdb_tool.specs.Answers.{Answers, AnswersOutside}
 use Rattle.kdb_tool.specs.AnswerView.{report_of, answer_of}
-use Rattle.kdb_tool.specs.Untold as untold
-use Rattle.kdb_tool.specs.Untold.{IsStatusOf, AnswersUntoldKey, AnswersUntold}
+use Rattle.kdb_tool.specs.Untold.{IsStatusOf, AnswersUntold}
 use Rattle.kdb_tool.specs.Work.{Leaves, Stores}
 use Rattle.kdb_tool.specs.Ending.{ending}
 use Rattle.kdb_tool.specs.Outcome.{Change, Failed, Gives, Gains, GainsFront, Delivers, Whole, OutFails, ErrFails}
-use Rattle.kdb_tool.specs.Ends.{IsAnswered, EndsAsAnswered, GivesAnswer, EndsOnKey, Outside, Inside, EndsByWords, EndsWithoutMemory, EndsInFault, FaultCause, OfDisk, OfOut, OfErr, LeftBy, Unwritten, Left}
+use Rattle.kdb_tool.specs.Ends.{IsAnswered, EndsAsAnswered, GivesAnswer, EndsOutside, EndsByWords, EndsWithoutMemory, EndsInFault, FaultCause, OfDisk, OfOut, OfErr, LeftBy, Unwritten, Left}
 use Rattle.kdb_tool.proofs.AnswersOnce.{Answers-once}
 
 not_fault : (status : ℕ) → status ≡ 70 → status ≢ 74
@@ -37,18 +35,19 @@ answered (Err stops.Memory) words before after status out err answers leaves del
 answered (Err stops.DiskFault) words before after status out err answers leaves delivers =
     λ is. absurd (is.1 (whole (warned 74 disk_fault) status out err delivers is.1).status_is)
 
-on_key : (name : Name) (action : Action) (answer : Answer) (status : ℕ) (out err : Change) → AnswersUntoldKey name action answer → Gives answer.report status out err → EndsOnKey name action status out err
-on_key name action answer status out err (untold.Outside outside is) gives = Outside outside (subst (λ (a : Answer). Gives a.report status out err) is gives)
-on_key name action answer status out err (untold.Inside inside is) gives = Inside inside (subst (IsStatusOf action) (sym gives.status_is) is)
+outside : (text : List ℕ) (answer : Answer) (status : ℕ) (out err : Change) → AnswersOutside text answer → Gives answer.report status out err → EndsOutside text status out err
+outside text answer status out err is gives =
+    record { name = is.name; spelled = is.spelled; gives = subst (λ (a : Answer). Gives a.report status out err) is.is gives }
 
 by_request : (asked : Request) (answer : Answer) (status : ℕ) (out err : Change) → AnswersUntold asked answer → (status ≢ 74 → Gives answer.report status out err) → EndsByWords asked status out err
 by_request (Refuses code text) answer status out err is gives = λ answered. subst (λ (a : Answer). Gives a.report status out err) is (gives answered.1)
-by_request (Asks text action) answer status out err is gives = λ answered.
-    record { name = is.name; spelled = is.spelled; ends = on_key is.name action answer status out err is.answers (gives answered.1) }
+by_request (IsOutside text) answer status out err is gives = λ answered. outside text answer status out err is (gives answered.1)
+by_request (Asks text by) answer status out err is gives = λ answered. subst (IsStatusOf by) (sym (gives answered.1).status_is) is
 
 stopped_by : (asked : Request) (code : ℕ) (answer : Report) (status : ℕ) (out err : Change) → (IsAnswered status → ⊥) → EndsByWords asked status out err
 stopped_by (Refuses number text) code answer status out err never = λ answered. absurd (never answered)
-stopped_by (Asks text action) code answer status out err never = λ answered. absurd (never answered)
+stopped_by (IsOutside text) code answer status out err never = λ answered. absurd (never answered)
+stopped_by (Asks text by) code answer status out err never = λ answered. absurd (never answered)
 
 pub by_words : (r : Result code.Answer Stop) (asked : Request) (status : ℕ) (out err : Change) → IfOk r (λ answer. AnswersUntold asked (answer_of answer)) → Delivers (ending r) status out err → EndsByWords asked status out err
 by_words (Ok answer) asked status out err untold delivers = by_request asked (answer_of answer) status out err untold (whole (report_of answer) status out err delivers)

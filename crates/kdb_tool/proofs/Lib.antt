@@ -4,3 +4,6 @@ pub mod WordLemmas
 pub mod StoredLemmas
 pub mod StatusLemmas
 pub mod EndLemmas
+pub mod TreeLemmas
+pub mod BringLemmas
+pub mod UserTexts

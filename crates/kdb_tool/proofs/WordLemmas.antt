@@ -1,8 +1,10 @@
--- Where the first of some words stands.
+-- Where the first of some words stands, and what words in a row ask for.
 use Rattle.std.specs.Prelude.{◌≡◌, ℕ, Bool, true, false, nat_lt, not, cond, List, length, Some, None}
-use Rattle.std.proofs.Common.{refl, arith}
+use Rattle.std.proofs.Common.{refl, ap, arith}
 use Rattle.std.specs.List.{position, position_or_len}
 use Rattle.std.proofs.lemmas.Bool.{ltb-false}
+use Rattle.kdb_tool.specs.Lines.{argument}
+use Rattle.kdb_tool.specs.Request.{Request, Refuses, is_meta, on_meta, on_name}
 use Rattle.std.proofs.lemmas.List.Sums.{prefix_len-le-length}
 
 -- the place of the first that passes is the count of those before it
@@ -20,3 +22,10 @@ count-all p xs is = by_test (nat_lt (position_or_len p xs) (length xs)) refl is
     by_test : (b : Bool) → nat_lt (position_or_len p xs) (length xs) ≡ b → cond b (Some (position_or_len p xs)) None ≡ None → length xs ≡ position_or_len p xs
     by_test true within is = absurd cc
     by_test false past is = omega (arith, ltb-false (position_or_len p xs) (length xs) past, prefix_len-le-length (λ x. not (p x)) xs)
+
+-- a metadata name behind a name that is tested first
+pub asks_of_meta : (name word : List ℕ) (asked : Request) → is_meta word ≡ true → on_name name (on_meta word asked) ≡ on_name name asked
+asks_of_meta name word asked is = ap (λ b. on_name name (cond b asked (Refuses 2 (argument word)))) is
+
+pub refuses_meta : (name word : List ℕ) (asked : Request) → is_meta word ≡ false → on_name name (on_meta word asked) ≡ on_name name (Refuses 2 (argument word))
+refuses_meta name word asked is = ap (λ b. on_name name (cond b asked (Refuses 2 (argument word)))) is

@@ -31,11 +31,19 @@ fault_of_name (TooLong bytes) = codes "too long " ++ decimal bytes
 abbrev pub no_name : Refusal → List ℕ
 no_name refusal = codes "C01320 name: " ++ fault_of_name refusal
 
+-- a word that is to be a metadata name is none
+abbrev pub argument : List ℕ → List ℕ
+argument word = codes "C01320 argument: " ++ quoted word
+
 abbrev pub not_built : Name → List ℕ
 not_built name = codes "not built: " ++ shown name
 
 abbrev pub not_found : Name → List ℕ
 not_found name = codes "not found: " ++ shown name
+
+-- a key has no metadata of this name
+abbrev pub no_metadata : List ℕ → List ℕ
+no_metadata meta = codes "no metadata: " ++ quoted meta
 
 -- the file of a mount has more than 1 MiB
 abbrev pub too_long : List ℕ → ℕ → List ℕ

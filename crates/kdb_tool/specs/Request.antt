@@ -1,20 +1,36 @@
 -- What a command line asks for, or how its words are refused. (This project's own.)
-use Rattle.std.specs.Prelude.{ℕ, nat_le, ◌&&◌, ◌==◌, Bool, List, [], ◌∷◌, ◌++◌, length, if◌then◌else◌, None, Some, codes, slice_index}
-use Rattle.std.specs.List.{before_first, after_first, list_any}
+use Rattle.std.specs.Prelude.{◌≡◌, ℕ, nat_eq, nat_le, nat_lt, not, ◌&&◌, ◌==◌, Bool, List, [], ◌∷◌, ◌++◌, length, if◌then◌else◌, Option, None, Some, codes, filter, slice_index}
+use Rattle.std.specs.List.{before_first, after_first, starts_with}
+use Rattle.model_names.specs.Name.{Name}
 use Rattle.model_names.specs.Refuses.{refusal_of}
 use Rattle.model_names.specs.Spelling.{is_text}
-use Rattle.kdb_tool.specs.Lines.{no_command, unknown_command, options_refused, no_name}
+use Rattle.model_names.specs.Spells.{Spells}
+use Rattle.kdb_tool.specs.declared.extents.Extent.{Extent}
+use Rattle.kdb_tool.specs.declared.extents.Extent.TheVariants.{Alone, WithBelow}
+use Rattle.kdb_tool.specs.declared.ways.Way.{Way}
+use Rattle.kdb_tool.specs.declared.ways.Way.TheVariants.{Copies, Moves}
+use Rattle.kdb_tool.specs.declared.verbs.Verb.{Verb}
+use Rattle.kdb_tool.specs.declared.verbs.Verb.TheVariants as verbs
+use Rattle.kdb_tool.specs.Lines.{argument, no_command, unknown_command, options_refused, no_name}
 
--- what is done with a key: it is looked up, gets a value, or is taken out
-pub data Action : Type 0 where
-  Get : Action
-  Set : List ℕ → Action
-  Remove : Action
+-- what is done with a key: it is looked up, gets a value, is taken out, or is listed with all below it; its metadata
+-- is looked up, set or listed; or it is brought to another name. Any other key of the action is given as an N
+pub data Action (N : Type 0) : Type 0 where
+  Get : Action N
+  Set : List ℕ → Action N
+  Remove : Extent → Action N
+  Names : Action N
+  GetMeta : List ℕ → Action N
+  SetMeta : List ℕ → List ℕ → Action N
+  MetaNames : Action N
+  Bring : Way → Extent → N → Action N
 
--- an action on a key by the text of its name, or a status with the text of its line
+-- an action on a user's key by the text of its name, a text that names a key of another namespace, or a status with the
+-- text of its line
 pub data Request : Type 0 where
   Refuses : ℕ → List ℕ → Request
-  Asks : List ℕ → Action → Request
+  IsOutside : List ℕ → Request
+  Asks : List ℕ → Action (List ℕ) → Request
 
 -- a word that ends the options
 abbrev pub ends_options : List ℕ → Bool
@@ -24,39 +40,120 @@ ends_options word = is_text word (codes "--")
 abbrev pub is_option : List ℕ → Bool
 is_option word = nat_le 2 (length word) && (slice_index word 0 == 45)
 
--- the words behind a command before the first `--`, of which none may look like an option
+-- the words behind a command before the first `--`
 abbrev pub before_dashes : List (List ℕ) → List (List ℕ)
 before_dashes words = before_first ends_options words
 
--- the arguments among the words behind a command: all but the first `--`
+-- the options among them
+abbrev pub options : List (List ℕ) → List (List ℕ)
+options words = filter is_option (before_dashes words)
+
+-- the arguments among the words behind a command: those that look like no option, and all behind the first `--`
 abbrev pub arguments : List (List ℕ) → List (List ℕ)
-arguments words = before_dashes words ++ after_first ends_options words
+arguments words = filter (λ word. not (is_option word)) (before_dashes words) ++ after_first ends_options words
 
--- an action on a word that is to be a name
-abbrev pub on_name : List ℕ → Action → Request
-on_name word action = elim (refusal_of word) [ None ↦ Asks word action | Some refusal ↦ Refuses 2 (no_name refusal) ]
+-- which keys a command is for by its options; none where they are refused
+abbrev pub extent_of : List (List ℕ) → Option Extent
+extent_of [] = Some Alone
+extent_of (word ∷ []) = if is_text word (codes "-r") then Some WithBelow else None
+extent_of (word ∷ other ∷ words) = None
 
--- the arguments of a command that takes a name
-abbrev pub on_one : Action → List (List ℕ) → Request
-on_one action [] = Refuses 1 options_refused
-on_one action (name ∷ []) = on_name name action
-on_one action (name ∷ word ∷ words) = Refuses 1 options_refused
+-- the words behind a command that takes no options
+abbrev pub plain : (List (List ℕ) → Request) → List (List ℕ) → Request
+plain take words = elim (options words) [ [] ↦ take (arguments words) | option ∷ others ↦ Refuses 1 options_refused ]
 
--- the arguments of a command that takes a name and a value
-abbrev pub on_two : (List ℕ → Action) → List (List ℕ) → Request
-on_two action [] = Refuses 1 options_refused
-on_two action (name ∷ []) = Refuses 1 options_refused
-on_two action (name ∷ value ∷ []) = on_name name (action value)
-on_two action (name ∷ value ∷ word ∷ words) = Refuses 1 options_refused
+-- the words behind a command that takes `-r`
+abbrev pub extended : (Extent → List (List ℕ) → Request) → List (List ℕ) → Request
+extended take words = elim (extent_of (options words)) [ None ↦ Refuses 1 options_refused | Some extent ↦ take extent (arguments words) ]
 
--- the words behind a command
-abbrev pub command_request : (List (List ℕ) → Request) → List (List ℕ) → Request
-command_request take words = if list_any is_option (before_dashes words) then Refuses 1 options_refused else take (arguments words)
+-- the arguments of a command that takes one
+abbrev pub on_one : (List ℕ → Request) → List (List ℕ) → Request
+on_one take [] = Refuses 1 options_refused
+on_one take (a ∷ []) = take a
+on_one take (a ∷ b ∷ words) = Refuses 1 options_refused
+
+-- the arguments of a command that takes two
+abbrev pub on_two : (List ℕ → List ℕ → Request) → List (List ℕ) → Request
+on_two take [] = Refuses 1 options_refused
+on_two take (a ∷ []) = Refuses 1 options_refused
+on_two take (a ∷ b ∷ []) = take a b
+on_two take (a ∷ b ∷ c ∷ words) = Refuses 1 options_refused
+
+-- the arguments of a command that takes three
+abbrev pub on_three : (List ℕ → List ℕ → List ℕ → Request) → List (List ℕ) → Request
+on_three take [] = Refuses 1 options_refused
+on_three take (a ∷ []) = Refuses 1 options_refused
+on_three take (a ∷ b ∷ []) = Refuses 1 options_refused
+on_three take (a ∷ b ∷ c ∷ []) = take a b c
+on_three take (a ∷ b ∷ c ∷ d ∷ words) = Refuses 1 options_refused
+
+-- a text that names a user's key begins so
+abbrev pub is_users : List ℕ → Bool
+is_users text = starts_with nat_eq text (codes "user:")
+
+-- a word that is to name a user's key, and what is asked for where it does
+abbrev pub on_name : List ℕ → Request → Request
+on_name word asked = elim (refusal_of word) [ None ↦ if is_users word then asked else IsOutside word | Some refusal ↦ Refuses 2 (no_name refusal) ]
+
+-- a text may be a metadata name: it has 1 to 4,096 bytes
+abbrev pub is_meta : List ℕ → Bool
+is_meta text = nat_lt 0 (length text) && nat_le (length text) 4096
+
+-- a word that is to be a metadata name, and what is asked for where it is one
+abbrev pub on_meta : List ℕ → Request → Request
+on_meta word asked = if is_meta word then asked else Refuses 2 (argument word)
+
+-- an action on the key of a word alone
+abbrev pub asks : Action (List ℕ) → List ℕ → Request
+asks action name = on_name name (Asks name action)
+
+-- the key of a word is brought to the name that another word spells
+abbrev pub asks_to_bring : Way → Extent → List ℕ → List ℕ → Request
+asks_to_bring way extent from to = on_name from (on_name to (Asks from (Bring way extent to)))
+
+-- the command that a word names
+abbrev pub verb_of : List ℕ → Option Verb
+verb_of word =
+    if is_text word (codes "get") then Some verbs.Get else
+    (if is_text word (codes "set") then Some verbs.Set else
+    (if is_text word (codes "rm") then Some verbs.Rm else
+    (if is_text word (codes "ls") then Some verbs.Ls else
+    (if is_text word (codes "meta-get") then Some verbs.MetaGet else
+    (if is_text word (codes "meta-set") then Some verbs.MetaSet else
+    (if is_text word (codes "meta-ls") then Some verbs.MetaLs else
+    (if is_text word (codes "cp") then Some verbs.Cp else
+    (if is_text word (codes "mv") then Some verbs.Mv else None))))))))
+
+-- what the words behind a command ask for
+abbrev pub request_of : Verb → List (List ℕ) → Request
+request_of verbs.Get = plain (on_one (asks Get))
+request_of verbs.Set = plain (on_two (λ name value. asks (Set value) name))
+request_of verbs.Rm = extended (λ extent. on_one (asks (Remove extent)))
+request_of verbs.Ls = plain (on_one (asks Names))
+request_of verbs.MetaGet = plain (on_two (λ name meta. on_name name (on_meta meta (Asks name (GetMeta meta)))))
+request_of verbs.MetaSet = plain (on_three (λ name meta text. on_name name (on_meta meta (Asks name (SetMeta meta text)))))
+request_of verbs.MetaLs = plain (on_one (asks MetaNames))
+request_of verbs.Cp = extended (λ extent. on_two (asks_to_bring Copies extent))
+request_of verbs.Mv = extended (λ extent. on_two (asks_to_bring Moves extent))
 
 -- the words of a command line, without the program's name
 abbrev pub request : List (List ℕ) → Request
 request [] = Refuses 4 no_command
-request (word ∷ words) =
-    if is_text word (codes "get") then command_request (on_one Get) words else
-    (if is_text word (codes "set") then command_request (on_two Set) words else
-    (if is_text word (codes "rm") then command_request (on_one Remove) words else Refuses 4 (unknown_command word)))
+request (word ∷ words) = elim (verb_of word) [ None ↦ Refuses 4 (unknown_command word) | Some verb ↦ request_of verb words ]
+
+-- an action with another key is made of the key that a text spells
+pub record SpellsOther (text : List ℕ) (made : Name → Action Name) (action : Action Name) : Type 0 where
+  pub other : Name
+  pub spelled : Spells text other
+  pub is : action ≡ made other
+
+-- an action whose other keys are given by texts is this one on the keys that they spell
+abbrev pub SpellsAction : Action (List ℕ) → Action Name → Type 0
+SpellsAction Get action = action ≡ Get
+SpellsAction (Set value) action = action ≡ Set value
+SpellsAction (Remove extent) action = action ≡ Remove extent
+SpellsAction Names action = action ≡ Names
+SpellsAction (GetMeta meta) action = action ≡ GetMeta meta
+SpellsAction (SetMeta meta text) action = action ≡ SetMeta meta text
+SpellsAction MetaNames action = action ≡ MetaNames
+SpellsAction (Bring way extent text) action = SpellsOther text (Bring way extent) action

@@ -1,6 +1,6 @@
 //! The answer to a command line, made whole before anything is put out or stored.
 ghost use Rattle.std.specs.Prelude.{◌≡◌, ℕ, ◌++◌, ◌∷◌, [], IfOk, string_bytes};
-ghost use Rattle.kdb_tool.specs.Lines.{not_built, not_found, too_long, bad_file, value_too_long, file_too_large};
+ghost use Rattle.kdb_tool.specs.Lines.{not_built, not_found, no_metadata, too_long, bad_file, value_too_long, file_too_large};
 ghost use Rattle.kdb_tool.specs.Answer.{done, stores, refused, user_root};
 ghost use Rattle.kdb_tool.specs.AnswerView.{answer_of};
 ghost use Rattle.kdb_tool.specs.Stops.{stop_of};
@@ -8,7 +8,7 @@ ghost use Rattle.kdb_tool.specs.declared.answers.Stop.TheVariants.{Memory as Out
 
 use crate::status::{ARGUMENT_REFUSED, DONE, NOT_FOUND, REFUSED, Status};
 use crate::whole_file::FileFault;
-use kdb_text::shown;
+use kdb_text::{quoted, shown};
 use key_meta::Memory;
 use key_name::KeyName;
 use std::alloc::{AllocError, Global};
@@ -97,6 +97,14 @@ pub fn refuse_not_found(alloc: Global, name: &KeyName) -> Result<Answer, Memory>
 {
     let name = shown(alloc, name)?;
     let text = format!(in alloc; "not found: {name}")?;
+    refuse(alloc, NOT_FOUND, text.as_str())
+}
+
+pub fn refuse_no_metadata(alloc: Global, meta: &str) -> Result<Answer, Memory>
+    ensures { IfOk result (λ answer. answer_of answer ≡ refused 11 (no_metadata meta.now)) }
+{
+    let meta = quoted(alloc, meta)?;
+    let text = format!(in alloc; "no metadata: {meta}")?;
     refuse(alloc, NOT_FOUND, text.as_str())
 }
 

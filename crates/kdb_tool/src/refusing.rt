@@ -8,7 +8,7 @@ ghost use Rattle.kdb_tool.specs.RequestView.{status_of, text_of, text_of_fault};
 use crate::answers::{Answer, refuse};
 use crate::status::{ARGUMENT_REFUSED, NO_COMMAND, OPTIONS_REFUSED};
 use crate::words::Refusal;
-use kdb_text::shown_text;
+use kdb_text::{quoted, shown_text};
 use key_meta::Memory;
 use key_name::NameFault;
 use std::alloc::Global;
@@ -28,6 +28,11 @@ pub fn refuse_words(alloc: Global, refusal: Refusal<'_>) -> Result<Answer, Memor
         Refusal::OptionsRefused => refuse(alloc, OPTIONS_REFUSED, "options refused"),
         Refusal::NoName(fault) => {
             let text = text_of_fault(alloc, fault)?;
+            refuse(alloc, ARGUMENT_REFUSED, text.as_str())
+        }
+        Refusal::NoArgument(word) => {
+            let word = quoted(alloc, word)?;
+            let text = format!(in alloc; "C01320 argument: {word}")?;
             refuse(alloc, ARGUMENT_REFUSED, text.as_str())
         }
     }

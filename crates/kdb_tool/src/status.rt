@@ -3,17 +3,17 @@ ghost use Rattle.std.specs.Prelude.{◌≡◌};
 
 use std::marker::Model;
 
-/// The key was looked up and printed.
+/// The command was done.
 pub const DONE: u8 = 0;
 /// The words behind the command are not what it takes.
 pub const OPTIONS_REFUSED: u8 = 1;
-/// An argument is refused.
+/// An argument is refused, or the name that keys are to get.
 pub const ARGUMENT_REFUSED: u8 = 2;
 /// There is no command, or an unknown one.
 pub const NO_COMMAND: u8 = 4;
 /// A file is refused.
 pub const REFUSED: u8 = 5;
-/// The key isn't there.
+/// The key or its metadata isn't there.
 pub const NOT_FOUND: u8 = 11;
 /// Want of memory.
 pub const OUT_OF_MEMORY: u8 = 70;

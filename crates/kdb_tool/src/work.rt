@@ -2,15 +2,14 @@
 ghost use Rattle.std.specs.Prelude.{◌≡◌, ◌≤◌, ℕ, List, length, true, IfOk, Err};
 ghost use Rattle.kdb_outside.specs.Faults.{HasRisen};
 ghost use Rattle.kdb_outside.specs.Files.{KeepsOthers};
-ghost use Rattle.model_names.specs.declared.namespaces.Namespace.TheVariants.{User as OfUsers};
 ghost use Rattle.kdb_tool.specs.Answer.{user_file};
 ghost use Rattle.kdb_tool.specs.AnswerView.{answer_of};
-ghost use Rattle.kdb_tool.specs.Answers.{Answers, AnswersFrom, AnswersKey};
+ghost use Rattle.kdb_tool.specs.Answers.{Answers, AnswersFrom};
 ghost use Rattle.kdb_tool.specs.Ends.{IsAnswered};
 ghost use Rattle.kdb_tool.specs.Holding.{longest_file};
 ghost use Rattle.kdb_tool.specs.Request.{request};
 ghost use Rattle.kdb_tool.specs.RequestView.{action_of};
-ghost use Rattle.kdb_tool.specs.Untold.{AnswersUntold, AnswersUntoldKey, IsStatusOf};
+ghost use Rattle.kdb_tool.specs.Untold.{AnswersUntold, IsStatusOf};
 ghost use Rattle.kdb_tool.specs.WholeFile.{IsWhole, IsShort};
 ghost use Rattle.kdb_tool.specs.Work.{Leaves, Stores};
 
@@ -22,7 +21,7 @@ use crate::whole_file::{FileRead, read_file};
 use crate::words::{Action, Request, read_words};
 use kdb_outside::{Disk, FileName};
 use key_meta::{Memory, Text};
-use key_name::{KeyName, Namespace};
+use key_name::KeyName;
 use std::alloc::{AllocError, Global};
 use storage_api::ReadRefusal;
 
@@ -71,24 +70,21 @@ fn answer_over(
     }
 }
 
-/// The answer to an action on a key.
+/// The answer to an action on a user's key.
 fn answer_key<D: Disk>(
     alloc: Global,
     name: &KeyName,
     action: Action<'_>,
     disk: &mut D,
 ) -> Result<Answer, Stop>
-    ensures told { D.tells disk.old ≡ true → IfOk result (λ answer. AnswersKey name.now (action_of action.entry) (D.seen disk.old) (answer_of answer)) }
-    ensures untold { IfOk result (λ answer. AnswersUntoldKey name.now (action_of action.entry) (answer_of answer)) }
+    ensures told { D.tells disk.old ≡ true → IfOk result (λ answer. AnswersFrom name.now (action_of action.entry) (D.seen disk.old user_file) (answer_of answer)) }
+    ensures status { IfOk result (λ answer. IsStatusOf (action_of action.entry) answer.status) }
     ensures own { IfOk result (λ answer. IsAnswered answer.status) }
     ensures cause { result ≡ Err Stop.DiskFault → HasRisen (D.faults disk.old) (D.faults disk.new) }
     ensures same { D.tells disk.old ≡ true → D.seen disk.new ≡ D.seen disk.old }
     ensures tells { D.tells disk.new ≡ D.tells disk.old }
     ensures later { D.faults disk.old ≤ D.faults disk.new }
 {
-    if name.namespace() != Namespace::User {
-        return Ok(refuse_not_built(alloc, name)?);
-    }
     let file = name_of_user_file(alloc)?;
     let read = read_file(alloc, disk, &file)?;
     Ok(answer_over(alloc, name, action, read)?)
@@ -106,6 +102,7 @@ fn work_out<D: Disk>(alloc: Global, words: &[Text], disk: &mut D) -> Result<Answ
 {
     match read_words(alloc, words)? {
         Request::Refuses(refusal) => Ok(refuse_words(alloc, refusal)?),
+        Request::IsOutside(name) => Ok(refuse_not_built(alloc, &name)?),
         Request::Asks { name, action } => answer_key(alloc, &name, action, disk),
     }
 }

@@ -1,2 +1,3 @@
 pub mod SetLemmas
 pub mod RangeLemmas
+pub mod WithAllLemmas

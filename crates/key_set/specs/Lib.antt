@@ -1,1 +1,2 @@
 pub mod EntryView
+pub mod WithAll

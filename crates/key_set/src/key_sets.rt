@@ -1,9 +1,11 @@
 //! A finite map from names to entries, over one sorted vector. No contract speaks of the vector.
 ghost use Rattle.std.specs.Prelude.{◌≡◌, ◌-◌, ◌^◌, length, min, IfOk, OnOk, OnErr, slice_get};
-ghost use Rattle.std.specs.Option.{option_map};
+ghost use Rattle.std.specs.Option.{option_map, option_or};
 ghost use Rattle.std.specs.FinMap as map;
-ghost use Rattle.model_maps.specs.KeyMap.{no_keys, weight, at_or_below, not_below};
+ghost use Rattle.model_names.specs.Name.{Name};
+ghost use Rattle.model_maps.specs.KeyMap.{KeyMap, no_keys, weight, at_or_below, not_below};
 ghost use Rattle.key_set.specs.EntryView.{entry_of};
+ghost use Rattle.key_set.specs.WithAll.{with_all};
 
 use crate::ranges::range_below;
 use crate::weights::weight_of_all;
@@ -70,6 +72,14 @@ impl KeySet {
         self.keys.insert(name, entry)
     }
 
+    /// Gives each name of another set the entry that it has there.
+    pub fn append_all(&mut self, other: KeySet) -> Result<(), Memory>
+        ensures ok { OnOk result (self.new ≡ with_all other self.old) }
+        ensures err { OnErr result (self.new ≡ self.old) }
+    {
+        self.keys.insert_all(other.keys)
+    }
+
     /// Takes a name out, and answers the entry that it had.
     pub fn remove(&mut self, name: &KeyName) -> Option<Entry>
         ensures former { option_map entry_of result ≡ map.get self.old name.now }
@@ -127,6 +137,11 @@ impl KeySet {
         weight_of_all(self.keys.entries())
     }
 }
+
+/// Of keys with others set among them, a name has the others' entry, and else the keys' own.
+pub fn the_keys_set_last_are_found()
+    ensures { (others keys : KeyMap) (name : Name) → map.get (with_all others keys) name ≡ option_or (map.get others name) (map.get keys name) }
+{}
 
 /// The same keys again.
 fn copy_of(alloc: Global, keys: &[(KeyName, Entry)]) -> Result<Vec<(KeyName, Entry)>, Memory>

@@ -2,3 +2,4 @@ pub mod RisingLemmas
 pub mod MapLemmas
 pub mod SeenLemmas
 pub mod RangeLemmas
+pub mod MergeLemmas

@@ -1,14 +1,17 @@
 //! A map over one sorted vector.
-ghost use Rattle.std.specs.Prelude.{◌≡◌, remove, ◌<◌, ◌≤◌, [], T, List, length, not, IfOk, IfErr, OnOk, OnErr, slice_get, slice_range, slice_index_or, slice_set};
+ghost use Rattle.std.specs.Prelude.{◌≡◌, remove, ◌+◌, ◌<◌, ◌≤◌, ◌++◌, [], T, List, length, not, None, IfSome, IfOk, IfErr, OnOk, OnErr, slice_get, slice_range, slice_index_or, slice_set};
 ghost use Rattle.std.specs.FinMap.{find, is_sorted};
 ghost use Rattle.std.specs.FinMap.Entries.{put, where_key};
-ghost use Rattle.std.specs.Option.{option_copied, option_map};
+ghost use Rattle.std.specs.Option.{option_copied, option_map, option_to_list};
 ghost use Rattle.std.specs.Ordering.{eq_by_cmp};
 ghost use Rattle.std.specs.List.{remove_range};
+ghost use Rattle.std.specs.Vec.{vec_capacity};
 ghost use Rattle.sorted_map.specs.Place.{IsPlace, IsGap};
+ghost use Rattle.sorted_map.specs.Merge.{put_all, firsts_cmp};
 
 use std::alloc::{AllocError, Global};
 use std::cmp::Ordering;
+use std::collections::VecDeque;
 use std::marker::Model;
 use std::mem;
 
@@ -106,6 +109,20 @@ impl<K: Ord + Drop, V: Drop> SortedMap<K, V> {
         }
     }
 
+    /// Gives each key of another map the value that it has there. A key that is there stays, and the other map's is dropped.
+    pub fn insert_all(&mut self, other: SortedMap<K, V>) -> Result<(), AllocError>
+        ensures ok { OnOk result (self.new ≡ put_all K.cmp other self.old) }
+        ensures err { OnErr result (self.new ≡ self.old) }
+        ensures sorted { T (is_sorted K.cmp self.old) }
+        ensures other_sorted { T (is_sorted K.cmp other) }
+    {
+        let room = room_for_both(&self.sorted, &other.sorted)?;
+        let none = Vec::new(self.allocator());
+        let ours = mem::replace(&mut self.sorted, none);
+        self.sorted = merge(ours, other.sorted, room);
+        Ok(())
+    }
+
     /// Takes a key out, and answers the value that it had.
     pub fn remove(&mut self, key: &K) -> Option<V>
         ensures former { result ≡ find K.cmp key.now self.old }
@@ -192,6 +209,70 @@ fn move_out<T: Drop>(items: &mut Vec<T>, from: usize, to: usize) -> Result<Vec<T
         taken.push_reserved(item);
     }
     Ok(taken)
+}
+
+/// An empty vector with room for the elements of two others.
+fn room_for_both<T>(left: &Vec<T>, right: &Vec<T>) -> Result<Vec<T>, AllocError>
+    ensures none { IfOk result (λ room. room.items ≡ []) }
+    ensures room { IfOk result (λ room. length left.now.items + length right.now.items ≤ vec_capacity room) }
+{
+    match left.len().checked_add(right.len()) {
+        Some(len) => Vec::with_capacity(*left.allocator(), len),
+        None => Err(AllocError),
+    }
+}
+
+/// Moves the entries of two lists into one, where each key stands once. Of a key that both have, the second has the value.
+fn merge<K: Ord + Drop, V: Drop>(
+    ours: Vec<(K, V)>,
+    theirs: Vec<(K, V)>,
+    room: Vec<(K, V)>,
+) -> Vec<(K, V)>
+    requires sorted { T (is_sorted K.cmp theirs.items) }
+    requires none { room.items ≡ [] }
+    requires room { length ours.items + length theirs.items ≤ vec_capacity room }
+    ensures { result.items ≡ put_all K.cmp theirs.items ours.items }
+{
+    let mut merged = room;
+    let mut ours = VecDeque::from(ours);
+    let mut theirs = VecDeque::from(theirs);
+    while let Some(entry) = next_merged(&mut ours, &mut theirs) {
+        merged.push_reserved(entry);
+    }
+    merged
+}
+
+/// Takes the entry with the smallest key from two lists. Of a key that both have, the second has the value.
+fn next_merged<K: Ord + Drop, V: Drop>(
+    ours: &mut VecDeque<(K, V)>,
+    theirs: &mut VecDeque<(K, V)>,
+) -> Option<(K, V)>
+    requires { T (is_sorted K.cmp theirs.old.items) }
+    ensures entries { put_all K.cmp theirs.old.items ours.old.items ≡ option_to_list result ++ put_all K.cmp theirs.new.items ours.new.items }
+    ensures sorted { T (is_sorted K.cmp theirs.new.items) }
+    ensures fewer { IfSome result (λ _. length ours.new.items + length theirs.new.items < length ours.old.items + length theirs.old.items) }
+    ensures all { result ≡ None → (ours.new.items ≡ []) × (theirs.new.items ≡ []) }
+{
+    match order_of_firsts(ours, theirs) {
+        Ordering::Less => ours.pop_front(),
+        Ordering::Equal => {
+            let (key, _) = ours.pop_front()?;
+            let (_, value) = theirs.pop_front()?;
+            Some((key, value))
+        }
+        Ordering::Greater => theirs.pop_front(),
+    }
+}
+
+/// Which of two lists has the smaller first key. An empty list is behind the other.
+fn order_of_firsts<K: Ord, V>(ours: &VecDeque<(K, V)>, theirs: &VecDeque<(K, V)>) -> Ordering
+    ensures { result ≡ firsts_cmp K.cmp ours.now.items theirs.now.items }
+{
+    match (ours.front(), theirs.front()) {
+        (Some(our), Some(their)) => our.0.cmp(&their.0),
+        (Some(_), None) => Ordering::Less,
+        (None, _) => Ordering::Greater,
+    }
 }
 
 #[cfg(test)]

@@ -277,10 +277,18 @@ fn stops_behind_any_call(rt: HostRuntime) -> Result<(), Fail> {
 fn writes_nothing_where_nothing_changes_or_all_is_refused(rt: HostRuntime) -> Result<(), Fail> {
     let long = vec![in rt.alloc(); b'v'; 65537]?;
     let long = String::from_utf8(long).map_err(|_| "it is text")?;
-    let rows: [(&[&str], Told); 4] = [
+    let rows: [(&[&str], Told); 9] = [
         (
             &["set", "user:/sw/a", "1"],
             ending(0, "Set string to \"1\"\n", ""),
+        ),
+        (&["ls", "user:/sw"], ending(0, "user:/sw/a\n", "")),
+        (&["meta-ls", "user:/sw/a"], ending(0, "", "")),
+        (&["cp", "user:/sw/a", "user:/sw/a"], ending(0, "", "")),
+        (&["mv", "-r", "user:/sw", "user:/sw"], ending(0, "", "")),
+        (
+            &["rm", "-r", "user:/s"],
+            ending(11, "", "kdb: not found: user:/s\n"),
         ),
         (
             &["rm", "user:/sw/b"],
@@ -298,6 +306,175 @@ fn writes_nothing_where_nothing_changes_or_all_is_refused(rt: HostRuntime) -> Re
         let disk = run_over(&rt, rt.alloc(), words, disk, want)?;
         assert_eq!(rt; disk.calls(), 2);
         assert_eq!(rt; disk.bytes(&user), ONE.as_bytes());
+    }
+    Ok(())
+}
+
+#[test]
+fn brings_trees_to_other_names_and_takes_them_out(rt: HostRuntime) -> Result<(), Fail> {
+    // The words, what they print, and the users' file behind them.
+    let first = "kdbOpen 2\n$key string 1 1\na\n1\n$key string 3 1\na/b\n2\n$end\n";
+    let copied =
+        "kdbOpen 2\n$key string 1 1\na\n1\n$key string 3 1\na/b\n2\n$key string 1 1\nc\n1\n$key string 3 1\nc/b\n2\n$end\n";
+    let moved =
+        "kdbOpen 2\n$key string 1 1\na\n1\n$key string 3 1\na/b\n2\n$key string 3 1\nc/x\n1\n$key string 5 1\nc/x/b\n2\n$end\n";
+    let replaced =
+        "kdbOpen 2\n$key string 1 1\na\n1\n$key string 3 1\na/b\n2\n$key string 3 1\nc/x\n2\n$key string 5 1\nc/x/b\n2\n$end\n";
+    let alone =
+        "kdbOpen 2\n$key string 3 1\na/b\n2\n$key string 3 1\nc/x\n2\n$key string 5 1\nc/x/b\n2\n$key string 3 1\nz z\n1\n$end\n";
+    let left = "kdbOpen 2\n$key string 3 1\na/b\n2\n$key string 3 1\nz z\n1\n$end\n";
+    let rows: [(&[&str], Told, &str); 13] = [
+        (
+            &["cp", "-r", "user:/a", "user:/c"],
+            ending(0, "", ""),
+            copied,
+        ),
+        (
+            &["ls", "user:/"],
+            ending(0, "user:/a\nuser:/a/b\nuser:/c\nuser:/c/b\n", ""),
+            copied,
+        ),
+        (
+            &["mv", "user:/c", "-r", "user:/c/x"],
+            ending(0, "", ""),
+            moved,
+        ),
+        (
+            &["ls", "user:/c/x"],
+            ending(0, "user:/c/x\nuser:/c/x/b\n", ""),
+            moved,
+        ),
+        (
+            &["cp", "--", "user:/a/b", "user:/c/x"],
+            ending(0, "", ""),
+            replaced,
+        ),
+        (&["mv", "user:/a", "user:/z z"], ending(0, "", ""), alone),
+        (
+            &["mv", "user:/a", "user:/q"],
+            ending(11, "", "kdb: not found: user:/a\n"),
+            alone,
+        ),
+        (
+            &["cp", "-r", "user:/q q", "user:/a"],
+            ending(11, "", "kdb: not found: \"user:/q q\"\n"),
+            alone,
+        ),
+        (&["rm", "user:/c/x", "-r"], ending(0, "", ""), left),
+        (
+            &["rm", "-r", "user:/c/x"],
+            ending(11, "", "kdb: not found: user:/c/x\n"),
+            left,
+        ),
+        (
+            &["ls", "user:/"],
+            ending(0, "user:/a/b\n\"user:/z z\"\n", ""),
+            left,
+        ),
+        (&["ls", "user:/c"], ending(0, "", ""), left),
+        (
+            &["rm", "-r", "user:/.."],
+            ending(0, "", ""),
+            "kdbOpen 2\n$end\n",
+        ),
+    ];
+    let user = user_file(rt.alloc())?;
+    let mut disk = disk_with(rt.alloc(), first.as_bytes(), Vec::new(rt.alloc()), None)?;
+    for (words, want, file) in rows {
+        disk = run_over(&rt, rt.alloc(), words, disk, want)?;
+        assert_eq!(rt; disk.bytes(&user), file.as_bytes(), "{words:?}");
+    }
+    Ok(())
+}
+
+#[test]
+fn refuses_the_first_new_name_that_is_too_long(rt: HostRuntime) -> Result<(), Fail> {
+    // The bytes of a last part, and what `mv -r` of a key with one below it answers. Nothing is written.
+    let file = "kdbOpen 2\n$key string 1 1\na\n1\n$key string 3 1\na/b\n2\n$end\n";
+    let rows = [
+        (4093, ending(0, "", "")),
+        (4094, ending(2, "", "kdb: C01320 name: too long 4097\n")),
+        (4096, ending(2, "", "kdb: C01320 name: too long 4097\n")),
+    ];
+    let user = user_file(rt.alloc())?;
+    for (count, want) in rows {
+        let part = vec![in rt.alloc(); b'x'; count]?;
+        let part = String::from_utf8(part).map_err(|_| "it is text")?;
+        let name = format!(in rt.alloc(); "user:/{part}")?;
+        let disk = disk_with(rt.alloc(), file.as_bytes(), Vec::new(rt.alloc()), None)?;
+        let words = ["mv", "-r", "user:/a", name.as_str()];
+        let disk = run_over(&rt, rt.alloc(), &words, disk, want)?;
+        assert_eq!(rt; disk.bytes(&user) == file.as_bytes(), want.status == 2);
+    }
+    Ok(())
+}
+
+#[test]
+fn keeps_metadata_texts_as_they_are(rt: HostRuntime) -> Result<(), Fail> {
+    // The words, what they print, and the users' file behind them.
+    let typed = "kdbOpen 2\n$key string 1 0\na\n\n$meta 4 6\ntype\nstring\n$end\n";
+    let odd =
+        "kdbOpen 2\n$key string 1 0\na\n\n$meta 5 4\nodd \n\nx\ty\n\n$meta 4 6\ntype\nstring\n$end\n";
+    let valued =
+        "kdbOpen 2\n$key string 1 1\na\n1\n$meta 5 4\nodd \n\nx\ty\n\n$meta 4 3\ntype\nany\n$end\n";
+    let rows: [(&[&str], Told, &str); 11] = [
+        (
+            &["meta-set", "user:/a", "type", "string"],
+            ending(0, "", ""),
+            typed,
+        ),
+        (
+            &["meta-set", "user:/a", "type", "string"],
+            ending(0, "", ""),
+            typed,
+        ),
+        (
+            &["meta-set", "user:/a", "odd \n", "x\ty\n"],
+            ending(0, "", ""),
+            odd,
+        ),
+        (
+            &["meta-get", "user:/a", "odd \n"],
+            ending(0, "x\ty\n\n", ""),
+            odd,
+        ),
+        (
+            &["meta-ls", "user:/a"],
+            ending(0, "odd \n\ntype\n", ""),
+            odd,
+        ),
+        (
+            &["meta-get", "user:/a", "no\n"],
+            ending(11, "", "kdb: no metadata: \"no\\n\"\n"),
+            odd,
+        ),
+        (
+            &["meta-get", "user:/b", "type"],
+            ending(11, "", "kdb: not found: user:/b\n"),
+            odd,
+        ),
+        (
+            &["meta-ls", "user:/b"],
+            ending(11, "", "kdb: not found: user:/b\n"),
+            odd,
+        ),
+        (&["get", "user:/a"], ending(0, "\n", ""), odd),
+        (
+            &["meta-set", "--", "user:/a", "type", "any"],
+            ending(0, "", ""),
+            "kdbOpen 2\n$key string 1 0\na\n\n$meta 5 4\nodd \n\nx\ty\n\n$meta 4 3\ntype\nany\n$end\n",
+        ),
+        (
+            &["set", "user:/a", "1"],
+            ending(0, "Set string to \"1\"\n", ""),
+            valued,
+        ),
+    ];
+    let user = user_file(rt.alloc())?;
+    let mut disk = MemDisk::new(rt.alloc(), Vec::new(rt.alloc()), Vec::new(rt.alloc()), None)?;
+    for (words, want, file) in rows {
+        disk = run_over(&rt, rt.alloc(), words, disk, want)?;
+        assert_eq!(rt; disk.bytes(&user), file.as_bytes(), "{words:?}");
     }
     Ok(())
 }

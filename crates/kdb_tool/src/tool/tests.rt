@@ -57,7 +57,19 @@ impl Disk for OneFile {
 
     ghost seen = { λ _ _. [] };
 
+    ghost may_leave = { λ _ _ _. Unit {0} };
+
+    ghost moment = { λ _. 0 };
+
+    ghost left_since = { λ _ _ _. Unit {0} };
+
     ghost faults = { λ disk. disk.faults };
+
+    ghost read_is_image = { λ disk told file. tt };
+
+    ghost counts_now = { λ disk since image told early now. tt };
+
+    ghost only_now = { λ disk image told left file. tt };
 
     fn length(&mut self, file: &FileName) -> Result<u64, Failed> {
         self.begin()?;
@@ -135,7 +147,7 @@ fn assert_ended(rt: &impl Abort, ended: &Ended, status: u8, out: &str, err: &str
 
 #[test]
 fn refuses_words_without_a_look_at_the_disk(rt: HostRuntime) -> Result<(), Fail> {
-    let rows: [(&[&str], u8, &str); 36] = [
+    let rows: [(&[&str], u8, &str); 51] = [
         (&[], 4, "kdb: no command\n"),
         (&["frob"], 4, "kdb: unknown command frob\n"),
         (&["fr ob"], 4, "kdb: unknown command \"fr ob\"\n"),
@@ -166,7 +178,50 @@ fn refuses_words_without_a_look_at_the_disk(rt: HostRuntime) -> Result<(), Fail>
             "kdb: options refused\n",
         ),
         (&["rm"], 1, "kdb: options refused\n"),
-        (&["rm", "-r", "user:/sw"], 1, "kdb: options refused\n"),
+        (&["rm", "-r"], 1, "kdb: options refused\n"),
+        (&["rm", "-r", "-r", "user:/sw"], 1, "kdb: options refused\n"),
+        (&["rm", "-f", "user:/sw"], 1, "kdb: options refused\n"),
+        (
+            &["rm", "-r", "--", "-r", "user:/sw"],
+            1,
+            "kdb: options refused\n",
+        ),
+        (&["ls", "-r", "user:/sw"], 1, "kdb: options refused\n"),
+        (&["cp", "user:/a"], 1, "kdb: options refused\n"),
+        (
+            &["mv", "user:/a", "user:/b", "user:/c"],
+            1,
+            "kdb: options refused\n",
+        ),
+        (&["meta-get", "user:/a"], 1, "kdb: options refused\n"),
+        (&["meta-set", "user:/a", "m"], 1, "kdb: options refused\n"),
+        (&["meta-ls", "-r", "user:/a"], 1, "kdb: options refused\n"),
+        (
+            &["cp", "system:/a", "me:/b"],
+            2,
+            "kdb: not built: system:/a\n",
+        ),
+        (
+            &["mv", "user:/a", "me:/b"],
+            2,
+            "kdb: C01320 name: unknown namespace\n",
+        ),
+        (&["cp", "-r", "user:/a", "/b"], 2, "kdb: not built: /b\n"),
+        (
+            &["meta-get", "user:/a", ""],
+            2,
+            "kdb: C01320 argument: \"\"\n",
+        ),
+        (
+            &["meta-set", "user:a", "", "v"],
+            2,
+            "kdb: C01320 name: no slash\n",
+        ),
+        (
+            &["meta-set", "system:/a", "", "v"],
+            2,
+            "kdb: not built: system:/a\n",
+        ),
         (
             &["rm", "user:/sw", "user:/sw/a"],
             1,

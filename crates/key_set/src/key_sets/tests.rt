@@ -81,6 +81,26 @@ fn cuts_a_name_and_what_is_below_it(rt: HostRuntime) -> Result<(), Fail> {
 }
 
 #[test]
+fn takes_the_keys_of_another_set(rt: HostRuntime) -> Result<(), Fail> {
+    super::the_keys_set_last_are_found();
+    let alloc = rt.alloc();
+    let mut set = set_of(alloc, &["user:/a", "user:/b", "user:/d"])?;
+    let mut other = set_of(alloc, &["user:/c"])?;
+    other.append(name(alloc, "user:/b")?, entry(alloc, "again")?)?;
+    set.append_all(other)?;
+    set.append_all(KeySet::new(alloc))?;
+    let mut copied = KeySet::new(alloc);
+    copied.append_all(set)?;
+    assert_eq!(rt;
+        names_of(alloc, &copied)?.as_str(),
+        "user:/a user:/b user:/c user:/d "
+    );
+    let found = copied.lookup(&name(alloc, "user:/b")?);
+    assert_eq!(rt; found.map(|e| e.value.as_str()), Some("again"));
+    Ok(())
+}
+
+#[test]
 fn copies_values_and_metadata(rt: HostRuntime) -> Result<(), Fail> {
     let alloc = rt.alloc();
     let mut key = entry(alloc, "value")?;

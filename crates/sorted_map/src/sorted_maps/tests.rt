@@ -59,3 +59,18 @@ fn changes_its_entries_by_their_places(rt: HostRuntime) -> Result<(), Fail> {
     }
     Ok(())
 }
+
+#[test]
+fn takes_the_entries_of_another_map(rt: HostRuntime) -> Result<(), Fail> {
+    let ours = Vec::from_array(rt.alloc(), [(2, 'a'), (4, 'b'), (5, 'c'), (9, 'd')])?;
+    let theirs = Vec::from_array(rt.alloc(), [(1, 'v'), (4, 'w'), (5, 'x'), (7, 'y')])?;
+    let mut map = SortedMap::from_sorted(ours);
+    map.insert_all(SortedMap::from_sorted(theirs))?;
+    map.insert_all(SortedMap::new(rt.alloc()))?;
+    let both = [(1, 'v'), (2, 'a'), (4, 'w'), (5, 'x'), (7, 'y'), (9, 'd')];
+    assert_eq!(rt; map.entries(), both.as_slice());
+    let mut other = SortedMap::new(rt.alloc());
+    other.insert_all(map)?;
+    assert_eq!(rt; other.entries(), both.as_slice());
+    Ok(())
+}

@@ -1,7 +1,7 @@
 use Rattle.std.proofs.Common.{sym, ◌∙◌}
 use Rattle.kdb_tool.specs.Request.{ends_options}
 use Rattle.kdb_tool.proofs.WordLemmas.{count-at, count-all}
-use Rattle.kdb_tool.proofs.words.count_before_dashes.Goals as goal
+use Rattle.kdb_tool.proofs.options.count_before_dashes.Goals as goal
 
 pub returns-in-Some-clause-count : goal.returns-in-Some-clause-count
 returns-in-Some-clause-count c = count-at ends_options c.args.words.now c.in-Some.at (sym c.place_of_dashes.ensures.place ∙ c.in-Some.is)

@@ -1,0 +1,8 @@
+//! Which keys a command is for.
+
+/// The named key alone, or all at or below the name.
+#[derive(Clone, Copy, Debug, PartialEq, Eq)]
+pub enum Extent {
+    Alone,
+    WithBelow,
+}

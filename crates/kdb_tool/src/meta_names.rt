@@ -1,0 +1,44 @@
+//! Names of metadata.
+ghost use Rattle.std.specs.Prelude.{◌≡◌, ◌<◌, ◌≤◌, false, true, length, MatchOption};
+ghost use Rattle.kdb_tool.specs.Request.{is_meta};
+
+use std::marker::Model;
+
+/// The most bytes of a metadata name.
+const LONGEST_META_NAME: usize = 4096;
+
+/// A text of 1 to 4,096 bytes.
+#[derive(Debug, Drop)]
+pub struct MetaName<'a> {
+    text: &'a str,
+}
+
+impl<'a> Model for MetaName<'a> {
+    ghost use Rattle.std.specs.Prelude.{ℕ, List, ◌<◌, ◌≤◌, length};
+
+    ghost Value = { List ℕ };
+
+    ghost view = { λ name. name.text.now };
+
+    ghost invariant = { λ name. (0 < length name.text.now) × (length name.text.now ≤ 4096) };
+}
+
+impl<'a> MetaName<'a> {
+    /// The name that a text is. There is none where it is empty or too long.
+    pub fn new(text: &'a str) -> Option<MetaName<'a>>
+        ensures { MatchOption result (is_meta text.now ≡ false) (λ name. (is_meta text.now ≡ true) × (name ≡ text.now)) }
+    {
+        if text.is_empty() || text.len() > LONGEST_META_NAME {
+            return None;
+        }
+        Some(MetaName { text })
+    }
+
+    pub fn as_str(&self) -> &str
+        ensures text { result.now ≡ self.now }
+        ensures some { 0 < length self.now }
+        ensures limit { length self.now ≤ 4096 }
+    {
+        self.text
+    }
+}
