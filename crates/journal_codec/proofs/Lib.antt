@@ -1,0 +1,5 @@
+pub mod FieldLemmas
+pub mod NameLemmas
+pub mod FileLemmas
+pub mod BodyLemmas
+pub mod LoopLemmas

@@ -1,0 +1,133 @@
+-- The tests of a name say what a file's name is, and that names ascend.
+use Rattle.std.proofs.Common.{◌≡◌, ℕ, ◌<◌, ◌≤◌, true, false, not, eqb, leb, List, [], ◌∷◌, length, slice_index, slice_index_or, IsAscii, IsUtf8, Option, Some, None, Result, Ok, Err, IfOk, SomeIff, refl, sym, ap, subst, ◌∙◌, arith, inl, inr}
+use Rattle.std.specs.List.{list_all, AllByRecursion}
+use Rattle.std.specs.List.Sorted.{IsStrictlySortedBy}
+use Rattle.std.specs.Ordering.{nat_cmp, is_lt}
+use Rattle.std.specs.declared.cmp.Ordering.{Ordering}
+use Rattle.std.specs.declared.cmp.Ordering.TheVariants.{Less, Equal, Greater}
+use Rattle.std.specs.Cmp.Lexicographic.{slice_cmp, nat_list_cmp_total}
+use Rattle.std.proofs.lemmas.Bool.{true≢false, cases_lt, eqb-false, ne_eqb, leb-true, le-leb, and_parts, and_from, not-true, not_from_false}
+use Rattle.std.proofs.lemmas.List.{get_or_past}
+use Rattle.std.proofs.lemmas.Str.{IsUtf8-from_ascii}
+use Rattle.std.proofs.lemmas.List.Sums.{AllPass-from_list_all, list_all-from_AllPass}
+use Rattle.kdb_outside.specs.FileName.{IsNameByte, IsFileName, dot}
+use Rattle.journal_codec.specs.Entry.{begins_with_journal}
+use Rattle.journal_codec.specs.Reading.{is_name_byte, is_file_name, is_next_name}
+
+name_byte_is : (b : ℕ) → is_name_byte b ≡ true → IsNameByte b
+name_byte_is b e = grind arith
+
+name_byte_from : (b : ℕ) → IsNameByte b → is_name_byte b ≡ true
+name_byte_from b h = grind arith
+
+-- the test of a file's name
+pub file_name_is : (name : List ℕ) → is_file_name name ≡ true → IsFileName name
+file_name_is name e =
+    let some = and_parts (leb 1 (length name)) _ e in
+    let short = and_parts (leb (length name) 100) _ some.1 in
+    let plain = and_parts (list_all is_name_byte name) _ short.1 in
+    let passes = AllPass-from_list_all is_name_byte name plain.0 in
+    record {
+      not_empty = leb-true 1 (length name) some.0;
+      not_long = leb-true (length name) 100 short.0;
+      plain = λ k d lt. name_byte_is (slice_index_or name k d) (passes k d lt);
+      not_hidden = λ is. eqb-false (slice_index name 0) dot (not-true _ plain.1) is;
+    }
+
+pub file_name_from : (name : List ℕ) → IsFileName name → is_file_name name ≡ true
+file_name_from name h =
+    let passes = list_all-from_AllPass is_name_byte name (λ k d lt. name_byte_from (slice_index_or name k d) (h.plain k d lt)) in
+    let open_name = not_from_false (eqb (slice_index name 0) dot) (ne_eqb (slice_index name 0) dot h.not_hidden) in
+    and_from _ _ (le-leb 1 (length name) h.not_empty)
+    (and_from _ _ (le-leb (length name) 100 h.not_long) (and_from _ _ passes open_name))
+
+is_less : (o : Ordering) → is_lt o ≡ true → o ≡ Less
+is_less Less e = refl
+is_less Equal e = absurd cc
+is_less Greater e = absurd cc
+
+-- what the test of a name behind another one says
+pub record IsNext (previous name : List ℕ) : Type 0 where
+  pub is_name : IsFileName name
+  pub not_journal : begins_with_journal name ≡ false
+  pub above : slice_cmp nat_cmp previous name ≡ Less
+
+pub next_name_is : (previous name : List ℕ) → is_next_name previous name ≡ true → IsNext previous name
+next_name_is previous name e =
+    let named = and_parts (is_file_name name) _ e in
+    let own = and_parts (not (begins_with_journal name)) _ named.1 in
+    record {
+      is_name = file_name_is name named.0;
+      not_journal = not-true (begins_with_journal name) own.0;
+      above = is_less (slice_cmp nat_cmp previous name) own.1;
+    }
+
+pub next_name_from : (previous name : List ℕ) → IsNext previous name → is_next_name previous name ≡ true
+next_name_from previous name h =
+    and_from _ _ (file_name_from name h.is_name)
+    (and_from _ _ (not_from_false (begins_with_journal name) h.not_journal) (ap is_lt h.above))
+
+-- a name is refused where it is the journal's, not above the one before it, or no text at all
+pub not_own : (previous name : List ℕ) → begins_with_journal name ≡ true → is_next_name previous name ≡ true → ⊥
+not_own previous name own e = true≢false (sym own ∙ (next_name_is previous name e).not_journal)
+
+pub not_low : (previous name : List ℕ) → is_lt (slice_cmp nat_cmp previous name) ≡ false → is_next_name previous name ≡ true → ⊥
+not_low previous name low e = true≢false (sym (ap is_lt (next_name_is previous name e).above) ∙ low)
+
+name_byte_is_ascii : (b : ℕ) → IsNameByte b → b < 128
+name_byte_is_ascii b h = grind arith
+
+name_is_ascii : (name : List ℕ) → IsFileName name → IsAscii name
+name_is_ascii name h i =
+    elim (cases_lt i (length name)) [
+      | inl lt ↦ name_byte_is_ascii (slice_index name i) (h.plain i 0 lt)
+      | inr le ↦ rw (get_or_past name i 0 le) (omega arith)
+    ]
+
+pub not_text : (previous name : List ℕ) → (IsUtf8 name → ⊥) → is_next_name previous name ≡ true → ⊥
+not_text previous name no_text e = no_text (IsUtf8-from_ascii name (name_is_ascii name (next_name_is previous name e).is_name))
+
+-- among names that aren't the journal's and stand above the one before, the next names are the files' names
+pub found_is : {E : Type 0} (previous name text : List ℕ) (result : Result (Option (List ℕ)) E) → text ≡ name → begins_with_journal name ≡ false → is_lt (slice_cmp nat_cmp previous name) ≡ true
+    → IfOk result (λ found. SomeIff found (IsFileName text) text) → IfOk result (λ found. SomeIff found (is_next_name previous name ≡ true) name)
+found_is previous name text (Err fault) same own above h = tt
+found_is previous name text (Ok None) same own above h = λ e. h (subst IsFileName (sym same) (next_name_is previous name e).is_name)
+found_is previous name text (Ok (Some found)) same own above h =
+    (next_name_from previous name (record { is_name = subst IsFileName same h.0; not_journal = own; above = is_less (slice_cmp nat_cmp previous name) above }), h.1 ∙ same)
+
+-- each name is above the one before it, and the first one above the given one
+abbrev pub Rises : List ℕ → List (List ℕ) → Type 0
+Rises previous [] = Unit {0}
+Rises previous (name ∷ names) = (slice_cmp nat_cmp previous name ≡ Less) × Rises name names
+
+abbrev is_above : List ℕ → List ℕ → Type 0
+is_above low high = slice_cmp nat_cmp low high ≡ Less
+
+all_above : (low name : List ℕ) (names : List (List ℕ)) → is_above low name → AllByRecursion (is_above name) names → AllByRecursion (is_above low) names
+all_above low name [] lt all = tt
+all_above low name (next ∷ names) lt all = (nat_list_cmp_total.trans low name next lt all.0, all_above low name names lt all.1)
+
+above_from_rises : (low : List ℕ) (names : List (List ℕ)) → Rises low names → AllByRecursion (is_above low) names
+above_from_rises low [] h = tt
+above_from_rises low (name ∷ names) h = (h.0, all_above low name names h.0 (above_from_rises name names h.1))
+
+-- such names strictly ascend
+pub sorted_from_rises : (low : List ℕ) (names : List (List ℕ)) → Rises low names → IsStrictlySortedBy (slice_cmp nat_cmp) names
+unfolding IsStrictlySortedBy
+sorted_from_rises low [] h = tt
+sorted_from_rises low (name ∷ names) h = (above_from_rises name names h.1, sorted_from_rises name names h.1)
+
+rises_from_sorted : (low : List ℕ) (names : List (List ℕ)) → AllByRecursion (is_above low) names → IsStrictlySortedBy (slice_cmp nat_cmp) names → Rises low names
+unfolding IsStrictlySortedBy
+rises_from_sorted low [] above sorted = tt
+rises_from_sorted low (name ∷ names) above sorted = (above.0, rises_from_sorted name names sorted.0 sorted.1)
+
+nothing_below : (name : List ℕ) → 1 ≤ length name → is_above [] name
+nothing_below [] some = absurd (omega arith)
+nothing_below (b ∷ name) some = refl
+
+-- names that strictly ascend rise from no bytes on
+pub rises_from_nothing : (names : List (List ℕ)) → AllByRecursion (λ name. 1 ≤ length name) names → IsStrictlySortedBy (slice_cmp nat_cmp) names → Rises [] names
+unfolding IsStrictlySortedBy
+rises_from_nothing [] some sorted = tt
+rises_from_nothing (name ∷ names) some sorted = (nothing_below name some.0, rises_from_sorted name names sorted.0 sorted.1)

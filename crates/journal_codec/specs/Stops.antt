@@ -1,0 +1,21 @@
+-- What the functions of the decoder answer, beside what the reading of lists gives. This project's own.
+use Rattle.std.specs.Prelude.{◌≡◌, ℕ, List, [], ◌∷◌, Result, Ok, Err}
+use Rattle.journal_codec.specs.declared.faults.Stop.{Stop}
+use Rattle.journal_codec.specs.declared.faults.Stop.TheVariants.{Before, Memory}
+use Rattle.journal_codec.specs.declared.files.FileText.{FileText}
+
+-- a stop is the one that reading gives; want of memory is free
+abbrev pub IsStopOf : {Y : Type 0} → Result Y ℕ → Stop → Type 0
+IsStopOf read (Before left) = read ≡ Err left
+IsStopOf read Memory = Unit {0}
+
+-- what a function returned, seen by view, is what reading gives
+abbrev pub Gives : {X Y : Type 0} → (X → Y) → Result X Stop → Result Y ℕ → Type 0
+Gives view (Ok x) read = read ≡ Ok (view x)
+Gives view (Err stop) read = IsStopOf read stop
+
+-- the last file's name, and no bytes where there is no file
+abbrev pub last_name : List FileText → List ℕ
+last_name [] = []
+last_name (f ∷ []) = f.file
+last_name (f ∷ (g ∷ files)) = last_name (g ∷ files)

@@ -1,0 +1,17 @@
+//! The body of a journal's entry: some files' new contents as bytes, and back.
+#![tactic(auto)]
+
+mod faults;
+mod files;
+mod laws;
+mod names;
+mod reading;
+#[cfg(test)]
+mod tests;
+mod writing;
+
+pub use faults::DecodeFault;
+pub use files::FileText;
+pub use laws::{reads_what_is_spelled, spells_what_is_read};
+pub use reading::decode;
+pub use writing::encode;

@@ -1,0 +1,57 @@
+//! Writes the body of an entry behind its length.
+ghost use Rattle.std.specs.Prelude.{◌≡◌, ◌≤◌, ◌++◌, length, OnOk, IfOk};
+ghost use Rattle.journal_codec.specs.Entry.{IsEntry, IsEntryFile, length_bytes, spelled_file, spelled, longest_file};
+
+use crate::FileText;
+use kdb_outside::Memory;
+use std::alloc::Global;
+
+/// The length of the entry's body in four bytes, the low one first, and the body.
+pub fn encode(alloc: Global, files: &[FileText]) -> Result<Vec<u8>, Memory>
+    requires { IsEntry files.now }
+    ensures { IfOk result (λ bytes. bytes.items ≡ length_bytes (length (spelled files.now)) ++ spelled files.now) }
+{
+    let size = body_size(files);
+    let mut out = Vec::with_capacity(alloc, 4 + size as usize)?;
+    out.extend_from_slice(&size.to_le_bytes())?;
+    out.push(files.len() as u8)?;
+    for file in files {
+        put_file(&mut out, file)?;
+    }
+    Ok(out)
+}
+
+fn put_file(out: &mut Vec<u8>, file: &FileText) -> Result<(), Memory>
+    requires { IsEntryFile file.now }
+    ensures { OnOk result (out.new.items ≡ out.old.items ++ spelled_file file.now) }
+{
+    let name = file.file.text();
+    let content = file.bytes.as_slice();
+    out.push(name.len() as u8)?;
+    out.extend_from_slice(name.as_bytes())?;
+    out.extend_from_slice(&(content.len() as u32).to_le_bytes())?;
+    out.extend_from_slice(content)?;
+    Ok(())
+}
+
+/// How many bytes the body has.
+fn body_size(files: &[FileText]) -> u32
+    requires { IsEntry files.now }
+    ensures { result ≡ length (spelled files.now) }
+{
+    let mut size = 1;
+    for file in files {
+        size += file_size(file);
+    }
+    size
+}
+
+fn file_size(file: &FileText) -> u32
+    requires { IsEntryFile file.now }
+    ensures exact { result ≡ length (spelled_file file.now) }
+    ensures short { result ≤ longest_file }
+{
+    let name = file.file.text().len() as u32;
+    let content = file.bytes.as_slice().len() as u32;
+    5 + name + content
+}
