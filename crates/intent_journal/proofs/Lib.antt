@@ -1,0 +1,15 @@
+pub mod Meanwhile
+pub mod Contents
+pub mod Putting
+pub mod GateBytes
+pub mod Passages
+pub mod Steps
+pub mod Bodies
+pub mod Sound
+pub mod ReadLemmas
+pub mod Heads
+pub mod Recovering
+pub mod Calm
+pub mod ReadSizes
+pub mod Breaking
+pub mod OneImage

@@ -1,0 +1,32 @@
+-- What a crash might have left while a call went on. This project's own.
+use Rattle.std.specs.Prelude.{◌≡◌, ◌≢◌, ◌⊎◌, ℕ, ◌≤◌, List, None}
+use Rattle.kdb_outside.specs.Images.{Image, IsImage}
+use Rattle.kdb_outside.specs.Crashes.{EverySince}
+use Rattle.journal_codec.specs.declared.files.FileText.{FileText}
+use Rattle.intent_journal.specs.Outcomes.{content_in}
+
+-- a crash might have left what it might have left before the call, and else only images with this property
+abbrev pub LeavesElseOnly : ℕ → (ℕ → Image → Type 0) → (ℕ → Image → Type 0) → (Image → Type 0) → Type 0
+LeavesElseOnly before past since Property = (moment : ℕ) (image : Image) → moment ≤ before → since moment image → past moment image ⊎ Property image
+
+-- since the call began a crash might have left only images with this property
+pub record LeavesMeanwhile (before : ℕ) (past since : ℕ → Image → Type 0) (Property : Image → Type 0) : Type 0 where
+  pub each : EverySince since before Property
+  pub earlier : LeavesElseOnly before past since Property
+
+-- an image that a crash might have left before, or one with this property
+abbrev pub IsImageOr : (List ℕ → List ℕ → Type 0) → (Image → Type 0) → Image → Type 0
+IsImageOr leaves Property image = IsImage leaves image ⊎ Property image
+
+-- one file came by a step from what a crash might have left of it, and each other file is as it might have left it
+pub record IsStepOf (file : List ℕ) (Step : List ℕ → List ℕ → Type 0) (leaves : List ℕ → List ℕ → Type 0) (image : Image) : Type 0 where
+  pub this : (former : List ℕ) × leaves file former × Step former (image file)
+  pub others : (other : List ℕ) → other ≢ file → leaves other (image other)
+
+-- each file but this one is as a crash might have left it
+abbrev pub KeepsElse : List ℕ → (List ℕ → List ℕ → Type 0) → Image → Type 0
+KeepsElse file leaves image = (other : List ℕ) → other ≢ file → leaves other (image other)
+
+-- each file that an entry doesn't name is as a crash might have left it
+abbrev pub KeepsUnnamed : List FileText → (List ℕ → List ℕ → Type 0) → Image → Type 0
+KeepsUnnamed entry leaves image = (other : List ℕ) → content_in entry other ≡ None → leaves other (image other)

@@ -1,0 +1,47 @@
+//! The contents of an entry on their way into its files.
+ghost use Rattle.std.specs.Prelude.{◌≡◌, ◌≢◌, ℕ, ◌≤◌, List, None, true, OnOk};
+ghost use Rattle.kdb_outside.specs.Faults.{HasCause};
+ghost use Rattle.kdb_outside.specs.Images.{Only, KeepsImagesOf, KeepsOtherImages};
+ghost use Rattle.journal_codec.specs.Entry.{IsEntry};
+ghost use Rattle.intent_journal.specs.Outcomes.{content_in};
+ghost use Rattle.intent_journal.specs.States.{HasAppliedAll};
+ghost use Rattle.intent_journal.specs.Moments.{LeavesElseOnly, KeepsElse, KeepsUnnamed};
+
+use journal_codec::FileText;
+use kdb_outside::{Disk, Failed};
+
+/// Gives a file its content: a write at its start, a cut behind it, and a sync.
+pub(crate) fn put_file<D: Disk>(disk: &mut D, text: &FileText) -> Result<(), Failed>
+    ensures durable { D.tells disk.old ≡ true → OnOk result (Only text.now.bytes (D.may_leave disk.new text.now.file)) }
+    ensures others { D.tells disk.old ≡ true → KeepsOtherImages text.now.file (D.may_leave disk.old) (D.may_leave disk.new) }
+    ensures time { D.tells disk.old ≡ true → LeavesElseOnly (D.moment disk.old) (D.left_since disk.old) (D.left_since disk.new)
+        (KeepsElse text.now.file (D.may_leave disk.old)) }
+    ensures moment { D.moment disk.old ≤ D.moment disk.new }
+    ensures tells { D.tells disk.new ≡ D.tells disk.old }
+    ensures cause { HasCause (D.faults disk.old) (D.faults disk.new) result }
+    ensures later { D.faults disk.old ≤ D.faults disk.new }
+{
+    let bytes = text.bytes.as_slice();
+    disk.write_at(&text.file, 0, bytes)?;
+    disk.cut(&text.file, bytes.len() as u64)?;
+    disk.sync(&text.file)
+}
+
+/// Gives each file of an entry its content.
+pub(crate) fn put_files<D: Disk>(disk: &mut D, entry: &[FileText]) -> Result<(), Failed>
+    requires { IsEntry entry.now }
+    ensures durable { D.tells disk.old ≡ true → OnOk result (HasAppliedAll (D.may_leave disk.new) entry.now) }
+    ensures others { D.tells disk.old ≡ true → (other : List ℕ) → content_in entry.now other ≡ None
+        → KeepsImagesOf other (D.may_leave disk.old) (D.may_leave disk.new) }
+    ensures time { D.tells disk.old ≡ true → LeavesElseOnly (D.moment disk.old) (D.left_since disk.old) (D.left_since disk.new)
+        (KeepsUnnamed entry.now (D.may_leave disk.old)) }
+    ensures moment { D.moment disk.old ≤ D.moment disk.new }
+    ensures tells { D.tells disk.new ≡ D.tells disk.old }
+    ensures cause { HasCause (D.faults disk.old) (D.faults disk.new) result }
+    ensures later { D.faults disk.old ≤ D.faults disk.new }
+{
+    for text in entry {
+        put_file(disk, text)?;
+    }
+    Ok(())
+}

@@ -1,0 +1,153 @@
+//! The opening of a journal: an open entry is brought into its files before anything else happens.
+ghost use Rattle.std.specs.Prelude.{◌≡◌, ◌≢◌, ◌≤◌, ℕ, List, Option, Some, None, true, false, Err, IfOk, IfErr, IfSome, OnOk};
+ghost use Rattle.kdb_outside.specs.Faults.{HasRisen};
+ghost use Rattle.kdb_outside.specs.Images.{Image, IsImage, KeepsImages};
+ghost use Rattle.journal_codec.specs.declared.files.FileText.{FileText as Item};
+ghost use Rattle.journal_codec.specs.Entry.{IsEntry, journal_name};
+ghost use Rattle.intent_journal.specs.BadJournals.{bad_place, open_entry, opened_files, opened_doubt};
+ghost use Rattle.intent_journal.specs.JournalBytes.{IsOpen};
+ghost use Rattle.intent_journal.specs.Outcomes.{with_entry, HasOnly, IsOutcome, IsEither};
+ghost use Rattle.intent_journal.specs.States.{IsSettled, IsDoubtful, IsFound, IsCalm};
+ghost use Rattle.intent_journal.specs.Moments.{LeavesElseOnly, LeavesMeanwhile, IsImageOr};
+ghost use Rattle.intent_journal.specs.Opened.{disk_of, fault_of};
+
+use super::Journal;
+use crate::reading::read_entry;
+use crate::{JournalFault, JournalRefused, State};
+use journal_codec::FileText;
+use kdb_outside::{Disk, FileName, Memory};
+use key_meta::List;
+use std::alloc::Global;
+
+impl<D: Disk> Journal<D> {
+    /// Opens the journal of a disk, and brings an open entry into its files. Then the gate is in doubt, since what was read may
+    /// be pending. A refusal hands the disk back.
+    pub fn open(alloc: Global, disk: D) -> Result<Journal<D>, JournalRefused<D>>
+        ensures state { IfOk result (λ journal. (journal.state ≡ State.Doubt) × (journal.found ≡ false)) }
+        ensures good { D.tells disk ≡ true → OnOk result (bad_place (D.seen disk journal_name) ≡ None) }
+        ensures bad { D.tells disk ≡ true → (at : ℕ) → fault_of result ≡ Some (JournalFault.BadJournal at) → bad_place (D.seen disk journal_name) ≡ Some at }
+        ensures calm { D.tells disk ≡ true → (files : Image) (doubt : Option (List Item)) → IsCalm (D.seen disk) (D.may_leave disk) files doubt
+            → (at : ℕ) → fault_of result ≡ Some (JournalFault.BadJournal at) → ⊥ }
+        ensures doubtful { D.tells disk ≡ true → (files : Image) (doubt : Option (List Item)) → IsCalm (D.seen disk) (D.may_leave disk) files doubt
+            → IfOk result (λ journal. IsDoubtful (D.may_leave journal.disk) (opened_files (D.seen disk)) (opened_doubt (D.seen disk))) }
+        ensures any_moment { D.tells disk ≡ true → (files : Image) (doubt : Option (List Item)) → IsCalm (D.seen disk) (D.may_leave disk) files doubt
+            → LeavesMeanwhile (D.moment disk) (D.left_since disk) (D.left_since (disk_of result)) (HasOnly (IsEither files doubt)) }
+        ensures kept { D.tells disk ≡ true → IfErr result (λ refused. refused.fault ≢ JournalFault.DiskFault → KeepsImages (D.may_leave disk) (D.may_leave refused.disk)) }
+        ensures moment { D.moment disk ≤ D.moment (disk_of result) }
+        ensures tells { D.tells (disk_of result) ≡ D.tells disk }
+        ensures cause { fault_of result ≡ Some JournalFault.DiskFault → HasRisen (D.faults disk) (D.faults (disk_of result)) }
+        ensures later { D.faults disk ≤ D.faults (disk_of result) }
+    {
+        let mut disk = disk;
+        match find(alloc, &mut disk) {
+            Ok(found) => Journal::begin(alloc, disk, found),
+            Err(fault) => Err(JournalRefused { fault, disk }),
+        }
+    }
+
+    /// The journal, given what was found on its disk.
+    fn begin(alloc: Global, disk: D, found: Found) -> Result<Journal<D>, JournalRefused<D>>
+        requires name { found.name ≡ journal_name }
+        requires entry { IfSome found.entry IsEntry }
+        requires open { D.tells disk ≡ true → found.entry ≡ open_entry (D.seen disk journal_name) }
+        ensures state { IfOk result (λ journal. (journal.state ≡ State.Doubt) × (journal.found ≡ false)) }
+        ensures doubtful { D.tells disk ≡ true → (files : Image) (doubt : Option (List Item)) → IsCalm (D.seen disk) (D.may_leave disk) files doubt
+            → IfOk result (λ journal. IsDoubtful (D.may_leave journal.disk) (opened_files (D.seen disk)) (opened_doubt (D.seen disk))) }
+        ensures any_moment { D.tells disk ≡ true → (files : Image) (doubt : Option (List Item)) → IsCalm (D.seen disk) (D.may_leave disk) files doubt
+            → LeavesMeanwhile (D.moment disk) (D.left_since disk) (D.left_since (disk_of result)) (HasOnly (IsEither files doubt)) }
+        ensures fault { IfErr result (λ refused. refused.fault ≡ JournalFault.DiskFault) }
+        ensures moment { D.moment disk ≤ D.moment (disk_of result) }
+        ensures tells { D.tells (disk_of result) ≡ D.tells disk }
+        ensures cause { IfErr result (λ refused. HasRisen (D.faults disk) (D.faults refused.disk)) }
+        ensures later { D.faults disk ≤ D.faults (disk_of result) }
+    {
+        let Found { name, entry } = found;
+        match entry {
+            Some(entry) => Journal::bring_in(alloc, disk, name, entry),
+            None => Ok(Journal {
+                disk,
+                alloc,
+                name,
+                state: State::Doubt,
+                found: false,
+                entry: List::from_vec(Vec::new(alloc)),
+            }),
+        }
+    }
+
+    /// The journal, with the open entry that was found brought into its files.
+    fn bring_in(
+        alloc: Global,
+        disk: D,
+        name: FileName,
+        entry: List<FileText>,
+    ) -> Result<Journal<D>, JournalRefused<D>>
+        requires name { name ≡ journal_name }
+        requires entry { IsEntry entry }
+        requires open { D.tells disk ≡ true → IsOpen entry (D.seen disk journal_name) }
+        ensures state { IfOk result (λ journal. (journal.state ≡ State.Doubt) × (journal.found ≡ false)) }
+        ensures settled { D.tells disk ≡ true → (files : Image) → IsFound (D.may_leave disk) files entry
+            → IfOk result (λ journal. IsSettled (D.may_leave journal.disk) (with_entry files entry)) }
+        ensures any_moment { D.tells disk ≡ true → (files : Image) → IsFound (D.may_leave disk) files entry
+            → LeavesElseOnly (D.moment disk) (D.left_since disk) (D.left_since (disk_of result)) (IsImageOr (D.may_leave disk) (HasOnly (IsOutcome (with_entry files entry)))) }
+        ensures fault { IfErr result (λ refused. refused.fault ≡ JournalFault.DiskFault) }
+        ensures moment { D.moment disk ≤ D.moment (disk_of result) }
+        ensures tells { D.tells (disk_of result) ≡ D.tells disk }
+        ensures cause { IfErr result (λ refused. HasRisen (D.faults disk) (D.faults refused.disk)) }
+        ensures later { D.faults disk ≤ D.faults (disk_of result) }
+    {
+        let mut journal = Journal {
+            disk,
+            alloc,
+            name,
+            state: State::Doubt,
+            found: true,
+            entry,
+        };
+        match journal.recover() {
+            Ok(()) => {
+                journal.state = State::Doubt;
+                Ok(journal)
+            }
+            Err(_) => Err(JournalRefused {
+                fault: JournalFault::DiskFault,
+                disk: journal.into_disk(),
+            }),
+        }
+    }
+}
+
+/// What was found on a disk: the journal's name, and the entry that its gate is open on.
+#[derive(Drop)]
+struct Found {
+    name: FileName,
+    entry: Option<List<FileText>>,
+}
+
+/// The journal's name, and the entry that its gate is open on, if it is open.
+fn find<D: Disk>(alloc: Global, disk: &mut D) -> Result<Found, JournalFault>
+    ensures name { IfOk result (λ found. found.name ≡ journal_name) }
+    ensures entry { IfOk result (λ found. IfSome found.entry IsEntry) }
+    ensures good { D.tells disk.old ≡ true → IfOk result (λ found. (bad_place (D.seen disk.old journal_name) ≡ None) × (found.entry ≡ open_entry (D.seen disk.old journal_name))) }
+    ensures bad { D.tells disk.old ≡ true → (at : ℕ) → result ≡ Err (JournalFault.BadJournal at) → bad_place (D.seen disk.old journal_name) ≡ Some at }
+    ensures same { D.tells disk.old ≡ true → D.seen disk.new ≡ D.seen disk.old }
+    ensures images { D.tells disk.old ≡ true → KeepsImages (D.may_leave disk.old) (D.may_leave disk.new) }
+    ensures time { D.tells disk.old ≡ true → LeavesElseOnly (D.moment disk.old) (D.left_since disk.old) (D.left_since disk.new) (IsImage (D.may_leave disk.old)) }
+    ensures moment { D.moment disk.old ≤ D.moment disk.new }
+    ensures tells { D.tells disk.new ≡ D.tells disk.old }
+    ensures cause { result ≡ Err JournalFault.DiskFault → HasRisen (D.faults disk.old) (D.faults disk.new) }
+    ensures later { D.faults disk.old ≤ D.faults disk.new }
+{
+    let name = name_of_journal(alloc)?;
+    let entry = read_entry(alloc, disk, &name)?;
+    Ok(Found { name, entry })
+}
+
+fn name_of_journal(alloc: Global) -> Result<FileName, Memory>
+    ensures { IfOk result (λ name. name ≡ journal_name) }
+{
+    match FileName::new(alloc, "journal")? {
+        Some(name) => Ok(name),
+        None => unreachable!(),
+    }
+}

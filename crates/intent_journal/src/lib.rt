@@ -1,0 +1,18 @@
+//! The journal of a store: an entry of new contents goes to the disk behind a closed gate, the gate opens, the files take
+//! their contents, and the gate closes. A crash at any moment leaves the files from before the entry, or those with it.
+#![tactic(auto)]
+
+mod applying;
+mod faults;
+mod journal;
+mod laws;
+mod reading;
+mod states;
+#[cfg(test)]
+mod tests;
+mod writing;
+
+pub use faults::{JournalFault, JournalRefused};
+pub use journal::Journal;
+pub use laws::one_image_is_calm;
+pub use states::State;
