@@ -218,6 +218,30 @@ is_some-no_form part like none = by (canonical_part part) (λ canonical e. none 
     by None h = refl
     by (Some canonical) h = absurd (h canonical refl)
 
+-- ---- all underscores
+
+full_bytes : (bytes : List ℕ) → length bytes + 1 ≡ length (without_underscores bytes) + length (without_underscores bytes) → 35 ∷ bytes ≡ part_of_digits (without_underscores bytes)
+unfolding part_of_digits
+full_bytes bytes full =
+    let digits = without_underscores bytes in
+    let leads = leads_all bytes in
+    let total = length-leads bytes digits leads in
+    let count : leads.count ≡ length digits - 1 = omega arith in
+    ap (λ b. 35 ∷ b) (leads.split ∙ ap (λ n. replicate n 95 ++ digits) count)
+
+-- a part with one underscore less than digits is spelled as those digits are
+pub spelled_in_full : (part : List ℕ) → is_array_like part ≡ true → length part ≡ length (without_underscores (drop 1 part)) + length (without_underscores (drop 1 part)) → part ≡ part_of_digits (without_underscores (drop 1 part))
+spelled_in_full [] like full = absurd cc
+spelled_in_full (b ∷ bytes) like full = ap (λ b. b ∷ bytes) (like_parts b bytes like).0 ∙ full_bytes bytes (omega arith)
+
+-- and a part that is spelled so has that many
+pub length-form_part : (part : List ℕ) → is_array_like part ≡ true → part ≡ part_of_digits (without_underscores (drop 1 part)) → length part ≡ length (without_underscores (drop 1 part)) + length (without_underscores (drop 1 part))
+unfolding part_of_digits
+length-form_part part like is =
+    let digits = without_underscores (drop 1 part) in
+    let some = ltb-true 0 (length digits) (and_parts (ltb 0 (length digits)) (list_all is_ascii_digit digits) (are_digits-like part like)).0 in
+    omega (arith, ap length is, length-append (replicate (length digits - 1) 95) digits, length-replicate {A = ℕ} (length digits - 1) 95)
+
 -- ---- what stands at the front
 
 pub without_underscores-none : (bytes : List ℕ) → ((rest : List ℕ) → bytes ≢ 95 ∷ rest) → without_underscores bytes ≡ bytes

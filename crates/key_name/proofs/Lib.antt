@@ -7,3 +7,5 @@ pub mod WalkLemmas
 pub mod RefusedLemmas
 pub mod WellFormedLemmas
 pub mod MeasureLemmas
+pub mod ChildLemmas
+pub mod OwnerLemmas

@@ -2,9 +2,11 @@ pub use Rattle.model_names.specs.Name
 pub use Rattle.model_names.specs.Spelling
 pub use Rattle.model_names.specs.Spells
 pub use Rattle.model_names.specs.Order
+pub mod Children
 pub mod Comparing
 pub mod Joining
 pub mod KeyName
+pub mod Owner
 pub mod Plain
 pub mod Raws
 pub mod Refused

@@ -4,6 +4,7 @@ ghost use Rattle.std.specs.Bool.{Decides};
 ghost use Rattle.std.specs.Str.Parse.{digits_value};
 ghost use Rattle.model_names.specs.ArrayPart.{last_index, without_underscores, are_digits, is_array_like, canonical_part};
 ghost use Rattle.key_name.specs.Arrays.{IsIndex};
+ghost use Rattle.key_name.specs.Children.{is_misspelled, is_that};
 
 use crate::Memory;
 use std::alloc::Global;
@@ -17,6 +18,16 @@ pub fn is_bad_array(part: &str) -> bool
 {
     match array_digits(part) {
         Some(digits) => !has_canonical_form(part, digits),
+        None => false,
+    }
+}
+
+/// Whether a part looks like an array's and is not the canonical one of its index.
+pub fn is_misspelled(part: &str) -> bool
+    ensures { result ≡ is_misspelled part.now }
+{
+    match array_digits(part) {
+        Some(digits) => !is_canonical(part, digits),
         None => false,
     }
 }
@@ -58,6 +69,16 @@ fn has_canonical_form(part: &str, digits: &str) -> bool
 {
     let lead = part.len() - digits.len();
     is_index(digits) && (lead == 1 || lead == digits.len())
+}
+
+/// Whether the digits of an array's part are an index, with all its underscores before it.
+fn is_canonical(part: &str, digits: &str) -> bool
+    requires like { is_array_like part.now ≡ true }
+    requires digits { digits.now ≡ without_underscores (drop 1 part.now) }
+    ensures { result ≡ is_that part.now (canonical_part part.now) }
+{
+    let lead = part.len() - digits.len();
+    is_index(digits) && lead == digits.len()
 }
 
 /// Whether digits are an index.

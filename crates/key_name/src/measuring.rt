@@ -1,5 +1,5 @@
 //! How many bytes canonical spellings have, without spelling them.
-ghost use Rattle.std.specs.Prelude.{◌≡◌, ◌+◌, ◌<◌, ◌≤◌, ◌^◌, ◌++◌, length, map, string_bytes};
+ghost use Rattle.std.specs.Prelude.{◌≡◌, ◌+◌, ◌-◌, ◌<◌, ◌≤◌, ◌^◌, [], ◌∷◌, ◌++◌, length, map, min, string_bytes};
 ghost use Rattle.std.specs.List.{flat_map};
 ghost use Rattle.model_names.specs.Spelling.{escaped, spelled, path_of_parts};
 
@@ -30,6 +30,19 @@ pub fn joined_len(front: &[String], back: &[String]) -> usize
         return path_len(front);
     }
     path_len(front) + path_len(back)
+}
+
+/// How many bytes the path of some parts has with one more behind them. A length beyond the type's end is given as its last
+/// value.
+pub fn child_len(parts: &[String], part: &str) -> usize
+    requires { length (path_of_parts (map (λ part. string_bytes part) parts.now)) < 2 ^ 64 }
+    ensures { result ≡ min (length (path_of_parts (map (λ part. string_bytes part) parts.now ++ part.now ∷ []))) (2 ^ 64 - 1) }
+{
+    let own = spelled_len(part).saturating_add(1);
+    if parts.is_empty() {
+        return own;
+    }
+    path_len(parts).saturating_add(own)
 }
 
 fn spelled_len(part: &str) -> usize

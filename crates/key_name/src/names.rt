@@ -1,5 +1,5 @@
 //! A key's name, seen by contracts as its namespace and its parts.
-ghost use Rattle.std.specs.Prelude.{◌≡◌, ◌≤◌, ◌-◌, ◌++◌, IfSome, Some, [], length, None, IfErr, IfOk, OnOk, slice_get, map, nat_eq, string_bytes, refl};
+ghost use Rattle.std.specs.Prelude.{◌≡◌, ◌≤◌, ◌-◌, ◌∷◌, ◌++◌, IfSome, Some, [], length, None, IfErr, IfOk, OnOk, slice_get, map, nat_eq, string_bytes, refl};
 ghost use Rattle.std.specs.Bool.{Decides};
 ghost use Rattle.std.specs.Cmp.{partial_equiv_from_equiv, partial_order_from_agreeing_total};
 ghost use Rattle.std.specs.Option.{option_map};
@@ -13,12 +13,15 @@ ghost use Rattle.model_names.specs.Spells.{Spells, longest_path};
 ghost use Rattle.model_names.specs.Spelling.{path, spelling};
 ghost use Rattle.model_names.specs.WellFormed.{IsName};
 ghost use Rattle.model_names.proofs.OrderLemmas.{name_cmp_total};
+ghost use Rattle.key_name.specs.Children.{child_of, child_refusal};
 ghost use Rattle.key_name.specs.Comparing.{name_eq_equiv, name_ties};
 ghost use Rattle.key_name.specs.Joining.{joined, way_to, IsTooLong};
-ghost use Rattle.key_name.specs.Refused.{IsRefusal};
+ghost use Rattle.key_name.specs.Refused.{IsRefusal, IsChildRefusal};
 
-use crate::measuring::{joined_len, path_len};
+use crate::arrays::is_misspelled;
+use crate::measuring::{child_len, joined_len, path_len};
 use crate::parsing::{cut_namespace, parts_of};
+use crate::refusing::first_nul;
 use crate::spelling::{push_path, word};
 use crate::{Memory, NameFault};
 use model_names::Namespace;
@@ -105,6 +108,31 @@ impl KeyName {
         Ok(KeyName {
             namespace: self.namespace,
             parts: joined_parts(*self.parts.allocator(), &self.parts, &relative.parts)?,
+        })
+    }
+
+    /// This name with a part behind its own. The part is taken as it is, without escapes.
+    ///
+    /// `BadArray` comes, at place 0, where the part looks like an array's and isn't canonical; then `Nul`, with the place of the
+    /// first one in the part; then `TooLong`, with the bytes of the path that would result, at most `usize::MAX`.
+    pub fn child(&self, part: &str) -> Result<KeyName, NameFault>
+        ensures ok { IfOk result (λ name. name ≡ child_of self.now part.now) }
+        ensures accepted { OnOk result (child_refusal self.now part.now ≡ None) }
+        ensures refused { IfErr result (λ fault. IsChildRefusal self.now part.now fault) }
+    {
+        if is_misspelled(part) {
+            return Err(NameFault::BadArray { at: 0 });
+        }
+        if let Some(at) = first_nul(part) {
+            return Err(NameFault::Nul { at });
+        }
+        let bytes = child_len(&self.parts, part);
+        if bytes > LONGEST_PATH {
+            return Err(NameFault::TooLong { bytes });
+        }
+        Ok(KeyName {
+            namespace: self.namespace,
+            parts: with_part(*self.parts.allocator(), &self.parts, part)?,
         })
     }
 
@@ -270,6 +298,15 @@ fn joined_parts(alloc: Global, front: &[String], back: &[String]) -> Result<Vec<
     for part in back {
         all.push(part.clone()?)?;
     }
+    Ok(all)
+}
+
+/// The texts of a list, and one more behind them.
+fn with_part(alloc: Global, parts: &[String], part: &str) -> Result<Vec<String>, Memory>
+    ensures { IfOk result (λ all. map (λ part. string_bytes part) all.items ≡ map (λ part. string_bytes part) parts.now ++ part.now ∷ []) }
+{
+    let mut all = copy_of(alloc, parts)?;
+    all.push(String::from_str(alloc, part)?)?;
     Ok(all)
 }
 

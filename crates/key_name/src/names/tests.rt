@@ -236,3 +236,26 @@ fn tells_the_way_from_a_name_above(rt: HostRuntime) -> Result<(), Fail> {
     }
     Ok(())
 }
+
+#[test]
+fn has_children_of_canonical_parts(rt: HostRuntime) -> Result<(), Fail> {
+    let rows = [
+        ("user:/sw", "app", Some("user:/sw/app"), None),
+        ("user:/", "a/b", Some("user:/a\\/b"), None),
+        ("/", "", Some("/%"), None),
+        ("dir:/a", "..", Some("dir:/a/\\.."), None),
+        ("user:/a", "#9", Some("user:/a/#9"), None),
+        ("user:/a", "#_10", Some("user:/a/#_10"), None),
+        ("user:/a", "#10", None, Some(NameFault::BadArray { at: 0 })),
+        ("user:/a", "#00", None, Some(NameFault::BadArray { at: 0 })),
+        ("user:/a", "b\0", None, Some(NameFault::Nul { at: 1 })),
+    ];
+    for (text, part, spelled, fault) in rows {
+        let name = KeyName::parse(rt.alloc(), text)?;
+        match name.child(part) {
+            Ok(child) => assert_eq!(rt; Some(child.text()?.as_str()), spelled, "{part} of {text}"),
+            Err(refused) => assert_eq!(rt; Some(refused), fault, "{part} of {text}"),
+        }
+    }
+    Ok(())
+}
