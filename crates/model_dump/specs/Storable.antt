@@ -1,25 +1,18 @@
--- Which maps a file can hold: names without a namespace, and texts and weights within their limits. (This project's own.)
-use Rattle.std.specs.Prelude.{◌≡◌, ℕ, ◌≤◌, List, Some}
-use Rattle.std.specs.FinMap as finite
-use Rattle.model_names.specs.declared.namespaces.Namespace.TheVariants.{Cascading}
+-- Which maps a dump can hold: every one within the limits of a file. (This project's own.)
+use Rattle.model_maps.specs.Limits.{IsLimitedMeta, IsLimitedKey, IsLimited}
+use Rattle.std.specs.Prelude.{ℕ, List}
 use Rattle.model_names.specs.Name.{Name}
-use Rattle.model_names.specs.WellFormed.{IsName}
-use Rattle.model_maps.specs.Entry.{Entry, IsValue, IsMetaName}
-use Rattle.model_maps.specs.KeyMap.{KeyMap, weight, heaviest_map}
+use Rattle.model_maps.specs.Entry.{Entry}
+use Rattle.model_maps.specs.KeyMap.{KeyMap}
 
 -- a metadata name with its text
-pub record IsStorableMeta (name text : List ℕ) : Type 0 where
-  pub is_name : IsMetaName name
-  pub is_value : IsValue text
+abbrev pub IsStorableMeta : List ℕ → List ℕ → Type 0
+IsStorableMeta name text = IsLimitedMeta name text
 
 -- a key with its entry
-pub record IsStorableKey (name : Name) (entry : Entry) : Type 0 where
-  pub is_name : IsName name
-  pub cascading : name.namespace ≡ Cascading
-  pub is_value : IsValue entry.value
-  pub each_meta : (meta_name text : List ℕ) → finite.get entry.meta meta_name ≡ Some text → IsStorableMeta meta_name text
+abbrev pub IsStorableKey : Name → Entry → Type 0
+IsStorableKey name entry = IsLimitedKey name entry
 
 -- every key of a map, and its weight
-pub record IsStorable (keys : KeyMap) : Type 0 where
-  pub each : (name : Name) (entry : Entry) → finite.get keys name ≡ Some entry → IsStorableKey name entry
-  pub light : weight keys ≤ heaviest_map
+abbrev pub IsStorable : KeyMap → Type 0
+IsStorable keys = IsLimited keys

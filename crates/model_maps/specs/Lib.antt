@@ -4,3 +4,4 @@ pub use Rattle.model_names.specs.Order
 pub mod Entry
 pub mod KeyMap
 pub mod Together
+pub mod Limits
