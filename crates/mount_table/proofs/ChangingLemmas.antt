@@ -1,0 +1,209 @@
+-- What an entry that is added or removed changes.
+use Rattle.std.proofs.Common.{◌≡◌, ℕ, ◌+◌, ◌*◌, ◌≤◌, Bool, true, false, cond, not, ◌&&◌, ◌||◌, ◌==◌, T, List, [], ◌∷◌, ◌++◌, length, take, drop, slice_get, is_some, unwrap_or, Option, Some, None, Ok, Err, refl, sym, ap, ap₂, subst, ◌∙◌, inl, inr, ◌⊎◌, codes, arith, length-append, Bor}
+use Rattle.std.specs.Cmp.{IsTotalOrder, Equal-is, tied_itself}
+use Rattle.std.specs.FinMap as map
+use Rattle.std.specs.FinMap.{FinMap, IsAntisymmetric, find, is_sorted}
+use Rattle.std.specs.FinMap.Entries.{put}
+use Rattle.std.specs.List.{AllByRecursion, flat_map, list_any}
+use Rattle.std.specs.Option.{option_copied}
+use Rattle.std.specs.Ordering.{eq_by_cmp}
+use Rattle.std.specs.declared.cmp.Ordering.{Ordering}
+use Rattle.std.proofs.lemmas.Bool.{and_parts, cond-true, cond-false, cond_both, cases_Bool, leb-true, or_from}
+use Rattle.std.proofs.lemmas.Cmp.{nat_list_cmp_total}
+use Rattle.std.proofs.lemmas.List.Folds.{list_any_more, list_any_at}
+use Rattle.std.proofs.lemmas.Option.{slice_get_within, get_or_from_slice_get}
+use Rattle.std.proofs.lemmas.Slice.Eq.{bytes_eq-Decides}
+use Rattle.sorted_map.proofs.MapLemmas.{from_sorted-put}
+use Rattle.model_names.specs.declared.namespaces.Namespace.{Namespace}
+use Rattle.model_names.specs.declared.namespaces.Namespace.TheVariants.{Cascading, Spec, Proc, Dir, User, System, Default}
+use Rattle.model_names.specs.ArrayPart.{is_array_like, canonical_part}
+use Rattle.model_names.specs.Below.{is_at_or_below}
+use Rattle.model_names.specs.Name.{Name, Part}
+use Rattle.model_names.specs.Spelling.{spelling, spelled, escaped, is_reserved, path, word_of, path_of_parts}
+use Rattle.model_names.specs.Spells.{Spells, longest_path}
+use Rattle.model_names.specs.WellFormed.{IsName, IsPart}
+use Rattle.model_names.proofs.BelowLemmas.{at_or_below-rest}
+use Rattle.model_names.proofs.RefusesLemmas.{position-no_nul}
+use Rattle.model_maps.specs.Entry.{Entry, text_cmp, plain_entry}
+use Rattle.model_maps.specs.KeyMap.{KeyMap}
+use Rattle.kdb_outside.specs.Kind.{kind_word}
+use Rattle.kdb_outside.specs.declared.kinds.Kind.{Kind}
+use Rattle.key_name.specs.Children.{child_of, child_refusal, is_misspelled, is_that}
+use Rattle.key_name.proofs.ChildLemmas.{child_refusal-none}
+use Rattle.key_name.proofs.WellFormedLemmas.{length-slashed-append}
+use Rattle.mount_table.specs.Changing.{added, HasNames}
+use Rattle.mount_table.specs.Entries.{entries_of, has_entry, said_by, with_entry}
+use Rattle.mount_table.specs.Noting.{nothing_said}
+use Rattle.mount_table.specs.Places.{mountpoints, entry_name, child_name, path_word, plugin_word}
+use Rattle.mount_table.specs.Points.{longest_point, point_of}
+use Rattle.mount_table.specs.Reading.{◌>>=◌, next_mount, is_taken, mounts_from}
+use Rattle.mount_table.specs.Table.{remaining, in_order, limited, table_of}
+use Rattle.mount_table.specs.declared.entries.MountEntry.{MountEntry}
+use Rattle.mount_table.specs.declared.faults.TableFault.{TableFault}
+use Rattle.mount_table.specs.declared.faults.TableFault.TheVariants.{AlreadyMounted}
+use Rattle.mount_table.specs.declared.mounts.Mount.{Mount}
+use Rattle.mount_table.proofs.NotingLemmas.{text_cmp-IsAntisymmetric, get-entries_of, entries_of-insert}
+use Rattle.mount_table.proofs.TableLemmas.{is_some-copied, IsPoint, IsPoint-from, point_of-mount, mount_of-next, from_then}
+
+-- ---- maps
+
+insert-insert : {K X : Type 0} {R : K → K → Ordering} → IsTotalOrder R → IsAntisymmetric R → (m : FinMap R X) (k : K) (u v : X) → map.insert (map.insert m k u) k v ≡ map.insert m k v
+insert-insert {X = X} {R = R} o same m k u v = map.same_map o same _ _ (λ q.
+    map.get-insert o (map.insert m k u) k v q ∙ ap (cond (eq_by_cmp R q k) (Some v)) (map.get-insert o m k u q) ∙ by (eq_by_cmp R q k) (map.get m q) ∙ sym (map.get-insert o m k v q))
+  where
+    by : (b : Bool) (x : Option X) → cond b (Some v) (cond b (Some u) x) ≡ cond b (Some v) x
+    by true x = refl
+    by false x = refl
+
+-- to take out a new key is to leave the map as it was
+pub remove-insert : {K X : Type 0} {R : K → K → Ordering} → IsTotalOrder R → IsAntisymmetric R → (m : FinMap R X) (k : K) (v : X) → map.get m k ≡ None → map.remove (map.insert m k v) k ≡ m
+remove-insert {X = X} {R = R} o same m k v new = map.same_map o same _ _ (λ q.
+    map.get-remove o (map.insert m k v) k q ∙ ap (cond (eq_by_cmp R q k) None) (map.get-insert o m k v q)
+    ∙ by (eq_by_cmp R q k) (map.get m q) (λ e. ap (map.get m) (same q k ((Equal-is (R q k)).0 e)) ∙ new))
+  where
+    by : (b : Bool) (x : Option X) → (b ≡ true → x ≡ None) → cond b None (cond b (Some v) x) ≡ x
+    by true x h = sym (h refl)
+    by false x h = refl
+
+tied : (text : Part) → eq_by_cmp text_cmp text text ≡ true
+tied text = (Equal-is (text_cmp text text)).1 (tied_itself nat_list_cmp_total text)
+
+-- ---- an entry among the keys
+
+-- it is there where it is found among those that were collected
+pub has_entry-found : (entries : List (Part × MountEntry)) (keys : KeyMap) (text : Part) (found : Option (Bor MountEntry)) → T (is_sorted text_cmp entries) → map.from_sorted {R = text_cmp} entries ≡ entries_of keys → option_copied found ≡ find text_cmp text entries → is_some found ≡ has_entry keys text
+has_entry-found entries keys text found sorted is copied =
+    sym (is_some-copied found)
+    ∙ ap is_some (copied ∙ sym (map.get-from_sorted text_cmp entries text sorted) ∙ ap (λ m. map.get m text) is ∙ get-entries_of keys text)
+    ∙ by (has_entry keys text)
+  where
+    by : (b : Bool) → is_some (cond b (Some (said_by keys text)) None) ≡ b
+    by true = refl
+    by false = refl
+
+-- the entries of keys to which one is added
+pub entries_of-with : (keys : KeyMap) (text : Part) (file : List ℕ) (kind : Kind) → has_entry keys text ≡ false → entries_of (with_entry keys text file kind) ≡ map.insert (entries_of keys) text (record { path = Some file; plugin = Some (kind_word kind) })
+entries_of-with keys text file kind new =
+    let es = entries_of keys in
+    let none : map.get es text ≡ None = get-entries_of keys text ∙ cond-false _ _ _ new in
+    let said : MountEntry = record { path = Some file; plugin = None } in
+    let all : MountEntry = record { path = Some file; plugin = Some (kind_word kind) } in
+    let first : entries_of (map.insert keys (child_name text path_word) (plain_entry file)) ≡ map.insert es text said =
+    entries_of-insert keys (child_name text path_word) (plain_entry file) ∙ ap (λ o. map.insert es text (record (unwrap_or o nothing_said) { path = Some file })) none in
+    let there : map.get (map.insert es text said) text ≡ Some said = map.get-insert nat_list_cmp_total es text said text ∙ cond-true _ _ _ (tied text) in
+    entries_of-insert (map.insert keys (child_name text path_word) (plain_entry file)) (child_name text plugin_word) (plain_entry (kind_word kind))
+    ∙ ap (λ m. map.insert m text (record (unwrap_or (map.get m text) nothing_said) { plugin = Some (kind_word kind) })) first
+    ∙ ap (λ o. map.insert (map.insert es text said) text (record (unwrap_or o nothing_said) { plugin = Some (kind_word kind) })) there
+    ∙ insert-insert nat_list_cmp_total text_cmp-IsAntisymmetric es text said all
+
+-- ---- an entry of a table is at a mountpoint
+
+pub is_at_point : (mounts : List Mount) (entries : List (Part × MountEntry)) (all : List Mount) (text : Part) (said : MountEntry) → mounts_from mounts entries ≡ Ok all → find text_cmp text entries ≡ Some said → (name : Name) × IsPoint text name
+is_at_point mounts [] all text said ok found = absurd cc
+is_at_point mounts (entry ∷ entries) all text said ok found =
+    let next = from_then (next_mount (is_taken mounts) entry.0 entry.1) (λ mount. mounts_from (mounts ++ mount ∷ []) entries) all ok in
+    let rest = is_at_point (mounts ++ next.0 ∷ []) entries all text said next.2 in
+    elim (cases_Bool (eq_by_cmp text_cmp text entry.0)) [
+      | inl same ↦
+          let is : text ≡ entry.0 = text_cmp-IsAntisymmetric text entry.0 ((Equal-is (text_cmp text entry.0)).0 same) in
+          (next.0.at, IsPoint-from text next.0.at (ap point_of is ∙ point_of-mount entry.0 entry.1 next.0 (mount_of-next (is_taken mounts) entry.0 entry.1 next.0 next.1)))
+      | inr other ↦ rest (sym (cond-false _ _ _ other) ∙ found)
+    ]
+
+pub short_point : (text : Part) (name : Name) → IsPoint text name → length text ≤ longest_point
+short_point text name h = leb-true _ _ (and_parts _ _ h.is).0
+
+-- ---- what is looked at before an entry is added
+
+pub added-there : (keys : KeyMap) (text entry : Part) (file : List ℕ) (kind : Kind) → has_entry keys text ≡ true → entry ≡ text → added keys text file kind ≡ Err (AlreadyMounted entry)
+added-there keys text entry file kind there same = cond-true _ _ _ there ∙ ap (λ t. Err (AlreadyMounted t)) (sym same)
+
+pub added-err : (keys : KeyMap) (text : Part) (file : List ℕ) (kind : Kind) (fault : TableFault) → has_entry keys text ≡ false → table_of (with_entry keys text file kind) ≡ Err fault → added keys text file kind ≡ Err fault
+added-err keys text file kind fault free h = cond-false _ _ _ free ∙ ap (λ r. r >>= (λ _. Ok (with_entry keys text file kind))) h
+
+pub added-ok : (keys : KeyMap) (text : Part) (file : List ℕ) (kind : Kind) (table : List Mount) → has_entry keys text ≡ false → table_of (with_entry keys text file kind) ≡ Ok table → added keys text file kind ≡ Ok (with_entry keys text file kind)
+added-ok keys text file kind table free h = cond-false _ _ _ free ∙ ap (λ r. r >>= (λ _. Ok (with_entry keys text file kind))) h
+
+-- the entries that were collected, with the one that is added
+pub entries-with : (before after : List (Part × MountEntry)) (keys : KeyMap) (text t : Part) (file : List ℕ) (kind : Kind) (said : MountEntry) → T (is_sorted text_cmp before) → map.from_sorted {R = text_cmp} before ≡ entries_of keys → has_entry keys text ≡ false → t ≡ text → said ≡ record { path = Some file; plugin = Some (kind_word kind) } → after ≡ put text_cmp t said before → map.from_sorted {R = text_cmp} after ≡ entries_of (with_entry keys text file kind)
+entries-with before after keys text t file kind said sorted is free same whole more =
+    let all : MountEntry = record { path = Some file; plugin = Some (kind_word kind) } in
+    ap map.from_sorted (more ∙ ap₂ (λ u s. put text_cmp u s before) same whole)
+    ∙ from_sorted-put text_cmp nat_list_cmp_total before text all sorted
+    ∙ ap (λ m. map.insert m text all) is
+    ∙ sym (entries_of-with keys text file kind free)
+
+-- an entry that a table takes has a short mountpoint
+pub short_entry : (keys : KeyMap) (text : Part) (file : List ℕ) (kind : Kind) (table : List Mount) → has_entry keys text ≡ false → table_of (with_entry keys text file kind) ≡ Ok table → length text ≤ longest_point
+short_entry keys text file kind table free ok =
+    let es = entries_of (with_entry keys text file kind) in
+    let all : MountEntry = record { path = Some file; plugin = Some (kind_word kind) } in
+    let found : find text_cmp text (map.entries es) ≡ Some all =
+    sym (map.get-entries es text) ∙ ap (λ m. map.get m text) (entries_of-with keys text file kind free) ∙ map.get-insert nat_list_cmp_total (entries_of keys) text all text ∙ cond-true _ _ _ (tied text) in
+    let mounts = from_then (mounts_from (remaining es) (map.entries es)) (λ ms. limited (in_order ms)) table ok in
+    let point = is_at_point (remaining es) (map.entries es) mounts.0 text all mounts.1 found in
+    short_point text point.0 point.1
+
+-- ---- names of an entry
+
+pub is_part-refusal : (above : Name) (part : Part) → IsPart part → length (path (child_of above part)) ≤ longest_path → child_refusal above part ≡ None
+is_part-refusal above part is limit = child_refusal-none above part (spelled_well (cases_Bool (is_array_like part))) (position-no_nul part is.no_nul) limit
+  where
+    spelled_well : (is_array_like part ≡ true) ⊎ (is_array_like part ≡ false) → is_misspelled part ≡ false
+    spelled_well (inl like) = ap₂ (λ a o. a && not (is_that part o)) like (is.canonical like) ∙ ap not ((bytes_eq-Decides part part).1 refl)
+    spelled_well (inr unlike) = ap (λ a. a && not (is_that part (canonical_part part))) unlike
+
+-- an entry to which some name belongs has a name
+pub entry-refusal : (text : Part) (name : Name) → IsName name → is_at_or_below (entry_name text) name ≡ true → child_refusal mountpoints text ≡ None
+entry-refusal text name is below =
+    let rest = (at_or_below-rest (entry_name text) name below).1 in
+    let parts : AllByRecursion IsPart (codes "elektra" ∷ codes "mountpoints" ∷ text ∷ drop 3 name.parts) = subst (AllByRecursion IsPart) rest is.parts in
+    let limit : length (path_of_parts (codes "elektra" ∷ codes "mountpoints" ∷ text ∷ drop 3 name.parts)) ≤ longest_path = subst (λ ps. length (path_of_parts ps) ≤ longest_path) rest is.limit in
+    is_part-refusal mountpoints text parts.1.1.0 (omega (arith, limit, length-slashed-append (codes "elektra" ∷ codes "mountpoints" ∷ text ∷ []) (drop 3 name.parts)))
+
+length-escaped : (b : ℕ) → length (escaped b) ≤ 2
+length-escaped b = cond_both ((b == 92) || (b == 47)) (92 ∷ b ∷ []) (b ∷ []) (λ bytes. length bytes ≤ 2) (λ _. omega arith) (λ _. omega arith)
+
+length-all_escaped : (part : Part) → length (flat_map escaped part) ≤ 2 * length part
+length-all_escaped [] = omega arith
+length-all_escaped (b ∷ part) = omega (arith, length-escaped b, length-all_escaped part, length-append (escaped b) (flat_map escaped part))
+
+-- a spelled part has at most one byte more than twice its own
+length-spelled : (part : Part) → length (spelled part) ≤ 2 * length part + 1
+length-spelled part =
+    cond_both (length part == 0) (codes "%") (cond (is_reserved part) (92 ∷ part) (flat_map escaped part)) (λ bytes. length bytes ≤ 2 * length part + 1)
+    (λ _. omega arith)
+    (λ _. cond_both (is_reserved part) (92 ∷ part) (flat_map escaped part) (λ bytes. length bytes ≤ 2 * length part + 1) (λ _. omega arith) (λ _. omega (arith, length-all_escaped part)))
+
+not_array : (at : Name) → is_array_like (spelling at) ≡ false
+not_array at = by at.namespace at.parts
+  where
+    by : (n : Namespace) (parts : List Part) → is_array_like (word_of n ++ path_of_parts parts) ≡ false
+    by Cascading [] = refl
+    by Cascading (part ∷ parts) = refl
+    by Spec parts = refl
+    by Proc parts = refl
+    by Dir parts = refl
+    by User parts = refl
+    by System parts = refl
+    by Default parts = refl
+
+-- a short mountpoint's entry and its children have names
+pub HasNames-spelling : (at : Name) → Spells (spelling at) at → length (spelling at) ≤ longest_point → HasNames (spelling at)
+HasNames-spelling at spells short =
+    let text = spelling at in
+    let few : length (spelled text) ≤ 2 * longest_point + 1 = omega (arith, length-spelled text) in
+    record {
+      entry = child_refusal-none mountpoints text (ap (λ a. a && not (is_that text (canonical_part text))) (not_array at)) (position-no_nul text spells.no_nul) (omega (arith, few, length-append (spelled text) []));
+      path = child_refusal-none (entry_name text) path_word refl refl (omega (arith, few, length-append (spelled text) (47 ∷ path_word)));
+      plugin = child_refusal-none (entry_name text) plugin_word refl refl (omega (arith, few, length-append (spelled text) (47 ∷ plugin_word)));
+    }
+
+-- ---- keys one by one
+
+pub any-more : (p : Name × Entry → Bool) (keys : List (Name × Entry)) (i : ℕ) (key : Name × Entry) → Some key ≡ slice_get keys i → list_any p (take i keys) ≡ false → p key ≡ false → list_any p (take (i + 1) keys) ≡ false
+any-more p keys i key found before not_this =
+    list_any_more p keys i key (slice_get_within keys i key (sym found)) ∙ or_from _ _ before (ap p (get_or_from_slice_get keys i key key (sym found)) ∙ not_this)
+
+pub any-found : (p : Name × Entry → Bool) (keys : List (Name × Entry)) (i : ℕ) (key : Name × Entry) → Some key ≡ slice_get keys i → p key ≡ true → list_any p keys ≡ true
+any-found p keys i key found this = list_any_at p keys i key (slice_get_within keys i key (sym found)) (ap p (get_or_from_slice_get keys i key key (sym found)) ∙ this)

@@ -1,0 +1,260 @@
+-- Entries noted key by key are those of all keys.
+use Rattle.std.proofs.Common.{◌≡◌, ℕ, ◌+◌, ◌≤◌, Bool, true, false, cond, not, ◌&&◌, ◌||◌, T, List, [], ◌∷◌, ◌++◌, length, take, drop, filter_map, slice_get, Option, Some, None, unwrap_or, refl, sym, ap, subst, ◌∙◌, take_all, append_assoc, take-append-drop}
+use Rattle.std.specs.Cmp.{IsTotalOrder, Equal-is}
+use Rattle.std.specs.FinMap as map
+use Rattle.std.specs.FinMap.{FinMap, IsAntisymmetric, find, is_sorted, nat_cmp-IsAntisymmetric, slice_cmp-IsAntisymmetric}
+use Rattle.std.specs.FinMap.Entries.{put, by_order, below_all, where_key, is_sorted-where_key}
+use Rattle.std.specs.List.{list_any, cons_option}
+use Rattle.std.specs.Option.{option_map}
+use Rattle.std.specs.Ordering.{eq_by_cmp, is_lt, ordering_reverse}
+use Rattle.std.specs.declared.cmp.Ordering.{Ordering}
+use Rattle.std.specs.declared.cmp.Ordering.TheVariants.{Less, Equal, Greater}
+use Rattle.std.proofs.lemmas.Bool.{cond-false, or_parts, true≢false}
+use Rattle.std.proofs.lemmas.Cmp.{nat_list_cmp_total}
+use Rattle.std.proofs.lemmas.List.{take_more}
+use Rattle.std.proofs.lemmas.Option.{slice_get_within, get_or_from_slice_get}
+use Rattle.std.proofs.lemmas.Slice.Eq.{bytes_eq-Decides}
+use Rattle.sorted_map.proofs.MapLemmas.{from_sorted-put, from_sorted-nil, from_sorted-without}
+use Rattle.model_names.specs.Below.{is_at_or_below}
+use Rattle.model_names.specs.Name.{Name, Part}
+use Rattle.model_names.specs.Spelling.{is_text}
+use Rattle.model_names.specs.Order.{name_cmp}
+use Rattle.model_names.proofs.OrderLemmas.{name_cmp_total, name_cmp-IsAntisymmetric}
+use Rattle.model_maps.specs.Entry.{Entry, text_cmp}
+use Rattle.model_maps.specs.KeyMap.{KeyMap}
+use Rattle.mount_table.specs.Entries.{entries_of, has_entry, said_by, value_at}
+use Rattle.mount_table.specs.Noting.{nothing_said, child_word, is_word, said_with, noted_in, noted_at, noted}
+use Rattle.mount_table.specs.Places.{entry_name, child_name, path_word, plugin_word, text_of_entry}
+use Rattle.mount_table.specs.declared.entries.MountEntry.{MountEntry}
+use Rattle.mount_table.proofs.PlaceLemmas.{is_found, at_or_below-entry, is_child}
+
+pub text_cmp-IsAntisymmetric : IsAntisymmetric text_cmp
+text_cmp-IsAntisymmetric = slice_cmp-IsAntisymmetric nat_cmp-IsAntisymmetric
+
+same_text : (a b : Part) → eq_by_cmp text_cmp a b ≡ true → a ≡ b
+same_text a b e = text_cmp-IsAntisymmetric a b ((Equal-is (text_cmp a b)).0 e)
+
+-- ---- facts on tests
+
+T_first : (a b : Bool) → T (a && b) → T a
+T_first true b h = tt
+T_first false b h = h
+
+T_second : (a b : Bool) → T (a && b) → T b
+T_second true b h = h
+T_second false b h = absurd h
+
+T_both : (a b : Bool) → T a → T b → T (a && b)
+T_both true b h k = k
+T_both false b h k = h
+
+is_less : (r : Ordering) → T (is_lt r) → r ≡ Less
+is_less Less h = refl
+is_less Equal h = absurd h
+is_less Greater h = absurd h
+
+-- ---- what the entries have at a text
+
+-- the entry of a text, where it is there
+abbrev pub entry_at : KeyMap → Part → Option MountEntry
+entry_at keys text = cond (has_entry keys text) (Some (said_by keys text)) None
+
+found_more : (said : Part → MountEntry) (text other : Part) (b rest : Bool) (found : Option MountEntry) → (b ≡ true → text ≡ other) → found ≡ cond rest (Some (said text)) None → cond b (Some (said other)) found ≡ cond (b || rest) (Some (said text)) None
+found_more said text other true rest found same is = ap (λ t. Some (said t)) (sym (same refl))
+found_more said text other false rest found same is = is
+
+found_behind : (said : Part → MountEntry) (text : Part) (o : Option Part) (rest : List (Part × MountEntry)) (more : Bool) → find text_cmp text rest ≡ cond more (Some (said text)) None → find text_cmp text (cons_option (option_map (λ t. (t, said t)) o) rest) ≡ cond (is_found text o || more) (Some (said text)) None
+found_behind said text None rest more is = is
+found_behind said text (Some other) rest more is = found_more said text other (eq_by_cmp text_cmp text other) more _ (same_text text other) is
+
+found_among : (said : Part → MountEntry) (text : Part) (keys : List (Name × Entry)) → find text_cmp text (filter_map (λ key. option_map (λ t. (t, said t)) (text_of_entry key.0)) keys) ≡ cond (list_any (λ key. is_at_or_below (entry_name text) key.0) keys) (Some (said text)) None
+found_among said text [] = refl
+found_among said text (key ∷ keys) =
+    found_behind said text (text_of_entry key.0) _ _ (found_among said text keys)
+    ∙ ap (λ b. cond (b || list_any (λ key. is_at_or_below (entry_name text) key.0) keys) (Some (said text)) None) (sym (at_or_below-entry text key.0))
+
+pub get-entries_of : (keys : KeyMap) (text : Part) → map.get (entries_of keys) text ≡ entry_at keys text
+get-entries_of keys text = map.get-from_entries nat_list_cmp_total _ text ∙ found_among (said_by keys) text (map.entries keys)
+
+-- ---- one more key
+
+or_swap : (a b c : Bool) → (a || (b || c)) ≡ (b || (a || c))
+or_swap true true c = refl
+or_swap true false c = refl
+or_swap false b c = refl
+
+or_again : (a b c : Bool) → a ≡ b → (b || c) ≡ (a || (b || c))
+or_again true b c e = ap (λ x. x || c) (sym e)
+or_again false b c e = refl
+
+-- some key passes a test of names once one more is there
+any-put : (p : Name → Bool) (name : Name) (entry : Entry) (keys : List (Name × Entry)) → list_any (λ key. p key.0) (put name_cmp name entry keys) ≡ (p name || list_any (λ key. p key.0) keys)
+any-put p name entry [] = refl
+any-put p name entry (key ∷ keys) = by (any-put p name entry keys) (name_cmp name key.0) refl
+  where
+    by : list_any (λ key. p key.0) (put name_cmp name entry keys) ≡ (p name || list_any (λ key. p key.0) keys) → (o : Ordering) → name_cmp name key.0 ≡ o → list_any (λ key. p key.0) (by_order o ((name, entry) ∷ key ∷ keys) ((key.0, entry) ∷ keys) (key ∷ put name_cmp name entry keys)) ≡ (p name || (p key.0 || list_any (λ key. p key.0) keys))
+    by more Less e = refl
+    by more Equal e = or_again (p name) (p key.0) _ (ap p (name_cmp-IsAntisymmetric name key.0 e))
+    by more Greater e = ap (λ b. p key.0 || b) more ∙ or_swap (p key.0) (p name) _
+
+has_entry-insert : (keys : KeyMap) (name : Name) (entry : Entry) (text : Part) → has_entry (map.insert keys name entry) text ≡ (is_found text (text_of_entry name) || has_entry keys text)
+has_entry-insert keys name entry text =
+    ap (list_any (λ key. is_at_or_below (entry_name text) key.0)) (map.entries-insert name_cmp_total keys name entry)
+    ∙ any-put (is_at_or_below (entry_name text)) name entry (map.entries keys)
+    ∙ ap (λ b. b || has_entry keys text) (at_or_below-entry text name)
+
+-- the value of a child once one more key is there
+value_at-insert : (keys : KeyMap) (name : Name) (entry : Entry) (text word : Part) → value_at (map.insert keys name entry) (child_name text word) ≡ cond (is_found text (text_of_entry name) && is_word word (child_word name)) (Some entry.value) (value_at keys (child_name text word))
+value_at-insert keys name entry text word =
+    ap (option_map (λ e. e.value)) (map.get-insert name_cmp_total keys name entry (child_name text word))
+    ∙ ap (λ b. option_map (λ e. e.value) (cond b (Some entry) (map.get keys (child_name text word)))) (is_child text word name)
+    ∙ by (is_found text (text_of_entry name) && is_word word (child_word name)) (map.get keys (child_name text word))
+  where
+    by : (b : Bool) (o : Option Entry) → option_map (λ e. e.value) (cond b (Some entry) o) ≡ cond b (Some entry.value) (option_map (λ e. e.value) o)
+    by true o = refl
+    by false o = refl
+
+-- what an entry says with one more key, by whether the key is the entry's
+abbrev said_once : Bool → MountEntry → List ℕ → Option Part → MountEntry
+said_once found said value word = record { path = cond (found && is_word path_word word) (Some value) said.path; plugin = cond (found && is_word plugin_word word) (Some value) said.plugin }
+
+said_by-insert : (keys : KeyMap) (name : Name) (entry : Entry) (text : Part) → said_by (map.insert keys name entry) text ≡ said_once (is_found text (text_of_entry name)) (said_by keys text) entry.value (child_word name)
+said_by-insert keys name entry text = λ i. record { path = value_at-insert keys name entry text path_word i; plugin = value_at-insert keys name entry text plugin_word i }
+
+said_once-other : (said : MountEntry) (value : List ℕ) (word : Option Part) → said_once false said value word ≡ said
+said_once-other said value word = refl
+
+-- a word is not both children's
+said_once-own : (said : MountEntry) (value : List ℕ) (word : Option Part) → said_once true said value word ≡ said_with said value word
+said_once-own said value None = refl
+said_once-own said value (Some word) = by (is_text word path_word) (is_text word plugin_word) apart
+  where
+    by : (a b : Bool) → (a ≡ true → b ≡ true → ⊥) → (let once : MountEntry = record { path = cond a (Some value) said.path; plugin = cond b (Some value) said.plugin } in once) ≡ cond a (record said { path = Some value }) (cond b (record said { plugin = Some value }) said)
+    by true true apart = absurd (apart refl refl)
+    by true false apart = refl
+    by false true apart = refl
+    by false false apart = refl
+
+    apart : is_text word path_word ≡ true → is_text word plugin_word ≡ true → ⊥
+    apart a b = true≢false (sym b ∙ ap (λ w. is_text w plugin_word) ((bytes_eq-Decides word path_word).0 a))
+
+-- ---- an entry that isn't there says nothing
+
+get_none : (text word : Part) (keys : List (Name × Entry)) → list_any (λ key. is_at_or_below (entry_name text) key.0) keys ≡ false → find name_cmp (child_name text word) keys ≡ None
+get_none text word [] h = refl
+get_none text word (key ∷ keys) h =
+    let parts = or_parts (is_at_or_below (entry_name text) key.0) _ h in
+    let other : eq_by_cmp name_cmp (child_name text word) key.0 ≡ false = is_child text word key.0 ∙ ap (λ b. b && is_word word (child_word key.0)) (sym (at_or_below-entry text key.0) ∙ parts.0) in
+    cond-false _ _ _ other ∙ get_none text word keys parts.1
+
+pub child-none : (keys : KeyMap) (text word : Part) → has_entry keys text ≡ false → map.get keys (child_name text word) ≡ None
+child-none keys text word h = map.get-entries keys (child_name text word) ∙ get_none text word (map.entries keys) h
+
+said_nothing : (keys : KeyMap) (text : Part) → has_entry keys text ≡ false → said_by keys text ≡ nothing_said
+said_nothing keys text h = λ i. record { path = option_map (λ e. e.value) (child-none keys text path_word h i); plugin = option_map (λ e. e.value) (child-none keys text plugin_word h i) }
+
+said_or_nothing : (keys : KeyMap) (text : Part) → unwrap_or (entry_at keys text) nothing_said ≡ said_by keys text
+said_or_nothing keys text = by (has_entry keys text) (said_nothing keys text)
+  where
+    by : (b : Bool) → (b ≡ false → said_by keys text ≡ nothing_said) → unwrap_or (cond b (Some (said_by keys text)) None) nothing_said ≡ said_by keys text
+    by true h = refl
+    by false h = sym (h refl)
+
+-- ---- the entries of one more key are those with it noted
+
+entry_at-insert : (keys : KeyMap) (name : Name) (entry : Entry) (text : Part) → entry_at (map.insert keys name entry) text ≡ cond (is_found text (text_of_entry name) || has_entry keys text) (Some (said_once (is_found text (text_of_entry name)) (said_by keys text) entry.value (child_word name))) None
+entry_at-insert keys name entry text = λ i. cond (has_entry-insert keys name entry text i) (Some (said_by-insert keys name entry text i)) None
+
+noted_same : (keys : KeyMap) (name : Name) (entry : Entry) (text : Part) (o : Option Part) → cond (is_found text o || has_entry keys text) (Some (said_once (is_found text o) (said_by keys text) entry.value (child_word name))) None ≡ map.get (noted_at (entries_of keys) name entry.value o) text
+noted_same keys name entry text None = sym (get-entries_of keys text)
+noted_same keys name entry text (Some other) =
+    by (eq_by_cmp text_cmp text other) (same_text text other)
+    ∙ sym (map.get-insert nat_list_cmp_total (entries_of keys) other _ text)
+  where
+    by : (b : Bool) → (b ≡ true → text ≡ other) → cond (b || has_entry keys text) (Some (said_once b (said_by keys text) entry.value (child_word name))) None ≡ cond b (Some (noted_in (unwrap_or (map.get (entries_of keys) other) nothing_said) name entry.value)) (map.get (entries_of keys) text)
+    by true same =
+        let said : said_by keys text ≡ unwrap_or (map.get (entries_of keys) other) nothing_said =
+        sym (said_or_nothing keys text) ∙ ap (λ o. unwrap_or o nothing_said) (sym (get-entries_of keys text) ∙ ap (map.get (entries_of keys)) (same refl)) in
+        ap (λ e. Some e) (said_once-own (said_by keys text) entry.value (child_word name) ∙ ap (λ e. noted_in e name entry.value) said)
+    by false same = sym (get-entries_of keys text)
+
+pub entries_of-insert : (keys : KeyMap) (name : Name) (entry : Entry) → entries_of (map.insert keys name entry) ≡ noted (entries_of keys) name entry.value
+entries_of-insert keys name entry = map.same_map nat_list_cmp_total text_cmp-IsAntisymmetric _ _ (λ text.
+    get-entries_of (map.insert keys name entry) text ∙ entry_at-insert keys name entry text ∙ noted_same keys name entry text (text_of_entry name))
+
+-- ---- the keys one by one
+
+-- the first keys in name order
+abbrev pub first_keys : ℕ → KeyMap → KeyMap
+first_keys i keys = map.from_sorted (take i (map.entries keys))
+
+module _ {K X : Type 0} (R : K → K → Ordering) (o : IsTotalOrder R) where
+  below_all-front : (k : K) (es rest : List (K × X)) → T (below_all R k (es ++ rest)) → T (below_all R k es)
+  below_all-front k [] rest h = tt
+  below_all-front k (e ∷ es) rest h = T_both _ _ (T_first _ _ h) (below_all-front k es rest (T_second _ _ h))
+
+  is_sorted-front : (es rest : List (K × X)) → T (is_sorted R (es ++ rest)) → T (is_sorted R es)
+  is_sorted-front [] rest h = tt
+  is_sorted-front (e ∷ es) rest h = T_both _ _ (below_all-front e.0 es rest (T_first _ _ h)) (is_sorted-front es rest (T_second _ _ h))
+
+  below_last : (k : K) (es rest : List (K × X)) (e : K × X) → T (below_all R k (es ++ e ∷ rest)) → R k e.0 ≡ Less
+  below_last k [] rest e h = is_less _ (T_first _ _ h)
+  below_last k (f ∷ es) rest e h = below_last k es rest e (T_second _ _ h)
+
+  -- a key behind all others is put at the end
+  put_last : (es rest : List (K × X)) (k : K) (v : X) → T (is_sorted R (es ++ (k, v) ∷ rest)) → put R k v es ≡ es ++ (k, v) ∷ []
+  put_last [] rest k v h = refl
+  put_last (e ∷ es) rest k v h =
+      ap (λ r. by_order r ((k, v) ∷ e ∷ es) ((e.0, v) ∷ es) (e ∷ put R k v es)) (o.antisymm k e.0 ∙ ap ordering_reverse (below_last e.0 es rest (k, v) (T_first _ _ h)))
+      ∙ ap (λ fs. e ∷ fs) (put_last es rest k v (T_second _ _ h))
+
+-- one key more is inserted behind the first ones
+pub first_keys-more : (keys : KeyMap) (i : ℕ) (key : Name × Entry) → Some key ≡ slice_get (map.entries keys) i → first_keys (i + 1) keys ≡ map.insert (first_keys i keys) key.0 key.1
+first_keys-more keys i key found =
+    let es = map.entries keys in
+    let lt = slice_get_within es i key (sym found) in
+    let next : take (i + 1) es ≡ take i es ++ key ∷ [] = take_more es i key lt ∙ ap (λ k. take i es ++ k ∷ []) (get_or_from_slice_get es i key key (sym found)) in
+    let all : T (is_sorted name_cmp (take i es ++ key ∷ drop (i + 1) es)) = subst (λ fs. T (is_sorted name_cmp fs)) (split_at es i key next) (map.entries_sorted keys) in
+    ap map.from_sorted (next ∙ sym (put_last name_cmp name_cmp_total (take i es) (drop (i + 1) es) key.0 key.1 all))
+    ∙ from_sorted-put name_cmp name_cmp_total (take i es) key.0 key.1 (is_sorted-front name_cmp name_cmp_total (take i es) (key ∷ drop (i + 1) es) all)
+  where
+    split_at : (es : List (Name × Entry)) (i : ℕ) (key : Name × Entry) → take (i + 1) es ≡ take i es ++ key ∷ [] → es ≡ take i es ++ key ∷ drop (i + 1) es
+    split_at es i key next = sym (take-append-drop (i + 1) es) ∙ ap (λ front. front ++ drop (i + 1) es) next ∙ append_assoc (take i es) (key ∷ []) (drop (i + 1) es)
+
+pub first_keys-none : (keys : KeyMap) → first_keys 0 keys ≡ map.empty
+first_keys-none keys = from_sorted-nil name_cmp
+
+pub first_keys-all : (keys : KeyMap) (i : ℕ) → length (map.entries keys) ≤ i → first_keys i keys ≡ keys
+first_keys-all keys i all = map.same_entries_map _ _ (
+    ap (λ es. map.entries (map.from_sorted {R = name_cmp} es)) (take_all i (map.entries keys) all)
+    ∙ map.entries-from_sorted name_cmp (map.entries keys) (map.entries_sorted keys))
+
+-- no keys have no entries
+pub entries_of-none : entries_of map.empty ≡ map.empty
+entries_of-none = map.same_map nat_list_cmp_total text_cmp-IsAntisymmetric _ _ (λ text.
+    let none : map.entries (map.empty {X = Entry} {R = name_cmp}) ≡ [] = ap map.entries (sym (from_sorted-nil name_cmp)) ∙ map.entries-from_sorted name_cmp [] tt in
+    get-entries_of map.empty text
+    ∙ ap (λ es. cond (list_any (λ key. is_at_or_below (entry_name text) key.0) es) (Some (said_by map.empty text)) None) none
+    ∙ sym (map.get-empty text_cmp text))
+
+-- ---- an entry's place among those that were collected
+
+pub insert-remove : {K X : Type 0} {R : K → K → Ordering} → IsTotalOrder R → IsAntisymmetric R → (m : FinMap R X) (k : K) (v : X) → map.insert (map.remove m k) k v ≡ map.insert m k v
+insert-remove {X = X} {R = R} o same m k v = map.same_map o same _ _ (λ q.
+    map.get-insert o (map.remove m k) k v q ∙ ap (cond (eq_by_cmp R q k) (Some v)) (map.get-remove o m k q) ∙ by (eq_by_cmp R q k) (map.get m q) ∙ sym (map.get-insert o m k v q))
+  where
+    by : (b : Bool) (x : Option X) → cond b (Some v) (cond b None x) ≡ cond b (Some v) x
+    by true x = refl
+    by false x = refl
+
+-- to take a text's entry out and put it back with one more key is to note the key
+pub noted_put : (before after removed : List (Part × MountEntry)) (name : Name) (value : List ℕ) (text found : Part) (old said : MountEntry) → T (is_sorted text_cmp before) → Some found ≡ text_of_entry name → text ≡ found → removed ≡ where_key text_cmp (λ k. not (eq_by_cmp text_cmp text k)) before → old ≡ unwrap_or (find text_cmp text before) nothing_said → said ≡ noted_in old name value → after ≡ put text_cmp text said removed → map.from_sorted {R = text_cmp} after ≡ noted (map.from_sorted before) name value
+noted_put before after removed name value text found old said sorted is same rest former more put_back =
+    let without = where_key text_cmp (λ k. not (eq_by_cmp text_cmp text k)) before in
+    let old_said : unwrap_or (find text_cmp text before) nothing_said ≡ unwrap_or (map.get (map.from_sorted {R = text_cmp} before) text) nothing_said = ap (λ o. unwrap_or o nothing_said) (sym (map.get-from_sorted text_cmp before text sorted)) in
+    ap map.from_sorted (put_back ∙ ap (put text_cmp text said) rest)
+    ∙ from_sorted-put text_cmp nat_list_cmp_total without text said (is_sorted-where_key text_cmp (λ k. not (eq_by_cmp text_cmp text k)) before sorted)
+    ∙ ap (λ m. map.insert m text said) (from_sorted-without text_cmp nat_list_cmp_total text_cmp-IsAntisymmetric before text sorted)
+    ∙ insert-remove nat_list_cmp_total text_cmp-IsAntisymmetric (map.from_sorted before) text said
+    ∙ ap (map.insert (map.from_sorted before) text) (more ∙ ap (λ e. noted_in e name value) (former ∙ old_said))
+    ∙ ap (noted_at (map.from_sorted before) name value) (ap (λ t. Some t) same ∙ is)

@@ -1,0 +1,39 @@
+-- The entries of a mount table. (After Elektra's page on mounting; the layout is this project's own.)
+use Rattle.std.specs.Prelude.{ℕ, Bool, List, Option, filter_map}
+use Rattle.std.specs.FinMap as map
+use Rattle.std.specs.FinMap.{FinMap}
+use Rattle.std.specs.List.{list_any}
+use Rattle.std.specs.Option.{option_map}
+use Rattle.model_names.specs.Below.{is_at_or_below}
+use Rattle.model_names.specs.Name.{Name, Part}
+use Rattle.model_maps.specs.Entry.{text_cmp, plain_entry}
+use Rattle.model_maps.specs.KeyMap.{KeyMap}
+use Rattle.kdb_outside.specs.Kind.{kind_word}
+use Rattle.kdb_outside.specs.declared.kinds.Kind.{Kind}
+use Rattle.mount_table.specs.Places.{entry_name, child_name, path_word, plugin_word, text_of_entry}
+use Rattle.mount_table.specs.declared.entries.MountEntry.{MountEntry}
+
+-- what each of some entries says, by the entries' texts
+abbrev pub Entries : Type 0
+Entries = FinMap text_cmp MountEntry
+
+-- the value of a key
+abbrev pub value_at : KeyMap → Name → Option (List ℕ)
+value_at keys name = option_map (λ entry. entry.value) (map.get keys name)
+
+-- what the entry of a text says: the values of its two children
+abbrev pub said_by : KeyMap → Part → MountEntry
+said_by keys text = record { path = value_at keys (child_name text path_word); plugin = value_at keys (child_name text plugin_word) }
+
+-- the entries: each distinct part directly below the mountpoints, with what it says
+abbrev pub entries_of : KeyMap → Entries
+entries_of keys = map.from_entries (filter_map (λ key. option_map (λ text. (text, said_by keys text)) (text_of_entry key.0)) (map.entries keys))
+
+-- the entry of a text is there: some key is it or stands below it
+abbrev pub has_entry : KeyMap → Part → Bool
+has_entry keys text = list_any (λ key. is_at_or_below (entry_name text) key.0) (map.entries keys)
+
+-- the keys with the two keys of an entry added
+abbrev pub with_entry : KeyMap → Part → List ℕ → Kind → KeyMap
+with_entry keys text file kind =
+    map.insert (map.insert keys (child_name text path_word) (plain_entry file)) (child_name text plugin_word) (plain_entry (kind_word kind))

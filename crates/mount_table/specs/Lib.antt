@@ -1,0 +1,9 @@
+pub mod Places
+pub mod Entries
+pub mod Noting
+pub mod Points
+pub mod Reading
+pub mod Table
+pub mod Answers
+pub mod Changing
+pub mod TableView

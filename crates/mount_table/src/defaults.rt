@@ -1,0 +1,95 @@
+//! The default mounts.
+ghost use Rattle.std.specs.Prelude.{◌≡◌, ◌∷◌, ◌++◌, [], if◌then◌else◌, IfOk, OnOk};
+ghost use Rattle.std.specs.FinMap as map;
+ghost use Rattle.kdb_outside.specs.declared.kinds.Kind.TheVariants.{Dump};
+ghost use Rattle.kdb_outside.specs.FileName.{IsFileName};
+ghost use Rattle.model_names.specs.Spelling.{spelling};
+ghost use Rattle.model_maps.specs.Entry.{text_cmp};
+ghost use Rattle.mount_table.specs.Table.{root_mount, own_mount, remains, remaining};
+
+use crate::Mount;
+use crate::children::child_of;
+use crate::entries::MountEntry;
+use kdb_outside::{FileName, Kind};
+use key_meta::{Memory, Text};
+use key_name::KeyName;
+use model_names::Namespace;
+use sorted_map::SortedMap;
+use std::alloc::Global;
+
+/// The default mounts that no entry replaces.
+pub fn remaining(alloc: Global, entries: &SortedMap<Text, MountEntry>) -> Result<Vec<Mount>, Memory>
+    ensures { IfOk result (λ mounts. mounts.items ≡ remaining (map.from_sorted {R = text_cmp} entries.now)) }
+{
+    let mut mounts = Vec::new(alloc);
+    push_root(alloc, entries, &mut mounts, Namespace::Spec, "spec.ecf")?;
+    push_root(alloc, entries, &mut mounts, Namespace::Dir, "dir.ecf")?;
+    push_root(alloc, entries, &mut mounts, Namespace::User, "user.ecf")?;
+    push_root(alloc, entries, &mut mounts, Namespace::System, "system.ecf")?;
+    mounts.push(own_mount(alloc)?)?;
+    Ok(mounts)
+}
+
+/// Appends the mount of a whole namespace, where it remains.
+fn push_root(
+    alloc: Global,
+    entries: &SortedMap<Text, MountEntry>,
+    mounts: &mut Vec<Mount>,
+    namespace: Namespace,
+    file: &str,
+) -> Result<(), Memory>
+    requires { IsFileName file.now }
+    ensures { OnOk result (let root = root_mount namespace file.now in
+        mounts.new.items ≡ mounts.old.items ++ (if remains (map.from_sorted {R = text_cmp} entries.now) root then root ∷ [] else [])) }
+{
+    let at = KeyName::root(alloc, namespace);
+    if is_replaced(alloc, entries, &at)? {
+        return Ok(());
+    }
+    let file = file_name(alloc, file)?;
+    mounts.push(dump_mount(at, file))?;
+    Ok(())
+}
+
+/// Whether an entry has a mountpoint.
+fn is_replaced(
+    alloc: Global,
+    entries: &SortedMap<Text, MountEntry>,
+    at: &KeyName,
+) -> Result<bool, Memory>
+    ensures { IfOk result (λ is. is ≡ map.contains_key (map.from_sorted {R = text_cmp} entries.now) (spelling at.now)) }
+{
+    let text = Text::new(alloc, &at.text()?)?;
+    Ok(entries.get(&text).is_some())
+}
+
+/// The mount of the table's own keys.
+fn own_mount(alloc: Global) -> Result<Mount, Memory>
+    ensures { IfOk result (λ mount. mount ≡ own_mount) }
+{
+    let root = KeyName::root(alloc, Namespace::System);
+    let at = child_of(&root, "elektra")?;
+    let file = file_name(alloc, "elektra.ecf")?;
+    Ok(dump_mount(at, file))
+}
+
+fn dump_mount(at: KeyName, file: FileName) -> Mount
+    ensures { result ≡ record { at = at; file = file; kind = Dump } }
+{
+    Mount {
+        at,
+        file,
+        kind: Kind::Dump,
+    }
+}
+
+/// The name of a file.
+fn file_name(alloc: Global, text: &str) -> Result<FileName, Memory>
+    requires { IsFileName text.now }
+    ensures { IfOk result (λ file. file ≡ text.now) }
+{
+    match FileName::new(alloc, text)? {
+        Some(file) => Ok(file),
+        None => unreachable!(),
+    }
+}

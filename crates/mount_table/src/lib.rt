@@ -1,0 +1,23 @@
+//! Which file holds the keys below which name: the mount table, read from the keys of its entries, and changed in them.
+#![tactic(auto)]
+
+mod changing;
+mod children;
+mod defaults;
+mod entries;
+mod faults;
+mod laws;
+mod mounts;
+mod points;
+mod reading;
+mod tables;
+#[cfg(test)]
+mod tests;
+
+pub use changing::{add, remove};
+pub use faults::TableFault;
+pub use laws::{
+    a_table_has_a_mount_for_each_entry, a_table_is_refused_for_its_entries_or_their_number,
+};
+pub use mounts::Mount;
+pub use tables::MountTable;

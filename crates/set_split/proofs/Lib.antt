@@ -1,0 +1,5 @@
+pub mod MountLemmas
+pub mod FrontLemmas
+pub mod SplitLemmas
+pub mod UnionLemmas
+pub mod NowhereLemmas

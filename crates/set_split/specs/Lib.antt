@@ -1,0 +1,5 @@
+pub mod Points
+pub mod Involved
+pub mod Parts
+pub mod Union
+pub mod Seen
