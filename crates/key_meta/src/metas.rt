@@ -1,10 +1,13 @@
 //! Metadata of a key: a finite map from names to texts, walked by bytes.
-ghost use Rattle.std.specs.Prelude.{◌≡◌, ◌+◌, ◌-◌, ◌^◌, ◌<◌, ◌≤◌, T, length, min, IfOk, IfErr, OnOk, OnErr, slice_get, sum_by};
+ghost use Rattle.std.specs.Prelude.{◌≡◌, ◌==◌, ◌+◌, ◌-◌, ◌^◌, ◌<◌, ◌≤◌, T, length, min, IfOk, IfErr, OnOk, OnErr, slice_get, sum_by};
 ghost use Rattle.std.specs.Option.{option_map};
 ghost use Rattle.std.specs.FinMap as map;
 ghost use Rattle.std.specs.FinMap.{is_sorted};
 ghost use Rattle.model_maps.specs.Entry.{IsArray, meta_bytes, text_cmp};
 ghost use Rattle.sorted_map.specs.Place.{IsPlace, IsGap};
+ghost use Rattle.std.specs.Cmp.{partial_equiv_from_equiv};
+ghost use Rattle.key_meta.specs.MetaView.{AreTexts};
+ghost use Rattle.key_meta.specs.Same.{same_meta, same_meta_equiv};
 
 use crate::item_names::item_name;
 use crate::{List, Memory, Text};
@@ -27,7 +30,11 @@ impl Model for Meta {
 
     ghost coded = { coded_meta };
 
+    ghost use Rattle.key_meta.specs.MetaView.{AreItems};
+
     ghost view = { λ m. finite.from_sorted m.items };
+
+    ghost invariant = { λ m. AreItems m.items };
 }
 
 impl Meta {
@@ -44,6 +51,14 @@ impl Meta {
         ensures { result ≡ length (map.entries self.now) }
     {
         self.items.len()
+    }
+
+    /// Whether no name has a text.
+    pub fn is_empty(&self) -> bool
+        ensures empty { result ≡ (length (map.entries self.now) == 0) }
+        ensures texts { AreTexts self.now }
+    {
+        self.items.entries().is_empty()
     }
 
     /// The name and the text at a place in the order of the names.
@@ -133,6 +148,20 @@ impl Meta {
             items: SortedMap::from_sorted(items),
         })
     }
+}
+
+impl PartialEq for Meta {
+    ghost eq = { same_meta };
+
+    ghost laws = { partial_equiv_from_equiv same_meta_equiv };
+
+    fn eq(&self, other: &Meta) -> bool {
+        self.items.entries() == other.items.entries()
+    }
+}
+
+impl Eq for Meta {
+    ghost laws = { same_meta_equiv };
 }
 
 /// Where a name stands, or would stand.

@@ -1,3 +1,4 @@
 pub mod SetLemmas
 pub mod RangeLemmas
 pub mod WithAllLemmas
+pub mod SameLemmas

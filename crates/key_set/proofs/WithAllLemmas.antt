@@ -1,5 +1,5 @@
 -- Keys with others set among them: what is found there, and how sorted entries make them.
-use Rattle.std.proofs.Common.{◌≡◌, ◌&&◌, Bool, true, false, T, cond, List, [], ◌∷◌, Some, None, refl, sym, ap, subst, ◌∙◌}
+use Rattle.std.proofs.Common.{◌≡◌, ◌&&◌, Bool, true, false, T, cond, List, [], ◌∷◌, Option, Some, None, refl, sym, ap, subst, ◌∙◌}
 use Rattle.std.specs.FinMap as map
 use Rattle.std.specs.FinMap.{find, is_sorted}
 use Rattle.std.specs.FinMap.Entries.{below_all, put, is_sorted-put}

@@ -1,2 +1,3 @@
 pub mod EntryView
 pub mod WithAll
+pub mod Same

@@ -1,5 +1,8 @@
 //! What a key holds.
 ghost use Rattle.std.specs.Prelude.{◌≡◌, IfOk};
+ghost use Rattle.std.specs.Cmp.{partial_equiv_from_equiv, on_equiv};
+ghost use Rattle.key_set.specs.EntryView.{entry_of};
+ghost use Rattle.key_set.specs.Same.{same_entry, same_entry_equiv};
 
 use key_meta::{Memory, Meta, Text};
 
@@ -20,4 +23,18 @@ impl Entry {
             meta: self.meta.copy()?,
         })
     }
+}
+
+impl PartialEq for Entry {
+    ghost eq = { λ x y. same_entry (entry_of x) (entry_of y) };
+
+    ghost laws = { partial_equiv_from_equiv (on_equiv entry_of same_entry_equiv) };
+
+    fn eq(&self, other: &Entry) -> bool {
+        self.value == other.value && self.meta == other.meta
+    }
+}
+
+impl Eq for Entry {
+    ghost laws = { on_equiv entry_of same_entry_equiv };
 }

@@ -4,7 +4,10 @@ ghost use Rattle.std.specs.Option.{option_map, option_or};
 ghost use Rattle.std.specs.FinMap as map;
 ghost use Rattle.model_names.specs.Name.{Name};
 ghost use Rattle.model_maps.specs.KeyMap.{KeyMap, no_keys, weight, at_or_below, not_below};
+ghost use Rattle.std.specs.Bool.{Decides};
+ghost use Rattle.std.specs.Cmp.{partial_equiv_from_equiv};
 ghost use Rattle.key_set.specs.EntryView.{entry_of};
+ghost use Rattle.key_set.specs.Same.{same_keys, same_keys_equiv};
 ghost use Rattle.key_set.specs.WithAll.{with_all};
 
 use crate::ranges::range_below;
@@ -137,6 +140,25 @@ impl KeySet {
         weight_of_all(self.keys.entries())
     }
 }
+
+impl PartialEq for KeySet {
+    ghost eq = { same_keys };
+
+    ghost laws = { partial_equiv_from_equiv same_keys_equiv };
+
+    fn eq(&self, other: &KeySet) -> bool {
+        self.keys.entries() == other.keys.entries()
+    }
+}
+
+impl Eq for KeySet {
+    ghost laws = { same_keys_equiv };
+}
+
+/// Sets are equal exactly where they are the same finite map.
+pub fn equal_sets_are_the_same_map()
+    ensures { (keys other : KeyMap) → Decides (same_keys keys other) (keys ≡ other) }
+{}
 
 /// Of keys with others set among them, a name has the others' entry, and else the keys' own.
 pub fn the_keys_set_last_are_found()

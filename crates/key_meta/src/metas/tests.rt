@@ -96,3 +96,21 @@ fn an_array_goes_on_past_nine(rt: HostRuntime) -> Result<(), Fail> {
     );
     Ok(())
 }
+
+#[test]
+fn metadata_are_equal_by_their_names_and_texts(rt: HostRuntime) -> Result<(), Fail> {
+    let meta = meta_of(rt.alloc(), &[("order", "1"), ("array", "#1")])?;
+    let rows: [(&[(&str, &str)], bool); 5] = [
+        (&[("array", "#1"), ("order", "1")], true),
+        (&[("array", "#1"), ("order", "2")], false),
+        (&[("array", "#1"), ("ordered", "1")], false),
+        (&[("array", "#1")], false),
+        (&[], false),
+    ];
+    for (items, same) in rows {
+        let other = meta_of(rt.alloc(), items)?;
+        assert_eq!(rt; meta == other, same);
+        assert_eq!(rt; other.is_empty(), items.len() == 0);
+    }
+    Ok(())
+}

@@ -155,3 +155,21 @@ fn weighs_nothing_while_it_is_empty(rt: HostRuntime) -> Result<(), Fail> {
     assert_eq!(rt; set.weight(), 0);
     Ok(())
 }
+
+#[test]
+fn sets_are_equal_by_their_names_values_and_metadata(rt: HostRuntime) -> Result<(), Fail> {
+    let alloc = rt.alloc();
+    let set = set_of(alloc, &["user:/a", "spec:/z"])?;
+    assert!(rt; set == set_of(alloc, &["spec:/z", "user:/a"])?);
+    assert!(rt; set != set_of(alloc, &["user:/a"])?);
+    assert!(rt; set != set_of(alloc, &["user:/a", "user:/z"])?);
+    let mut other = set_of(alloc, &["user:/a"])?;
+    other.append(name(alloc, "spec:/z")?, entry(alloc, "another value")?)?;
+    assert!(rt; set != other);
+    let mut meta = Meta::new(alloc);
+    meta.set("order", "1")?;
+    let value = Text::new(alloc, "spec:/z")?;
+    other.append(name(alloc, "spec:/z")?, Entry { value, meta })?;
+    assert!(rt; set != other);
+    Ok(())
+}

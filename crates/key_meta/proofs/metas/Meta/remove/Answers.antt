@@ -6,6 +6,8 @@ use Rattle.std.proofs.lemmas.Cmp.{nat_list_cmp_total}
 use Rattle.model_maps.specs.Entry.{text_cmp}
 use Rattle.sorted_map.specs.Place.{IsPlace, IsGap}
 use Rattle.sorted_map.proofs.MapLemmas.{get-place, get-gap, remove-place, remove-gap}
+use Rattle.key_meta.specs.MetaView.{AreItems}
+use Rattle.key_meta.proofs.ItemLemmas.{AreItems-remove}
 use Rattle.key_meta.proofs.metas.Meta.remove.Goals as goal
 
 pub returns-in-Ok-clause-former : goal.returns-in-Ok-clause-former
@@ -34,3 +36,6 @@ returns-in-Err-clause-removed c =
     sym c.self.view_is
     ∙ remove-gap text_cmp nat_list_cmp_total c.self.inside.items c.entries.ensures.sorted c.args.name.now (slice_cmp-IsAntisymmetric nat_cmp-IsAntisymmetric) c.in-Err.field-0 gap
     ∙ ap (λ m. map.remove m c.args.name.now) c.self.view_is
+
+pub invariant_of-self : goal.invariant_of-self
+invariant_of-self c = subst AreItems (sym c.remove_at.ensures.removed) (AreItems-remove c.in-Ok.at c.self.inside.items c.self.invariant)

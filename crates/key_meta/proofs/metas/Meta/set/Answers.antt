@@ -1,11 +1,15 @@
 -- The name's text is written over, or the name is inserted.
-use Rattle.std.proofs.Common.{Some, IfOk, List, ℕ, sym, ap, ◌≡◌, ◌∙◌, subst}
+use Rattle.std.proofs.Common.{Some, IfOk, OnOk, OnErr, Result, Ok, Err, List, ℕ, ◌<◌, ◌≤◌, length, sym, ap, ◌≡◌, ◌∙◌, subst}
 use Rattle.std.specs.FinMap as map
 use Rattle.std.specs.FinMap.{find}
+use Rattle.std.specs.FinMap.Entries.{put}
 use Rattle.std.proofs.lemmas.Cmp.{nat_list_cmp_total}
 use Rattle.model_maps.specs.Entry.{text_cmp}
 use Rattle.sorted_map.specs.Place.{IsPlace}
 use Rattle.sorted_map.proofs.MapLemmas.{get-place, insert-place, from_sorted-put, on_ok}
+use Rattle.std.specs.Str.{IsUtf8}
+use Rattle.key_meta.specs.MetaView.{AreItems, IsItem}
+use Rattle.key_meta.proofs.ItemLemmas.{AreItems-put, AreItems-set, IsItem-at}
 use Rattle.key_meta.proofs.metas.Meta.set.Goals as goal
 
 pub returns-in_ok-text-in-Ok-clause-former : goal.returns-in_ok-text-in-Ok-clause-former
@@ -40,3 +44,24 @@ returns-in_ok-text-in-Err-clause-ok c = on_ok c.insert.result (λ done.
     ∙ ap (λ name. map.insert (map.from_sorted c.self.inside.items) name c.in_ok-text-in-Err.text) c.in_ok-name-in-Err.ensures
     ∙ ap (λ text. map.insert (map.from_sorted c.self.inside.items) c.args.name.now text) c.in_ok-text-in-Err.ensures
     ∙ ap (λ m. map.insert m c.args.name.now c.args.text.now) c.self.view_is) c.insert.ensures.ok
+
+-- a name and a text that are passed make an item
+made : (name text : List ℕ) → IsUtf8 name → 0 < length name → length name ≤ 4096 → IsUtf8 text → IsItem (name, text)
+made name text utf8 some limit is_text = record { is_name = record { utf8 = utf8; some = some; limit = limit }; is_text = is_text }
+
+-- whether or not the item was put in
+by_result : {A E : Type 0} (before after : List (List ℕ × List ℕ)) (name text : List ℕ) (done : Result A E) → AreItems before → IsItem (name, text) → OnOk done (after ≡ put text_cmp name text before) → OnErr done (after ≡ before) → AreItems after
+by_result before after name text (Ok a) all item ok err = subst AreItems (sym ok) (AreItems-put name text item before all)
+by_result before after name text (Err e) all item ok err = subst AreItems (sym err) all
+
+pub invariant_of-self : goal.invariant_of-self
+invariant_of-self c =
+    let item = made c.args.name.now c.in_ok-text-in-Ok.text c.utf8.name c.requires.some c.requires.limit (subst IsUtf8 (sym c.in_ok-text-in-Ok.ensures) c.utf8.text) in
+    let former = IsItem-at c.in-Ok.at c.self.inside.items (c.args.name.now, c.in_ok-text-in-Ok.text) item c.self.invariant in
+    subst AreItems (sym (c.replace_at.ensures.replaced (c.args.name.now, c.in_ok-text-in-Ok.text)))
+    (AreItems-set c.in-Ok.at c.self.inside.items _ (record { is_name = former.is_name; is_text = item.is_text }) c.self.invariant)
+
+pub invariant_of-self-in-Err : goal.invariant_of-self-in-Err
+invariant_of-self-in-Err c =
+    let item = made c.in_ok-name-in-Err.name c.in_ok-text-in-Err.text (subst IsUtf8 (sym c.in_ok-name-in-Err.ensures) c.utf8.name) (subst (λ n. 0 < length n) (sym c.in_ok-name-in-Err.ensures) c.requires.some) (subst (λ n. length n ≤ 4096) (sym c.in_ok-name-in-Err.ensures) c.requires.limit) (subst IsUtf8 (sym c.in_ok-text-in-Err.ensures) c.utf8.text) in
+    by_result c.self.inside.items c.insert.new.self c.in_ok-name-in-Err.name c.in_ok-text-in-Err.text c.insert.result c.self.invariant item c.insert.ensures.ok c.insert.ensures.err

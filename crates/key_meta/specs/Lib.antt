@@ -1,0 +1,2 @@
+pub mod MetaView
+pub mod Same

@@ -1,0 +1,19 @@
+-- The maps have the keys for entries.
+use Rattle.std.proofs.Common.{◌≡◌, ◌&&◌, ap, ◌∙◌, sym}
+use Rattle.std.specs.FinMap as map
+use Rattle.std.specs.Cmp.Lexicographic.{pointwise}
+use Rattle.model_names.specs.Order.{name_eq}
+use Rattle.key_set.specs.EntryView.{entry_of}
+use Rattle.key_set.specs.Same.{same_entry, same_key}
+use Rattle.key_set.proofs.SetLemmas.{entries-keys}
+use Rattle.key_set.proofs.SameLemmas.{pointwise-seen}
+use Rattle.key_set.proofs.key_sets.KeySetPartialEq.eq.Goals as goal
+
+pub returns : goal.returns
+returns c =
+    let mine = sym (entries-keys c.self.inside.keys c.entries.ensures.sorted) ∙ ap map.entries c.self.view_is in
+    let others = sym (entries-keys c.other.inside.keys c.entries-2.ensures.sorted) ∙ ap map.entries c.other.view_is in
+    c.eq.ensures
+    ∙ (λ i. pointwise (λ x y. name_eq x.0 y.0 && same_entry (entry_of x.1) (entry_of y.1)) (c.entries.ensures.all i) (c.entries-2.ensures.all i))
+    ∙ pointwise-seen c.self.inside.keys c.other.inside.keys
+    ∙ (λ i. pointwise same_key (mine i) (others i))
