@@ -1,7 +1,9 @@
 -- The laws of all formats: a kind is one more case.
-use Rattle.std.specs.Prelude.{◌≡◌, ℕ, List, [], true, refl}
+use Rattle.std.specs.Prelude.{◌≡◌, ℕ, List, [], true, Some, refl}
+use Rattle.std.specs.FinMap as map
 use Rattle.std.proofs.Common.{sym, ap, ◌∙◌, inl}
 use Rattle.model_names.specs.Name.{Name}
+use Rattle.model_maps.specs.Entry.{Entry}
 use Rattle.model_maps.specs.KeyMap.{KeyMap, no_keys}
 use Rattle.model_maps.specs.Limits.{IsLimited}
 use Rattle.model_dump.specs.Adds.{Adds}
@@ -42,6 +44,9 @@ storable-breaks_nowhere Dump keys name storable breaks = breaks
 
 pub BreaksAt-once : (kind : Kind) (keys : KeyMap) (name other : Name) → BreaksAt kind keys name → BreaksAt kind keys other → name ≡ other
 BreaksAt-once Dump keys name other breaks again = absurd breaks
+
+pub BreaksAt-key : (kind : Kind) (keys : KeyMap) (name : Name) → BreaksAt kind keys name → (entry : Entry) × (map.get keys name ≡ Some entry)
+BreaksAt-key Dump keys name breaks = absurd breaks
 
 pub by-keys : (kind : Kind) (keys : KeyMap) → is_keywise kind ≡ true → IsKeywise (IsStorable kind) keys
 by-keys Dump keys keywise = record { each = λ has name entry found. tt; all = λ each. tt }

@@ -3,7 +3,7 @@ ghost use Rattle.std.specs.Prelude.{◌≡◌, MatchResult};
 ghost use Rattle.model_maps.specs.Limits.{IsLimited};
 ghost use Rattle.storage_api.specs.Formats.{RefusesToRead, RefusesToWrite};
 ghost use Rattle.all_formats.specs.Meanings.{Reads, IsBadAt, text, IsStorable, BreaksAt, is_keywise};
-ghost use Rattle.all_formats.specs.Laws.{text-reads, Reads-once, Reads-storable, Reads-limited, empty-Reads, Reads-not_bad, IsBadAt-once, storable-breaks_nowhere, BreaksAt-once, by-keys};
+ghost use Rattle.all_formats.specs.Laws.{text-reads, Reads-once, Reads-storable, Reads-limited, empty-Reads, Reads-not_bad, IsBadAt-once, storable-breaks_nowhere, BreaksAt-once, BreaksAt-key, by-keys};
 
 use kdb_outside::Kind;
 use key_set::KeySet;
@@ -44,6 +44,8 @@ impl Formats for AllFormats {
     ghost storable_breaks_nowhere = { storable-breaks_nowhere };
 
     ghost one_break = { BreaksAt-once };
+
+    ghost breaks_at_a_key = { BreaksAt-key };
 
     ghost by_keys = { by-keys };
 

@@ -1,6 +1,8 @@
 //! What a store knows of file formats. It stands on this trait, and never on a format.
-ghost use Rattle.std.specs.Prelude.{◌≡◌, ℕ, List, [], Bool, true, MatchResult};
+ghost use Rattle.std.specs.Prelude.{◌≡◌, ℕ, List, [], Bool, true, Some, MatchResult};
+ghost use Rattle.std.specs.FinMap as map;
 ghost use Rattle.model_names.specs.Name.{Name};
+ghost use Rattle.model_maps.specs.Entry.{Entry};
 ghost use Rattle.model_maps.specs.KeyMap.{KeyMap, no_keys};
 ghost use Rattle.model_maps.specs.Limits.{IsLimited};
 ghost use Rattle.kdb_outside.specs.declared.kinds.Kind.{Kind};
@@ -57,6 +59,9 @@ pub trait Formats {
 
     /// and others at one key alone.
     ghost one_break: { (kind : Kind) (keys : KeyMap) (name other : Name) → breaks_at kind keys name → breaks_at kind keys other → name ≡ other };
+
+    /// which is one of its keys.
+    ghost breaks_at_a_key: { (kind : Kind) (keys : KeyMap) (name : Name) → breaks_at kind keys name → (entry : Entry) × (map.get keys name ≡ Some entry) };
 
     /// Where a format goes by keys, a map can be stored exactly where each key alone can.
     ghost by_keys: { (kind : Kind) (keys : KeyMap) → is_keywise kind ≡ true → IsKeywise (is_storable kind) keys };
