@@ -1,0 +1,12 @@
+pub mod MapLemmas
+pub mod WholeLemmas
+pub mod FirstLemmas
+pub mod LimitLemmas
+pub mod ChangeLemmas
+pub mod WeighLemmas
+pub mod JudgeLemmas
+pub mod StateLemmas
+pub mod PointLemmas
+pub mod GetLemmas
+pub mod SeenLemmas
+pub mod WriteLemmas

@@ -1,0 +1,71 @@
+-- The texts of changes, change by change.
+use Rattle.std.proofs.Common.{◌≡◌, ℕ, ◌+◌, ◌≤◌, List, [], ◌∷◌, ◌++◌, length, take, drop, slice_get, Some, None, refl, sym, ap, ap₂, subst, ◌∙◌}
+use Rattle.std.specs.FinMap as map
+use Rattle.std.specs.FinMap.{FinMap}
+use Rattle.std.specs.FinMap.Entries.{put}
+use Rattle.std.specs.Option.{option_or}
+use Rattle.std.proofs.lemmas.Cmp.{nat_list_cmp_total}
+use Rattle.std.proofs.lemmas.List.{take_all, take-append-drop, drop_more}
+use Rattle.std.proofs.lemmas.List.Sums.{fold-append}
+use Rattle.std.proofs.lemmas.Option.{slice_get_within, get_or_from_slice_get}
+use Rattle.kdb_outside.specs.declared.kinds.Kind.{Kind}
+use Rattle.key_name.specs.Joining.{joined}
+use Rattle.model_names.proofs.PartLemmas.{all_append}
+use Rattle.model_names.specs.Name.{Name}
+use Rattle.model_names.specs.Refuses.{first_some}
+use Rattle.model_maps.specs.Entry.{text_cmp}
+use Rattle.model_maps.specs.KeyMap.{KeyMap}
+use Rattle.set_split.proofs.FrontLemmas.{take-next}
+use Rattle.sorted_map.proofs.MapLemmas.{from_sorted-nil}
+use Rattle.mounted_store.specs.Judging.{AreStorable, Breaks, if_too_long, texts_of, too_long}
+use Rattle.mounted_store.specs.Written.{AreWritten}
+use Rattle.mounted_store.specs.declared.changes.Change.{Change}
+use Rattle.mounted_store.specs.declared.verdicts.Verdict.{Verdict}
+use Rattle.mounted_store.specs.declared.verdicts.Verdict.TheVariants.{NotStorable}
+use Rattle.mounted_store.specs.declared.writing.Written.{Written}
+use Rattle.mounted_store.proofs.FirstLemmas.{first-append}
+
+cut-at : {A : Type 0} (xs : List A) (i : ℕ) (x : A) → Some x ≡ slice_get xs i → xs ≡ take i xs ++ x ∷ drop (i + 1) xs
+cut-at xs i x found =
+    sym (take-append-drop i xs) ∙ ap (λ rest. take i xs ++ rest) (drop_more xs i x (slice_get_within xs i x (sym found)) ∙ ap (λ y. y ∷ drop (i + 1) xs) (get_or_from_slice_get xs i x x (sym found)))
+
+-- no text is written at the start
+pub written-none : (text : Kind → KeyMap → List ℕ) (IsStorable : Kind → KeyMap → Type 0) (files : List (List ℕ × List ℕ)) → files ≡ [] → AreWritten text IsStorable [] (record { files = files; too_long = None })
+written-none text IsStorable files none = record { storable = tt; texts = none ∙ sym (ap map.entries (sym (from_sorted-nil {X = List ℕ} text_cmp)) ∙ map.entries-from_sorted text_cmp [] tt); long = refl }
+
+module _ (text : Kind → KeyMap → List ℕ) (IsStorable : Kind → KeyMap → Type 0) (all : List Change) where
+  texts-more : (k : ℕ) (change : Change) → Some change ≡ slice_get all k → texts_of text (take (k + 1) all) ≡ map.insert (texts_of text (take k all)) change.mount.file (text change.mount.kind change.contents)
+  texts-more k change there =
+      ap (texts_of text) (take-next all k change there)
+      ∙ fold-append (λ (files : FinMap text_cmp (List ℕ)) (c : Change). map.insert files c.mount.file (text c.mount.kind c.contents)) map.empty (take k all) (change ∷ [])
+
+  module _ (k : ℕ) (change : Change) (there : Some change ≡ slice_get all k) (written : Written) (so_far : AreWritten text IsStorable (take k all) written) where
+    -- the text of one more change is written
+    pub written-more : (bytes : List ℕ) (new : Written) → bytes ≡ text change.mount.kind change.contents → IsStorable change.mount.kind change.contents → new.files ≡ put text_cmp change.mount.file bytes written.files → new.too_long ≡ option_or written.too_long (if_too_long change bytes) → AreWritten text IsStorable (take (k + 1) all) new
+    written-more bytes new is storable files long = record {
+      storable = subst (λ (cs : List Change). AreStorable IsStorable cs) (sym (take-next all k change there)) (all_append (λ (c : Change). IsStorable c.mount.kind c.contents) (take k all) (change ∷ []) so_far.storable (storable, tt));
+      texts =
+          files
+          ∙ ap₂ (λ b fs. put text_cmp change.mount.file b fs) is so_far.texts
+          ∙ sym (ap map.entries (texts-more k change there) ∙ map.entries-insert nat_list_cmp_total (texts_of text (take k all)) change.mount.file (text change.mount.kind change.contents));
+      long =
+          long
+          ∙ ap₂ (λ o b. option_or o (if_too_long change b)) so_far.long is
+          ∙ sym (ap (first_some (too_long text)) (take-next all k change there) ∙ first-append (too_long text) (take k all) change);
+    }
+
+    -- its format can't hold the keys of the next one
+    pub written-breaks : (BreaksAt : Kind → KeyMap → Name → Type 0) (key : Name) (verdict : Verdict) → BreaksAt change.mount.kind change.contents key → verdict ≡ NotStorable change.mount.at (joined change.mount.at key) → Breaks IsStorable BreaksAt all verdict
+    written-breaks BreaksAt key verdict breaks is = record {
+      before = take k all;
+      change = change;
+      behind = drop (k + 1) all;
+      stand = cut-at all k change there;
+      storable = so_far.storable;
+      key = key;
+      breaks = breaks;
+      is = is;
+    }
+
+  pub written-all : (k : ℕ) (written : Written) → length all ≤ k → AreWritten text IsStorable (take k all) written → AreWritten text IsStorable all written
+  written-all k written le done = subst (λ (cs : List Change). AreWritten text IsStorable cs written) (take_all k all le) done

@@ -1,0 +1,17 @@
+pub use Rattle.key_name.specs.Owner
+pub use Rattle.mount_table.specs.Table
+pub mod Owned
+pub mod Whole
+pub mod Files
+pub mod Weighed
+pub mod Opening
+pub mod Getting
+pub mod Setting
+pub mod Judging
+pub mod Short
+pub mod Sound
+pub mod Holding
+pub mod Written
+pub mod Refusing
+pub mod Begun
+pub mod MountedView

@@ -1,0 +1,16 @@
+//! Keys put into a set.
+ghost use Rattle.std.specs.Prelude.{◌≡◌, OnOk};
+ghost use Rattle.std.specs.FinMap as map;
+ghost use Rattle.key_set.specs.EntryView.{entry_of};
+
+use key_meta::Memory;
+use key_name::KeyName;
+use key_set::{Entry, KeySet};
+
+/// Gives a name a copy of an entry.
+pub fn put(keys: &mut KeySet, name: KeyName, entry: &Entry) -> Result<(), Memory>
+    ensures { OnOk result (keys.new ≡ map.insert keys.old name (entry_of entry.now)) }
+{
+    let _former = keys.append(name, entry.copy()?)?;
+    Ok(())
+}

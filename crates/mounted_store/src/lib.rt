@@ -1,0 +1,27 @@
+//! What the files of a mount table mean, and what a set makes of them. Reading and writing them is the caller's.
+#![tactic(auto)]
+
+mod adding;
+mod causes;
+mod changes;
+mod files;
+mod holding;
+mod judging;
+mod mounted;
+mod opening;
+mod owned;
+mod refusals;
+mod setting;
+mod table_file;
+mod verdicts;
+mod weighing;
+mod whole;
+mod writing;
+
+pub use causes::Cause;
+pub use files::{FileState, MountedFile};
+pub use mounted::Mounted;
+pub use opening::Opening;
+pub use refusals::{GetFault, OpenRefusal};
+pub use table_file::read_table_file;
+pub use verdicts::Verdict;
