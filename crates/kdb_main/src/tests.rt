@@ -8,6 +8,7 @@ use std::test::Fail;
 use std::{env, fs, process};
 
 mod commands;
+mod mounted;
 
 const ONE_KEY: &[u8] = b"kdbOpen 2\n$key string 4 1\nsw/a\n1\n$end\n";
 
@@ -45,9 +46,9 @@ fn prints_what_the_files_of_a_folder_hold(rt: HostRuntime) -> Result<(), Fail> {
         (
             ONE_KEY,
             &["get", "system:/sw/a"],
-            2,
+            11,
             "",
-            "kdb: not built: system:/sw/a\n",
+            "kdb: not found: system:/sw/a\n",
         ),
         (ONE_KEY, &[], 4, "", "kdb: no command\n"),
         (ONE_KEY, &["frob"], 4, "", "kdb: unknown command frob\n"),

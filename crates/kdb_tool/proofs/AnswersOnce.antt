@@ -1,34 +1,21 @@
 -- A command line has one answer.
-use Rattle.std.specs.Prelude.{◌≡◌, ℕ, ◌≤◌, ◌<◌, List, length}
-use Rattle.std.proofs.Common.{sym, ap, subst, ◌∙◌, arith}
+use Rattle.std.specs.Prelude.{◌≡◌, ℕ, List, Result, Ok, Err}
+use Rattle.std.proofs.Common.{sym, ap, subst, ◌∙◌}
 use Rattle.model_names.specs.Name.{Name}
 use Rattle.model_names.proofs.SpellsLemmas.{Spells-once}
-use Rattle.model_dump.specs.Adds.{Adds}
-use Rattle.model_dump.specs.Dump.{line_at}
-use Rattle.model_dump.proofs.AddsOnce.{Adds-once}
-use Rattle.model_dump.proofs.Readings.{Reads-once, Reads-or-stops, Stops-once}
-use Rattle.kdb_tool.specs.Lines.{not_built}
-use Rattle.kdb_tool.specs.Request.{Action, Get, Set, Remove, Names, GetMeta, SetMeta, MetaNames, Bring, Request, Refuses, IsOutside, Asks, SpellsAction, request}
-use Rattle.kdb_tool.specs.Holding.{Holding, Holds, IsTooLong, IsBad, Means, longest_file}
-use Rattle.kdb_tool.specs.Answer.{Answer, refused, user_file}
-use Rattle.kdb_tool.specs.Commands.{answer_over}
-use Rattle.kdb_tool.specs.Answers.{AnswersFrom, AnswersText, AnswersOutside, AnswersRequest, Answers}
-
-too_long_for : (bytes : List ℕ) → longest_file < length bytes → length bytes ≤ longest_file → ⊥
-too_long_for bytes long short = omega arith
-
--- the bytes of a file mean one thing
-pub Means-once : (bytes : List ℕ) (a b : Holding) → Means bytes a → Means bytes b → a ≡ b
-Means-once bytes (Holds k) (Holds l) p q = ap Holds (Reads-once Adds Adds-once bytes k l p.reads q.reads)
-Means-once bytes (Holds k) (IsTooLong n) p q = absurd (too_long_for bytes q.0 p.short)
-Means-once bytes (Holds k) (IsBad n) p q = absurd (Reads-or-stops Adds Adds-once bytes k q.place p.reads q.stops)
-Means-once bytes (IsTooLong m) (Holds k) p q = absurd (too_long_for bytes p.0 q.short)
-Means-once bytes (IsTooLong m) (IsTooLong n) p q = ap IsTooLong (p.1 ∙ sym q.1)
-Means-once bytes (IsTooLong m) (IsBad n) p q = absurd (too_long_for bytes p.0 q.short)
-Means-once bytes (IsBad m) (Holds k) p q = absurd (Reads-or-stops Adds Adds-once bytes k p.place q.reads p.stops)
-Means-once bytes (IsBad m) (IsTooLong n) p q = absurd (too_long_for bytes q.0 p.short)
-Means-once bytes (IsBad m) (IsBad n) p q =
-    ap IsBad (p.is ∙ ap (line_at bytes) (Stops-once Adds Adds-once bytes p.place q.place p.stops q.stops) ∙ sym q.is)
+use Rattle.model_maps.specs.KeyMap.{KeyMap}
+use Rattle.mounted_store.specs.Getting.{got}
+use Rattle.mounted_store.specs.declared.files.MountedFile.{MountedFile}
+use Rattle.mounted_store.specs.declared.refusals.GetFault.{GetFault}
+use Rattle.mounted_store.specs.declared.refusals.OpenRefusal.{OpenRefusal}
+use Rattle.kdb_tool.specs.Request.{Action, Get, Set, Remove, Names, GetMeta, SetMeta, MetaNames, Bring, MountFile, Unmount, Question, Mounts, FileOf, On, Request, Refuses, Bars, Asks, SpellsAction, SpellsQuestion, request}
+use Rattle.kdb_tool.specs.declared.uses.Use.{Use}
+use Rattle.kdb_tool.specs.Answer.{Answer, refused}
+use Rattle.kdb_tool.specs.Uses.{barred}
+use Rattle.kdb_tool.specs.Commands.{Step, Tells, Sets, parent_of, step_of}
+use Rattle.kdb_tool.specs.Answers.{AnswersStep, AnswersGot, AnswersIn, AnswersOpened, AnswersOver, AnswersSpelled, AnswersBarred, AnswersRequest, Answers, answer_by}
+use Rattle.kdb_tool.proofs.StatesOnce.{IsMade, Opens-once}
+use Rattle.kdb_tool.proofs.VerdictOnce.{Verdict-once}
 
 -- texts spell one action
 action_once : (by : Action (List ℕ)) (a b : Action Name) → SpellsAction by a → SpellsAction by b → a ≡ b
@@ -39,25 +26,56 @@ action_once Names a b p q = p ∙ sym q
 action_once (GetMeta meta) a b p q = p ∙ sym q
 action_once (SetMeta meta text) a b p q = p ∙ sym q
 action_once MetaNames a b p q = p ∙ sym q
-action_once (Bring way extent text) a b p q = p.is ∙ ap (Bring way extent) (Spells-once text p.other q.other p.spelled q.spelled) ∙ sym q.is
+action_once (Bring way extent text) a b p q = p.is ∙ (ap (Bring way extent) (Spells-once text p.name q.name p.spelled q.spelled) ∙ sym q.is)
+action_once (MountFile file kind) a b p q = p ∙ sym q
+action_once Unmount a b p q = p ∙ sym q
 
-AnswersFrom-once : (name : Name) (action : Action Name) (bytes : List ℕ) (a b : Answer) → AnswersFrom name action bytes a → AnswersFrom name action bytes b → a ≡ b
-AnswersFrom-once name action bytes a b p q = p.is ∙ ap (λ h. answer_over h name action) (Means-once bytes p.holding q.holding p.means q.means) ∙ sym q.is
+-- and one question
+question_once : (by : Question (List ℕ)) (a b : Question Name) → SpellsQuestion by a → SpellsQuestion by b → a ≡ b
+question_once Mounts a b p q = p ∙ sym q
+question_once (FileOf text) a b p q = p.is ∙ (ap FileOf (Spells-once text p.name q.name p.spelled q.spelled) ∙ sym q.is)
+question_once (On text by) a b p q =
+    p.is ∙ (ap (λ name. On name p.action) (Spells-once text p.name q.name p.spelled q.spelled)
+    ∙ (ap (On q.name) (action_once by p.action q.action p.action_spelled q.action_spelled) ∙ sym q.is))
 
-AnswersText-once : (text : List ℕ) (by : Action (List ℕ)) (files : List ℕ → List ℕ) (a b : Answer) → AnswersText text by files a → AnswersText text by files b → a ≡ b
-AnswersText-once text by files a b p q =
-    let same_name = sym (Spells-once text p.name q.name p.spelled q.spelled) in
-    let same_action = sym (action_once by p.action q.action p.action_spelled q.action_spelled) in
-    let from = subst (λ n. AnswersFrom n q.action (files user_file) b) same_name q.from in
-    AnswersFrom-once p.name p.action (files user_file) a b p.from (subst (λ act. AnswersFrom p.name act (files user_file) b) same_action from)
+step_once : (files : List MountedFile) (parent : Name) (step : Step) (a b : Answer) → AnswersStep files parent step a → AnswersStep files parent step b → a ≡ b
+step_once files parent (Tells report) a b p q = p ∙ sym q
+step_once files parent (Sets keys out) a b p q = p.is ∙ (ap (λ v. answer_by v out) (Verdict-once files parent keys p.verdict q.verdict p.judged q.judged) ∙ sym q.is)
 
-AnswersOutside-once : (text : List ℕ) (a b : Answer) → AnswersOutside text a → AnswersOutside text b → a ≡ b
-AnswersOutside-once text a b p q = p.is ∙ ap (λ name. refused 2 (not_built name)) (Spells-once text p.name q.name p.spelled q.spelled) ∙ sym q.is
+got_once : (files : List MountedFile) (name : Name) (action : Action Name) (keys : Result KeyMap GetFault) (a b : Answer) → AnswersGot files name action keys a → AnswersGot files name action keys b → a ≡ b
+got_once files name action (Ok keys) a b p q = step_once files (parent_of name action) (step_of keys name action) a b p q
+got_once files name action (Err fault) a b p q = p ∙ sym q
 
-AnswersRequest-once : (r : Request) (files : List ℕ → List ℕ) (a b : Answer) → AnswersRequest r files a → AnswersRequest r files b → a ≡ b
-AnswersRequest-once (Refuses status text) files a b p q = p ∙ sym q
-AnswersRequest-once (IsOutside text) files a b p q = AnswersOutside-once text a b p q
-AnswersRequest-once (Asks text by) files a b p q = AnswersText-once text by files a b p q
+in_once : (files : List MountedFile) (question : Question Name) (a b : Answer) → AnswersIn files question a → AnswersIn files question b → a ≡ b
+in_once files Mounts a b p q = p ∙ sym q
+in_once files (FileOf name) a b p q = p ∙ sym q
+in_once files (On name action) a b p q = got_once files name action (got files (parent_of name action)) a b p q
+
+opened_once : (opened : Result (List MountedFile) OpenRefusal) (question : Question Name) (a b : Answer) → AnswersOpened opened question a → AnswersOpened opened question b → a ≡ b
+opened_once (Ok files) question a b p q = in_once files question a b p q
+opened_once (Err refusal) question a b p q = p.1 ∙ sym q.1
+
+is_made : (opened : Result (List MountedFile) OpenRefusal) (question : Question Name) (answer : Answer) → AnswersOpened opened question answer → IsMade opened
+is_made (Ok files) question answer answers = tt
+is_made (Err refusal) question answer answers = answers.0
+
+over_once : (question : Question Name) (bytes_of : List ℕ → List ℕ) (a b : Answer) → AnswersOver question bytes_of a → AnswersOver question bytes_of b → a ≡ b
+over_once question bytes_of a b p q =
+    let same = Opens-once bytes_of p.opened q.opened p.opens q.opens (is_made p.opened question a p.answers) (is_made q.opened question b q.answers) in
+    opened_once p.opened question a b p.answers (subst (λ opened. AnswersOpened opened question b) (sym same) q.answers)
+
+spelled_once : (by : Question (List ℕ)) (bytes_of : List ℕ → List ℕ) (a b : Answer) → AnswersSpelled by bytes_of a → AnswersSpelled by bytes_of b → a ≡ b
+spelled_once by bytes_of a b p q =
+    let same = question_once by p.question q.question p.spelled q.spelled in
+    over_once p.question bytes_of a b p.over (subst (λ question. AnswersOver question bytes_of b) (sym same) q.over)
+
+barred_once : (by : Use) (text : List ℕ) (a b : Answer) → AnswersBarred by text a → AnswersBarred by text b → a ≡ b
+barred_once by text a b p q = p.is ∙ (ap (λ name. refused 2 (barred by name)) (Spells-once text p.name q.name p.spelled q.spelled) ∙ sym q.is)
+
+request_once : (asked : Request) (bytes_of : List ℕ → List ℕ) (a b : Answer) → AnswersRequest asked bytes_of a → AnswersRequest asked bytes_of b → a ≡ b
+request_once (Refuses status text) bytes_of a b p q = p ∙ sym q
+request_once (Bars by text) bytes_of a b p q = barred_once by text a b p q
+request_once (Asks by) bytes_of a b p q = spelled_once by bytes_of a b p q
 
 pub Answers-once : (words : List (List ℕ)) (files : List ℕ → List ℕ) (a b : Answer) → Answers words files a → Answers words files b → a ≡ b
-Answers-once words files a b = AnswersRequest-once (request words) files a b
+Answers-once words files a b = request_once (request words) files a b

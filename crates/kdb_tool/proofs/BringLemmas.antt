@@ -20,8 +20,8 @@ use Rattle.key_set.specs.WithAll.{with_all, with_keys}
 use Rattle.key_set.proofs.WithAllLemmas.{get-with_all}
 use Rattle.kdb_tool.specs.declared.extents.Extent.{Extent}
 use Rattle.kdb_tool.specs.declared.extents.Extent.TheVariants.{Alone, WithBelow}
-use Rattle.kdb_tool.specs.Commands.{brought, bytes_over, first_too_long, with_brought, sources, kept, brought_over}
-use Rattle.kdb_tool.specs.Answer.{refused}
+use Rattle.kdb_tool.specs.Commands.{brought, bytes_over, first_too_long, with_brought, sources, brought_over, Sets, Tells}
+use Rattle.kdb_tool.specs.Answer.{warned}
 use Rattle.kdb_tool.specs.Lines.{no_name}
 use Rattle.kdb_tool.proofs.TreeLemmas.{entries-below}
 
@@ -95,11 +95,11 @@ brought-together from to keys taken =
     brought-with_all from to no_keys keys taken
     ∙ ap (λ es. with_brought from to (with_keys es keys) taken) no_entries
 
--- where no name is too long, the keys are set and the map is kept
-pub over-kept : (from to : Name) (before : List ℕ) (taken : List (Name × Entry)) (keys set : KeyMap) → None ≡ first_too_long from to taken → set ≡ with_brought from to keys taken → kept before set ≡ brought_over from to before taken keys
-over-kept from to before taken keys set first is =
-    ap (kept before) is
-    ∙ ap (λ o. elim o [ None ↦ kept before (with_brought from to keys taken) | Some bytes ↦ refused 2 (no_name (TooLong bytes)) ]) first
+-- where no name is too long, the keys are set
+pub over-set : (from to : Name) (taken : List (Name × Entry)) (keys set : KeyMap) → None ≡ first_too_long from to taken → set ≡ with_brought from to keys taken → Sets set [] ≡ brought_over from to taken keys
+over-set from to taken keys set first is =
+    ap (λ k. Sets k []) is
+    ∙ ap (λ o. elim o [ None ↦ Sets (with_brought from to keys taken) [] | Some bytes ↦ Tells (warned 2 (no_name (TooLong bytes))) ]) first
 
 -- each of the keys that a command is for is at or below its name
 at_or_below_itself : (name : Name) → is_at_or_below name name ≡ true

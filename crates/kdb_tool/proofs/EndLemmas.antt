@@ -7,15 +7,17 @@ use Rattle.kdb_tool.specs.declared.answers.Answer as code
 use Rattle.kdb_tool.specs.declared.answers.Stop.{Stop}
 use Rattle.kdb_tool.specs.declared.answers.Stop.TheVariants as stops
 use Rattle.kdb_tool.specs.Lines.{disk_fault, out_of_memory}
-use Rattle.kdb_tool.specs.Answer.{Report, Answer, warned, LeavesFiles}
-use Rattle.kdb_tool.specs.Request.{Request, Refuses, IsOutside, Asks}
-use Rattle.kdb_tool.specs.Answers.{Answers, AnswersOutside}
+use Rattle.kdb_tool.specs.declared.uses.Use.{Use}
+use Rattle.kdb_tool.specs.Answer.{Report, Answer, Texts, warned, KeepsUnnamed, LeavesFiles}
+use Rattle.kdb_tool.specs.Request.{Request, Refuses, Bars, Asks}
+use Rattle.kdb_tool.specs.Answers.{Answers, AnswersBarred}
 use Rattle.kdb_tool.specs.AnswerView.{report_of, answer_of}
 use Rattle.kdb_tool.specs.Untold.{IsStatusOf, AnswersUntold}
 use Rattle.kdb_tool.specs.Work.{Leaves, Stores}
 use Rattle.kdb_tool.specs.Ending.{ending}
+use Rattle.kdb_tool.specs.Lasting.{Lasts, SparesUnnamed}
 use Rattle.kdb_tool.specs.Outcome.{Change, Failed, Gives, Gains, GainsFront, Delivers, Whole, OutFails, ErrFails}
-use Rattle.kdb_tool.specs.Ends.{IsAnswered, EndsAsAnswered, GivesAnswer, EndsOutside, EndsByWords, EndsWithoutMemory, EndsInFault, FaultCause, OfDisk, OfOut, OfErr, LeftBy, Unwritten, Left}
+use Rattle.kdb_tool.specs.Ends.{IsAnswered, EndsAsAnswered, GivesAnswer, EndsBarred, EndsByWords, EndsWithoutMemory, EndsInFault, FaultCause, OfDisk, OfOut, OfErr, LeftBy, Unwritten, Left}
 use Rattle.kdb_tool.proofs.AnswersOnce.{Answers-once}
 
 not_fault : (status : ℕ) → status ≡ 70 → status ≢ 74
@@ -29,28 +31,28 @@ whole answer status out err (ErrFails loses) no_fault = absurd (no_fault loses.s
 
 pub answered : (r : Result code.Answer Stop) (words : List (List ℕ)) (before after : List ℕ → List ℕ) (status : ℕ) (out err : Change) → IfOk r (λ answer. Answers words before (answer_of answer)) → Leaves words r before after → Delivers (ending r) status out err → EndsAsAnswered words before after status out err
 answered (Ok answer) words before after status out err answers leaves delivers =
-    λ is. record { answer = answer_of answer; answers = answers; gives = whole (report_of answer) status out err delivers is.1; leaves = leaves }
+    λ is. record { answer = answer_of answer; answers = answers; gives = whole (report_of answer.report) status out err delivers is.1; leaves = leaves }
 answered (Err stops.Memory) words before after status out err answers leaves delivers =
     λ is. absurd (is.0 (whole (warned 70 out_of_memory) status out err delivers is.1).status_is)
 answered (Err stops.DiskFault) words before after status out err answers leaves delivers =
     λ is. absurd (is.1 (whole (warned 74 disk_fault) status out err delivers is.1).status_is)
 
-outside : (text : List ℕ) (answer : Answer) (status : ℕ) (out err : Change) → AnswersOutside text answer → Gives answer.report status out err → EndsOutside text status out err
-outside text answer status out err is gives =
+barred : (by : Use) (text : List ℕ) (answer : Answer) (status : ℕ) (out err : Change) → AnswersBarred by text answer → Gives answer.report status out err → EndsBarred by text status out err
+barred by text answer status out err is gives =
     record { name = is.name; spelled = is.spelled; gives = subst (λ (a : Answer). Gives a.report status out err) is.is gives }
 
 by_request : (asked : Request) (answer : Answer) (status : ℕ) (out err : Change) → AnswersUntold asked answer → (status ≢ 74 → Gives answer.report status out err) → EndsByWords asked status out err
 by_request (Refuses code text) answer status out err is gives = λ answered. subst (λ (a : Answer). Gives a.report status out err) is (gives answered.1)
-by_request (IsOutside text) answer status out err is gives = λ answered. outside text answer status out err is (gives answered.1)
-by_request (Asks text by) answer status out err is gives = λ answered. subst (IsStatusOf by) (sym (gives answered.1).status_is) is
+by_request (Bars by text) answer status out err is gives = λ answered. barred by text answer status out err is (gives answered.1)
+by_request (Asks by) answer status out err is gives = λ answered. subst (IsStatusOf by) (sym (gives answered.1).status_is) is
 
 stopped_by : (asked : Request) (code : ℕ) (answer : Report) (status : ℕ) (out err : Change) → (IsAnswered status → ⊥) → EndsByWords asked status out err
 stopped_by (Refuses number text) code answer status out err never = λ answered. absurd (never answered)
-stopped_by (IsOutside text) code answer status out err never = λ answered. absurd (never answered)
-stopped_by (Asks text by) code answer status out err never = λ answered. absurd (never answered)
+stopped_by (Bars by text) code answer status out err never = λ answered. absurd (never answered)
+stopped_by (Asks by) code answer status out err never = λ answered. absurd (never answered)
 
 pub by_words : (r : Result code.Answer Stop) (asked : Request) (status : ℕ) (out err : Change) → IfOk r (λ answer. AnswersUntold asked (answer_of answer)) → Delivers (ending r) status out err → EndsByWords asked status out err
-by_words (Ok answer) asked status out err untold delivers = by_request asked (answer_of answer) status out err untold (whole (report_of answer) status out err delivers)
+by_words (Ok answer) asked status out err untold delivers = by_request asked (answer_of answer) status out err untold (whole (report_of answer.report) status out err delivers)
 by_words (Err stops.Memory) asked status out err untold delivers =
     stopped_by asked 70 (warned 70 out_of_memory) status out err (λ is. is.0 (whole (warned 70 out_of_memory) status out err delivers is.1).status_is)
 by_words (Err stops.DiskFault) asked status out err untold delivers =
@@ -78,14 +80,14 @@ front report status out err (ErrFails loses) = loses.out_front
 pub prefix : (r : Result code.Answer Stop) (words : List (List ℕ)) (files : List ℕ → List ℕ) (status : ℕ) (out err : Change) → IfOk r (λ answer. Answers words files (answer_of answer)) → Delivers (ending r) status out err
     → (answer : Answer) → Answers words files answer → GainsFront out.held_before out.held_now answer.report.out
 prefix (Ok made) words files status out err answers delivers = λ answer other.
-    subst (λ (a : Answer). GainsFront out.held_before out.held_now a.report.out) (Answers-once words files (answer_of made) answer answers other) (front (report_of made) status out err delivers)
+    subst (λ (a : Answer). GainsFront out.held_before out.held_now a.report.out) (Answers-once words files (answer_of made) answer answers other) (front (report_of made.report) status out err delivers)
 prefix (Err stops.Memory) words files status out err answers delivers = λ answer other. front-none out.held_before out.held_now answer.report.out (front (warned 70 out_of_memory) status out err delivers)
 prefix (Err stops.DiskFault) words files status out err answers delivers = λ answer other. front-none out.held_before out.held_now answer.report.out (front (warned 74 disk_fault) status out err delivers)
 
 -- an answer that was worked out has a status of its own, which is neither that of want of memory nor that of a fault
-pub without_memory : (r : Result code.Answer Stop) (status : ℕ) (out err : Change) → IfOk r (λ answer. IsAnswered answer.status) → Delivers (ending r) status out err → EndsWithoutMemory status out err
+pub without_memory : (r : Result code.Answer Stop) (status : ℕ) (out err : Change) → IfOk r (λ answer. IsAnswered answer.report.status) → Delivers (ending r) status out err → EndsWithoutMemory status out err
 without_memory (Ok answer) status out err own delivers = λ e.
-    absurd (own.0 (sym (whole (report_of answer) status out err delivers (not_fault status e)).status_is ∙ e))
+    absurd (own.0 (sym (whole (report_of answer.report) status out err delivers (not_fault status e)).status_is ∙ e))
 without_memory (Err stops.Memory) status out err own delivers = λ e. whole (warned 70 out_of_memory) status out err delivers (not_fault status e)
 without_memory (Err stops.DiskFault) status out err own delivers = λ e.
     absurd (not_fault status e (whole (warned 74 disk_fault) status out err delivers (not_fault status e)).status_is)
@@ -96,9 +98,9 @@ fault_of_sinks disk_failed answer status out err (OutFails loses) given = OfOut 
 fault_of_sinks disk_failed answer status out err (ErrFails loses) given = OfErr loses.err_failed
 
 -- the cause of a fault
-pub in_fault : (disk_failed : Type 0) (r : Result code.Answer Stop) (status : ℕ) (out err : Change) → IfOk r (λ answer. IsAnswered answer.status) → (r ≡ Err stops.DiskFault → disk_failed) → Delivers (ending r) status out err → EndsInFault disk_failed status out err
+pub in_fault : (disk_failed : Type 0) (r : Result code.Answer Stop) (status : ℕ) (out err : Change) → IfOk r (λ answer. IsAnswered answer.report.status) → (r ≡ Err stops.DiskFault → disk_failed) → Delivers (ending r) status out err → EndsInFault disk_failed status out err
 in_fault disk_failed (Ok answer) status out err own cause delivers = λ e.
-    fault_of_sinks disk_failed (report_of answer) status out err delivers (λ gives. absurd (own.1 (sym gives.status_is ∙ e)))
+    fault_of_sinks disk_failed (report_of answer.report) status out err delivers (λ gives. absurd (own.1 (sym gives.status_is ∙ e)))
 in_fault disk_failed (Err stops.Memory) status out err own cause delivers = λ e.
     fault_of_sinks disk_failed (warned 70 out_of_memory) status out err delivers (λ gives. absurd (not_fault status gives.status_is e))
 in_fault disk_failed (Err stops.DiskFault) status out err own cause delivers = λ e.
@@ -115,24 +117,27 @@ pub complete : (disk_failed : Type 0) (status : ℕ) (out err : Change) → Ends
 complete disk_failed status out err ends no_disk no_out no_err = λ e. one_of_three disk_failed status out err (ends e) no_disk no_out no_err
 
 -- at want of memory the files are as they were
-pub unwritten : (r : Result code.Answer Stop) (words : List (List ℕ)) (before after : List ℕ → List ℕ) (status : ℕ) (out err : Change) → IfOk r (λ answer. IsAnswered answer.status) → Leaves words r before after → Delivers (ending r) status out err → status ≡ 70 → after ≡ before
+pub unwritten : (r : Result code.Answer Stop) (words : List (List ℕ)) (before after : List ℕ → List ℕ) (status : ℕ) (out err : Change) → IfOk r (λ answer. IsAnswered answer.report.status) → Leaves words r before after → Delivers (ending r) status out err → status ≡ 70 → after ≡ before
 unwritten (Ok answer) words before after status out err own leaves delivers e =
-    absurd (own.0 (sym (whole (report_of answer) status out err delivers (not_fault status e)).status_is ∙ e))
+    absurd (own.0 (sym (whole (report_of answer.report) status out err delivers (not_fault status e)).status_is ∙ e))
 unwritten (Err stops.Memory) words before after status out err own leaves delivers e = leaves
 unwritten (Err stops.DiskFault) words before after status out err own leaves delivers e =
     absurd (not_fault status e (whole (warned 74 disk_fault) status out err delivers (not_fault status e)).status_is)
 
-left_none : (bytes : Option (List ℕ)) (before after : List ℕ → List ℕ) → bytes ≡ None → LeavesFiles bytes before after → after ≡ before
-left_none None before after is leaves = leaves
-left_none (Some bytes) before after is leaves = absurd cc
+same_files : (before after : List ℕ → List ℕ) → after ≡ before → (texts : Texts) → KeepsUnnamed texts before after
+same_files before after is texts = λ file none. ap (λ f. f file) is
 
--- where the answer stores nothing, the files are as they were, however the run ends
-pub untouched : (r : Result code.Answer Stop) (words : List (List ℕ)) (before after : List ℕ → List ℕ) → IfOk r (λ answer. Answers words before (answer_of answer)) → Leaves words r before after
-    → (answer : Answer) → Answers words before answer → answer.stored ≡ None → after ≡ before
-untouched (Ok made) words before after answers leaves = λ answer other nothing.
-    left_none (answer_of made).stored before after (ap (λ (a : Answer). a.stored) (Answers-once words before (answer_of made) answer answers other) ∙ nothing) leaves
-untouched (Err stops.Memory) words before after answers leaves = λ answer other nothing. leaves
-untouched (Err stops.DiskFault) words before after answers leaves = leaves
+-- no file but those that the answer stores is changed, however the run ends
+pub others : (r : Result code.Answer Stop) (words : List (List ℕ)) (before after : List ℕ → List ℕ) → IfOk r (λ answer. Answers words before (answer_of answer)) → Leaves words r before after
+    → (answer : Answer) → Answers words before answer → KeepsUnnamed answer.stored before after
+others (Ok made) words before after answers leaves = λ answer other.
+    subst (λ (a : Answer). KeepsUnnamed a.stored before after) (Answers-once words before (answer_of made) answer answers other) leaves.others
+others (Err stops.Memory) words before after answers leaves = λ answer other. same_files before after leaves answer.stored
+others (Err stops.DiskFault) words before after answers leaves = leaves
+
+-- so where it stores nothing, they are all as they were
+pub untouched : (stored : Texts) (before after : List ℕ → List ℕ) → stored ≡ [] → KeepsUnnamed stored before after → after ≡ before
+untouched stored before after nothing keeps = λ i file. subst (λ texts. KeepsUnnamed texts before after) nothing keeps file refl i
 
 -- the files behind a run without a fault
 pub left : (words : List (List ℕ)) (before after : List ℕ → List ℕ) (status : ℕ) (out err : Change) → EndsAsAnswered words before after status out err → (status ≡ 70 → after ≡ before) → status ≢ 74 → LeftBy words before after status
@@ -149,5 +154,25 @@ left words before after status out err ends same no_fault = by_test (eqb_tells s
 pub Leaves-stored : (words : List (List ℕ)) (answer : code.Answer) (r : Result code.Answer Stop) (before after : List ℕ → List ℕ) → Answers words before (answer_of answer) → IfOk r (λ given. given ≡ answer) → Stores answer r before after → Leaves words r before after
 Leaves-stored words answer (Ok given) before after answers is stores = subst (λ (a : code.Answer). LeavesFiles (answer_of a).stored before after) (sym is) stores
 Leaves-stored words answer (Err stops.Memory) before after answers is stores = absurd stores
-Leaves-stored words answer (Err stops.DiskFault) before after answers is stores = λ other others nothing.
-    absurd (stores (ap (λ (a : Answer). a.stored) (Answers-once words before (answer_of answer) other answers others) ∙ nothing))
+Leaves-stored words answer (Err stops.DiskFault) before after answers is stores = λ other other_answers.
+    subst (λ (a : Answer). KeepsUnnamed a.stored before after) (Answers-once words before (answer_of answer) other answers other_answers) stores
+
+-- where there is no answer, nothing was written
+pub Leaves-same : (words : List (List ℕ)) (stop : Stop) (before after : List ℕ → List ℕ) → after ≡ before → Leaves words (Err stop) before after
+Leaves-same words stops.Memory before after same = same
+Leaves-same words stops.DiskFault before after same = λ answer answers. same_files before after same answer.stored
+
+-- what an answer stored lasts, whichever way the answer is told
+pub lasting : (r : Result code.Answer Stop) (words : List (List ℕ)) (files : List ℕ → List ℕ) (leaves : List ℕ → List ℕ → Type 0) (status : ℕ) (out err : Change) → IfOk r (λ answer. Answers words files (answer_of answer)) → IfOk r (λ answer. Lasts answer.stored leaves) → Delivers (ending r) status out err
+    → IsAnswered status → (answer : Answer) → Answers words files answer → Lasts answer.stored leaves
+lasting (Ok made) words files leaves status out err answers lasts delivers is answer other =
+    subst (λ (a : Answer). Lasts a.stored leaves) (Answers-once words files (answer_of made) answer answers other) lasts
+lasting (Err stops.Memory) words files leaves status out err answers lasts delivers is answer other =
+    absurd (is.0 (whole (warned 70 out_of_memory) status out err delivers is.1).status_is)
+lasting (Err stops.DiskFault) words files leaves status out err answers lasts delivers is answer other =
+    absurd (is.1 (whole (warned 74 disk_fault) status out err delivers is.1).status_is)
+
+-- the files that one answer doesn't store are those that the other doesn't
+pub spares-stored : (words : List (List ℕ)) (files : List ℕ → List ℕ) (old new : List ℕ → List ℕ → Type 0) (made answer : Answer) → Answers words files made → Answers words files answer → SparesUnnamed made.stored old new → SparesUnnamed answer.stored old new
+spares-stored words files old new made answer answers other spares =
+    subst (λ (a : Answer). SparesUnnamed a.stored old new) (Answers-once words files made answer answers other) spares

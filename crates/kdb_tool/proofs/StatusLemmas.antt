@@ -1,153 +1,195 @@
--- The statuses of the answers to each action.
-use Rattle.std.specs.Prelude.{◌≡◌, ◌⊎◌, ◌==◌, ℕ, Bool, true, false, nat_lt, if◌then◌else◌, List, [], length, Option, None, Some}
+-- The statuses of the answers to each question.
+use Rattle.std.specs.Prelude.{◌≡◌, ◌⊎◌, ◌==◌, ℕ, Bool, true, false, if◌then◌else◌, List, [], length, Option, None, Some, Result, Ok, Err}
 use Rattle.std.proofs.Common.{refl, sym, subst, inl, inr, arith}
 use Rattle.std.specs.FinMap as map
 use Rattle.model_names.specs.Name.{Name}
+use Rattle.model_names.specs.Spelling.{spelling}
 use Rattle.model_names.specs.Refuses.{TooLong}
-use Rattle.model_names.specs.Spelling.{is_text}
-use Rattle.model_maps.specs.Entry.{Entry, longest_value}
-use Rattle.model_maps.specs.KeyMap.{KeyMap, weight, heaviest_map}
-use Rattle.model_dump.specs.Text.{text}
-use Rattle.kdb_tool.specs.Answer.{Answer, refused}
+use Rattle.model_maps.specs.Entry.{Entry}
+use Rattle.model_maps.specs.KeyMap.{KeyMap}
+use Rattle.mount_table.specs.Changing as table
+use Rattle.mount_table.specs.declared.faults.TableFault.{TableFault}
+use Rattle.mounted_store.specs.Getting.{got}
+use Rattle.mounted_store.specs.declared.files.MountedFile.{MountedFile}
+use Rattle.mounted_store.specs.declared.refusals.GetFault.{GetFault}
+use Rattle.mounted_store.specs.declared.refusals.OpenRefusal.{OpenRefusal}
+use Rattle.mounted_store.specs.declared.verdicts.Verdict.{Verdict}
+use Rattle.mounted_store.specs.declared.verdicts.Verdict.TheVariants.{ValueTooLong, FileTooLarge, NotStorable, BadTable, DatabaseFull, Same, Stores}
+use Rattle.kdb_tool.specs.Answer.{Answer, warned}
 use Rattle.kdb_tool.specs.Lines.{no_name, not_found}
-use Rattle.kdb_tool.specs.Request.{Action, Get, Set, Remove, Names, GetMeta, SetMeta, MetaNames, Bring, SpellsAction}
-use Rattle.kdb_tool.specs.Holding.{Holding, Holds, IsTooLong, IsBad, longest_file}
-use Rattle.kdb_tool.specs.Commands.{relative, stored, got, has_value, set_in, sources, others, removed, text_got, meta_got, has_text, meta_set_in, meta_listed, first_too_long, with_brought, kept, staying, brought_over, answer_in, answer_over}
-use Rattle.kdb_tool.specs.Answers.{AnswersFrom}
+use Rattle.kdb_tool.specs.Request.{Action, Get, Set, Remove, Names, GetMeta, SetMeta, MetaNames, Bring, MountFile, Unmount, Question, Mounts, FileOf, On, SpellsAction, SpellsQuestion}
+use Rattle.kdb_tool.specs.declared.extents.Extent.{Extent}
+use Rattle.kdb_tool.specs.declared.ways.Way.{Way}
+use Rattle.kdb_tool.specs.Commands.{Step, Tells, Sets, parent_of, step_of, got as got_report, sources, others, text_got, meta_got, meta_listed, with_brought, brought_over, first_too_long, staying, mounted}
+use Rattle.kdb_tool.specs.Answers.{AnswersStep, AnswersGot, AnswersIn, AnswersOpened, answer_by, file_told, owner_in}
 use Rattle.kdb_tool.specs.Ends.{IsAnswered}
-use Rattle.kdb_tool.specs.Untold.{IsStatusOf}
+use Rattle.kdb_tool.specs.Untold.{IsStatusOf, IsStatusOfAction}
 
-either : (P : Answer → Type 0) (b : Bool) (a c : Answer) → P a → P c → P (if b then a else c)
+-- every action may be done, and may be refused by the store
+zero_is : {N : Type 0} (action : Action N) → IsStatusOfAction action 0
+zero_is Get = inl refl
+zero_is (Set value) = inl refl
+zero_is (Remove extent) = inl refl
+zero_is Names = inl refl
+zero_is (GetMeta meta) = inl refl
+zero_is (SetMeta meta text) = inl refl
+zero_is MetaNames = inl refl
+zero_is (Bring way extent to) = inl refl
+zero_is (MountFile file kind) = inl refl
+zero_is Unmount = inl refl
+
+five_is : {N : Type 0} (action : Action N) → IsStatusOfAction action 5
+five_is Get = inr (inl refl)
+five_is (Set value) = inr refl
+five_is (Remove extent) = inr (inl refl)
+five_is Names = inr refl
+five_is (GetMeta meta) = inr (inl refl)
+five_is (SetMeta meta text) = inr refl
+five_is MetaNames = inr (inl refl)
+five_is (Bring way extent to) = inr (inr (inl refl))
+five_is (MountFile file kind) = inr refl
+five_is Unmount = inr refl
+
+-- what a step tells has a status of a kind
+abbrev TellsBy : (ℕ → Type 0) → Step → Type 0
+TellsBy Is (Tells report) = Is report.status
+TellsBy Is (Sets keys out) = Unit {0}
+
+either : (P : Step → Type 0) (b : Bool) (a c : Step) → P a → P c → P (if b then a else c)
 either P true a c p q = p
 either P false a c p q = q
 
-abbrev done_or_refused : Answer → Type 0
-done_or_refused answer = (answer.report.status ≡ 0) ⊎ (answer.report.status ≡ 5)
+-- the reports of commands that look for a key
+got_is : (name : Name) (found : Option Entry) → IsStatusOfAction {N = Name} Get (got_report name found).status
+got_is name None = inr (inr refl)
+got_is name (Some entry) = inl refl
 
-stored_status : (keys : KeyMap) (out : List ℕ) → done_or_refused (stored keys out)
-stored_status keys out =
-    either done_or_refused (nat_lt heaviest_map (weight keys)) _ _ (inr refl)
-    (either done_or_refused (nat_lt longest_file (length (text keys))) _ _ (inr refl) (inl refl))
+text_is : (meta : List ℕ) (found : Option (List ℕ)) → IsStatusOfAction {N = Name} (GetMeta meta) (text_got meta found).status
+text_is meta None = inr (inr refl)
+text_is meta (Some text) = inl refl
 
-set_status : (keys : KeyMap) (name : Name) (value : List ℕ) → done_or_refused (set_in keys name value)
-set_status keys name value =
-    either done_or_refused (nat_lt longest_value (length value)) _ _ (inr refl)
-    (either done_or_refused (has_value (map.get keys (relative name)) value) _ _ (inl refl) (stored_status _ _))
+meta_is : (name : Name) (meta : List ℕ) (found : Option Entry) → IsStatusOfAction {N = Name} (GetMeta meta) (meta_got name meta found).status
+meta_is name meta None = inr (inr refl)
+meta_is name meta (Some entry) = text_is meta (map.get entry.meta meta)
 
-get_status : (name : Name) (found : Option Entry) → IsStatusOf {N = Name} Get (got name found).report.status
-get_status name None = inr (inr refl)
-get_status name (Some entry) = inl refl
+listed_is : (name : Name) (found : Option Entry) → IsStatusOfAction {N = Name} MetaNames (meta_listed name found).status
+listed_is name None = inr (inr refl)
+listed_is name (Some entry) = inl refl
 
--- the three statuses of a command that looks for a key
-abbrev of_three : Answer → Type 0
-of_three answer = (answer.report.status ≡ 0) ⊎ (answer.report.status ≡ 5) ⊎ (answer.report.status ≡ 11)
+-- what a change of the table tells
+mounted_tells : (Is : ℕ → Type 0) (made : Result KeyMap TableFault) → Is 5 → TellsBy Is (mounted made)
+mounted_tells Is (Ok keys) five = tt
+mounted_tells Is (Err fault) five = five
 
-stored_of_three : (keys : KeyMap) (out : List ℕ) → of_three (stored keys out)
-stored_of_three keys out = elim (stored_status keys out) [ inl is ↦ inl is | inr is ↦ inr (inl is) ]
-
-remove_status : (name : Name) (taken keys : KeyMap) → of_three (removed name taken keys)
-remove_status name taken keys = either of_three (length (map.entries taken) == 0) _ _ (inr (inr refl)) (stored_of_three keys [])
-
-text_got_status : (meta : List ℕ) (found : Option (List ℕ)) → of_three (text_got meta found)
-text_got_status meta None = inr (inr refl)
-text_got_status meta (Some text) = inl refl
-
-meta_got_status : (name : Name) (meta : List ℕ) (found : Option Entry) → of_three (meta_got name meta found)
-meta_got_status name meta None = inr (inr refl)
-meta_got_status name meta (Some entry) = text_got_status meta (map.get entry.meta meta)
-
-meta_set_status : (keys : KeyMap) (name : Name) (meta text : List ℕ) → done_or_refused (meta_set_in keys name meta text)
-meta_set_status keys name meta text =
-    either done_or_refused (nat_lt longest_value (length text)) _ _ (inr refl)
-    (either done_or_refused (has_text (map.get keys (relative name)) meta text) _ _ (inl refl) (stored_status _ _))
-
-meta_listed_status : (name : Name) (found : Option Entry) → of_three (meta_listed name found)
-meta_listed_status name None = inr (inr refl)
-meta_listed_status name (Some entry) = inl refl
-
--- the four statuses of a command that brings keys
-abbrev of_four : Answer → Type 0
-of_four answer = (answer.report.status ≡ 0) ⊎ (answer.report.status ≡ 2) ⊎ (answer.report.status ≡ 5) ⊎ (answer.report.status ≡ 11)
-
-stored_of_four : (keys : KeyMap) (out : List ℕ) → of_four (stored keys out)
-stored_of_four keys out = elim (stored_status keys out) [ inl is ↦ inl is | inr is ↦ inr (inr (inl is)) ]
-
-kept_status : (before : List ℕ) (keys : KeyMap) → of_four (kept before keys)
-kept_status before keys = either of_four (is_text (text keys) before) _ _ (inl refl) (stored_of_four keys [])
-
-over_status : (from to : Name) (before : List ℕ) (taken : List (Name × Entry)) (keys : KeyMap) → of_four (brought_over from to before taken keys)
-over_status from to before taken keys = by_first (first_too_long from to taken)
+brought_tells : (way : Way) (extent : Extent) (from to : Name) (taken : List (Name × Entry)) (keys : KeyMap) → TellsBy (IsStatusOfAction (Bring way extent to)) (brought_over from to taken keys)
+brought_tells way extent from to taken keys = by_first (first_too_long from to taken)
   where
-    by_first : (first : Option ℕ) → of_four (elim first [ None ↦ kept before (with_brought from to keys taken) | Some bytes ↦ refused 2 (no_name (TooLong bytes)) ])
-    by_first None = kept_status before (with_brought from to keys taken)
+    by_first : (first : Option ℕ) → TellsBy (IsStatusOfAction (Bring way extent to)) (elim first [ None ↦ Sets (with_brought from to keys taken) [] | Some bytes ↦ Tells (warned 2 (no_name (TooLong bytes))) ])
+    by_first None = tt
     by_first (Some bytes) = inr (inl refl)
 
-pub answer_in-status : (keys : KeyMap) (name : Name) (action : Action Name) → IsStatusOf action (answer_in keys name action).report.status
-answer_in-status keys name Get = get_status name (map.get keys (relative name))
-answer_in-status keys name (Set value) = set_status keys name value
-answer_in-status keys name (Remove extent) = remove_status name (sources extent (relative name) keys) (others extent (relative name) keys)
-answer_in-status keys name Names = inl refl
-answer_in-status keys name (GetMeta meta) = meta_got_status name meta (map.get keys (relative name))
-answer_in-status keys name (SetMeta meta text) = meta_set_status keys name meta text
-answer_in-status keys name MetaNames = meta_listed_status name (map.get keys (relative name))
-answer_in-status keys name (Bring way extent to) =
-    let taken = map.entries (sources extent (relative name) keys) in
-    let left = staying way extent (relative name) keys in
-    either of_four (length taken == 0) (refused 11 (not_found name)) (brought_over (relative name) (relative to) (text keys) taken left) (inr (inr (inr refl))) (over_status (relative name) (relative to) (text keys) taken left)
+step_tells : (keys : KeyMap) (name : Name) (action : Action Name) → TellsBy (IsStatusOfAction action) (step_of keys name action)
+step_tells keys name Get = got_is name (map.get keys name)
+step_tells keys name (Set value) = tt
+step_tells keys name (Remove extent) =
+    either (TellsBy (IsStatusOfAction {N = Name} (Remove extent))) (length (map.entries (sources extent name keys)) == 0) (Tells (warned 11 (not_found name))) (Sets (others extent name keys) []) (inr (inr refl)) tt
+step_tells keys name Names = inl refl
+step_tells keys name (GetMeta meta) = meta_is name meta (map.get keys name)
+step_tells keys name (SetMeta meta text) = tt
+step_tells keys name MetaNames = listed_is name (map.get keys name)
+step_tells keys name (Bring way extent to) =
+    let taken = map.entries (sources extent name keys) in
+    let left = staying way extent name keys in
+    either (TellsBy (IsStatusOfAction (Bring way extent to))) (length taken == 0) (Tells (warned 11 (not_found name))) (brought_over name to taken left) (inr (inr (inr refl))) (brought_tells way extent name to taken left)
+step_tells keys name (MountFile file kind) = mounted_tells (IsStatusOfAction {N = Name} (MountFile file kind)) (table.added keys (spelling name) file kind) (inr refl)
+step_tells keys name Unmount = mounted_tells (IsStatusOfAction {N = Name} Unmount) (table.removed keys (spelling name)) (inr refl)
 
-refused_status : (action : Action Name) → IsStatusOf action 5
-refused_status Get = inr (inl refl)
-refused_status (Set value) = inr refl
-refused_status (Remove extent) = inr (inl refl)
-refused_status Names = inr refl
-refused_status (GetMeta meta) = inr (inl refl)
-refused_status (SetMeta meta text) = inr refl
-refused_status MetaNames = inr (inl refl)
-refused_status (Bring way extent to) = inr (inr (inl refl))
+-- a verdict lets a set be done, or refuses it
+verdict_is : (Is : ℕ → Type 0) (verdict : Verdict) (out : List ℕ) → Is 0 → Is 5 → Is (answer_by verdict out).report.status
+verdict_is Is (ValueTooLong key bytes) out zero five = five
+verdict_is Is (FileTooLarge mount bytes) out zero five = five
+verdict_is Is (NotStorable mount key) out zero five = five
+verdict_is Is (BadTable fault) out zero five = five
+verdict_is Is (DatabaseFull weight) out zero five = five
+verdict_is Is (Same aside) out zero five = zero
+verdict_is Is (Stores texts aside) out zero five = zero
 
--- whatever the file holds
-pub answer_over-status : (holding : Holding) (name : Name) (action : Action Name) → IsStatusOf action (answer_over holding name action).report.status
-answer_over-status (Holds keys) name action = answer_in-status keys name action
-answer_over-status (IsTooLong bytes) name action = refused_status action
-answer_over-status (IsBad number) name action = refused_status action
+step_is : (Is : ℕ → Type 0) (files : List MountedFile) (parent : Name) (step : Step) (answer : Answer) → Is 0 → Is 5 → TellsBy Is step → AnswersStep files parent step answer → Is answer.report.status
+step_is Is files parent (Tells report) answer zero five tells answers = subst (λ (a : Answer). Is a.report.status) (sym answers) tells
+step_is Is files parent (Sets keys out) answer zero five tells answers =
+    subst (λ (a : Answer). Is a.report.status) (sym answers.is) (verdict_is Is answers.verdict out zero five)
 
-own_zero : (status : ℕ) → status ≡ 0 → IsAnswered status
-own_zero status e = (λ f. absurd (omega (arith, e, f)), λ f. absurd (omega (arith, e, f)))
+got_action_is : (files : List MountedFile) (name : Name) (action : Action Name) (keys : Result KeyMap GetFault) (answer : Answer) → AnswersGot files name action keys answer → IsStatusOfAction action answer.report.status
+got_action_is files name action (Ok keys) answer answers =
+    step_is (IsStatusOfAction action) files (parent_of name action) (step_of keys name action) answer (zero_is action) (five_is action) (step_tells keys name action) answers
+got_action_is files name action (Err fault) answer answers = subst (λ (a : Answer). IsStatusOfAction action a.report.status) (sym answers) (five_is action)
 
-own_two : (status : ℕ) → status ≡ 2 → IsAnswered status
-own_two status e = (λ f. absurd (omega (arith, e, f)), λ f. absurd (omega (arith, e, f)))
+file_is : (name : Name) (found : Option MountedFile) → IsStatusOf (FileOf name) (file_told name found).report.status
+file_is name None = inr (inr refl)
+file_is name (Some file) = inl refl
 
-own_five : (status : ℕ) → status ≡ 5 → IsAnswered status
-own_five status e = (λ f. absurd (omega (arith, e, f)), λ f. absurd (omega (arith, e, f)))
+in_is : (files : List MountedFile) (question : Question Name) (answer : Answer) → AnswersIn files question answer → IsStatusOf question answer.report.status
+in_is files Mounts answer answers = subst (λ (a : Answer). IsStatusOf {N = Name} Mounts a.report.status) (sym answers) (inl refl)
+in_is files (FileOf name) answer answers = subst (λ (a : Answer). IsStatusOf (FileOf name) a.report.status) (sym answers) (file_is name (owner_in files name))
+in_is files (On name action) answer answers = got_action_is files name action (got files (parent_of name action)) answer answers
 
-own_eleven : (status : ℕ) → status ≡ 11 → IsAnswered status
-own_eleven status e = (λ f. absurd (omega (arith, e, f)), λ f. absurd (omega (arith, e, f)))
+refused_is : (question : Question Name) → IsStatusOf question 5
+refused_is Mounts = inr refl
+refused_is (FileOf name) = inr (inl refl)
+refused_is (On name action) = five_is action
 
-own_of_three : (status : ℕ) → (status ≡ 0) ⊎ (status ≡ 5) ⊎ (status ≡ 11) → IsAnswered status
-own_of_three status is = elim is [ inl e ↦ own_zero status e | inr rest ↦ elim rest [ inl e ↦ own_five status e | inr e ↦ own_eleven status e ] ]
+-- an answer to a question has one of its statuses
+pub opened_is : (opened : Result (List MountedFile) OpenRefusal) (question : Question Name) (answer : Answer) → AnswersOpened opened question answer → IsStatusOf question answer.report.status
+opened_is (Ok files) question answer answers = in_is files question answer answers
+opened_is (Err refusal) question answer answers = subst (λ (a : Answer). IsStatusOf question a.report.status) (sym answers.1) (refused_is question)
+
+-- a number that is one of a few
+of_two : (status : ℕ) → (status ≡ 0) ⊎ (status ≡ 5) → IsAnswered status
+of_two status (inl e) = (λ f. absurd (omega (arith, e, f)), λ f. absurd (omega (arith, e, f)))
+of_two status (inr e) = (λ f. absurd (omega (arith, e, f)), λ f. absurd (omega (arith, e, f)))
+
+of_three : (status : ℕ) → (status ≡ 0) ⊎ (status ≡ 5) ⊎ (status ≡ 11) → IsAnswered status
+of_three status (inl e) = of_two status (inl e)
+of_three status (inr (inl e)) = of_two status (inr e)
+of_three status (inr (inr e)) = (λ f. absurd (omega (arith, e, f)), λ f. absurd (omega (arith, e, f)))
+
+of_four : (status : ℕ) → (status ≡ 0) ⊎ (status ≡ 2) ⊎ (status ≡ 5) ⊎ (status ≡ 11) → IsAnswered status
+of_four status (inl e) = of_two status (inl e)
+of_four status (inr (inl e)) = (λ f. absurd (omega (arith, e, f)), λ f. absurd (omega (arith, e, f)))
+of_four status (inr (inr is)) = of_three status (inr is)
+
+own_action : (action : Action Name) (status : ℕ) → IsStatusOfAction action status → IsAnswered status
+own_action Get status is = of_three status is
+own_action (Set value) status is = of_two status is
+own_action (Remove extent) status is = of_three status is
+own_action Names status is = of_two status is
+own_action (GetMeta meta) status is = of_three status is
+own_action (SetMeta meta text) status is = of_two status is
+own_action MetaNames status is = of_three status is
+own_action (Bring way extent to) status is = of_four status is
+own_action (MountFile file kind) status is = of_two status is
+own_action Unmount status is = of_two status is
 
 -- none of them is that of want of memory or of a fault
-pub own_status : (action : Action Name) (status : ℕ) → IsStatusOf action status → IsAnswered status
-own_status Get status is = own_of_three status is
-own_status (Set value) status is = elim is [ inl e ↦ own_zero status e | inr e ↦ own_five status e ]
-own_status (Remove extent) status is = own_of_three status is
-own_status Names status is = elim is [ inl e ↦ own_zero status e | inr e ↦ own_five status e ]
-own_status (GetMeta meta) status is = own_of_three status is
-own_status (SetMeta meta text) status is = elim is [ inl e ↦ own_zero status e | inr e ↦ own_five status e ]
-own_status MetaNames status is = own_of_three status is
-own_status (Bring way extent to) status is = elim is [ inl e ↦ own_zero status e | inr rest ↦ elim rest [ inl e ↦ own_two status e | inr more ↦ elim more [ inl e ↦ own_five status e | inr e ↦ own_eleven status e ] ] ]
+pub own_status : (question : Question Name) (status : ℕ) → IsStatusOf question status → IsAnswered status
+own_status Mounts status is = of_two status is
+own_status (FileOf name) status is = of_three status is
+own_status (On name action) status is = own_action action status is
 
--- an answer to an action has one of these statuses
-pub from-status : (name : Name) (action : Action Name) (bytes : List ℕ) (answer : Answer) → AnswersFrom name action bytes answer → IsStatusOf action answer.report.status
-from-status name action bytes answer from = subst (λ (a : Answer). IsStatusOf action a.report.status) (sym from.is) (answer_over-status from.holding name action)
+by_action : (by : Action (List ℕ)) (action : Action Name) (status : ℕ) → SpellsAction by action → IsStatusOfAction action status → IsStatusOfAction by status
+by_action Get action status spelled is = subst (λ (a : Action Name). IsStatusOfAction a status) spelled is
+by_action (Set value) action status spelled is = subst (λ (a : Action Name). IsStatusOfAction a status) spelled is
+by_action (Remove extent) action status spelled is = subst (λ (a : Action Name). IsStatusOfAction a status) spelled is
+by_action Names action status spelled is = subst (λ (a : Action Name). IsStatusOfAction a status) spelled is
+by_action (GetMeta meta) action status spelled is = subst (λ (a : Action Name). IsStatusOfAction a status) spelled is
+by_action (SetMeta meta text) action status spelled is = subst (λ (a : Action Name). IsStatusOfAction a status) spelled is
+by_action MetaNames action status spelled is = subst (λ (a : Action Name). IsStatusOfAction a status) spelled is
+by_action (Bring way extent text) action status spelled is = subst (λ (a : Action Name). IsStatusOfAction a status) spelled.is is
+by_action (MountFile file kind) action status spelled is = subst (λ (a : Action Name). IsStatusOfAction a status) spelled is
+by_action Unmount action status spelled is = subst (λ (a : Action Name). IsStatusOfAction a status) spelled is
 
--- an action on the keys that texts spell has the statuses of the action on the texts
-pub by-status : (by : Action (List ℕ)) (action : Action Name) (status : ℕ) → SpellsAction by action → IsStatusOf action status → IsStatusOf by status
-by-status Get action status spelled is = subst (λ (a : Action Name). IsStatusOf a status) spelled is
-by-status (Set value) action status spelled is = subst (λ (a : Action Name). IsStatusOf a status) spelled is
-by-status (Remove extent) action status spelled is = subst (λ (a : Action Name). IsStatusOf a status) spelled is
-by-status Names action status spelled is = subst (λ (a : Action Name). IsStatusOf a status) spelled is
-by-status (GetMeta meta) action status spelled is = subst (λ (a : Action Name). IsStatusOf a status) spelled is
-by-status (SetMeta meta text) action status spelled is = subst (λ (a : Action Name). IsStatusOf a status) spelled is
-by-status MetaNames action status spelled is = subst (λ (a : Action Name). IsStatusOf a status) spelled is
-by-status (Bring way extent text) action status spelled is = subst (λ (a : Action Name). IsStatusOf a status) spelled.is is
+-- a question about the keys that texts spell has the statuses of the question about the texts
+pub by_status : (by : Question (List ℕ)) (question : Question Name) (status : ℕ) → SpellsQuestion by question → IsStatusOf question status → IsStatusOf by status
+by_status Mounts question status spelled is = subst (λ (q : Question Name). IsStatusOf q status) spelled is
+by_status (FileOf text) question status spelled is = subst (λ (q : Question Name). IsStatusOf q status) spelled.is is
+by_status (On text by) question status spelled is = by_action by spelled.action status spelled.action_spelled (subst (λ (q : Question Name). IsStatusOf q status) spelled.is is)

@@ -1,8 +1,11 @@
 -- The keys at or below a name, one by one.
-use Rattle.std.proofs.Common.{◌≡◌, Bool, true, false, cond, List, [], ◌∷◌, ◌++◌, filter, refl, ap}
+use Rattle.std.proofs.Common.{◌≡◌, ℕ, ◌+◌, Bool, true, false, cond, List, [], ◌∷◌, ◌++◌, filter, take, Some, slice_get, refl, sym, ap, ◌∙◌}
 use Rattle.std.specs.FinMap as map
 use Rattle.std.specs.FinMap.Entries.{where_key}
 use Rattle.std.specs.List.{flat_map}
+use Rattle.std.proofs.lemmas.List.{append-nil, take_more}
+use Rattle.std.proofs.lemmas.List.Concat.{flat_map-append}
+use Rattle.std.proofs.lemmas.Option.{slice_get_within, get_or_from_slice_get}
 use Rattle.model_names.specs.Name.{Name}
 use Rattle.model_names.specs.Below.{is_at_or_below}
 use Rattle.model_names.specs.Order.{name_cmp}
@@ -19,3 +22,11 @@ flat_map-where p f [] = refl
 flat_map-where p f (x ∷ xs) =
     let rest = flat_map-where p f xs in
     elim (p x) as (λ b. cond b (f x) [] ++ flat_map (λ y. cond (p y) (f y) []) xs ≡ flat_map f (cond b (x ∷ filter p xs) (filter p xs))) [ true ↦ ap (λ ys. f x ++ ys) rest | false ↦ rest ]
+
+-- one more of a list's items behind those before it
+pub flat_map-more : {A B : Type 0} (f : A → List B) (xs : List A) (i : ℕ) (x : A) → Some x ≡ slice_get xs i → flat_map f (take (i + 1) xs) ≡ flat_map f (take i xs) ++ f x
+flat_map-more f xs i x found =
+    let is = get_or_from_slice_get xs i x x (sym found) in
+    ap (flat_map f) (take_more xs i x (slice_get_within xs i x (sym found)) ∙ ap (λ y. take i xs ++ y ∷ []) is)
+    ∙ flat_map-append f (take i xs) (x ∷ [])
+    ∙ ap (λ ys. flat_map f (take i xs) ++ ys) (append-nil (f x))

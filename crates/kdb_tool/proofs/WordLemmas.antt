@@ -1,10 +1,15 @@
 -- Where the first of some words stands, and what words in a row ask for.
-use Rattle.std.specs.Prelude.{◌≡◌, ℕ, Bool, true, false, nat_lt, not, cond, List, length, Some, None}
-use Rattle.std.proofs.Common.{refl, ap, arith}
+use Rattle.std.specs.Prelude.{◌≡◌, ℕ, Bool, true, false, nat_lt, not, cond, List, length, Option, Some, None}
+use Rattle.std.proofs.Common.{refl, ap, ◌∙◌, arith}
 use Rattle.std.specs.List.{position, position_or_len}
 use Rattle.std.proofs.lemmas.Bool.{ltb-false}
 use Rattle.kdb_tool.specs.Lines.{argument}
-use Rattle.kdb_tool.specs.Request.{Request, Refuses, is_meta, on_meta, on_name}
+use Rattle.kdb_tool.specs.Request.{Request, Refuses, Asks, On, MountFile, is_meta, on_meta, on_name_for, asks, asks_to_mount}
+use Rattle.kdb_tool.specs.declared.uses.Use.{Use}
+use Rattle.kdb_tool.specs.declared.uses.Use.TheVariants.{Writes}
+use Rattle.kdb_outside.specs.Kind.{kind_of}
+use Rattle.kdb_outside.specs.declared.kinds.Kind.{Kind}
+use Rattle.kdb_outside.specs.declared.kinds.Kind.TheVariants.{Dump}
 use Rattle.std.proofs.lemmas.List.Sums.{prefix_len-le-length}
 
 -- the place of the first that passes is the count of those before it
@@ -24,8 +29,22 @@ count-all p xs is = by_test (nat_lt (position_or_len p xs) (length xs)) refl is
     by_test false past is = omega (arith, ltb-false (position_or_len p xs) (length xs) past, prefix_len-le-length (λ x. not (p x)) xs)
 
 -- a metadata name behind a name that is tested first
-pub asks_of_meta : (name word : List ℕ) (asked : Request) → is_meta word ≡ true → on_name name (on_meta word asked) ≡ on_name name asked
-asks_of_meta name word asked is = ap (λ b. on_name name (cond b asked (Refuses 2 (argument word)))) is
+pub asks_of_meta : (by : Use) (name word : List ℕ) (asked : Request) → is_meta word ≡ true → on_name_for by name (on_meta word asked) ≡ on_name_for by name asked
+asks_of_meta by name word asked is = ap (λ b. on_name_for by name (cond b asked (Refuses 2 (argument word)))) is
 
-pub refuses_meta : (name word : List ℕ) (asked : Request) → is_meta word ≡ false → on_name name (on_meta word asked) ≡ on_name name (Refuses 2 (argument word))
-refuses_meta name word asked is = ap (λ b. on_name name (cond b asked (Refuses 2 (argument word)))) is
+pub refuses_meta : (by : Use) (name word : List ℕ) (asked : Request) → is_meta word ≡ false → on_name_for by name (on_meta word asked) ≡ on_name_for by name (Refuses 2 (argument word))
+refuses_meta by name word asked is = ap (λ b. on_name_for by name (cond b asked (Refuses 2 (argument word)))) is
+
+-- what mounting asks for, by the word of a format that may be left out
+pub mounts_as_dump : (file name : List ℕ) (plugin : Option (List ℕ)) → plugin ≡ None → asks_to_mount file name plugin ≡ asks Writes (MountFile file Dump) name
+mounts_as_dump file name plugin is = ap (asks_to_mount file name) is
+
+pub mounts_as : (file name word : List ℕ) (plugin : Option (List ℕ)) (kind : Kind) → plugin ≡ Some word → kind_of word ≡ Some kind → asks_to_mount file name plugin ≡ asks Writes (MountFile file kind) name
+mounts_as file name word plugin kind is known =
+    ap (asks_to_mount file name) is
+    ∙ ap (λ found. on_name_for Writes name (elim found [ None ↦ Refuses 2 (argument word) | Some format ↦ Asks (On name (MountFile file format)) ])) known
+
+pub refuses_kind : (file name word : List ℕ) (plugin : Option (List ℕ)) → plugin ≡ Some word → kind_of word ≡ None → asks_to_mount file name plugin ≡ on_name_for Writes name (Refuses 2 (argument word))
+refuses_kind file name word plugin is unknown =
+    ap (asks_to_mount file name) is
+    ∙ ap (λ found. on_name_for Writes name (elim found [ None ↦ Refuses 2 (argument word) | Some format ↦ Asks (On name (MountFile file format)) ])) unknown

@@ -1,7 +1,8 @@
--- What a command answers: its status, the bytes that it puts on out, those on err, and the bytes that the users' file gets
--- where it is changed. (This project's own.)
-use Rattle.std.specs.Prelude.{◌≡◌, ℕ, List, [], Option, None, Some, codes}
-use Rattle.kdb_outside.specs.Files.{ChangesTo}
+-- What a command answers: its status, the bytes that it puts on out, those on err, and the files that get other bytes.
+-- (This project's own.)
+use Rattle.std.specs.Prelude.{◌≡◌, ℕ, Bool, false, List, []}
+use Rattle.std.specs.List.{AllByRecursion, list_any}
+use Rattle.model_names.specs.Spelling.{is_text}
 use Rattle.kdb_tool.specs.Lines.{line}
 
 -- what a run tells: its status, and what it puts on out and on err
@@ -10,10 +11,14 @@ pub record Report : Type 0 where
   pub out : List ℕ
   pub err : List ℕ
 
--- what it tells, and the bytes that it stores
+-- files by their names, with the bytes that they get
+abbrev pub Texts : Type 0
+Texts = List (List ℕ × List ℕ)
+
+-- what it tells, and what it stores
 pub record Answer : Type 0 where
   pub report : Report
-  pub stored : Option (List ℕ)
+  pub stored : Texts
 
 -- the command was done, and puts this on out
 abbrev pub told : List ℕ → Report
@@ -23,26 +28,31 @@ told out = record { status = 0; out = out; err = [] }
 abbrev pub warned : ℕ → List ℕ → Report
 warned status text = record { status = status; out = []; err = line text }
 
+-- it tells this and changes no file
+abbrev pub tells : Report → Answer
+tells report = record { report = report; stored = [] }
+
 -- the command was done, put this on out, and changed no file
 abbrev pub done : List ℕ → Answer
-done out = record { report = told out; stored = None }
+done out = tells (told out)
 
--- the command was done, put this on out, and the file gets these bytes
-abbrev pub stores : List ℕ → List ℕ → Answer
-stores bytes out = record { report = told out; stored = Some bytes }
+-- the command was done, put this on out, and these files get these bytes
+abbrev pub stores : Texts → List ℕ → Answer
+stores texts out = record { report = told out; stored = texts }
 
 -- the command was refused and changed no file
 abbrev pub refused : ℕ → List ℕ → Answer
-refused status text = record { report = warned status text; stored = None }
+refused status text = tells (warned status text)
 
--- the file of the users' root, and its mountpoint as it is shown
-abbrev pub user_file : List ℕ
-user_file = codes "user.ecf"
+-- a file is one of those that are stored
+abbrev pub is_stored : Texts → List ℕ → Bool
+is_stored texts file = list_any (λ text. is_text text.0 file) texts
 
-abbrev pub user_root : List ℕ
-user_root = codes "user:/"
+-- all files that are not stored are as they were
+abbrev pub KeepsUnnamed : Texts → (List ℕ → List ℕ) → (List ℕ → List ℕ) → Type 0
+KeepsUnnamed texts before after = (file : List ℕ) → is_stored texts file ≡ false → after file ≡ before file
 
--- the files behind a command: one of them has become these bytes, or all are as they were
-abbrev pub LeavesFiles : Option (List ℕ) → (List ℕ → List ℕ) → (List ℕ → List ℕ) → Type 0
-LeavesFiles None before after = after ≡ before
-LeavesFiles (Some bytes) before after = ChangesTo user_file bytes before after
+-- the files behind a command: those that are stored have their bytes, and all others are as they were
+pub record LeavesFiles (texts : Texts) (before after : List ℕ → List ℕ) : Type 0 where
+  pub each : AllByRecursion (λ text. after text.0 ≡ text.1) texts
+  pub others : KeepsUnnamed texts before after

@@ -1,38 +1,121 @@
 -- The answer to a command line over the files of a store. (This project's own.)
-use Rattle.std.specs.Prelude.{◌≡◌, ℕ, List}
+use Rattle.std.specs.Prelude.{◌≡◌, ◌≢◌, ℕ, List, ◌∷◌, ◌++◌, [], Option, Some, None, option_and_then, slice_get, Result, Ok, Err}
+use Rattle.std.specs.List.{flat_map}
+use Rattle.all_formats.specs.Meanings as all
+use Rattle.key_name.specs.Owner.{owner_of}
 use Rattle.model_names.specs.Name.{Name}
 use Rattle.model_names.specs.Spells.{Spells}
-use Rattle.kdb_tool.specs.Lines.{not_built}
-use Rattle.kdb_tool.specs.Answer.{Answer, refused, user_file}
-use Rattle.kdb_tool.specs.Request.{Action, Request, Refuses, IsOutside, Asks, SpellsAction, request}
-use Rattle.kdb_tool.specs.Holding.{Holding, Means}
-use Rattle.kdb_tool.specs.Commands.{answer_over}
+use Rattle.model_maps.specs.KeyMap.{KeyMap}
+use Rattle.mount_table.specs.Points.{own_point}
+use Rattle.mounted_store.specs.Files.{points_of}
+use Rattle.mounted_store.specs.Getting.{got}
+use Rattle.mounted_store.specs.Judging.{IsVerdict}
+use Rattle.mounted_store.specs.Opening.{Opens}
+use Rattle.mounted_store.specs.declared.files.MountedFile.{MountedFile}
+use Rattle.mounted_store.specs.declared.refusals.GetFault.{GetFault}
+use Rattle.mounted_store.specs.declared.refusals.GetFault.TheVariants as faults
+use Rattle.mounted_store.specs.declared.refusals.OpenRefusal.{OpenRefusal}
+use Rattle.mounted_store.specs.declared.refusals.OpenRefusal.TheVariants as refusals
+use Rattle.mounted_store.specs.declared.verdicts.Verdict.{Verdict}
+use Rattle.mounted_store.specs.declared.verdicts.Verdict.TheVariants.{ValueTooLong, FileTooLarge, NotStorable, BadTable, DatabaseFull, Same, Stores}
+use Rattle.kdb_tool.specs.declared.uses.Use.{Use}
+use Rattle.kdb_tool.specs.Lines.{too_long, bad_file, too_heavy, bad_table, value_too_long, file_too_large, not_storable, database_full, not_found, out_of_memory, line_of_mount}
+use Rattle.kdb_tool.specs.Answer.{Answer, tells, done, stores, refused}
+use Rattle.kdb_tool.specs.Uses.{barred}
+use Rattle.kdb_tool.specs.Request.{Action, Question, Mounts, FileOf, On, Request, Refuses, Bars, Asks, SpellsQuestion, request}
+use Rattle.kdb_tool.specs.Commands.{Step, Tells, Sets, parent_of, step_of}
 
--- the answer to an action on a user's key, over the bytes of the users' file
-pub record AnswersFrom (name : Name) (action : Action Name) (bytes : List ℕ) (answer : Answer) : Type 0 where
-  pub holding : Holding
-  pub means : Means bytes holding
-  pub is : answer ≡ answer_over holding name action
+-- the answer that a verdict on a set gives, with what is put out where nothing is refused
+abbrev pub answer_by : Verdict → List ℕ → Answer
+answer_by (ValueTooLong key bytes) out = refused 5 (value_too_long key bytes)
+answer_by (FileTooLarge mount amount) out = refused 5 (file_too_large mount amount)
+answer_by (NotStorable mount key) out = refused 5 (not_storable mount key)
+answer_by (BadTable fault) out = refused 5 (bad_table fault)
+answer_by (DatabaseFull weight) out = refused 5 (database_full weight)
+answer_by (Same aside) out = done out
+answer_by (Stores texts aside) out = stores texts out
 
--- the answer to an action on the user's key that a text names
-pub record AnswersText (text : List ℕ) (by : Action (List ℕ)) (files : List ℕ → List ℕ) (answer : Answer) : Type 0 where
+-- the answer where keys are set at a parent whose keys were got
+pub record AnswersSet (files : List MountedFile) (parent : Name) (keys : KeyMap) (out : List ℕ) (answer : Answer) : Type 0 where
+  pub verdict : Verdict
+  pub judged : IsVerdict all.text all.IsStorable all.BreaksAt files parent keys verdict
+  pub is : answer ≡ answer_by verdict out
+
+-- the answer by what a command makes of the keys that it got
+abbrev pub AnswersStep : List MountedFile → Name → Step → Answer → Type 0
+AnswersStep files parent (Tells report) answer = answer ≡ tells report
+AnswersStep files parent (Sets keys out) answer = AnswersSet files parent keys out answer
+
+-- the line of what refuses a get
+abbrev pub line_of_get : GetFault → List ℕ
+line_of_get (faults.TooLong mount bytes) = too_long mount bytes
+line_of_get (faults.BadFile mount number) = bad_file mount number
+line_of_get (faults.TooHeavy mount weight) = too_heavy mount weight
+line_of_get faults.Memory = out_of_memory
+
+-- the answer to an action, by what it got
+abbrev pub AnswersGot : List MountedFile → Name → Action Name → Result KeyMap GetFault → Answer → Type 0
+AnswersGot files name action (Ok keys) answer = AnswersStep files (parent_of name action) (step_of keys name action) answer
+AnswersGot files name action (Err fault) answer = answer ≡ refused 5 (line_of_get fault)
+
+-- the mounted file that holds a key
+abbrev pub owner_in : List MountedFile → Name → Option MountedFile
+owner_in files name = option_and_then (λ i. slice_get files i) (owner_of (points_of files) name)
+
+-- `file`: the file of a key, with a line feed
+abbrev pub file_told : Name → Option MountedFile → Answer
+file_told name (Some file) = done (file.mount.file ++ 10 ∷ [])
+file_told name None = refused 11 (not_found name)
+
+-- `mounts`: a line for each mount, in the order of the table
+abbrev pub mounts_told : List MountedFile → Answer
+mounts_told files = done (flat_map (λ file. line_of_mount file.mount) files)
+
+-- the answer to a question over mounted files
+abbrev pub AnswersIn : List MountedFile → Question Name → Answer → Type 0
+AnswersIn files Mounts answer = answer ≡ mounts_told files
+AnswersIn files (FileOf name) answer = answer ≡ file_told name (owner_in files name)
+AnswersIn files (On name action) answer = AnswersGot files name action (got files (parent_of name action)) answer
+
+-- the line of what refuses an opening
+abbrev pub line_of_opening : OpenRefusal → List ℕ
+line_of_opening (refusals.TooLong bytes) = too_long own_point bytes
+line_of_opening (refusals.BadFile number) = bad_file own_point number
+line_of_opening (refusals.BadTable fault) = bad_table fault
+line_of_opening refusals.Memory = out_of_memory
+
+-- the answer where a store isn't opened; want of memory gives none
+abbrev pub IsRefusedBy : OpenRefusal → Answer → Type 0
+IsRefusedBy refusal answer = (refusal ≢ refusals.Memory) × (answer ≡ refused 5 (line_of_opening refusal))
+
+-- the answer to a question by what came of the opening
+abbrev pub AnswersOpened : Result (List MountedFile) OpenRefusal → Question Name → Answer → Type 0
+AnswersOpened (Ok files) question answer = AnswersIn files question answer
+AnswersOpened (Err refusal) question answer = IsRefusedBy refusal answer
+
+-- the answer to a question over what the files mean
+pub record AnswersOver (question : Question Name) (bytes_of : List ℕ → List ℕ) (answer : Answer) : Type 0 where
+  pub opened : Result (List MountedFile) OpenRefusal
+  pub opens : Opens all.Reads all.IsBadAt bytes_of opened
+  pub answers : AnswersOpened opened question answer
+
+-- the answer to a question by texts, which spell the names of its keys
+pub record AnswersSpelled (by : Question (List ℕ)) (bytes_of : List ℕ → List ℕ) (answer : Answer) : Type 0 where
+  pub question : Question Name
+  pub spelled : SpellsQuestion by question
+  pub over : AnswersOver question bytes_of answer
+
+-- the answer to a text that names a key which can't be used so
+pub record AnswersBarred (by : Use) (text : List ℕ) (answer : Answer) : Type 0 where
   pub name : Name
   pub spelled : Spells text name
-  pub action : Action Name
-  pub action_spelled : SpellsAction by action
-  pub from : AnswersFrom name action (files user_file) answer
-
--- the answer to a text that names a key of another namespace: none of these can be reached so far
-pub record AnswersOutside (text : List ℕ) (answer : Answer) : Type 0 where
-  pub name : Name
-  pub spelled : Spells text name
-  pub is : answer ≡ refused 2 (not_built name)
+  pub is : answer ≡ refused 2 (barred by name)
 
 -- the answer to a request
 abbrev pub AnswersRequest : Request → (List ℕ → List ℕ) → Answer → Type 0
-AnswersRequest (Refuses status text) files answer = answer ≡ refused status text
-AnswersRequest (IsOutside text) files answer = AnswersOutside text answer
-AnswersRequest (Asks text by) files answer = AnswersText text by files answer
+AnswersRequest (Refuses status text) bytes_of answer = answer ≡ refused status text
+AnswersRequest (Bars by text) bytes_of answer = AnswersBarred by text answer
+AnswersRequest (Asks by) bytes_of answer = AnswersSpelled by bytes_of answer
 
 -- the answer to a command line, where files gives each file name its bytes
 abbrev pub Answers : List (List ℕ) → (List ℕ → List ℕ) → Answer → Type 0

@@ -13,5 +13,5 @@ stopped stops.Memory = warned 70 out_of_memory
 stopped stops.DiskFault = warned 74 disk_fault
 
 abbrev pub ending : Result code.Answer Stop → Report
-ending (Ok answer) = report_of answer
+ending (Ok answer) = report_of answer.report
 ending (Err stop) = stopped stop

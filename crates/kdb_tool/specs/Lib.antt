@@ -1,11 +1,11 @@
 pub mod Lines
+pub mod Uses
 pub mod Request
 pub mod RequestView
-pub mod Holding
-pub mod WholeFile
 pub mod Answer
-pub mod AnswerView
+pub mod Lasting
 pub mod Commands
+pub mod AnswerView
 pub mod Answers
 pub mod Untold
 pub mod Outcome

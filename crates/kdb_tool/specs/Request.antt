@@ -1,6 +1,6 @@
 -- What a command line asks for, or how its words are refused. (This project's own.)
-use Rattle.std.specs.Prelude.{◌≡◌, ℕ, nat_eq, nat_le, nat_lt, not, ◌&&◌, ◌==◌, Bool, List, [], ◌∷◌, ◌++◌, length, if◌then◌else◌, Option, None, Some, codes, filter, slice_index}
-use Rattle.std.specs.List.{before_first, after_first, starts_with}
+use Rattle.std.specs.Prelude.{◌≡◌, ℕ, nat_le, nat_lt, not, ◌&&◌, ◌==◌, Bool, List, [], ◌∷◌, ◌++◌, length, if◌then◌else◌, Option, None, Some, codes, filter, slice_index}
+use Rattle.std.specs.List.{before_first, after_first}
 use Rattle.model_names.specs.Name.{Name}
 use Rattle.model_names.specs.Refuses.{refusal_of}
 use Rattle.model_names.specs.Spelling.{is_text}
@@ -11,10 +11,17 @@ use Rattle.kdb_tool.specs.declared.ways.Way.{Way}
 use Rattle.kdb_tool.specs.declared.ways.Way.TheVariants.{Copies, Moves}
 use Rattle.kdb_tool.specs.declared.verbs.Verb.{Verb}
 use Rattle.kdb_tool.specs.declared.verbs.Verb.TheVariants as verbs
+use Rattle.kdb_tool.specs.declared.uses.Use.{Use}
+use Rattle.kdb_tool.specs.declared.uses.Use.TheVariants.{Looks, Writes}
+use Rattle.kdb_outside.specs.Kind.{kind_of}
+use Rattle.kdb_outside.specs.declared.kinds.Kind.{Kind}
+use Rattle.kdb_outside.specs.declared.kinds.Kind.TheVariants.{Dump}
+use Rattle.kdb_tool.specs.Uses.{is_barred}
 use Rattle.kdb_tool.specs.Lines.{argument, no_command, unknown_command, options_refused, no_name}
 
 -- what is done with a key: it is looked up, gets a value, is taken out, or is listed with all below it; its metadata
--- is looked up, set or listed; or it is brought to another name. Any other key of the action is given as an N
+-- is looked up, set or listed; it is brought to another name; or its name becomes or ceases to be a mountpoint. Any other
+-- key of the action is given as an N
 pub data Action (N : Type 0) : Type 0 where
   Get : Action N
   Set : List ℕ → Action N
@@ -24,13 +31,21 @@ pub data Action (N : Type 0) : Type 0 where
   SetMeta : List ℕ → List ℕ → Action N
   MetaNames : Action N
   Bring : Way → Extent → N → Action N
+  MountFile : List ℕ → Kind → Action N
+  Unmount : Action N
 
--- an action on a user's key by the text of its name, a text that names a key of another namespace, or a status with the
+-- what is asked of a store: its mounts, the file of a key, or an action on a key. Each key is given as an N
+pub data Question (N : Type 0) : Type 0 where
+  Mounts : Question N
+  FileOf : N → Question N
+  On : N → Action N → Question N
+
+-- a question about keys by the texts of their names, a text that names a key which can't be used so, or a status with the
 -- text of its line
 pub data Request : Type 0 where
   Refuses : ℕ → List ℕ → Request
-  IsOutside : List ℕ → Request
-  Asks : List ℕ → Action (List ℕ) → Request
+  Bars : Use → List ℕ → Request
+  Asks : Question (List ℕ) → Request
 
 -- a word that ends the options
 abbrev pub ends_options : List ℕ → Bool
@@ -66,6 +81,11 @@ plain take words = elim (options words) [ [] ↦ take (arguments words) | option
 abbrev pub extended : (Extent → List (List ℕ) → Request) → List (List ℕ) → Request
 extended take words = elim (extent_of (options words)) [ None ↦ Refuses 1 options_refused | Some extent ↦ take extent (arguments words) ]
 
+-- the arguments of a command that takes none
+abbrev pub on_none : Request → List (List ℕ) → Request
+on_none asked [] = asked
+on_none asked (a ∷ words) = Refuses 1 options_refused
+
 -- the arguments of a command that takes one
 abbrev pub on_one : (List ℕ → Request) → List (List ℕ) → Request
 on_one take [] = Refuses 1 options_refused
@@ -87,13 +107,21 @@ on_three take (a ∷ b ∷ []) = Refuses 1 options_refused
 on_three take (a ∷ b ∷ c ∷ []) = take a b c
 on_three take (a ∷ b ∷ c ∷ d ∷ words) = Refuses 1 options_refused
 
--- a text that names a user's key begins so
-abbrev pub is_users : List ℕ → Bool
-is_users text = starts_with nat_eq text (codes "user:")
+-- the arguments of a command that takes two, and a third that may be left out
+abbrev pub on_two_or_three : (List ℕ → List ℕ → Option (List ℕ) → Request) → List (List ℕ) → Request
+on_two_or_three take [] = Refuses 1 options_refused
+on_two_or_three take (a ∷ []) = Refuses 1 options_refused
+on_two_or_three take (a ∷ b ∷ []) = take a b None
+on_two_or_three take (a ∷ b ∷ c ∷ []) = take a b (Some c)
+on_two_or_three take (a ∷ b ∷ c ∷ d ∷ words) = Refuses 1 options_refused
 
--- a word that is to name a user's key, and what is asked for where it does
+-- a word that is to be a name, and what is asked for where it is one
 abbrev pub on_name : List ℕ → Request → Request
-on_name word asked = elim (refusal_of word) [ None ↦ if is_users word then asked else IsOutside word | Some refusal ↦ Refuses 2 (no_name refusal) ]
+on_name word asked = elim (refusal_of word) [ None ↦ asked | Some refusal ↦ Refuses 2 (no_name refusal) ]
+
+-- a word that is to be a name which can be used so
+abbrev pub on_name_for : Use → List ℕ → Request → Request
+on_name_for by word asked = on_name word (if is_barred by word then Bars by word else asked)
 
 -- a text may be a metadata name: it has 1 to 4,096 bytes
 abbrev pub is_meta : List ℕ → Bool
@@ -103,13 +131,22 @@ is_meta text = nat_lt 0 (length text) && nat_le (length text) 4096
 abbrev pub on_meta : List ℕ → Request → Request
 on_meta word asked = if is_meta word then asked else Refuses 2 (argument word)
 
+-- a word that may be left out and is to be a format's, and what is asked for by the format; without the word it is dump
+abbrev pub on_kind : Option (List ℕ) → (Kind → Request) → Request
+on_kind None asked = asked Dump
+on_kind (Some word) asked = elim (kind_of word) [ None ↦ Refuses 2 (argument word) | Some kind ↦ asked kind ]
+
 -- an action on the key of a word alone
-abbrev pub asks : Action (List ℕ) → List ℕ → Request
-asks action name = on_name name (Asks name action)
+abbrev pub asks : Use → Action (List ℕ) → List ℕ → Request
+asks by action name = on_name_for by name (Asks (On name action))
 
 -- the key of a word is brought to the name that another word spells
 abbrev pub asks_to_bring : Way → Extent → List ℕ → List ℕ → Request
-asks_to_bring way extent from to = on_name from (on_name to (Asks from (Bring way extent to)))
+asks_to_bring way extent from to = on_name_for Writes from (on_name_for Writes to (Asks (On from (Bring way extent to))))
+
+-- a file is mounted at the name of a word
+abbrev pub asks_to_mount : List ℕ → List ℕ → Option (List ℕ) → Request
+asks_to_mount file name plugin = on_name_for Writes name (on_kind plugin (λ kind. Asks (On name (MountFile file kind))))
 
 -- the command that a word names
 abbrev pub verb_of : List ℕ → Option Verb
@@ -122,30 +159,38 @@ verb_of word =
     (if is_text word (codes "meta-set") then Some verbs.MetaSet else
     (if is_text word (codes "meta-ls") then Some verbs.MetaLs else
     (if is_text word (codes "cp") then Some verbs.Cp else
-    (if is_text word (codes "mv") then Some verbs.Mv else None))))))))
+    (if is_text word (codes "mv") then Some verbs.Mv else
+    (if is_text word (codes "mount") then Some verbs.Mount else
+    (if is_text word (codes "umount") then Some verbs.Umount else
+    (if is_text word (codes "mounts") then Some verbs.Mounts else
+    (if is_text word (codes "file") then Some verbs.File else None))))))))))))
 
 -- what the words behind a command ask for
 abbrev pub request_of : Verb → List (List ℕ) → Request
-request_of verbs.Get = plain (on_one (asks Get))
-request_of verbs.Set = plain (on_two (λ name value. asks (Set value) name))
-request_of verbs.Rm = extended (λ extent. on_one (asks (Remove extent)))
-request_of verbs.Ls = plain (on_one (asks Names))
-request_of verbs.MetaGet = plain (on_two (λ name meta. on_name name (on_meta meta (Asks name (GetMeta meta)))))
-request_of verbs.MetaSet = plain (on_three (λ name meta text. on_name name (on_meta meta (Asks name (SetMeta meta text)))))
-request_of verbs.MetaLs = plain (on_one (asks MetaNames))
+request_of verbs.Get = plain (on_one (asks Looks Get))
+request_of verbs.Set = plain (on_two (λ name value. asks Writes (Set value) name))
+request_of verbs.Rm = extended (λ extent. on_one (asks Writes (Remove extent)))
+request_of verbs.Ls = plain (on_one (λ name. on_name name (Asks (On name Names))))
+request_of verbs.MetaGet = plain (on_two (λ name meta. on_name_for Looks name (on_meta meta (Asks (On name (GetMeta meta))))))
+request_of verbs.MetaSet = plain (on_three (λ name meta text. on_name_for Writes name (on_meta meta (Asks (On name (SetMeta meta text))))))
+request_of verbs.MetaLs = plain (on_one (asks Looks MetaNames))
 request_of verbs.Cp = extended (λ extent. on_two (asks_to_bring Copies extent))
 request_of verbs.Mv = extended (λ extent. on_two (asks_to_bring Moves extent))
+request_of verbs.Mount = plain (on_two_or_three asks_to_mount)
+request_of verbs.Umount = plain (on_one (asks Writes Unmount))
+request_of verbs.Mounts = plain (on_none (Asks Mounts))
+request_of verbs.File = plain (on_one (λ name. on_name_for Writes name (Asks (FileOf name))))
 
 -- the words of a command line, without the program's name
 abbrev pub request : List (List ℕ) → Request
 request [] = Refuses 4 no_command
 request (word ∷ words) = elim (verb_of word) [ None ↦ Refuses 4 (unknown_command word) | Some verb ↦ request_of verb words ]
 
--- an action with another key is made of the key that a text spells
-pub record SpellsOther (text : List ℕ) (made : Name → Action Name) (action : Action Name) : Type 0 where
-  pub other : Name
-  pub spelled : Spells text other
-  pub is : action ≡ made other
+-- a key that a text spells makes this of something
+pub record SpellsOne {A : Type 0} (text : List ℕ) (made : Name → A) (whole : A) : Type 0 where
+  pub name : Name
+  pub spelled : Spells text name
+  pub is : whole ≡ made name
 
 -- an action whose other keys are given by texts is this one on the keys that they spell
 abbrev pub SpellsAction : Action (List ℕ) → Action Name → Type 0
@@ -156,4 +201,20 @@ SpellsAction Names action = action ≡ Names
 SpellsAction (GetMeta meta) action = action ≡ GetMeta meta
 SpellsAction (SetMeta meta text) action = action ≡ SetMeta meta text
 SpellsAction MetaNames action = action ≡ MetaNames
-SpellsAction (Bring way extent text) action = SpellsOther text (Bring way extent) action
+SpellsAction (Bring way extent text) action = SpellsOne text (Bring way extent) action
+SpellsAction (MountFile file kind) action = action ≡ MountFile file kind
+SpellsAction Unmount action = action ≡ Unmount
+
+-- an action on the key that a text spells
+pub record SpellsOn (text : List ℕ) (by : Action (List ℕ)) (question : Question Name) : Type 0 where
+  pub name : Name
+  pub spelled : Spells text name
+  pub action : Action Name
+  pub action_spelled : SpellsAction by action
+  pub is : question ≡ On name action
+
+-- a question about keys that are given by texts is this one about the keys that they spell
+abbrev pub SpellsQuestion : Question (List ℕ) → Question Name → Type 0
+SpellsQuestion Mounts question = question ≡ Mounts
+SpellsQuestion (FileOf text) question = SpellsOne text FileOf question
+SpellsQuestion (On text by) question = SpellsOn text by question

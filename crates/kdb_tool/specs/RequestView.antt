@@ -6,16 +6,19 @@ use Rattle.model_names.specs.Spells.{Spells}
 use Rattle.model_names.specs.Refuses as table
 use Rattle.key_name.specs.declared.faults.NameFault.{NameFault}
 use Rattle.key_name.specs.declared.faults.NameFault.TheVariants as faults
-use Rattle.kdb_tool.specs.declared.words.Request as code
-use Rattle.kdb_tool.specs.declared.words.Request.TheVariants as code_requests
-use Rattle.kdb_tool.specs.declared.words.Action as code_action
-use Rattle.kdb_tool.specs.declared.words.Action.TheVariants as code_actions
-use Rattle.kdb_tool.specs.declared.words.Named as code_named
-use Rattle.kdb_tool.specs.declared.words.Named.TheVariants as code_names
-use Rattle.kdb_tool.specs.declared.words.Refusal.{Refusal}
-use Rattle.kdb_tool.specs.declared.words.Refusal.TheVariants as refusals
+use Rattle.kdb_tool.specs.declared.requests.Request as code
+use Rattle.kdb_tool.specs.declared.requests.Request.TheVariants as code_requests
+use Rattle.kdb_tool.specs.declared.requests.Action as code_action
+use Rattle.kdb_tool.specs.declared.requests.Action.TheVariants as code_actions
+use Rattle.kdb_tool.specs.declared.requests.Question as code_question
+use Rattle.kdb_tool.specs.declared.requests.Question.TheVariants as code_questions
+use Rattle.kdb_tool.specs.declared.requests.Named as code_named
+use Rattle.kdb_tool.specs.declared.requests.Named.TheVariants as code_names
+use Rattle.kdb_tool.specs.declared.requests.Refusal.{Refusal}
+use Rattle.kdb_tool.specs.declared.requests.Refusal.TheVariants as refusals
 use Rattle.kdb_tool.specs.Lines.{argument, no_command, unknown_command, options_refused, no_name, out_of_memory}
-use Rattle.kdb_tool.specs.Request.{Action, Get, Set, Remove, Names, GetMeta, SetMeta, MetaNames, Bring, Request, Refuses, IsOutside, Asks, SpellsAction, on_name}
+use Rattle.kdb_tool.specs.Request.{Action, Get, Set, Remove, Names, GetMeta, SetMeta, MetaNames, Bring, MountFile, Unmount, Question, Mounts, FileOf, On, Request, Refuses, Bars, Asks, SpellsQuestion}
+use Rattle.kdb_tool.specs.declared.uses.Use.{Use}
 
 -- the status of a refusal
 abbrev pub status_of : Refusal → ℕ
@@ -53,20 +56,25 @@ action_of (code_actions.GetMeta meta) = GetMeta meta
 action_of (code_actions.SetMeta meta text) = SetMeta meta text.now
 action_of code_actions.MetaNames = MetaNames
 action_of (code_actions.Bring way extent to) = Bring way extent to
+action_of (code_actions.MountFile file kind) = MountFile file.now kind
+action_of code_actions.Unmount = Unmount
 
--- an action is asked for by a text that spells this name, and by those of its other keys
-pub record IsAskedFor (name : Name) (action : Action Name) (asked : Request) : Type 0 where
+abbrev pub question_of : code_question.Question → Question Name
+question_of code_questions.Mounts = Mounts
+question_of (code_questions.FileOf name) = FileOf name
+question_of (code_questions.On name action) = On name (action_of action)
+
+-- a question is asked by texts that spell its names
+pub record IsAsked (question : Question Name) (asked : Request) : Type 0 where
+  pub by : Question (List ℕ)
+  pub spelled : SpellsQuestion by question
+  pub is : asked ≡ Asks by
+
+-- a text that spells this name can't be used so
+pub record IsSaidBarred (by : Use) (name : Name) (asked : Request) : Type 0 where
   pub text : List ℕ
   pub spelled : Spells text name
-  pub by : Action (List ℕ)
-  pub action_spelled : SpellsAction by action
-  pub is : asked ≡ Asks text by
-
--- a text that spells this name is outside
-pub record IsSaidOutside (name : Name) (asked : Request) : Type 0 where
-  pub text : List ℕ
-  pub spelled : Spells text name
-  pub is : asked ≡ IsOutside text
+  pub is : asked ≡ Bars by text
 
 -- words that are lent
 abbrev pub texts_of : List (Bor (List ℕ)) → List (List ℕ)
@@ -75,15 +83,15 @@ texts_of words = map (λ word. word.now) words
 -- a request as the code has it is this one
 abbrev pub IsSeenAs : code.Request → Request → Type 0
 IsSeenAs (code_requests.Refuses refusal) asked = asked ≡ Refuses (status_of refusal) (text_of refusal)
-IsSeenAs (code_requests.IsOutside name) asked = IsSaidOutside name asked
-IsSeenAs (code_requests.Asks name action) asked = IsAskedFor name (action_of action) asked
+IsSeenAs (code_requests.Bars by name) asked = IsSaidBarred by name asked
+IsSeenAs (code_requests.Asks question) asked = IsAsked (question_of question) asked
 
--- a word that names a user's key asks for whatever is to be done with it
-pub record NamesKey (word : List ℕ) (name : Name) : Type 0 where
+-- a word names a key: whatever is asked for where it does is asked for
+pub record NamesKey (given : Request → Request) (word : List ℕ) (name : Name) : Type 0 where
   pub spelled : Spells word name
-  pub passes : (asked : Request) → on_name word asked ≡ asked
+  pub passes : (asked : Request) → given asked ≡ asked
 
--- a word that was read as a name: it names this user's key, or it is refused whatever is to be done with it
-abbrev pub IsRead : List ℕ → code_named.Named → Type 0
-IsRead word (code_names.Is name) = NamesKey word name
-IsRead word (code_names.IsNone request) = (asked : Request) → IsSeenAs request (on_name word asked)
+-- a word that was read as a name: it is this name, or it is refused whatever is asked for where it names one
+abbrev pub IsRead : (Request → Request) → List ℕ → code_named.Named → Type 0
+IsRead given word (code_names.Is name) = NamesKey given word name
+IsRead given word (code_names.IsNone request) = (asked : Request) → IsSeenAs request (given asked)

@@ -1,6 +1,6 @@
 -- What a fault of reading a file stops. (This project's own.)
-use Rattle.kdb_tool.specs.declared.whole_file.FileFault.{FileFault}
-use Rattle.kdb_tool.specs.declared.whole_file.FileFault.TheVariants as faults
+use Rattle.backend_files.specs.declared.reading.FileFault.{FileFault}
+use Rattle.backend_files.specs.declared.reading.FileFault.TheVariants as faults
 use Rattle.kdb_tool.specs.declared.answers.Stop.{Stop}
 use Rattle.kdb_tool.specs.declared.answers.Stop.TheVariants as stops
 

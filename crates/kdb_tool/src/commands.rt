@@ -1,42 +1,53 @@
-//! What each command answers over the keys that a file holds.
+//! What each command makes of the keys that it got.
 ghost use Rattle.std.specs.Prelude.{◌≡◌, IfOk};
-ghost use Rattle.kdb_tool.specs.AnswerView.{answer_of};
-ghost use Rattle.kdb_tool.specs.Commands.{answer_in};
+ghost use Rattle.kdb_tool.specs.AnswerView.{seen_step};
+ghost use Rattle.kdb_tool.specs.Commands.{step_of, parent_of};
 ghost use Rattle.kdb_tool.specs.RequestView.{action_of};
 
-mod keeping;
 mod metadata;
+mod mounting;
 mod trees;
 mod values;
 
-use crate::answers::Answer;
 use crate::commands::metadata::{get_meta, list_meta, set_meta};
+use crate::commands::mounting::{mount, unmount};
 use crate::commands::trees::{bring, list, remove};
 use crate::commands::values::{get, set};
-use crate::words::Action;
+use crate::places::{every_key, own_point};
+use crate::requests::Action;
+use crate::steps::Step;
 use key_meta::Memory;
-use key_name::{KeyName, Namespace};
+use key_name::KeyName;
 use key_set::KeySet;
 use std::alloc::Global;
 
-/// The answer to an action on a key, over the keys of its file.
-pub fn answer_in(
-    alloc: Global,
-    name: &KeyName,
-    action: Action<'_>,
-    keys: KeySet,
-) -> Result<Answer, Memory>
-    ensures { IfOk result (λ answer. answer_of answer ≡ answer_in keys name.now (action_of action.entry)) }
+/// The parent whose keys a command gets, and sets where it sets any.
+pub fn parent_of(alloc: Global, name: &KeyName, action: &Action<'_>) -> Result<KeyName, Memory>
+    ensures { IfOk result (λ parent. parent ≡ parent_of name.now (action_of action.now)) }
 {
-    let relative = name.with_namespace(Namespace::Cascading)?;
     match action {
-        Action::Get => get(alloc, name, &relative, &keys),
-        Action::Set(value) => set(alloc, name, relative, value, keys),
-        Action::Remove(extent) => remove(alloc, name, &relative, extent, keys),
-        Action::Names => list(alloc, name, &relative, &keys),
-        Action::GetMeta(meta) => get_meta(alloc, name, &relative, meta.as_str(), &keys),
-        Action::SetMeta(meta, text) => set_meta(alloc, name, relative, &meta, text, keys),
-        Action::MetaNames => list_meta(alloc, name, &relative, &keys),
-        Action::Bring { way, extent, to } => bring(alloc, name, &relative, way, extent, &to, keys),
+        Action::Set(_) | Action::Remove(_) | Action::Names | Action::SetMeta(_, _) => name.copy(),
+        Action::Get | Action::GetMeta(_) | Action::MetaNames | Action::Bring { .. } => {
+            Ok(every_key(alloc))
+        }
+        Action::MountFile { .. } | Action::Unmount => own_point(alloc),
+    }
+}
+
+/// What an action on a key makes of the keys that it got.
+pub fn step(alloc: Global, name: &KeyName, action: Action<'_>, keys: KeySet) -> Result<Step, Memory>
+    ensures { IfOk result (λ step. seen_step step ≡ step_of keys name.now (action_of action.entry)) }
+{
+    match action {
+        Action::Get => get(alloc, name, &keys),
+        Action::Set(value) => set(alloc, name, value, keys),
+        Action::Remove(extent) => remove(alloc, name, extent, keys),
+        Action::Names => list(alloc, name, &keys),
+        Action::GetMeta(meta) => get_meta(alloc, name, meta.as_str(), &keys),
+        Action::SetMeta(meta, text) => set_meta(alloc, name, &meta, text, keys),
+        Action::MetaNames => list_meta(alloc, name, &keys),
+        Action::Bring { way, extent, to } => bring(alloc, name, way, extent, &to, keys),
+        Action::MountFile { file, kind } => mount(alloc, name, file, kind, keys),
+        Action::Unmount => unmount(alloc, name, keys),
     }
 }

@@ -66,9 +66,9 @@ pub fn finish<K: Sink, E: Sink>(answer: &Result<Answer, Stop>, out: &mut K, err:
 {
     match answer {
         Ok(answer) => deliver(
-            answer.status,
-            answer.out.as_str(),
-            answer.err.as_str(),
+            answer.report.status,
+            answer.report.out.as_str(),
+            answer.report.err.as_str(),
             out,
             err,
         ),

@@ -2,27 +2,34 @@
 #![tactic(auto)]
 
 ghost use Rattle.std.specs.Prelude.{◌≡◌, List, ℕ};
-ghost use Rattle.std.specs.Bool.{Decides};
-ghost use Rattle.model_names.specs.declared.namespaces.Namespace.TheVariants.{User};
 ghost use Rattle.model_names.specs.Name.{Name};
 ghost use Rattle.model_names.specs.Spells.{Spells};
 ghost use Rattle.kdb_tool.specs.Answer.{Answer};
 ghost use Rattle.kdb_tool.specs.Answers.{Answers};
-ghost use Rattle.kdb_tool.specs.Request.{is_users};
+ghost use Rattle.kdb_tool.specs.Uses.{bars, is_barred};
+ghost use Rattle.kdb_tool.specs.declared.uses.Use.{Use};
 
+mod answering;
 mod answers;
+mod asking;
 mod commands;
 mod delivery;
 mod extents;
 mod meta_names;
+mod opening;
 mod options;
+mod places;
 mod refusing;
+mod reports;
+mod requests;
 mod status;
+mod steps;
+mod store_lines;
 mod storing;
 mod tool;
+mod uses;
 mod verbs;
 mod ways;
-mod whole_file;
 mod words;
 mod work;
 
@@ -34,7 +41,7 @@ pub fn words_have_one_answer()
     ensures { (words : List (List ℕ)) (files : List ℕ → List ℕ) (a b : Answer) → Answers words files a → Answers words files b → a ≡ b }
 {}
 
-/// A text that spells a name begins with `user:` exactly where the name is a user's.
-pub fn texts_of_users_begin_alike()
-    ensures { (text : List ℕ) (name : Name) → Spells text name → Decides (is_users text) (name.namespace ≡ User) }
+/// A text that spells a name is barred exactly where the name's namespace is.
+pub fn texts_are_barred_by_their_namespaces()
+    ensures { (by : Use) (text : List ℕ) (name : Name) → Spells text name → is_barred by text ≡ bars by name.namespace }
 {}

@@ -1,7 +1,8 @@
 //! The words behind a command: its options, and its arguments.
-ghost use Rattle.std.specs.Prelude.{◌≡◌, ◌<◌, ◌≤◌, ◌++◌, ℕ, List, not, length, filter, IfOk, IfSome, OnOk, MatchOption};
+ghost use Rattle.std.specs.Prelude.{◌≡◌, ◌<◌, ◌≤◌, ◌++◌, ℕ, List, true, false, not, length, filter, Option, IfOk, IfSome, OnOk, MatchOption};
 ghost use Rattle.std.specs.List.{after_first, position, position_or_len};
-ghost use Rattle.kdb_tool.specs.Request.{is_option, ends_options, before_dashes, options, arguments, extent_of, Request, Refuses, plain, extended, on_one, on_two, on_three};
+ghost use Rattle.std.specs.Option.{option_map};
+ghost use Rattle.kdb_tool.specs.Request.{is_option, ends_options, before_dashes, options, arguments, extent_of, Request, Refuses, plain, extended, on_none, on_one, on_two, on_three, on_two_or_three};
 ghost use Rattle.kdb_tool.specs.Lines.{options_refused};
 ghost use Rattle.kdb_tool.specs.RequestView.{texts_of};
 
@@ -181,6 +182,30 @@ pub fn two<'a>(arguments: &[&'a Text]) -> Option<(&'a str, &'a str)>
 {
     match arguments {
         [a, b] => Some((a.as_str(), b.as_str())),
+        _ => None,
+    }
+}
+
+/// Whether there are no arguments.
+pub fn none(arguments: &[&Text]) -> bool
+    ensures none { result ≡ true → (asked : Request) → on_none asked (texts_of arguments.now) ≡ asked }
+    ensures some { result ≡ false → (asked : Request) → on_none asked (texts_of arguments.now) ≡ Refuses 1 options_refused }
+{
+    match arguments {
+        [] => true,
+        _ => false,
+    }
+}
+
+/// The arguments, where they are two or three.
+pub fn two_or_three<'a>(arguments: &[&'a Text]) -> Option<(&'a str, &'a str, Option<&'a str>)>
+    ensures { MatchOption result
+        ((take : List ℕ → List ℕ → Option (List ℕ) → Request) → on_two_or_three take (texts_of arguments.now) ≡ Refuses 1 options_refused)
+        (λ all. (take : List ℕ → List ℕ → Option (List ℕ) → Request) → on_two_or_three take (texts_of arguments.now) ≡ take all.0.now all.1.now (option_map (λ word. word.now) all.2)) }
+{
+    match arguments {
+        [a, b] => Some((a.as_str(), b.as_str(), None)),
+        [a, b, c] => Some((a.as_str(), b.as_str(), Some(c.as_str()))),
         _ => None,
     }
 }

@@ -1,39 +1,63 @@
 //! The answer to words that ask for nothing.
 ghost use Rattle.std.specs.Prelude.{◌≡◌, IfOk, string_bytes};
-ghost use Rattle.kdb_tool.specs.Answer.{refused};
-ghost use Rattle.kdb_tool.specs.AnswerView.{answer_of};
+ghost use Rattle.kdb_tool.specs.Answer.{refused, warned};
+ghost use Rattle.kdb_tool.specs.AnswerView.{answer_of, report_of};
 ghost use Rattle.kdb_tool.specs.Ends.{IsAnswered};
 ghost use Rattle.kdb_tool.specs.RequestView.{status_of, text_of, text_of_fault};
+ghost use Rattle.kdb_tool.specs.Uses.{barred};
 
-use crate::answers::{Answer, refuse};
+use crate::answers::{Answer, refuse, tells};
+use crate::reports::{Report, warn};
+use crate::requests::Refusal;
 use crate::status::{ARGUMENT_REFUSED, NO_COMMAND, OPTIONS_REFUSED};
-use crate::words::Refusal;
-use kdb_text::{quoted, shown_text};
+use crate::uses::Use;
+use kdb_text::{quoted, shown, shown_text};
 use key_meta::Memory;
-use key_name::NameFault;
+use key_name::{KeyName, NameFault};
 use std::alloc::Global;
+
+/// The answer to a name that can't be used so.
+pub fn refuse_name(alloc: Global, by: Use, name: &KeyName) -> Result<Answer, Memory>
+    ensures { IfOk result (λ answer. answer_of answer ≡ refused 2 (barred by name.now)) }
+{
+    let name = shown(alloc, name)?;
+    let text = match by {
+        Use::Looks => format!(in alloc; "not built: {name}")?,
+        Use::Writes => format!(in alloc; "C01320 not writable: {name}")?,
+    };
+    refuse(alloc, ARGUMENT_REFUSED, text.as_str())
+}
 
 /// The answer to words that ask for nothing.
 pub fn refuse_words(alloc: Global, refusal: Refusal<'_>) -> Result<Answer, Memory>
     ensures refused { IfOk result (λ answer. answer_of answer ≡ refused (status_of refusal.entry) (text_of refusal.entry)) }
-    ensures own { IfOk result (λ answer. IsAnswered answer.status) }
+    ensures own { IfOk result (λ answer. IsAnswered answer.report.status) }
+{
+    let report = warn_of_words(alloc, refusal)?;
+    Ok(tells(alloc, report))
+}
+
+/// What is told of such words.
+pub fn warn_of_words(alloc: Global, refusal: Refusal<'_>) -> Result<Report, Memory>
+    ensures warned { IfOk result (λ report. report_of report ≡ warned (status_of refusal.entry) (text_of refusal.entry)) }
+    ensures own { IfOk result (λ report. IsAnswered report.status) }
 {
     match refusal {
-        Refusal::NoCommand => refuse(alloc, NO_COMMAND, "no command"),
+        Refusal::NoCommand => warn(alloc, NO_COMMAND, "no command"),
         Refusal::UnknownCommand(word) => {
             let word = shown_text(alloc, word)?;
             let text = format!(in alloc; "unknown command {word}")?;
-            refuse(alloc, NO_COMMAND, text.as_str())
+            warn(alloc, NO_COMMAND, text.as_str())
         }
-        Refusal::OptionsRefused => refuse(alloc, OPTIONS_REFUSED, "options refused"),
+        Refusal::OptionsRefused => warn(alloc, OPTIONS_REFUSED, "options refused"),
         Refusal::NoName(fault) => {
             let text = text_of_fault(alloc, fault)?;
-            refuse(alloc, ARGUMENT_REFUSED, text.as_str())
+            warn(alloc, ARGUMENT_REFUSED, text.as_str())
         }
         Refusal::NoArgument(word) => {
             let word = quoted(alloc, word)?;
             let text = format!(in alloc; "C01320 argument: {word}")?;
-            refuse(alloc, ARGUMENT_REFUSED, text.as_str())
+            warn(alloc, ARGUMENT_REFUSED, text.as_str())
         }
     }
 }

@@ -1,12 +1,12 @@
 //! The top call. The whole answer is made before anything is stored or put out.
-ghost use Rattle.std.specs.Prelude.{◌≡◌, ◌≢◌, ◌≤◌, List, ℕ, None, true};
+ghost use Rattle.std.specs.Prelude.{◌≡◌, ◌≢◌, ◌≤◌, List, ℕ, [], true};
 ghost use Rattle.kdb_outside.specs.Faults.{HasRisen};
-ghost use Rattle.kdb_outside.specs.Files.{KeepsOthers};
-ghost use Rattle.kdb_tool.specs.Answer.{Answer, user_file};
+ghost use Rattle.kdb_tool.specs.Answer.{Answer, KeepsUnnamed};
 ghost use Rattle.kdb_tool.specs.Answers.{Answers};
 ghost use Rattle.kdb_tool.specs.Request.{request};
 ghost use Rattle.kdb_tool.specs.Outcome.{Change, GainsFront};
-ghost use Rattle.kdb_tool.specs.Ends.{EndsAsAnswered, EndsByWords, EndsWithoutMemory, EndsInFault, LeftBy};
+ghost use Rattle.kdb_tool.specs.Ends.{IsAnswered, EndsAsAnswered, EndsByWords, EndsWithoutMemory, EndsInFault, LeftBy};
+ghost use Rattle.kdb_tool.specs.Lasting.{Lasts, SparesUnnamed};
 
 use crate::delivery::finish;
 use crate::status::Status;
@@ -58,10 +58,16 @@ pub fn run<S: Source, K: Sink, E: Sink, D: Disk + Send, G: Gate + Sync>(
     ensures unwritten { D.tells disk ≡ true → result.0 ≡ 70 → D.seen result.1 ≡ D.seen disk }
 
     // Where the answer stores nothing, the files are as they were, whatever fails.
-    ensures untouched { D.tells disk ≡ true → (answer : Answer) → Answers words.now (D.seen disk) answer → answer.stored ≡ None → D.seen result.1 ≡ D.seen disk }
+    ensures untouched { D.tells disk ≡ true → (answer : Answer) → Answers words.now (D.seen disk) answer → answer.stored ≡ [] → D.seen result.1 ≡ D.seen disk }
 
-    // No file but the users' is ever changed.
-    ensures others { D.tells disk ≡ true → KeepsOthers user_file (D.seen disk) (D.seen result.1) }
+    // No file but those that the answer stores is ever changed, whatever fails.
+    ensures others { D.tells disk ≡ true → (answer : Answer) → Answers words.now (D.seen disk) answer → KeepsUnnamed answer.stored (D.seen disk) (D.seen result.1) }
+
+    // What an answer stored outlasts a crash.
+    ensures lasting { D.tells disk ≡ true → IsAnswered result.0 → (answer : Answer) → Answers words.now (D.seen disk) answer → Lasts answer.stored (D.may_leave result.1) }
+
+    // Of all other files a crash leaves what it might have left before, whatever fails.
+    ensures spared { D.tells disk ≡ true → (answer : Answer) → Answers words.now (D.seen disk) answer → SparesUnnamed answer.stored (D.may_leave disk) (D.may_leave result.1) }
     ensures tells { D.tells result.1 ≡ D.tells disk }
 
     // No input is taken, and no count of faults falls.

@@ -14,6 +14,10 @@ pub enum Verb {
     MetaLs,
     Cp,
     Mv,
+    Mount,
+    Umount,
+    Mounts,
+    File,
 }
 
 /// The command that a word names.
@@ -38,6 +42,14 @@ pub fn verb_of(word: &str) -> Option<Verb>
         Some(Verb::Cp)
     } else if word == "mv" {
         Some(Verb::Mv)
+    } else if word == "mount" {
+        Some(Verb::Mount)
+    } else if word == "umount" {
+        Some(Verb::Umount)
+    } else if word == "mounts" {
+        Some(Verb::Mounts)
+    } else if word == "file" {
+        Some(Verb::File)
     } else {
         None
     }

@@ -1,126 +1,77 @@
 //! The work that a command line asks for: the files are read, the answer is made whole, and then it is stored.
-ghost use Rattle.std.specs.Prelude.{◌≡◌, ◌≤◌, ℕ, List, length, true, IfOk, Err};
+ghost use Rattle.std.specs.Prelude.{◌≡◌, ◌≤◌, true, IfOk, Err};
 ghost use Rattle.kdb_outside.specs.Faults.{HasRisen};
-ghost use Rattle.kdb_outside.specs.Files.{KeepsOthers};
-ghost use Rattle.kdb_tool.specs.Answer.{user_file};
+ghost use Rattle.kdb_outside.specs.Images.{KeepsImages};
+ghost use Rattle.kdb_tool.specs.Answer as wanted;
 ghost use Rattle.kdb_tool.specs.AnswerView.{answer_of};
-ghost use Rattle.kdb_tool.specs.Answers.{Answers, AnswersFrom};
+ghost use Rattle.kdb_tool.specs.Answers.{Answers, AnswersOver};
 ghost use Rattle.kdb_tool.specs.Ends.{IsAnswered};
-ghost use Rattle.kdb_tool.specs.Holding.{longest_file};
+ghost use Rattle.kdb_tool.specs.Lasting.{Lasts, SparesUnnamed};
 ghost use Rattle.kdb_tool.specs.Request.{request};
-ghost use Rattle.kdb_tool.specs.RequestView.{action_of};
+ghost use Rattle.kdb_tool.specs.RequestView.{question_of};
 ghost use Rattle.kdb_tool.specs.Untold.{AnswersUntold, IsStatusOf};
-ghost use Rattle.kdb_tool.specs.WholeFile.{IsWhole, IsShort};
 ghost use Rattle.kdb_tool.specs.Work.{Leaves, Stores};
 
-use crate::answers::{Answer, Stop, refuse_bad_file, refuse_not_built, refuse_too_long};
-use crate::commands::answer_in;
-use crate::refusing::refuse_words;
-use crate::storing::replace;
-use crate::whole_file::{FileRead, read_file};
-use crate::words::{Action, Request, read_words};
-use kdb_outside::{Disk, FileName};
-use key_meta::{Memory, Text};
-use key_name::KeyName;
-use std::alloc::{AllocError, Global};
-use storage_api::ReadRefusal;
+use crate::answering::answer_opened;
+use crate::answers::{Answer, Stop};
+use crate::opening::open;
+use crate::refusing::{refuse_name, refuse_words};
+use crate::requests::{Question, Request};
+use crate::storing::replace_all;
+use crate::words::read_words;
+use kdb_outside::Disk;
+use key_meta::Text;
+use std::alloc::Global;
 
-/// The file of the users' root.
-fn name_of_user_file(alloc: Global) -> Result<FileName, Memory>
-    ensures { IfOk result (λ file. file ≡ user_file) }
-{
-    match FileName::new(alloc, "user.ecf")? {
-        Some(file) => Ok(file),
-        None => unreachable!(),
-    }
-}
-
-/// The answer to an action on a key, over the bytes of its file.
-fn answer_from(
+/// The answer to a question over the files of a disk. Nothing is written.
+fn answer_question<D: Disk>(
     alloc: Global,
-    name: &KeyName,
-    action: Action<'_>,
-    bytes: &[u8],
-) -> Result<Answer, Memory>
-    requires { length bytes.now ≤ longest_file }
-    ensures { IfOk result (λ answer. AnswersFrom name.now (action_of action.entry) bytes.now (answer_of answer)) }
-{
-    match dump_storage::read(alloc, bytes) {
-        Ok(keys) => answer_in(alloc, name, action, keys),
-        Err(ReadRefusal::BadFile { line }) => refuse_bad_file(alloc, line),
-        Err(ReadRefusal::Memory) => Err(AllocError),
-    }
-}
-
-/// The answer to an action on a key, over what its file gave.
-fn answer_over(
-    alloc: Global,
-    name: &KeyName,
-    action: Action<'_>,
-    read: FileRead,
-) -> Result<Answer, Memory>
-    requires { IsShort read }
-    ensures whole { IfOk result (λ answer. (bytes : List ℕ) → IsWhole bytes read → AnswersFrom name.now (action_of action.entry) bytes (answer_of answer)) }
-    ensures status { IfOk result (λ answer. IsStatusOf (action_of action.entry) answer.status) }
-    ensures own { IfOk result (λ answer. IsAnswered answer.status) }
-{
-    match read {
-        FileRead::Bytes(bytes) => answer_from(alloc, name, action, &bytes),
-        FileRead::TooLong { bytes } => refuse_too_long(alloc, bytes),
-    }
-}
-
-/// The answer to an action on a user's key.
-fn answer_key<D: Disk>(
-    alloc: Global,
-    name: &KeyName,
-    action: Action<'_>,
+    question: Question<'_>,
     disk: &mut D,
 ) -> Result<Answer, Stop>
-    ensures told { D.tells disk.old ≡ true → IfOk result (λ answer. AnswersFrom name.now (action_of action.entry) (D.seen disk.old user_file) (answer_of answer)) }
-    ensures status { IfOk result (λ answer. IsStatusOf (action_of action.entry) answer.status) }
-    ensures own { IfOk result (λ answer. IsAnswered answer.status) }
+    ensures told { D.tells disk.old ≡ true → IfOk result (λ answer. AnswersOver (question_of question.entry) (D.seen disk.old) (answer_of answer)) }
+    ensures status { IfOk result (λ answer. IsStatusOf (question_of question.entry) answer.report.status) }
+    ensures own { IfOk result (λ answer. IsAnswered answer.report.status) }
     ensures cause { result ≡ Err Stop.DiskFault → HasRisen (D.faults disk.old) (D.faults disk.new) }
     ensures same { D.tells disk.old ≡ true → D.seen disk.new ≡ D.seen disk.old }
+    ensures images { D.tells disk.old ≡ true → KeepsImages (D.may_leave disk.old) (D.may_leave disk.new) }
     ensures tells { D.tells disk.new ≡ D.tells disk.old }
     ensures later { D.faults disk.old ≤ D.faults disk.new }
 {
-    let file = name_of_user_file(alloc)?;
-    let read = read_file(alloc, disk, &file)?;
-    Ok(answer_over(alloc, name, action, read)?)
+    let opened = open(alloc, disk)?;
+    let answer = answer_opened(alloc, opened, question)?;
+    Ok(answer)
 }
 
 /// The answer to the words of a command line. Nothing is written.
 fn work_out<D: Disk>(alloc: Global, words: &[Text], disk: &mut D) -> Result<Answer, Stop>
     ensures told { D.tells disk.old ≡ true → IfOk result (λ answer. Answers words.now (D.seen disk.old) (answer_of answer)) }
     ensures untold { IfOk result (λ answer. AnswersUntold (request words.now) (answer_of answer)) }
-    ensures own { IfOk result (λ answer. IsAnswered answer.status) }
+    ensures own { IfOk result (λ answer. IsAnswered answer.report.status) }
     ensures cause { result ≡ Err Stop.DiskFault → HasRisen (D.faults disk.old) (D.faults disk.new) }
     ensures same { D.tells disk.old ≡ true → D.seen disk.new ≡ D.seen disk.old }
+    ensures images { D.tells disk.old ≡ true → KeepsImages (D.may_leave disk.old) (D.may_leave disk.new) }
     ensures tells { D.tells disk.new ≡ D.tells disk.old }
     ensures later { D.faults disk.old ≤ D.faults disk.new }
 {
     match read_words(alloc, words)? {
         Request::Refuses(refusal) => Ok(refuse_words(alloc, refusal)?),
-        Request::IsOutside(name) => Ok(refuse_not_built(alloc, &name)?),
-        Request::Asks { name, action } => answer_key(alloc, &name, action, disk),
+        Request::Bars { by, name } => Ok(refuse_name(alloc, by, &name)?),
+        Request::Asks(question) => answer_question(alloc, question, disk),
     }
 }
 
-/// Stores what an answer stores in the users' file.
-fn store<D: Disk>(answer: Answer, file: &FileName, disk: &mut D) -> Result<Answer, Stop>
-    requires { file.now ≡ user_file }
+/// Stores what an answer stores.
+fn store<D: Disk>(answer: Answer, disk: &mut D) -> Result<Answer, Stop>
     ensures given { IfOk result (λ given. given ≡ answer) }
     ensures stores { D.tells disk.old ≡ true → Stores answer result (D.seen disk.old) (D.seen disk.new) }
-    ensures others { D.tells disk.old ≡ true → KeepsOthers file.now (D.seen disk.old) (D.seen disk.new) }
+    ensures lasting { D.tells disk.old ≡ true → IfOk result (λ given. Lasts given.stored (D.may_leave disk.new)) }
+    ensures spared { D.tells disk.old ≡ true → SparesUnnamed answer.stored (D.may_leave disk.old) (D.may_leave disk.new) }
     ensures cause { result ≡ Err Stop.DiskFault → HasRisen (D.faults disk.old) (D.faults disk.new) }
     ensures tells { D.tells disk.new ≡ D.tells disk.old }
     ensures later { D.faults disk.old ≤ D.faults disk.new }
 {
-    let Some(bytes) = &answer.stored else {
-        return Ok(answer);
-    };
-    match replace(disk, file, bytes) {
+    match replace_all(disk, answer.stored.entries()) {
         Ok(()) => Ok(answer),
         Err(_) => Err(Stop::DiskFault),
     }
@@ -130,14 +81,14 @@ fn store<D: Disk>(answer: Answer, file: &FileName, disk: &mut D) -> Result<Answe
 pub fn carry_out<D: Disk>(alloc: Global, words: &[Text], disk: &mut D) -> Result<Answer, Stop>
     ensures told { D.tells disk.old ≡ true → IfOk result (λ answer. Answers words.now (D.seen disk.old) (answer_of answer)) }
     ensures untold { IfOk result (λ answer. AnswersUntold (request words.now) (answer_of answer)) }
-    ensures own { IfOk result (λ answer. IsAnswered answer.status) }
+    ensures own { IfOk result (λ answer. IsAnswered answer.report.status) }
     ensures cause { result ≡ Err Stop.DiskFault → HasRisen (D.faults disk.old) (D.faults disk.new) }
     ensures leaves { D.tells disk.old ≡ true → Leaves words.now result (D.seen disk.old) (D.seen disk.new) }
-    ensures others { D.tells disk.old ≡ true → KeepsOthers user_file (D.seen disk.old) (D.seen disk.new) }
+    ensures lasting { D.tells disk.old ≡ true → IfOk result (λ answer. Lasts answer.stored (D.may_leave disk.new)) }
+    ensures spared { D.tells disk.old ≡ true → (answer : wanted.Answer) → Answers words.now (D.seen disk.old) answer → SparesUnnamed answer.stored (D.may_leave disk.old) (D.may_leave disk.new) }
     ensures tells { D.tells disk.new ≡ D.tells disk.old }
     ensures later { D.faults disk.old ≤ D.faults disk.new }
 {
-    let file = name_of_user_file(alloc)?;
     let answer = work_out(alloc, words, disk)?;
-    store(answer, &file, disk)
+    store(answer, disk)
 }

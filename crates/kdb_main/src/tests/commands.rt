@@ -28,13 +28,13 @@ fn disk_with(
 
 /// What a command line prints and how it ends.
 #[derive(Clone, Copy)]
-struct Told {
+struct Told<'t> {
     status: u8,
-    out: &'static str,
-    err: &'static str,
+    out: &'t str,
+    err: &'t str,
 }
 
-fn ending(status: u8, out: &'static str, err: &'static str) -> Told {
+fn ending<'t>(status: u8, out: &'t str, err: &'t str) -> Told<'t> {
     Told { status, out, err }
 }
 
@@ -44,7 +44,7 @@ fn run_over(
     alloc: Global,
     words: &[&str],
     disk: MemDisk,
-    want: Told,
+    want: Told<'_>,
 ) -> Result<MemDisk, Fail> {
     let mut out = MemSink::new(alloc, Vec::new(alloc));
     let mut err = MemSink::new(alloc, Vec::new(alloc));
@@ -62,7 +62,7 @@ fn run_over(
 #[test]
 fn keeps_what_was_set_from_command_to_command(rt: HostRuntime) -> Result<(), Fail> {
     // The words, what they print, and the users' file behind them.
-    let rows: [(&[&str], Told, &str); 12] = [
+    let rows: [(&[&str], Told<'_>, &str); 12] = [
         (
             &["set", "user:/sw/a", "1"],
             ending(0, "Create a new key user:/sw/a with string \"1\"\n", ""),
@@ -225,18 +225,20 @@ fn keeps_metadata_and_spells_it_out(rt: HostRuntime) -> Result<(), Fail> {
 }
 
 #[test]
-fn makes_five_calls_of_which_each_may_fail(rt: HostRuntime) -> Result<(), Fail> {
-    // The call that fails, how it ends, the calls made, and the users' file: length, read, write, cut, sync.
+fn makes_nine_calls_of_which_each_may_fail(rt: HostRuntime) -> Result<(), Fail> {
+    // The call that fails, how it ends, the calls made, and the users' file: the lengths of all files, with one read between
+    // them, and then write, cut and sync.
     let fault = ending(74, "", "kdb: C01100 disk-fault\n");
     let done = ending(0, "Set string to \"22\"\n", "");
     let now = "kdbOpen 2\n$key string 4 2\nsw/a\n22\n$end\n";
     let rows = [
         (1, fault, 1, ONE),
-        (2, fault, 2, ONE),
-        (3, fault, 3, ONE),
-        (4, fault, 4, now),
-        (5, fault, 5, now),
-        (6, done, 5, now),
+        (5, fault, 5, ONE),
+        (6, fault, 6, ONE),
+        (7, fault, 7, ONE),
+        (8, fault, 8, now),
+        (9, fault, 9, now),
+        (10, done, 9, now),
     ];
     let user = user_file(rt.alloc())?;
     for (failing, want, calls, file) in rows {
@@ -257,11 +259,11 @@ fn stops_behind_any_call(rt: HostRuntime) -> Result<(), Fail> {
     let torn = "kdbOpen 2\n$end\nstring 4 1\nsw/a\n1\n$end\n";
     let rows = [
         (0, fault, ONE),
-        (1, fault, ONE),
-        (2, fault, ONE),
-        (3, fault, torn),
-        (4, fault, "kdbOpen 2\n$end\n"),
-        (5, done, "kdbOpen 2\n$end\n"),
+        (5, fault, ONE),
+        (6, fault, ONE),
+        (7, fault, torn),
+        (8, fault, "kdbOpen 2\n$end\n"),
+        (9, done, "kdbOpen 2\n$end\n"),
     ];
     let user = user_file(rt.alloc())?;
     for (last, want, file) in rows {
@@ -277,7 +279,7 @@ fn stops_behind_any_call(rt: HostRuntime) -> Result<(), Fail> {
 fn writes_nothing_where_nothing_changes_or_all_is_refused(rt: HostRuntime) -> Result<(), Fail> {
     let long = vec![in rt.alloc(); b'v'; 65537]?;
     let long = String::from_utf8(long).map_err(|_| "it is text")?;
-    let rows: [(&[&str], Told); 9] = [
+    let rows: [(&[&str], Told<'_>); 9] = [
         (
             &["set", "user:/sw/a", "1"],
             ending(0, "Set string to \"1\"\n", ""),
@@ -304,7 +306,7 @@ fn writes_nothing_where_nothing_changes_or_all_is_refused(rt: HostRuntime) -> Re
     for (words, want) in rows {
         let disk = disk_with(rt.alloc(), ONE.as_bytes(), Vec::new(rt.alloc()), None)?;
         let disk = run_over(&rt, rt.alloc(), words, disk, want)?;
-        assert_eq!(rt; disk.calls(), 2);
+        assert_eq!(rt; disk.calls(), 6);
         assert_eq!(rt; disk.bytes(&user), ONE.as_bytes());
     }
     Ok(())
@@ -323,7 +325,7 @@ fn brings_trees_to_other_names_and_takes_them_out(rt: HostRuntime) -> Result<(),
     let alone =
         "kdbOpen 2\n$key string 3 1\na/b\n2\n$key string 3 1\nc/x\n2\n$key string 5 1\nc/x/b\n2\n$key string 3 1\nz z\n1\n$end\n";
     let left = "kdbOpen 2\n$key string 3 1\na/b\n2\n$key string 3 1\nz z\n1\n$end\n";
-    let rows: [(&[&str], Told, &str); 13] = [
+    let rows: [(&[&str], Told<'_>, &str); 13] = [
         (
             &["cp", "-r", "user:/a", "user:/c"],
             ending(0, "", ""),
@@ -417,7 +419,7 @@ fn keeps_metadata_texts_as_they_are(rt: HostRuntime) -> Result<(), Fail> {
         "kdbOpen 2\n$key string 1 0\na\n\n$meta 5 4\nodd \n\nx\ty\n\n$meta 4 6\ntype\nstring\n$end\n";
     let valued =
         "kdbOpen 2\n$key string 1 1\na\n1\n$meta 5 4\nodd \n\nx\ty\n\n$meta 4 3\ntype\nany\n$end\n";
-    let rows: [(&[&str], Told, &str); 11] = [
+    let rows: [(&[&str], Told<'_>, &str); 11] = [
         (
             &["meta-set", "user:/a", "type", "string"],
             ending(0, "", ""),
@@ -479,6 +481,132 @@ fn keeps_metadata_texts_as_they_are(rt: HostRuntime) -> Result<(), Fail> {
     Ok(())
 }
 
+const MOUNTED: &str =
+    "kdbOpen 2\n$key string 31 7\nmountpoints/user:\\/sw\\/app/path\napp.ecf\n$key string 33 4\nmountpoints/user:\\/sw\\/app/plugin\ndump\n$end\n";
+
+const MOUNTS: &str =
+    "spec:/ spec.ecf dump\ndir:/ dir.ecf dump\nuser:/ user.ecf dump\nuser:/sw/app app.ecf dump\nsystem:/ system.ecf dump\nsystem:/elektra elektra.ecf dump\n";
+
+#[test]
+fn mounts_a_file_and_hides_what_it_covers(rt: HostRuntime) -> Result<(), Fail> {
+    // The words, what they print, a file and its bytes behind them.
+    let port = "kdbOpen 2\n$key string 11 2\nsw/app/port\n80\n$end\n";
+    let host = "kdbOpen 2\n$key string 4 1\nhost\nh\n$end\n";
+    let rows: [(&[&str], Told<'_>, &str, &str); 13] = [
+        (
+            &["set", "user:/sw/app/port", "80"],
+            ending(
+                0,
+                "Create a new key user:/sw/app/port with string \"80\"\n",
+                "",
+            ),
+            "user.ecf",
+            port,
+        ),
+        (
+            &["mount", "app.ecf", "user:/sw/app"],
+            ending(0, "", ""),
+            "elektra.ecf",
+            MOUNTED,
+        ),
+        (
+            &["mount", "b.ecf", "user:/sw/app", "dump"],
+            ending(
+                5,
+                "",
+                "kdb: C03200 bad-table already-mounted \"user:/sw/app\"\n",
+            ),
+            "elektra.ecf",
+            MOUNTED,
+        ),
+        (
+            &["mount", "user.ecf", "user:/y"],
+            ending(5, "", "kdb: C03200 bad-table file-twice \"user:/y\"\n"),
+            "elektra.ecf",
+            MOUNTED,
+        ),
+        (
+            &["mount", "journal1", "user:/y"],
+            ending(5, "", "kdb: C03200 bad-table bad-path \"user:/y\"\n"),
+            "elektra.ecf",
+            MOUNTED,
+        ),
+        (
+            &["get", "user:/sw/app/port"],
+            ending(11, "", "kdb: not found: user:/sw/app/port\n"),
+            "user.ecf",
+            port,
+        ),
+        (
+            &["set", "user:/sw/app/host", "h"],
+            ending(
+                0,
+                "Create a new key user:/sw/app/host with string \"h\"\n",
+                "",
+            ),
+            "app.ecf",
+            host,
+        ),
+        (
+            &["file", "user:/sw/app"],
+            ending(0, "app.ecf\n", ""),
+            "user.ecf",
+            port,
+        ),
+        (&["mounts"], ending(0, MOUNTS, ""), "elektra.ecf", MOUNTED),
+        (
+            &["ls", "/sw"],
+            ending(0, "user:/sw/app/host\n", ""),
+            "app.ecf",
+            host,
+        ),
+        (
+            &["umount", "user:/sw/app"],
+            ending(0, "", ""),
+            "elektra.ecf",
+            "kdbOpen 2\n$end\n",
+        ),
+        (
+            &["get", "user:/sw/app/port"],
+            ending(0, "80\n", ""),
+            "app.ecf",
+            host,
+        ),
+        (
+            &["mv", "-r", "user:/sw/app", "dir:/app"],
+            ending(0, "", ""),
+            "dir.ecf",
+            "kdbOpen 2\n$key string 8 2\napp/port\n80\n$end\n",
+        ),
+    ];
+    let mut disk = MemDisk::new(rt.alloc(), Vec::new(rt.alloc()), Vec::new(rt.alloc()), None)?;
+    for (words, want, file, bytes) in rows {
+        disk = run_over(&rt, rt.alloc(), words, disk, want)?;
+        let name = FileName::new(rt.alloc(), file)?.ok_or("it is a name")?;
+        assert_eq!(rt; disk.bytes(&name), bytes.as_bytes(), "{words:?}");
+    }
+    Ok(())
+}
+
+#[test]
+fn uses_the_good_files_beside_a_bad_one(rt: HostRuntime) -> Result<(), Fail> {
+    let created = "Create a new key system:/a with string \"1\"\n";
+    let bad = "kdb: C03100 bad-file user:/ 1\n";
+    let rows: [(&[&str], Told<'_>); 4] = [
+        (&["get", "system:/a"], ending(5, "", bad)),
+        (&["set", "system:/a", "1"], ending(0, created, "")),
+        (&["ls", "system:/"], ending(0, "system:/a\n", "")),
+        (&["set", "user:/a", "1"], ending(5, "", bad)),
+    ];
+    let user = user_file(rt.alloc())?;
+    let mut disk = disk_with(rt.alloc(), b"x", Vec::new(rt.alloc()), None)?;
+    for (words, want) in rows {
+        disk = run_over(&rt, rt.alloc(), words, disk, want)?;
+        assert_eq!(rt; disk.bytes(&user), b"x".as_slice());
+    }
+    Ok(())
+}
+
 /// A file with one key `a` of a value of 65,536 bytes, and keys with that value as metadata.
 fn heavy_file(alloc: Global, copies: u64) -> Result<Vec<u8>, Fail> {
     let value = vec![in alloc; b'v'; 65536]?;
@@ -518,6 +646,111 @@ fn refuses_a_map_that_is_too_heavy_or_too_long(rt: HostRuntime) -> Result<(), Fa
         let words = ["set", "user:/z", value.as_str()];
         let disk = run_over(&rt, rt.alloc(), &words, disk, want)?;
         assert_eq!(rt; disk.bytes(&user) == bytes.as_slice(), want.status == 5);
+    }
+    Ok(())
+}
+
+#[test]
+fn names_the_file_that_holds_a_key(rt: HostRuntime) -> Result<(), Fail> {
+    // The key's name, and its file.
+    let rows = [
+        ("user:/sw/app", "app.ecf\n"),
+        ("user:/sw/app/port", "app.ecf\n"),
+        ("user:/sw", "user.ecf\n"),
+        ("user:/sw/apple", "user.ecf\n"),
+        ("user:/", "user.ecf\n"),
+        ("system:/sw/app", "system.ecf\n"),
+        ("system:/elektra/mountpoints", "elektra.ecf\n"),
+        ("spec:/a", "spec.ecf\n"),
+        ("dir:/a", "dir.ecf\n"),
+    ];
+    let alloc = rt.alloc();
+    let elektra = FileName::new(alloc, "elektra.ecf")?.ok_or("it is a name")?;
+    let files = vec![in alloc; (elektra, MOUNTED.as_bytes().to_vec(alloc)?)]?;
+    let mut disk = MemDisk::new(alloc, files, Vec::new(alloc), None)?;
+    for (name, file) in rows {
+        disk = run_over(&rt, alloc, &["file", name], disk, ending(0, file, ""))?;
+    }
+    Ok(())
+}
+
+/// A table file with this many entries.
+fn table_file(alloc: Global, entries: u64) -> Result<Vec<u8>, Fail> {
+    let mut bytes = b"kdbOpen 2\n".to_vec(alloc)?;
+    for number in 0..entries {
+        let name = format!(in alloc; "mountpoints/user:\\/m{number}/path")?;
+        let file = format!(in alloc; "m{number}.ecf")?;
+        let (size, length) = (name.len(), file.len());
+        let record = format!(in alloc; "$key string {size} {length}\n{name}\n{file}\n")?;
+        bytes.extend_from_slice(record.as_bytes())?;
+    }
+    bytes.extend_from_slice(b"$end\n")?;
+    Ok(bytes)
+}
+
+#[test]
+fn takes_sixty_four_mounts_and_no_more(rt: HostRuntime) -> Result<(), Fail> {
+    // How many entries stand beside the five mounts of every store, the words, and what they print.
+    let full = "kdb: C03200 bad-table too-many 65\n";
+    let rows: [(u64, &[&str], Told<'_>); 5] = [
+        (58, &["mount", "z.ecf", "user:/z"], ending(0, "", "")),
+        (59, &["file", "user:/m58"], ending(0, "m58.ecf\n", "")),
+        (59, &["mount", "z.ecf", "user:/z"], ending(5, "", full)),
+        (59, &["mount", "z.ecf", "user:/"], ending(0, "", "")),
+        (60, &["mounts"], ending(5, "", full)),
+    ];
+    let alloc = rt.alloc();
+    for (entries, words, want) in rows {
+        let elektra = FileName::new(alloc, "elektra.ecf")?.ok_or("it is a name")?;
+        let files = vec![in alloc; (elektra, table_file(alloc, entries)?)]?;
+        let disk = MemDisk::new(alloc, files, Vec::new(alloc), None)?;
+        run_over(&rt, alloc, words, disk, want)?;
+    }
+    Ok(())
+}
+
+#[test]
+fn tells_line_zero_where_a_whole_name_is_too_long(rt: HostRuntime) -> Result<(), Fail> {
+    // The bytes of the name of the only key of a file that is mounted at a name with one part of 1,000 bytes.
+    let alloc = rt.alloc();
+    let long = FileName::new(alloc, "long.ecf")?.ok_or("it is a name")?;
+    let part = String::from_utf8(vec![in alloc; b'p'; 1000]?).map_err(|_| "it is text")?;
+    let point = format!(in alloc; "user:/{part}")?;
+    for (count, status) in [(3094, 0), (3095, 5)] {
+        let key = String::from_utf8(vec![in alloc; b'k'; count]?).map_err(|_| "it is text")?;
+        let file = format!(in alloc; "kdbOpen 2\n$key string {count} 1\n{key}\n1\n$end\n")?;
+        let files = vec![in alloc; (long.copy()?, file.as_bytes().to_vec(alloc)?)]?;
+        let disk = MemDisk::new(alloc, files, Vec::new(alloc), None)?;
+        let words = ["mount", "long.ecf", point.as_str()];
+        let disk = run_over(&rt, alloc, &words, disk, ending(0, "", ""))?;
+        let listed = format!(in alloc; "{point}/{key}\n")?;
+        let refused = format!(in alloc; "kdb: C03100 bad-file {point} 0\n")?;
+        let want = if status == 0 {
+            ending(0, listed.as_str(), "")
+        } else {
+            ending(5, "", refused.as_str())
+        };
+        run_over(&rt, alloc, &["ls", point.as_str()], disk, want)?;
+    }
+    Ok(())
+}
+
+#[test]
+fn refuses_keys_that_all_files_together_can_not_have(rt: HostRuntime) -> Result<(), Fail> {
+    // The users' keys weigh 16,730,693. The size of the value of one more key in another file, and the status.
+    let alloc = rt.alloc();
+    for (size, status) in [(46450, 0), (46451, 5)] {
+        let users = heavy_file(alloc, 254)?;
+        let disk = disk_with(alloc, &users, Vec::new(alloc), None)?;
+        let value = String::from_utf8(vec![in alloc; b'v'; size]?).map_err(|_| "it is text")?;
+        let out = format!(in alloc; "Create a new key system:/z with string \"{value}\"\n")?;
+        let want = if status == 0 {
+            ending(0, out.as_str(), "")
+        } else {
+            ending(5, "", "kdb: C01100 database-full 16777217\n")
+        };
+        let words = ["set", "system:/z", value.as_str()];
+        run_over(&rt, alloc, &words, disk, want)?;
     }
     Ok(())
 }

@@ -2,46 +2,41 @@
 ghost use Rattle.std.specs.Prelude.{◌≡◌, ◌++◌, ◌∷◌, [], IfOk, OnOk, string_bytes};
 ghost use Rattle.std.specs.FinMap as map;
 ghost use Rattle.std.specs.List.{flat_map};
+ghost use Rattle.std.specs.Option.{option_map};
 ghost use Rattle.key_set.specs.EntryView.{entry_of};
+ghost use Rattle.model_maps.specs.Entry.{plain_entry};
 ghost use Rattle.model_dump.specs.Adds.{with_meta};
-ghost use Rattle.kdb_tool.specs.AnswerView.{answer_of};
-ghost use Rattle.kdb_tool.specs.Commands.{relative as relative_of, text_got, meta_got, holds_text, meta_set_in, meta_listed};
+ghost use Rattle.kdb_tool.specs.AnswerView.{report_of, seen_step};
+ghost use Rattle.kdb_tool.specs.Commands.{Tells, text_got, meta_got, with_text, meta_set_in, meta_listed};
 
-use crate::answers::{Answer, done, refuse_no_metadata, refuse_not_found, refuse_value_too_long};
-use crate::commands::keeping::store_with;
-use crate::commands::values::LONGEST_VALUE;
 use crate::meta_names::MetaName;
+use crate::reports::{Report, tell, warn_no_metadata, warn_not_found};
+use crate::steps::{Step, set_silently};
 use key_meta::{Memory, Meta, Text};
 use key_name::KeyName;
 use key_set::{Entry, KeySet};
 use std::alloc::Global;
 
 /// `meta-get`: a metadata text of a key and a line feed.
-pub fn get_meta(
-    alloc: Global,
-    name: &KeyName,
-    relative: &KeyName,
-    meta: &str,
-    keys: &KeySet,
-) -> Result<Answer, Memory>
-    ensures { IfOk result (λ answer. answer_of answer ≡ meta_got name.now meta.now (map.get keys.now relative.now)) }
+pub fn get_meta(alloc: Global, name: &KeyName, meta: &str, keys: &KeySet) -> Result<Step, Memory>
+    ensures { IfOk result (λ step. seen_step step ≡ Tells (meta_got name.now meta.now (map.get keys.now name.now))) }
 {
-    match keys.lookup(relative) {
-        Some(entry) => get_text(alloc, meta, &entry.meta),
-        None => refuse_not_found(alloc, name),
+    match keys.lookup(name) {
+        Some(entry) => Ok(Step::Tells(get_text(alloc, meta, &entry.meta)?)),
+        None => Ok(Step::Tells(warn_not_found(alloc, name)?)),
     }
 }
 
 /// A text of metadata and a line feed.
-fn get_text(alloc: Global, meta: &str, metadata: &Meta) -> Result<Answer, Memory>
-    ensures { IfOk result (λ answer. answer_of answer ≡ text_got meta.now (map.get metadata.now meta.now)) }
+fn get_text(alloc: Global, meta: &str, metadata: &Meta) -> Result<Report, Memory>
+    ensures { IfOk result (λ report. report_of report ≡ text_got meta.now (map.get metadata.now meta.now)) }
 {
     match metadata.get(meta) {
         Some(text) => {
             let out = format!(in alloc; "{text}\n")?;
-            Ok(done(alloc, out))
+            Ok(tell(alloc, out))
         }
-        None => refuse_no_metadata(alloc, meta),
+        None => warn_no_metadata(alloc, meta),
     }
 }
 
@@ -49,38 +44,45 @@ fn get_text(alloc: Global, meta: &str, metadata: &Meta) -> Result<Answer, Memory
 pub fn set_meta(
     alloc: Global,
     name: &KeyName,
-    relative: KeyName,
     meta: &MetaName<'_>,
     text: &str,
     keys: KeySet,
-) -> Result<Answer, Memory>
-    requires { relative ≡ relative_of name.now }
-    ensures { IfOk result (λ answer. answer_of answer ≡ meta_set_in keys name.now meta.now text.now) }
+) -> Result<Step, Memory>
+    ensures { IfOk result (λ step. seen_step step ≡ meta_set_in keys name.now meta.now text.now) }
 {
-    if text.len() > LONGEST_VALUE {
-        return refuse_value_too_long(alloc, name, text.len() as u64);
-    }
-    match keys.lookup(&relative) {
-        None => {
-            let former = Entry {
-                value: Text::new(alloc, "")?,
-                meta: Meta::new(alloc),
-            };
-            let entry = with_text(former, meta, text)?;
-            store_with(alloc, relative, entry, keys, String::new(alloc))
-        }
-        Some(former) => {
-            if holds_text(&former.meta, meta.as_str(), text) {
-                return Ok(done(alloc, String::new(alloc)));
-            }
-            let entry = with_text(former.copy()?, meta, text)?;
-            store_with(alloc, relative, entry, keys, String::new(alloc))
-        }
+    let entry = with_text(alloc, keys.lookup(name), meta, text)?;
+    let mut keys = keys;
+    let _ = keys.append(name.copy()?, entry)?;
+    Ok(set_silently(alloc, keys))
+}
+
+/// An entry with one more metadata text. A missing one gets the empty value.
+fn with_text(
+    alloc: Global,
+    former: Option<&Entry>,
+    meta: &MetaName<'_>,
+    text: &str,
+) -> Result<Entry, Memory>
+    ensures { IfOk result (λ made. entry_of made ≡ with_text (option_map (λ entry. entry_of entry.now) former.entry) meta.now text.now) }
+{
+    match former {
+        Some(entry) => set_text(entry.copy()?, meta, text),
+        None => set_text(empty_entry(alloc)?, meta, text),
     }
 }
 
-/// An entry with one more metadata text.
-fn with_text(entry: Entry, meta: &MetaName<'_>, text: &str) -> Result<Entry, Memory>
+/// An entry with the empty value and no metadata.
+fn empty_entry(alloc: Global) -> Result<Entry, Memory>
+    ensures { IfOk result (λ made. entry_of made ≡ plain_entry []) }
+{
+    Ok(Entry {
+        value: Text::new(alloc, "")?,
+        meta: Meta::new(alloc),
+    })
+}
+
+/// Sets a metadata text of an entry.
+fn set_text(entry: Entry, meta: &MetaName<'_>, text: &str) -> Result<Entry, Memory>
     ensures { IfOk result (λ made. entry_of made ≡ with_meta (entry_of entry) meta.now text.now) }
 {
     let mut entry = entry;
@@ -88,31 +90,16 @@ fn with_text(entry: Entry, meta: &MetaName<'_>, text: &str) -> Result<Entry, Mem
     Ok(entry)
 }
 
-/// Whether metadata has a text already.
-fn holds_text(metadata: &Meta, meta: &str, text: &str) -> bool
-    ensures { result ≡ holds_text (map.get metadata.now meta.now) text.now }
-{
-    match metadata.get(meta) {
-        Some(held) => held == text,
-        None => false,
-    }
-}
-
 /// `meta-ls`: a line for each metadata name of a key.
-pub fn list_meta(
-    alloc: Global,
-    name: &KeyName,
-    relative: &KeyName,
-    keys: &KeySet,
-) -> Result<Answer, Memory>
-    ensures { IfOk result (λ answer. answer_of answer ≡ meta_listed name.now (map.get keys.now relative.now)) }
+pub fn list_meta(alloc: Global, name: &KeyName, keys: &KeySet) -> Result<Step, Memory>
+    ensures { IfOk result (λ step. seen_step step ≡ Tells (meta_listed name.now (map.get keys.now name.now))) }
 {
-    match keys.lookup(relative) {
+    match keys.lookup(name) {
         Some(entry) => {
             let lines = lines_of_meta(alloc, &entry.meta)?;
-            Ok(done(alloc, lines))
+            Ok(Step::Tells(tell(alloc, lines)))
         }
-        None => refuse_not_found(alloc, name),
+        None => Ok(Step::Tells(warn_not_found(alloc, name)?)),
     }
 }
 

@@ -1,19 +1,19 @@
 //! The commands on a key alone or on all keys at or below a name.
-ghost use Rattle.std.specs.Prelude.{◌≡◌, ◌++◌, [], if◌then◌else◌, true, None, All, IfOk, OnOk, string_bytes};
+ghost use Rattle.std.specs.Prelude.{◌≡◌, ◌++◌, [], if◌then◌else◌, filter, true, None, All, IfOk, OnOk, string_bytes};
 ghost use Rattle.std.specs.FinMap as map;
 ghost use Rattle.std.specs.List.{flat_map};
 ghost use Rattle.model_names.specs.Below.{is_at_or_below};
-ghost use Rattle.model_maps.specs.KeyMap.{at_or_below};
 ghost use Rattle.key_set.specs.EntryView.{entry_of};
-ghost use Rattle.kdb_tool.specs.AnswerView.{answer_of};
-ghost use Rattle.kdb_tool.specs.Commands.{relative as relative_of, sources, others, removed, listed, line_of_name, staying, brought, bytes_over, first_too_long, with_brought, brought_over, brought_in};
+ghost use Rattle.kdb_tool.specs.AnswerView.{seen_step};
+ghost use Rattle.kdb_tool.specs.Commands.{Tells, sources, others, removed, is_listed, listed, staying, brought, bytes_over, first_too_long, with_brought, brought_over, brought_in};
+ghost use Rattle.kdb_tool.specs.Lines.{line_of_name};
 
-use crate::answers::{Answer, done, refuse_not_found};
-use crate::commands::keeping::{kept, stored, text_of};
 use crate::extents::Extent;
-use crate::refusing::refuse_words;
+use crate::refusing::warn_of_words;
+use crate::reports::{tell, warn_not_found};
+use crate::requests::Refusal;
+use crate::steps::{Step, set_silently};
 use crate::ways::Way;
-use crate::words::Refusal;
 use kdb_text::shown;
 use key_meta::Memory;
 use key_name::{KeyName, NameFault, Namespace};
@@ -21,73 +21,62 @@ use key_set::{Entry, KeySet};
 use std::alloc::{AllocError, Global};
 
 /// `rm`: the keys are taken out, and nothing is printed.
-pub fn remove(
-    alloc: Global,
-    name: &KeyName,
-    relative: &KeyName,
-    extent: Extent,
-    keys: KeySet,
-) -> Result<Answer, Memory>
-    ensures { IfOk result (λ answer. answer_of answer ≡ removed name.now (sources extent relative.now keys) (others extent relative.now keys)) }
+pub fn remove(alloc: Global, name: &KeyName, extent: Extent, keys: KeySet) -> Result<Step, Memory>
+    ensures { IfOk result (λ step. seen_step step ≡ removed name.now (sources extent name.now keys) (others extent name.now keys)) }
 {
     let mut keys = keys;
-    let taken = take_out(alloc, &mut keys, relative, extent)?;
+    let taken = take_out(alloc, &mut keys, name, extent)?;
     if taken.len() == 0 {
-        return refuse_not_found(alloc, name);
+        return Ok(Step::Tells(warn_not_found(alloc, name)?));
     }
-    stored(alloc, &keys, String::new(alloc))
+    Ok(set_silently(alloc, keys))
 }
 
 /// Takes out the keys that a command is for, and answers them.
 fn take_out(
     alloc: Global,
     keys: &mut KeySet,
-    relative: &KeyName,
+    name: &KeyName,
     extent: Extent,
 ) -> Result<KeySet, Memory>
-    ensures taken { IfOk result (λ taken. taken ≡ sources extent relative.now keys.old) }
-    ensures left { OnOk result (keys.new ≡ others extent relative.now keys.old) }
+    ensures taken { IfOk result (λ taken. taken ≡ sources extent name.now keys.old) }
+    ensures left { OnOk result (keys.new ≡ others extent name.now keys.old) }
 {
     match extent {
-        Extent::Alone => take_one(alloc, keys, relative),
-        Extent::WithBelow => keys.cut(relative),
+        Extent::Alone => take_one(alloc, keys, name),
+        Extent::WithBelow => keys.cut(name),
     }
 }
 
 /// Takes out a key alone, where it is there.
-fn take_one(alloc: Global, keys: &mut KeySet, relative: &KeyName) -> Result<KeySet, Memory>
-    ensures taken { IfOk result (λ taken. taken ≡ sources Extent.Alone relative.now keys.old) }
-    ensures left { OnOk result (keys.new ≡ others Extent.Alone relative.now keys.old) }
+fn take_one(alloc: Global, keys: &mut KeySet, name: &KeyName) -> Result<KeySet, Memory>
+    ensures taken { IfOk result (λ taken. taken ≡ sources Extent.Alone name.now keys.old) }
+    ensures left { OnOk result (keys.new ≡ others Extent.Alone name.now keys.old) }
 {
     let mut taken = KeySet::new(alloc);
-    if let Some(entry) = keys.remove(relative) {
-        let _ = taken.append(relative.copy()?, entry)?;
+    if let Some(entry) = keys.remove(name) {
+        let _ = taken.append(name.copy()?, entry)?;
     }
     Ok(taken)
 }
 
 /// The keys that a command is for, in memory of their own.
-fn sources(
-    alloc: Global,
-    keys: &KeySet,
-    relative: &KeyName,
-    extent: Extent,
-) -> Result<KeySet, Memory>
-    ensures { IfOk result (λ found. found ≡ sources extent relative.now keys.now) }
+fn sources(alloc: Global, keys: &KeySet, name: &KeyName, extent: Extent) -> Result<KeySet, Memory>
+    ensures { IfOk result (λ found. found ≡ sources extent name.now keys.now) }
 {
     match extent {
-        Extent::Alone => source(alloc, keys, relative),
-        Extent::WithBelow => keys.below(relative),
+        Extent::Alone => source(alloc, keys, name),
+        Extent::WithBelow => keys.below(name),
     }
 }
 
 /// A key alone, where it is there.
-fn source(alloc: Global, keys: &KeySet, relative: &KeyName) -> Result<KeySet, Memory>
-    ensures { IfOk result (λ found. found ≡ sources Extent.Alone relative.now keys.now) }
+fn source(alloc: Global, keys: &KeySet, name: &KeyName) -> Result<KeySet, Memory>
+    ensures { IfOk result (λ found. found ≡ sources Extent.Alone name.now keys.now) }
 {
     let mut found = KeySet::new(alloc);
-    if let Some(entry) = keys.lookup(relative) {
-        let _ = found.append(relative.copy()?, entry.copy()?)?;
+    if let Some(entry) = keys.lookup(name) {
+        let _ = found.append(name.copy()?, entry.copy()?)?;
     }
     Ok(found)
 }
@@ -96,16 +85,16 @@ fn source(alloc: Global, keys: &KeySet, relative: &KeyName) -> Result<KeySet, Me
 fn take(
     alloc: Global,
     keys: &mut KeySet,
-    relative: &KeyName,
+    name: &KeyName,
     way: Way,
     extent: Extent,
 ) -> Result<KeySet, Memory>
-    ensures taken { IfOk result (λ taken. taken ≡ sources extent relative.now keys.old) }
-    ensures staying { OnOk result (keys.new ≡ staying way extent relative.now keys.old) }
+    ensures taken { IfOk result (λ taken. taken ≡ sources extent name.now keys.old) }
+    ensures staying { OnOk result (keys.new ≡ staying way extent name.now keys.old) }
 {
     match way {
-        Way::Copies => sources(alloc, keys, relative, extent),
-        Way::Moves => take_out(alloc, keys, relative, extent),
+        Way::Copies => sources(alloc, keys, name, extent),
+        Way::Moves => take_out(alloc, keys, name, extent),
     }
 }
 
@@ -113,23 +102,19 @@ fn take(
 pub fn bring(
     alloc: Global,
     name: &KeyName,
-    relative: &KeyName,
     way: Way,
     extent: Extent,
     to: &KeyName,
     keys: KeySet,
-) -> Result<Answer, Memory>
-    requires { relative.now ≡ relative_of name.now }
-    ensures { IfOk result (λ answer. answer_of answer ≡ brought_in keys name.now way extent to.now) }
+) -> Result<Step, Memory>
+    ensures { IfOk result (λ step. seen_step step ≡ brought_in keys name.now way extent to.now) }
 {
-    let before = text_of(alloc, &keys)?;
     let mut keys = keys;
-    let taken = take(alloc, &mut keys, relative, way, extent)?;
+    let taken = take(alloc, &mut keys, name, way, extent)?;
     if taken.len() == 0 {
-        return refuse_not_found(alloc, name);
+        return Ok(Step::Tells(warn_not_found(alloc, name)?));
     }
-    let to = to.with_namespace(Namespace::Cascading)?;
-    set_over(alloc, relative, &to, &before, &taken, keys)
+    set_over(alloc, name, to, &taken, keys)
 }
 
 /// Sets keys over others, under the names to which they are brought.
@@ -137,17 +122,19 @@ fn set_over(
     alloc: Global,
     from: &KeyName,
     to: &KeyName,
-    before: &[u8],
     taken: &KeySet,
     keys: KeySet,
-) -> Result<Answer, Memory>
+) -> Result<Step, Memory>
     requires { All (λ key. is_at_or_below from.now key.0 ≡ true) (map.entries taken.now) }
-    ensures { IfOk result (λ answer. answer_of answer ≡ brought_over from.now to.now before.now (map.entries taken.now) keys) }
+    ensures { IfOk result (λ step. seen_step step ≡ brought_over from.now to.now (map.entries taken.now) keys) }
 {
     let mut keys = keys;
     match set_all(alloc, from, to, taken, &mut keys)? {
-        Some(bytes) => refuse_words(alloc, Refusal::NoName(NameFault::TooLong { bytes })),
-        None => kept(alloc, &keys, before),
+        Some(bytes) => {
+            let refusal = Refusal::NoName(NameFault::TooLong { bytes });
+            Ok(Step::Tells(warn_of_words(alloc, refusal)?))
+        }
+        None => Ok(set_silently(alloc, keys)),
     }
 }
 
@@ -220,54 +207,58 @@ fn set_one(
 }
 
 /// `ls`: a line for each key at or below a name.
-pub fn list(
-    alloc: Global,
-    name: &KeyName,
-    relative: &KeyName,
-    keys: &KeySet,
-) -> Result<Answer, Memory>
-    requires { relative.now ≡ relative_of name.now }
-    ensures { IfOk result (λ answer. answer_of answer ≡ listed keys.now name.now) }
+pub fn list(alloc: Global, name: &KeyName, keys: &KeySet) -> Result<Step, Memory>
+    ensures { IfOk result (λ step. seen_step step ≡ Tells (listed keys.now name.now)) }
 {
-    let lines = lines_below(alloc, relative, keys)?;
-    Ok(done(alloc, lines))
+    let lines = lines_below(alloc, name, keys)?;
+    Ok(Step::Tells(tell(alloc, lines)))
 }
 
 /// The lines of the keys at or below a name.
-fn lines_below(alloc: Global, relative: &KeyName, keys: &KeySet) -> Result<String, Memory>
-    ensures { IfOk result (λ lines. string_bytes lines ≡ flat_map (λ key. line_of_name key.0) (map.entries (at_or_below relative.now keys.now))) }
+fn lines_below(alloc: Global, above: &KeyName, keys: &KeySet) -> Result<String, Memory>
+    ensures { IfOk result (λ lines. string_bytes lines ≡ flat_map (λ key. line_of_name key.0) (filter (λ key. is_listed above.now key.0) (map.entries keys.now))) }
 {
     let mut lines = String::new(alloc);
     for i in 0..keys.len() {
         let Some((name, _)) = keys.at(i) else {
             unreachable!()
         };
-        push_if_below(alloc, &mut lines, name, relative)?;
+        push_if_listed(alloc, &mut lines, name, above)?;
     }
     Ok(lines)
 }
 
-/// Adds the line of a name, where it is another one or below it.
-fn push_if_below(
+/// Adds the line of a name, where another one lists it.
+fn push_if_listed(
     alloc: Global,
     lines: &mut String,
     name: &KeyName,
     above: &KeyName,
 ) -> Result<(), Memory>
-    ensures { OnOk result (string_bytes lines.new ≡ string_bytes lines.old ++ (if is_at_or_below above.now name.now then line_of_name name.now else [])) }
+    ensures { OnOk result (string_bytes lines.new ≡ string_bytes lines.old ++ (if is_listed above.now name.now then line_of_name name.now else [])) }
 {
-    if name.is_below_or_same(above) {
+    if is_listed(name, above)? {
         push_line_of_name(alloc, lines, name)?;
     }
     Ok(())
 }
 
-/// Adds a name of the file as it is shown, with a line feed.
+/// Whether a name is the same as another one or below it. A cascading name lists its path in every namespace.
+fn is_listed(name: &KeyName, above: &KeyName) -> Result<bool, Memory>
+    ensures { IfOk result (λ is. is ≡ is_listed above.now name.now) }
+{
+    if name.is_below_or_same(above) {
+        return Ok(true);
+    }
+    let path = name.with_namespace(Namespace::Cascading)?;
+    Ok(path.is_below_or_same(above))
+}
+
+/// Adds a name as it is shown, with a line feed.
 fn push_line_of_name(alloc: Global, lines: &mut String, name: &KeyName) -> Result<(), Memory>
     ensures { OnOk result (string_bytes lines.new ≡ string_bytes lines.old ++ line_of_name name.now) }
 {
-    let whole = name.with_namespace(Namespace::User)?;
-    let text = shown(alloc, &whole)?;
+    let text = shown(alloc, name)?;
     lines.push_str(&text)?;
     lines.push('\n')
 }

@@ -1,79 +1,79 @@
 //! The commands on the values of keys.
 ghost use Rattle.std.specs.Prelude.{◌≡◌, ◌++◌, ◌∷◌, [], IfOk, string_bytes};
 ghost use Rattle.std.specs.FinMap as map;
-ghost use Rattle.kdb_tool.specs.AnswerView.{answer_of};
-ghost use Rattle.kdb_tool.specs.Answer.{done as spec_done};
-ghost use Rattle.kdb_tool.specs.Commands.{relative as relative_of, got, set_in};
+ghost use Rattle.std.specs.Option.{option_map};
+ghost use Rattle.key_set.specs.EntryView.{entry_of};
+ghost use Rattle.kdb_tool.specs.AnswerView.{seen_step};
+ghost use Rattle.kdb_tool.specs.Answer.{told};
+ghost use Rattle.kdb_tool.specs.Commands.{Tells, got, set_in, with_value, printed_set};
 ghost use Rattle.kdb_tool.specs.Lines.{created, set_to};
 
-use crate::answers::{Answer, done, refuse_not_found, refuse_value_too_long};
-use crate::commands::keeping::store_with;
+use crate::reports::{tell, warn_not_found};
+use crate::steps::Step;
 use kdb_text::{quoted, shown};
 use key_meta::{Memory, Meta, Text};
 use key_name::KeyName;
 use key_set::{Entry, KeySet};
 use std::alloc::Global;
 
-/// The most bytes of a value.
-pub const LONGEST_VALUE: usize = 65536;
-
 /// `get`: the value and a line feed.
-pub fn get(
-    alloc: Global,
-    name: &KeyName,
-    relative: &KeyName,
-    keys: &KeySet,
-) -> Result<Answer, Memory>
-    ensures { IfOk result (λ answer. answer_of answer ≡ got name.now (map.get keys.now relative.now)) }
+pub fn get(alloc: Global, name: &KeyName, keys: &KeySet) -> Result<Step, Memory>
+    ensures { IfOk result (λ step. seen_step step ≡ Tells (got name.now (map.get keys.now name.now))) }
 {
-    match keys.lookup(relative) {
+    match keys.lookup(name) {
         Some(entry) => found(alloc, &entry.value),
-        None => refuse_not_found(alloc, name),
+        None => Ok(Step::Tells(warn_not_found(alloc, name)?)),
     }
 }
 
-fn found(alloc: Global, value: &Text) -> Result<Answer, Memory>
-    ensures { IfOk result (λ answer. answer_of answer ≡ spec_done (value.now ++ 10 ∷ [])) }
+fn found(alloc: Global, value: &Text) -> Result<Step, Memory>
+    ensures { IfOk result (λ step. seen_step step ≡ Tells (told (value.now ++ 10 ∷ []))) }
 {
     let value = value.as_str();
     let out = format!(in alloc; "{value}\n")?;
-    Ok(done(alloc, out))
+    Ok(Step::Tells(tell(alloc, out)))
 }
 
 /// `set`: the key gets a value and keeps its metadata.
-pub fn set(
-    alloc: Global,
-    name: &KeyName,
-    relative: KeyName,
-    value: &str,
-    keys: KeySet,
-) -> Result<Answer, Memory>
-    requires { relative ≡ relative_of name.now }
-    ensures { IfOk result (λ answer. answer_of answer ≡ set_in keys name.now value.now) }
+pub fn set(alloc: Global, name: &KeyName, value: &str, keys: KeySet) -> Result<Step, Memory>
+    ensures { IfOk result (λ step. seen_step step ≡ set_in keys name.now value.now) }
 {
-    if value.len() > LONGEST_VALUE {
-        return refuse_value_too_long(alloc, name, value.len() as u64);
+    let former = keys.lookup(name);
+    let entry = with_value(alloc, former, value)?;
+    let out = printed_set(alloc, former, name, value)?;
+    let mut keys = keys;
+    let _ = keys.append(name.copy()?, entry)?;
+    Ok(Step::Sets { keys, out })
+}
+
+/// An entry with another value. A missing one had no metadata.
+fn with_value(alloc: Global, former: Option<&Entry>, value: &str) -> Result<Entry, Memory>
+    ensures { IfOk result (λ made. entry_of made ≡ with_value (option_map (λ entry. entry_of entry.now) former.entry) value.now) }
+{
+    match former {
+        Some(entry) => Ok(Entry {
+            value: Text::new(alloc, value)?,
+            meta: entry.meta.copy()?,
+        }),
+        None => Ok(Entry {
+            value: Text::new(alloc, value)?,
+            meta: Meta::new(alloc),
+        }),
     }
-    match keys.lookup(&relative) {
-        None => {
-            let out = created(alloc, name, value)?;
-            let entry = Entry {
-                value: Text::new(alloc, value)?,
-                meta: Meta::new(alloc),
-            };
-            store_with(alloc, relative, entry, keys, out)
-        }
-        Some(former) => {
-            let out = set_to(alloc, value)?;
-            if former.value.as_str() == value {
-                return Ok(done(alloc, out));
-            }
-            let entry = Entry {
-                value: Text::new(alloc, value)?,
-                meta: former.meta.copy()?,
-            };
-            store_with(alloc, relative, entry, keys, out)
-        }
+}
+
+/// What `set` prints, by what the key had.
+fn printed_set(
+    alloc: Global,
+    former: Option<&Entry>,
+    name: &KeyName,
+    value: &str,
+) -> Result<String, Memory>
+    ensures { IfOk result (λ out. string_bytes out ≡ printed_set (option_map (λ entry. entry_of entry.now) former.entry) name.now value.now) }
+{
+    match former {
+        Some(_) => set_to(alloc, value),
+        None => created(alloc, name, value),
     }
 }
 

@@ -147,7 +147,7 @@ fn assert_ended(rt: &impl Abort, ended: &Ended, status: u8, out: &str, err: &str
 
 #[test]
 fn refuses_words_without_a_look_at_the_disk(rt: HostRuntime) -> Result<(), Fail> {
-    let rows: [(&[&str], u8, &str); 51] = [
+    let rows: [(&[&str], u8, &str); 55] = [
         (&[], 4, "kdb: no command\n"),
         (&["frob"], 4, "kdb: unknown command frob\n"),
         (&["fr ob"], 4, "kdb: unknown command \"fr ob\"\n"),
@@ -196,17 +196,17 @@ fn refuses_words_without_a_look_at_the_disk(rt: HostRuntime) -> Result<(), Fail>
         (&["meta-get", "user:/a"], 1, "kdb: options refused\n"),
         (&["meta-set", "user:/a", "m"], 1, "kdb: options refused\n"),
         (&["meta-ls", "-r", "user:/a"], 1, "kdb: options refused\n"),
-        (
-            &["cp", "system:/a", "me:/b"],
-            2,
-            "kdb: not built: system:/a\n",
-        ),
+        (&["cp", "/a", "me:/b"], 2, "kdb: C01320 not writable: /a\n"),
         (
             &["mv", "user:/a", "me:/b"],
             2,
             "kdb: C01320 name: unknown namespace\n",
         ),
-        (&["cp", "-r", "user:/a", "/b"], 2, "kdb: not built: /b\n"),
+        (
+            &["cp", "-r", "system:/a", "/b"],
+            2,
+            "kdb: C01320 not writable: /b\n",
+        ),
         (
             &["meta-get", "user:/a", ""],
             2,
@@ -218,9 +218,9 @@ fn refuses_words_without_a_look_at_the_disk(rt: HostRuntime) -> Result<(), Fail>
             "kdb: C01320 name: no slash\n",
         ),
         (
-            &["meta-set", "system:/a", "", "v"],
+            &["meta-set", "proc:/a", "", "v"],
             2,
-            "kdb: not built: system:/a\n",
+            "kdb: C01320 not writable: proc:/a\n",
         ),
         (
             &["rm", "user:/sw", "user:/sw/a"],
@@ -245,20 +245,36 @@ fn refuses_words_without_a_look_at_the_disk(rt: HostRuntime) -> Result<(), Fail>
             "kdb: C01320 name: bad array at 6\n",
         ),
         (&["get", "user:/a\0b"], 2, "kdb: C01320 name: nul at 7\n"),
-        (
-            &["get", "system:/sw/a"],
-            2,
-            "kdb: not built: system:/sw/a\n",
-        ),
         (&["get", "/sw//./a"], 2, "kdb: not built: /sw/a\n"),
         (
             &["set", "default:/a", "1"],
             2,
-            "kdb: not built: default:/a\n",
+            "kdb: C01320 not writable: default:/a\n",
         ),
-        (&["rm", "dir:/a b"], 2, "kdb: not built: \"dir:/a b\"\n"),
-        (&["get", "spec:/#10"], 2, "kdb: not built: spec:/#_10\n"),
-        (&["get", "proc:/%"], 2, "kdb: not built: proc:/%\n"),
+        (&["rm", "/a b"], 2, "kdb: C01320 not writable: \"/a b\"\n"),
+        (
+            &["meta-ls", "default:/#10"],
+            2,
+            "kdb: not built: default:/#_10\n",
+        ),
+        (&["mount", "a.ecf"], 1, "kdb: options refused\n"),
+        (
+            &["mount", "a.ecf", "/a", "no"],
+            2,
+            "kdb: C01320 not writable: /a\n",
+        ),
+        (
+            &["mount", "a.ecf", "user:/a", "no"],
+            2,
+            "kdb: C01320 argument: \"no\"\n",
+        ),
+        (
+            &["umount", "proc:/a"],
+            2,
+            "kdb: C01320 not writable: proc:/a\n",
+        ),
+        (&["mounts", "user:/"], 1, "kdb: options refused\n"),
+        (&["file", "/a"], 2, "kdb: C01320 not writable: /a\n"),
     ];
     for (words, status, err) in rows {
         let ended = end_over(rt.alloc(), words, FILE.as_bytes())?;
@@ -347,7 +363,7 @@ fn tells_which_call_failed(rt: HostRuntime) -> Result<(), Fail> {
         ),
         (
             &["get", "user:/sw/a"],
-            [2, 0, 0],
+            [6, 0, 0],
             74,
             "",
             "kdb: C01100 disk-fault\n",
@@ -363,7 +379,7 @@ fn tells_which_call_failed(rt: HostRuntime) -> Result<(), Fail> {
         (&["get", "user:/sw/a"], [1, 0, 1], 74, "", ""),
         (&["get", "user:/sw/a"], [0, 1, 1], 74, "", ""),
         // A call that isn't made doesn't fail.
-        (&["get", "user:/sw/a"], [3, 2, 1], 0, "1\n", ""),
+        (&["get", "user:/sw/a"], [7, 2, 1], 0, "1\n", ""),
         (
             &["get", "user:/sw/b"],
             [0, 1, 0],
@@ -371,35 +387,7 @@ fn tells_which_call_failed(rt: HostRuntime) -> Result<(), Fail> {
             "",
             "kdb: not found: user:/sw/b\n",
         ),
-        // A set asks for the length, reads, writes, cuts and syncs.
-        (
-            &["set", "user:/sw/a", "2"],
-            [1, 0, 0],
-            74,
-            "",
-            "kdb: C01100 disk-fault\n",
-        ),
-        (
-            &["set", "user:/sw/a", "2"],
-            [2, 0, 0],
-            74,
-            "",
-            "kdb: C01100 disk-fault\n",
-        ),
-        (
-            &["set", "user:/sw/a", "2"],
-            [3, 0, 0],
-            74,
-            "",
-            "kdb: C01100 disk-fault\n",
-        ),
-        (
-            &["set", "user:/sw/a", "2"],
-            [4, 0, 0],
-            74,
-            "",
-            "kdb: C01100 disk-fault\n",
-        ),
+        // A set asks for the lengths, reads, writes, cuts and syncs.
         (
             &["set", "user:/sw/a", "2"],
             [5, 0, 0],
@@ -410,13 +398,41 @@ fn tells_which_call_failed(rt: HostRuntime) -> Result<(), Fail> {
         (
             &["set", "user:/sw/a", "2"],
             [6, 0, 0],
+            74,
+            "",
+            "kdb: C01100 disk-fault\n",
+        ),
+        (
+            &["set", "user:/sw/a", "2"],
+            [7, 0, 0],
+            74,
+            "",
+            "kdb: C01100 disk-fault\n",
+        ),
+        (
+            &["set", "user:/sw/a", "2"],
+            [8, 0, 0],
+            74,
+            "",
+            "kdb: C01100 disk-fault\n",
+        ),
+        (
+            &["set", "user:/sw/a", "2"],
+            [9, 0, 0],
+            74,
+            "",
+            "kdb: C01100 disk-fault\n",
+        ),
+        (
+            &["set", "user:/sw/a", "2"],
+            [10, 0, 0],
             0,
             "Set string to \"2\"\n",
             "",
         ),
         (
             &["set", "user:/sw/a", "1"],
-            [3, 0, 0],
+            [7, 0, 0],
             0,
             "Set string to \"1\"\n",
             "",
@@ -430,7 +446,7 @@ fn tells_which_call_failed(rt: HostRuntime) -> Result<(), Fail> {
         ),
         (
             &["rm", "user:/sw/b"],
-            [3, 0, 0],
+            [7, 0, 0],
             11,
             "",
             "kdb: not found: user:/sw/b\n",

@@ -1,6 +1,6 @@
 use Rattle.kdb_outside.specs.Faults.{HasRisen}
 use Rattle.kdb_tool.specs.Request.{request}
-use Rattle.kdb_tool.proofs.EndLemmas.{answered, by_words, prefix, without_memory, in_fault, complete, unwritten, untouched, left}
+use Rattle.kdb_tool.proofs.EndLemmas.{answered, by_words, prefix, without_memory, in_fault, complete, unwritten, others, untouched, left, lasting}
 use Rattle.kdb_tool.proofs.tool.run.Goals as goal
 
 pub returns-clause-answered : goal.returns-clause-answered
@@ -31,10 +31,18 @@ pub returns-clause-unwritten : goal.returns-clause-unwritten
 returns-clause-unwritten g c = λ tells.
     unwritten c.carry_out-answer.result c.args.words.now (g.D.Disk.seen c.args.disk) (g.D.Disk.seen c.carry_out-answer.new.disk) c.finish-status.result _ _ c.carry_out-answer.ensures.own (c.carry_out-answer.ensures.leaves tells) c.finish-status.ensures.finished
 
+pub returns-clause-others : goal.returns-clause-others
+returns-clause-others g c = λ tells.
+    others c.carry_out-answer.result c.args.words.now (g.D.Disk.seen c.args.disk) (g.D.Disk.seen c.carry_out-answer.new.disk) (c.carry_out-answer.ensures.told tells) (c.carry_out-answer.ensures.leaves tells)
+
 pub returns-clause-untouched : goal.returns-clause-untouched
-returns-clause-untouched g c = λ tells.
-    untouched c.carry_out-answer.result c.args.words.now (g.D.Disk.seen c.args.disk) (g.D.Disk.seen c.carry_out-answer.new.disk) (c.carry_out-answer.ensures.told tells) (c.carry_out-answer.ensures.leaves tells)
+returns-clause-untouched g c = λ tells answer answers nothing.
+    untouched answer.stored (g.D.Disk.seen c.args.disk) (g.D.Disk.seen c.carry_out-answer.new.disk) nothing (returns-clause-others g c tells answer answers)
 
 pub returns-clause-files : goal.returns-clause-files
 returns-clause-files g c = λ tells no_disk no_out no_err.
     left c.args.words.now (g.D.Disk.seen c.args.disk) (g.D.Disk.seen c.carry_out-answer.new.disk) c.finish-status.result _ _ (returns-clause-answered g c tells) (returns-clause-unwritten g c tells) (returns-clause-complete g c no_disk no_out no_err)
+
+pub returns-clause-lasting : goal.returns-clause-lasting
+returns-clause-lasting g c = λ tells.
+    lasting c.carry_out-answer.result c.args.words.now (g.D.Disk.seen c.args.disk) (g.D.Disk.may_leave c.carry_out-answer.new.disk) c.finish-status.result _ _ (c.carry_out-answer.ensures.told tells) (c.carry_out-answer.ensures.lasting tells) c.finish-status.ensures.finished

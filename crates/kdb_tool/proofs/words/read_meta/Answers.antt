@@ -1,12 +1,13 @@
 use Rattle.std.proofs.Common.{sym, ap, subst, ◌∙◌, List, ℕ}
 use Rattle.std.proofs.lemmas.Result.{IfOk-weaker}
-use Rattle.kdb_tool.specs.Request.{Request, GetMeta, Asks, on_two, on_name, on_meta}
+use Rattle.kdb_tool.specs.Request.{Request, GetMeta, Asks, On, on_two, on_name_for, on_meta}
+use Rattle.kdb_tool.specs.declared.uses.Use.TheVariants.{Looks}
 use Rattle.kdb_tool.specs.RequestView.{IsSeenAs, texts_of}
 use Rattle.kdb_tool.proofs.WordLemmas.{asks_of_meta, refuses_meta}
 use Rattle.kdb_tool.proofs.words.read_meta.Goals as goal
 
 abbrev taking : List ℕ → List ℕ → Request
-taking name meta = on_name name (on_meta meta (Asks name (GetMeta meta)))
+taking name meta = on_name_for Looks name (on_meta meta (Asks (On name (GetMeta meta))))
 
 pub returns-in-Some-new : goal.returns-in-Some-new
 returns-in-Some-new c =
@@ -15,7 +16,7 @@ returns-in-Some-new c =
     let given = rw c.in-Some.is at c.in_ok-arguments.ensures in
     let asked =
     given (on_two taking) ∙ ap (λ words. on_two taking (texts_of words)) (sym c.deref.ensures.value) ∙ c.in-Some-two.ensures taking
-    ∙ asks_of_meta name word (Asks name (GetMeta word)) c.in-Some-new.ensures.0 in
+    ∙ asks_of_meta Looks name word (Asks (On name (GetMeta word))) c.in-Some-new.ensures.0 in
     IfOk-weaker c.ask.result _ _ (λ read seen. subst (IsSeenAs read) (sym asked) (seen (GetMeta word) (ap GetMeta c.in-Some-new.ensures.1))) c.ask.ensures
 
 pub returns : goal.returns
@@ -25,5 +26,5 @@ returns c =
     let given = rw c.in-Some.is at c.in_ok-arguments.ensures in
     let asked =
     given (on_two taking) ∙ ap (λ words. on_two taking (texts_of words)) (sym c.deref.ensures.value) ∙ c.in-Some-two.ensures taking
-    ∙ refuses_meta name word (Asks name (GetMeta word)) c.in-None.ensures in
-    IfOk-weaker c.refuse_meta.result _ _ (λ read seen. subst (IsSeenAs read) (sym asked) seen) c.refuse_meta.ensures
+    ∙ refuses_meta Looks name word (Asks (On name (GetMeta word))) c.in-None.ensures in
+    IfOk-weaker c.refuse_argument.result _ _ (λ read seen. subst (IsSeenAs read) (sym asked) seen) c.refuse_argument.ensures

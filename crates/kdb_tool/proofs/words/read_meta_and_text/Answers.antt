@@ -1,12 +1,13 @@
 use Rattle.std.proofs.Common.{sym, ap, subst, ◌∙◌, List, ℕ}
 use Rattle.std.proofs.lemmas.Result.{IfOk-weaker}
-use Rattle.kdb_tool.specs.Request.{Request, SetMeta, Asks, on_three, on_name, on_meta}
+use Rattle.kdb_tool.specs.Request.{Request, SetMeta, Asks, On, on_three, on_name_for, on_meta}
+use Rattle.kdb_tool.specs.declared.uses.Use.TheVariants.{Writes}
 use Rattle.kdb_tool.specs.RequestView.{IsSeenAs, texts_of}
 use Rattle.kdb_tool.proofs.WordLemmas.{asks_of_meta, refuses_meta}
 use Rattle.kdb_tool.proofs.words.read_meta_and_text.Goals as goal
 
 abbrev taking : List ℕ → List ℕ → List ℕ → Request
-taking name meta text = on_name name (on_meta meta (Asks name (SetMeta meta text)))
+taking name meta text = on_name_for Writes name (on_meta meta (Asks (On name (SetMeta meta text))))
 
 pub returns-in-Some-new : goal.returns-in-Some-new
 returns-in-Some-new c =
@@ -16,7 +17,7 @@ returns-in-Some-new c =
     let given = rw c.in-Some.is at c.in_ok-arguments.ensures in
     let asked =
     given (on_three taking) ∙ ap (λ words. on_three taking (texts_of words)) (sym c.deref.ensures.value) ∙ c.in-Some-three.ensures taking
-    ∙ asks_of_meta name word (Asks name (SetMeta word text)) c.in-Some-new.ensures.0 in
+    ∙ asks_of_meta Writes name word (Asks (On name (SetMeta word text))) c.in-Some-new.ensures.0 in
     IfOk-weaker c.ask.result _ _ (λ read seen. subst (IsSeenAs read) (sym asked) (seen (SetMeta word text) (ap (λ meta. SetMeta meta text) c.in-Some-new.ensures.1))) c.ask.ensures
 
 pub returns : goal.returns
@@ -27,5 +28,5 @@ returns c =
     let given = rw c.in-Some.is at c.in_ok-arguments.ensures in
     let asked =
     given (on_three taking) ∙ ap (λ words. on_three taking (texts_of words)) (sym c.deref.ensures.value) ∙ c.in-Some-three.ensures taking
-    ∙ refuses_meta name word (Asks name (SetMeta word text)) c.in-None.ensures in
-    IfOk-weaker c.refuse_meta.result _ _ (λ read seen. subst (IsSeenAs read) (sym asked) seen) c.refuse_meta.ensures
+    ∙ refuses_meta Writes name word (Asks (On name (SetMeta word text))) c.in-None.ensures in
+    IfOk-weaker c.refuse_argument.result _ _ (λ read seen. subst (IsSeenAs read) (sym asked) seen) c.refuse_argument.ensures

@@ -1,11 +1,12 @@
 use Rattle.std.proofs.Common.{refl, sym, ap, subst, ◌∙◌, ◌≡◌, List, ℕ}
 use Rattle.std.proofs.lemmas.Result.{IfOk-weaker}
 use Rattle.kdb_tool.specs.Request.{Request, Set, plain, on_two, asks}
+use Rattle.kdb_tool.specs.declared.uses.Use.TheVariants.{Writes}
 use Rattle.kdb_tool.specs.RequestView.{IsSeenAs, texts_of}
 use Rattle.kdb_tool.proofs.words.read_name_and_value.Goals as goal
 
 abbrev sets : List ℕ → List ℕ → Request
-sets name value = asks (Set value) name
+sets name value = asks Writes (Set value) name
 
 pub returns : goal.returns
 returns c =

@@ -7,4 +7,4 @@ use Rattle.kdb_tool.proofs.commands.trees.bring.Goals as goal
 
 pub set_over-requires : goal.set_over-requires
 set_over-requires c =
-    subst (λ (keys : KeyMap). All (λ key. is_at_or_below c.args.relative.now key.0 ≡ true) (map.entries keys)) (sym c.in_ok-taken.ensures.taken) (sources-below c.args.extent c.args.relative.now c.args.keys)
+    subst (λ (keys : KeyMap). All (λ key. is_at_or_below c.args.name.now key.0 ≡ true) (map.entries keys)) (sym c.in_ok-taken.ensures.taken) (sources-below c.args.extent c.args.name.now c.args.keys)

@@ -1,34 +1,32 @@
--- Each turn adds one line more, where the key is at or below the name.
+-- Each turn adds one line more, where the key is listed.
 use Rattle.std.proofs.Common.{◌≡◌, ◌++◌, [], List, ℕ, arith, length, take, if◌then◌else◌, ap, sym, ◌∙◌}
 use Rattle.std.proofs.Math.Seq.{take-length}
 use Rattle.std.specs.FinMap as map
 use Rattle.std.specs.List.{flat_map}
 use Rattle.model_names.specs.Name.{Name}
-use Rattle.model_names.specs.Below.{is_at_or_below}
 use Rattle.model_maps.specs.Entry.{Entry}
 use Rattle.key_set.specs.EntryView.{entry_of}
-use Rattle.dump_storage.proofs.WritingLemmas.{flat_map-more}
-use Rattle.kdb_tool.specs.Commands.{line_of_name}
-use Rattle.kdb_tool.proofs.TreeLemmas.{entries-below, flat_map-where}
+use Rattle.kdb_tool.specs.Commands.{is_listed}
+use Rattle.kdb_tool.specs.Lines.{line_of_name}
+use Rattle.kdb_tool.proofs.TreeLemmas.{flat_map-more, flat_map-where}
 use Rattle.kdb_tool.proofs.commands.trees.lines_below.Goals as goal
 
 abbrev line_where : Name → Name × Entry → List ℕ
-line_where above key = if is_at_or_below above key.0 then line_of_name key.0 else []
+line_where above key = if is_listed above key.0 then line_of_name key.0 else []
 
 pub loop-i-preserved : goal.loop-i-preserved
 loop-i-preserved c =
-    let added = line_where c.args.relative.now in
+    let added = line_where c.args.above.now in
     let key : Name × Entry = (c.in-Some.name.now, entry_of c.in-Some.field-0-1.now) in
-    c.in_ok-push_if_below.ensures
+    c.in_ok-push_if_listed.ensures
     ∙ ap (λ x. x ++ added key) c.loop-i.invariant
     ∙ sym (flat_map-more added (map.entries c.args.keys.now) c.loop-i.i key c.in-Some.ensures)
 
 pub returns : goal.returns
 returns c =
-    let above = c.args.relative.now in
-    let keys = c.args.keys.now in
-    let at_end : c.loop-i.i ≡ length (map.entries keys) = omega (arith, c.loop-i-test.false, c.loop-i.auto.i-end, c.len-i-end.ensures) in
+    let above = c.args.above.now in
+    let keys = map.entries c.args.keys.now in
+    let at_end : c.loop-i.i ≡ length keys = omega (arith, c.loop-i-test.false, c.loop-i.auto.i-end, c.len-i-end.ensures) in
     c.loop-i.invariant
-    ∙ ap (flat_map (line_where above)) (ap (λ n. take n (map.entries keys)) at_end ∙ take-length (map.entries keys))
-    ∙ flat_map-where (λ key. is_at_or_below above key.0) (λ key. line_of_name key.0) (map.entries keys)
-    ∙ sym (ap (flat_map (λ key. line_of_name key.0)) (entries-below above keys))
+    ∙ ap (flat_map (line_where above)) (ap (λ n. take n keys) at_end ∙ take-length keys)
+    ∙ flat_map-where (λ key. is_listed above key.0) (λ key. line_of_name key.0) keys

@@ -1,0 +1,74 @@
+-- A set has one verdict.
+use Rattle.std.specs.Prelude.{◌≡◌, ◌⊎◌, zero, List, [], ◌∷◌, ◌++◌, slice_get, Option, Some, None}
+use Rattle.std.specs.List.{AllByRecursion}
+use Rattle.std.proofs.Common.{refl, sym, ap, ap₂, ◌∙◌, subst, inl, inr}
+use Rattle.std.proofs.lemmas.Option.{same_Some}
+use Rattle.all_formats.specs.Meanings as all
+use Rattle.all_formats.specs.Laws as laws
+use Rattle.key_name.specs.Joining.{joined}
+use Rattle.model_names.specs.Name.{Name}
+use Rattle.model_maps.specs.KeyMap.{KeyMap}
+use Rattle.mounted_store.specs.Judging.{Breaks, AreStorable, IsVerdict, early_refusal, late_verdict}
+use Rattle.mounted_store.specs.Setting.{changes}
+use Rattle.mounted_store.specs.declared.changes.Change.{Change}
+use Rattle.mounted_store.specs.declared.files.MountedFile.{MountedFile}
+use Rattle.mounted_store.specs.declared.verdicts.Verdict.{Verdict}
+use Rattle.mounted_store.specs.declared.verdicts.Verdict.TheVariants.{NotStorable}
+
+abbrev storable : Change → Type 0
+storable change = all.IsStorable change.mount.kind change.contents
+
+head_is : (x y : Change) (xs ys : List Change) → x ∷ xs ≡ y ∷ ys → x ≡ y
+head_is x y xs ys e = same_Some x y (ap (λ zs. slice_get zs zero) e)
+
+tail_is : (x y : Change) (xs ys : List Change) → x ∷ xs ≡ y ∷ ys → xs ≡ ys
+tail_is x y xs ys e = ap tail e
+  where
+    tail : List Change → List Change
+    tail [] = []
+    tail (z ∷ zs) = zs
+
+-- what can be stored doesn't break
+apart : (change : Change) (key : Name) → storable change → all.BreaksAt change.mount.kind change.contents key → ⊥
+apart change key can breaks = laws.storable-breaks_nowhere change.mount.kind change.contents key can breaks
+
+none_breaks : (before : List Change) (change : Change) (behind : List Change) (key : Name) → AllByRecursion storable (before ++ change ∷ behind) → all.BreaksAt change.mount.kind change.contents key → ⊥
+none_breaks [] change behind key can breaks = apart change key can.0 breaks
+none_breaks (x ∷ before) change behind key can breaks = none_breaks before change behind key can.1 breaks
+
+-- the first change that breaks is one
+first_breaks : (ones others : List Change) (a b : Change) (xs ys : List Change) (k l : Name) → ones ++ a ∷ xs ≡ others ++ b ∷ ys → AllByRecursion storable ones → AllByRecursion storable others
+    → all.BreaksAt a.mount.kind a.contents k → all.BreaksAt b.mount.kind b.contents l → a ≡ b
+first_breaks [] [] a b xs ys k l same p q m n = head_is a b xs ys same
+first_breaks [] (c ∷ others) a b xs ys k l same p q m n = absurd (apart a k (subst storable (sym (head_is a c xs (others ++ b ∷ ys) same)) q.0) m)
+first_breaks (c ∷ ones) [] a b xs ys k l same p q m n = absurd (apart b l (subst storable (head_is c b (ones ++ a ∷ xs) ys same) p.0) n)
+first_breaks (c ∷ ones) (d ∷ others) a b xs ys k l same p q m n = first_breaks ones others a b xs ys k l (tail_is c d (ones ++ a ∷ xs) (others ++ b ∷ ys) same) p.1 q.1 m n
+
+Breaks-once : (changed : List Change) (v w : Verdict) → Breaks all.IsStorable all.BreaksAt changed v → Breaks all.IsStorable all.BreaksAt changed w → v ≡ w
+Breaks-once changed v w p q =
+    let same = first_breaks p.before q.before p.change q.change p.behind q.behind p.key q.key (sym p.stand ∙ q.stand) p.storable q.storable p.breaks q.breaks in
+    let breaks = subst (λ (c : Change). all.BreaksAt c.mount.kind c.contents q.key) (sym same) q.breaks in
+    let key = laws.BreaksAt-once p.change.mount.kind p.change.contents p.key q.key p.breaks breaks in
+    p.is ∙ (ap₂ (λ (c : Change) k. NotStorable c.mount.at (joined c.mount.at k)) same key ∙ sym q.is)
+
+not_both : (changed : List Change) (v : Verdict) → Breaks all.IsStorable all.BreaksAt changed v → AreStorable all.IsStorable changed → ⊥
+not_both changed v p can = none_breaks p.before p.change p.behind p.key (subst (AllByRecursion storable) p.stand can) p.breaks
+
+-- what is left where there is no early refusal
+abbrev Late : List MountedFile → Name → KeyMap → Verdict → Type 0
+Late files parent keys verdict =
+    Breaks all.IsStorable all.BreaksAt (changes files parent keys) verdict
+    ⊎ (AreStorable all.IsStorable (changes files parent keys) × (verdict ≡ late_verdict all.text files parent keys))
+
+late_once : (files : List MountedFile) (parent : Name) (keys : KeyMap) (v w : Verdict) → Late files parent keys v → Late files parent keys w → v ≡ w
+late_once files parent keys v w (inl a) (inl b) = Breaks-once (changes files parent keys) v w a b
+late_once files parent keys v w (inl a) (inr b) = absurd (not_both (changes files parent keys) v a b.0)
+late_once files parent keys v w (inr a) (inl b) = absurd (not_both (changes files parent keys) w b a.0)
+late_once files parent keys v w (inr a) (inr b) = a.1 ∙ sym b.1
+
+pub Verdict-once : (files : List MountedFile) (parent : Name) (keys : KeyMap) (v w : Verdict) → IsVerdict all.text all.IsStorable all.BreaksAt files parent keys v → IsVerdict all.text all.IsStorable all.BreaksAt files parent keys w → v ≡ w
+Verdict-once files parent keys v w p q = by_early (early_refusal files parent keys) refl
+  where
+    by_early : (early : Option Verdict) → early_refusal files parent keys ≡ early → v ≡ w
+    by_early None is = late_once files parent keys v w (rw is at p) (rw is at q)
+    by_early (Some refusal) is = (rw is at p) ∙ sym (rw is at q)

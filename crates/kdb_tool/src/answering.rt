@@ -1,0 +1,245 @@
+//! The answer to a question over the mounted files.
+ghost use Rattle.std.specs.Prelude.{◌≡◌, ◌≢◌, ◌++◌, ◌∷◌, [], IfOk, OnOk, string_bytes};
+ghost use Rattle.std.specs.List.{flat_map};
+ghost use Rattle.std.specs.Option.{option_copied, option_map};
+ghost use Rattle.mounted_store.specs.Getting.{got};
+ghost use Rattle.kdb_tool.specs.AnswerView.{answer_of, seen_step};
+ghost use Rattle.mounted_store.specs.declared.refusals.GetFault.TheVariants.{Memory as OutOfMemory};
+ghost use Rattle.mounted_store.specs.declared.refusals.OpenRefusal.TheVariants.{Memory as NoMemory};
+ghost use Rattle.kdb_tool.specs.Answer.{done, refused};
+ghost use Rattle.kdb_tool.specs.Answers.{AnswersOpened, AnswersIn, AnswersGot, AnswersStep, AnswersSet, IsRefusedBy, answer_by, file_told, mounts_told, owner_in, line_of_get, line_of_opening};
+ghost use Rattle.kdb_tool.specs.Commands.{parent_of};
+ghost use Rattle.kdb_tool.specs.Lines.{line_of_mount, not_found};
+ghost use Rattle.kdb_tool.specs.RequestView.{action_of, question_of};
+
+use crate::answers::{Answer, refuse, stores, tells};
+use crate::commands::{parent_of, step};
+use crate::places::own_point;
+use crate::reports::{tell, warn_not_found};
+use crate::requests::{Action, Question};
+use crate::status::REFUSED;
+use crate::steps::Step;
+use crate::store_lines::{
+    bad_file, bad_table, database_full, file_too_large, not_storable, too_heavy, too_long,
+    value_too_long,
+};
+use all_formats::AllFormats;
+use kdb_outside::FileName;
+use kdb_text::shown;
+use key_meta::Memory;
+use key_name::{KeyName, owner};
+use key_set::KeySet;
+use mount_table::Mount;
+use mounted_store::{GetFault, Mounted, OpenRefusal, Verdict};
+use std::alloc::{AllocError, Global};
+
+/// The answer to a question, by what came of the opening.
+pub fn answer_opened(
+    alloc: Global,
+    opened: Result<Mounted, OpenRefusal>,
+    question: Question<'_>,
+) -> Result<Answer, Memory>
+    ensures { IfOk result (λ answer. AnswersOpened opened (question_of question.entry) (answer_of answer)) }
+{
+    match opened {
+        Ok(mounted) => answer_in(alloc, &mounted, question),
+        Err(refusal) => refuse_opening(alloc, refusal),
+    }
+}
+
+/// The answer where the store isn't opened.
+fn refuse_opening(alloc: Global, refusal: OpenRefusal) -> Result<Answer, Memory>
+    ensures { IfOk result (λ answer. IsRefusedBy refusal (answer_of answer)) }
+{
+    let text = line_of_opening(alloc, &refusal)?;
+    refuse(alloc, REFUSED, text.as_str())
+}
+
+/// The line of what refuses an opening. Want of memory has none.
+fn line_of_opening(alloc: Global, refusal: &OpenRefusal) -> Result<String, Memory>
+    ensures text { IfOk result (λ text. string_bytes text ≡ line_of_opening refusal.now) }
+    ensures memory { OnOk result (refusal.now ≢ NoMemory) }
+{
+    match refusal {
+        OpenRefusal::TooLong { bytes } => {
+            let own = own_point(alloc)?;
+            too_long(alloc, &own, *bytes)
+        }
+        OpenRefusal::BadFile { line } => {
+            let own = own_point(alloc)?;
+            bad_file(alloc, &own, *line)
+        }
+        OpenRefusal::BadTable { fault } => bad_table(alloc, fault),
+        OpenRefusal::Memory => Err(AllocError),
+    }
+}
+
+/// The answer to a question over the mounted files.
+fn answer_in(alloc: Global, mounted: &Mounted, question: Question<'_>) -> Result<Answer, Memory>
+    ensures { IfOk result (λ answer. AnswersIn mounted.now (question_of question.entry) (answer_of answer)) }
+{
+    match question {
+        Question::Mounts => tell_mounts(alloc, mounted),
+        Question::FileOf(name) => tell_file(alloc, mounted, &name),
+        Question::On { name, action } => act(alloc, mounted, &name, action),
+    }
+}
+
+/// `mounts`: a line for each mount.
+fn tell_mounts(alloc: Global, mounted: &Mounted) -> Result<Answer, Memory>
+    ensures { IfOk result (λ answer. answer_of answer ≡ mounts_told mounted.now) }
+{
+    let lines = lines_of_mounts(alloc, mounted)?;
+    Ok(tells(alloc, tell(alloc, lines)))
+}
+
+/// The lines of all mounts, in the order of the table.
+fn lines_of_mounts(alloc: Global, mounted: &Mounted) -> Result<String, Memory>
+    ensures { IfOk result (λ lines. string_bytes lines ≡ flat_map (λ file. line_of_mount file.mount) mounted.now) }
+{
+    let table = mounted.table();
+    let mut lines = String::new(alloc);
+    for i in 0..table.len() {
+        let Some(mount) = table.mount(i) else {
+            unreachable!()
+        };
+        push_line_of_mount(alloc, &mut lines, mount)?;
+    }
+    Ok(lines)
+}
+
+/// Adds the line of a mount: its mountpoint, its file and the word of its format.
+fn push_line_of_mount(alloc: Global, lines: &mut String, mount: &Mount) -> Result<(), Memory>
+    ensures { OnOk result (string_bytes lines.new ≡ string_bytes lines.old ++ line_of_mount mount.now) }
+{
+    let at = shown(alloc, &mount.at)?;
+    let file = mount.file.text();
+    let word = mount.kind.word();
+    let line = format!(in alloc; "{at} {file} {word}\n")?;
+    lines.push_str(&line)
+}
+
+/// `file`: the file of the mount that owns a key.
+fn tell_file(alloc: Global, mounted: &Mounted, name: &KeyName) -> Result<Answer, Memory>
+    ensures { IfOk result (λ answer. answer_of answer ≡ file_told name.now (owner_in mounted.now name.now)) }
+{
+    match owner_in(mounted, name) {
+        Some(mount) => tell_name_of(alloc, &mount.file),
+        None => refuse_not_found(alloc, name),
+    }
+}
+
+fn tell_name_of(alloc: Global, file: &FileName) -> Result<Answer, Memory>
+    ensures { IfOk result (λ answer. answer_of answer ≡ done (file.now ++ 10 ∷ [])) }
+{
+    let file = file.text();
+    let out = format!(in alloc; "{file}\n")?;
+    Ok(tells(alloc, tell(alloc, out)))
+}
+
+fn refuse_not_found(alloc: Global, name: &KeyName) -> Result<Answer, Memory>
+    ensures { IfOk result (λ answer. answer_of answer ≡ refused 11 (not_found name.now)) }
+{
+    Ok(tells(alloc, warn_not_found(alloc, name)?))
+}
+
+/// The mount that owns a key.
+fn owner_in<'a>(mounted: &'a Mounted, name: &KeyName) -> Option<&'a Mount>
+    ensures { option_copied result ≡ option_map (λ file. file.mount) (owner_in mounted.now name.now) }
+{
+    let table = mounted.table();
+    match owner(table.points(), name) {
+        Some(i) => table.mount(i),
+        None => None,
+    }
+}
+
+/// The answer to an action on a key.
+fn act(
+    alloc: Global,
+    mounted: &Mounted,
+    name: &KeyName,
+    action: Action<'_>,
+) -> Result<Answer, Memory>
+    ensures { IfOk result (λ answer. AnswersGot mounted.now name.now (action_of action.entry) (got mounted.now (parent_of name.now (action_of action.entry))) (answer_of answer)) }
+{
+    let parent = parent_of(alloc, name, &action)?;
+    match mounted.get(alloc, &parent) {
+        Ok(keys) => {
+            let step = step(alloc, name, action, keys)?;
+            take_step(alloc, mounted, &parent, step)
+        }
+        Err(fault) => refuse_get(alloc, fault),
+    }
+}
+
+/// The answer where keys can't be got.
+fn refuse_get(alloc: Global, fault: GetFault) -> Result<Answer, Memory>
+    ensures { IfOk result (λ answer. (fault ≢ OutOfMemory) × (answer_of answer ≡ refused 5 (line_of_get fault))) }
+{
+    let text = line_of_get(alloc, &fault)?;
+    refuse(alloc, REFUSED, text.as_str())
+}
+
+/// The line of what refuses a get. Want of memory has none.
+fn line_of_get(alloc: Global, fault: &GetFault) -> Result<String, Memory>
+    ensures text { IfOk result (λ text. string_bytes text ≡ line_of_get fault.now) }
+    ensures memory { OnOk result (fault.now ≢ OutOfMemory) }
+{
+    match fault {
+        GetFault::BadFile { mount, line } => bad_file(alloc, mount, *line),
+        GetFault::TooLong { mount, bytes } => too_long(alloc, mount, *bytes),
+        GetFault::TooHeavy { mount, weight } => too_heavy(alloc, mount, *weight),
+        GetFault::Memory => Err(AllocError),
+    }
+}
+
+/// The answer by what a command makes of the keys that it got.
+fn take_step(
+    alloc: Global,
+    mounted: &Mounted,
+    parent: &KeyName,
+    step: Step,
+) -> Result<Answer, Memory>
+    ensures { IfOk result (λ answer. AnswersStep mounted.now parent.now (seen_step step) (answer_of answer)) }
+{
+    match step {
+        Step::Tells(report) => Ok(tells(alloc, report)),
+        Step::Sets { keys, out } => set_keys(alloc, mounted, parent, &keys, out),
+    }
+}
+
+/// The answer where keys are set.
+fn set_keys(
+    alloc: Global,
+    mounted: &Mounted,
+    parent: &KeyName,
+    keys: &KeySet,
+    out: String,
+) -> Result<Answer, Memory>
+    ensures { IfOk result (λ answer. AnswersSet mounted.now parent.now keys.now (string_bytes out) (answer_of answer)) }
+{
+    let verdict = mounted.judge(alloc, &AllFormats, parent, keys)?;
+    answer_by(alloc, verdict, out)
+}
+
+/// The answer that a verdict on a set gives.
+fn answer_by(alloc: Global, verdict: Verdict, out: String) -> Result<Answer, Memory>
+    ensures { IfOk result (λ answer. answer_of answer ≡ answer_by verdict (string_bytes out)) }
+{
+    match verdict {
+        Verdict::Same { .. } => Ok(tells(alloc, tell(alloc, out))),
+        Verdict::Stores { files, .. } => Ok(stores(alloc, files, out)),
+        Verdict::ValueTooLong { key, bytes } => {
+            refuse(alloc, REFUSED, &value_too_long(alloc, &key, bytes)?)
+        }
+        Verdict::FileTooLarge { mount, bytes } => {
+            refuse(alloc, REFUSED, &file_too_large(alloc, &mount, bytes)?)
+        }
+        Verdict::NotStorable { mount, key } => {
+            refuse(alloc, REFUSED, &not_storable(alloc, &mount, &key)?)
+        }
+        Verdict::BadTable { fault } => refuse(alloc, REFUSED, &bad_table(alloc, &fault)?),
+        Verdict::DatabaseFull { weight } => refuse(alloc, REFUSED, &database_full(alloc, weight)?),
+    }
+}

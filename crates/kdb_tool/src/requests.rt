@@ -1,0 +1,67 @@
+//! What a command line can ask for.
+use crate::extents::Extent;
+use crate::meta_names::MetaName;
+use crate::uses::Use;
+use crate::ways::Way;
+use kdb_outside::Kind;
+use key_name::{KeyName, NameFault};
+
+/// Why words ask for nothing.
+#[derive(Clone, Copy, Debug)]
+pub enum Refusal<'a> {
+    NoCommand,
+    UnknownCommand(&'a str),
+    OptionsRefused,
+    /// A word that is to be a name is none, for another cause than want of memory.
+    NoName(NameFault),
+    /// A word that is to be a metadata name or a format's word is none.
+    NoArgument(&'a str),
+}
+
+/// What is done with a key.
+#[derive(Debug, Drop)]
+pub enum Action<'a> {
+    Get,
+    Set(&'a str),
+    Remove(Extent),
+    Names,
+    GetMeta(MetaName<'a>),
+    SetMeta(MetaName<'a>, &'a str),
+    MetaNames,
+    Bring {
+        way: Way,
+        extent: Extent,
+        to: KeyName,
+    },
+    MountFile {
+        file: &'a str,
+        kind: Kind,
+    },
+    Unmount,
+}
+
+/// What is asked of a store.
+#[derive(Debug, Drop)]
+pub enum Question<'a> {
+    /// Its mounts.
+    Mounts,
+    /// The file that holds a key.
+    FileOf(KeyName),
+    /// What is done with a key.
+    On { name: KeyName, action: Action<'a> },
+}
+
+/// What words ask for, a name that can't be used so, or why there is neither.
+#[derive(Debug, Drop)]
+pub enum Request<'a> {
+    Refuses(Refusal<'a>),
+    Bars { by: Use, name: KeyName },
+    Asks(Question<'a>),
+}
+
+/// A word that was to be a name: the name, or the request that the word makes in its place.
+#[derive(Debug, Drop)]
+pub enum Named<'a> {
+    Is(KeyName),
+    IsNone(Request<'a>),
+}
