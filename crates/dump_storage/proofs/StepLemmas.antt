@@ -11,7 +11,8 @@ use Rattle.model_names.specs.Spelling.{path}
 use Rattle.model_names.specs.Spells.{Spells}
 use Rattle.model_names.proofs.OrderLemmas.{name_cmp_total, name_cmp-IsAntisymmetric}
 use Rattle.key_name.specs.Comparing.{name_ties}
-use Rattle.model_maps.specs.Entry.{Entry, plain_entry, IsValue, IsMetaName, text_cmp}
+use Rattle.general_words.specs.Texts.{text_cmp}
+use Rattle.model_maps.specs.Entry.{Entry, plain_entry, IsValue, IsMetaName}
 use Rattle.model_maps.specs.KeyMap.{KeyMap, weight, heaviest_map}
 use Rattle.model_dump.specs.Adds.{Progress, Adds, with_meta}
 use Rattle.key_set.specs.declared.entries.Entry as code_entry

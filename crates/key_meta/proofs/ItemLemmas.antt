@@ -9,7 +9,7 @@ use Rattle.std.specs.declared.cmp.Ordering.{Ordering}
 use Rattle.std.specs.declared.cmp.Ordering.TheVariants.{Less, Equal, Greater}
 use Rattle.std.specs.FinMap.{slice_cmp-IsAntisymmetric, nat_cmp-IsAntisymmetric, is_sorted}
 use Rattle.model_names.proofs.PartLemmas.{all_append}
-use Rattle.model_maps.specs.Entry.{text_cmp}
+use Rattle.general_words.specs.Texts.{text_cmp}
 use Rattle.key_meta.specs.MetaView.{IsItem, AreItems}
 
 pub AreItems-put : (name text : List ℕ) → IsItem (name, text) → (items : List (List ℕ × List ℕ)) → AreItems items → AreItems (put text_cmp name text items)

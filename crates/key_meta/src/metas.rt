@@ -3,7 +3,8 @@ ghost use Rattle.std.specs.Prelude.{◌≡◌, ◌==◌, ◌+◌, ◌-◌, ◌^�
 ghost use Rattle.std.specs.Option.{option_map};
 ghost use Rattle.std.specs.FinMap as map;
 ghost use Rattle.std.specs.FinMap.{is_sorted};
-ghost use Rattle.model_maps.specs.Entry.{IsArray, meta_bytes, text_cmp};
+ghost use Rattle.general_words.specs.Texts.{text_cmp};
+ghost use Rattle.model_maps.specs.Entry.{IsArray, meta_bytes};
 ghost use Rattle.sorted_map.specs.Place.{IsPlace, IsGap};
 ghost use Rattle.std.specs.Cmp.{partial_equiv_from_equiv};
 ghost use Rattle.key_meta.specs.MetaView.{AreTexts};

@@ -4,7 +4,8 @@ use Rattle.std.specs.List.{AllByRecursion, slice_split, onto_first, flat_map}
 use Rattle.std.proofs.lemmas.Bool.{cond_both, cond-false, or_from, or_parts, and_left, ne_eqb}
 use Rattle.std.proofs.lemmas.List.{length-append}
 use Rattle.model_names.specs.Name.{Part}
-use Rattle.model_names.specs.Spelling.{is_text, spelled, path_of_parts}
+use Rattle.general_words.specs.Texts.{is_text}
+use Rattle.model_names.specs.Spelling.{spelled, path_of_parts}
 use Rattle.model_names.specs.Spells.{Move, moved}
 use Rattle.key_name.specs.Plain.{IsPlainByte, plain_step}
 use Rattle.model_names.proofs.EscapeLemmas.{IsUnescaped, flat_map-escaped-same}

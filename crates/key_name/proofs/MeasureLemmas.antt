@@ -8,7 +8,8 @@ use Rattle.model_names.specs.declared.namespaces.Namespace.{Namespace}
 use Rattle.model_names.specs.Name.{Part}
 use Rattle.model_names.specs.ArrayPart.{is_array_like, canonical_part, without_underscores}
 use Rattle.model_names.specs.RawParts.{raw_parts}
-use Rattle.model_names.specs.Spelling.{escaped, spelled, is_reserved, is_text, path_of_parts, word_of}
+use Rattle.general_words.specs.Texts.{is_text}
+use Rattle.model_names.specs.Spelling.{escaped, spelled, is_reserved, path_of_parts, word_of}
 use Rattle.model_names.specs.Spells.{Move, Adds, Stays, GoesUp, meaning, moved, part_of_text, unescaped_from, walked}
 use Rattle.model_names.proofs.EscapeLemmas.{IsUnescaped, flat_map-escaped-same}
 use Rattle.model_names.proofs.NameLemmas.{spelled-text}

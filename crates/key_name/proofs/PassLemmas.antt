@@ -4,8 +4,9 @@ use Rattle.std.specs.Option.{option_or}
 use Rattle.std.proofs.lemmas.Bool.{cond-true, cond-false, not-true, or_from, false_from_ne_true}
 use Rattle.std.proofs.lemmas.Slice.Eq.{bytes_eq-Decides}
 use Rattle.model_names.specs.ArrayPart.{is_array_like, canonical_part}
-use Rattle.model_names.specs.Spelling.{is_text}
-use Rattle.model_names.specs.Refuses.{bad_escape, bad_escape_from, bad_array, first_some, is_literal}
+use Rattle.general_words.specs.Texts.{is_text}
+use Rattle.general_words.specs.Searches.{first_some}
+use Rattle.model_names.specs.Refuses.{bad_escape, bad_escape_from, bad_array, is_literal}
 use Rattle.key_name.specs.declared.raw_parts.Raw.{Raw}
 use Rattle.key_name.specs.Raws.{with_places}
 use Rattle.key_name.proofs.ArrayLemmas.{bad_array-raw}

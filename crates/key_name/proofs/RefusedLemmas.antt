@@ -8,7 +8,8 @@ use Rattle.model_names.specs.Name.{Name, Part}
 use Rattle.model_names.specs.Spelling.{word_of, path_of_parts}
 use Rattle.model_names.specs.RawParts.{raw_parts}
 use Rattle.model_names.specs.Spells.{Spells, walked, longest_path}
-use Rattle.model_names.specs.Refuses.{NoNamespace, UnknownNamespace, NoSlash, BadEscape, BadArray, Nul, TooLong, namespace_of_word, begins_with_slash, start_of_text, placed, bad_escape, bad_array, first_some, too_long, refusal_of}
+use Rattle.general_words.specs.Searches.{first_some}
+use Rattle.model_names.specs.Refuses.{NoNamespace, UnknownNamespace, NoSlash, BadEscape, BadArray, Nul, TooLong, namespace_of_word, begins_with_slash, start_of_text, placed, bad_escape, bad_array, too_long, refusal_of}
 use Rattle.model_names.proofs.RefusesLemmas.{no_nul-from_position, start_at, start_of_text-no_colon, start_of_text-colon, refusal_of-refused, refusal_of-behind, first_refusal, too_long-at, AreFine-from_walked, walked-fine, word_is, word_cut, colon_cut}
 use Rattle.key_name.specs.declared.raw_parts.Raw.{Raw}
 use Rattle.key_name.specs.Raws.{with_places, texts}

@@ -9,7 +9,7 @@ use Rattle.std.specs.Str.{IsUtf8, chars}
 use Rattle.std.proofs.lemmas.Str.{encodes-chars, encode_ascii, encodes-append}
 use Rattle.model_names.specs.Name.{Part}
 use Rattle.model_names.specs.ArrayPart.{is_array_like, canonical_part, without_underscores}
-use Rattle.model_names.specs.Spelling.{is_text}
+use Rattle.general_words.specs.Texts.{is_text}
 use Rattle.model_names.specs.Spells.{Move, Adds, Stays, GoesUp, meaning, moved, part_of_text, unescaped_from, walked}
 use Rattle.model_names.proofs.RefusesLemmas.{branch_taken, from_map, from_and_then}
 use Rattle.key_name.specs.declared.raw_parts.Raw.{Raw}

@@ -2,7 +2,7 @@
 use Rattle.std.specs.Prelude.{◌≢◌, ℕ, ◌<◌, ◌≤◌, ◌==◌, ◌||◌, if◌then◌else◌, List, length, drop, codes}
 use Rattle.std.specs.List.{AllByRecursion, position_or_len}
 use Rattle.model_names.specs.Name.{Part}
-use Rattle.model_names.specs.Spelling.{is_text}
+use Rattle.general_words.specs.Texts.{is_text}
 use Rattle.model_names.specs.Spells.{Move, Adds, Stays, GoesUp, longest_path, moved}
 
 -- a byte that is no backslash, no `%`, no `#` and no NUL

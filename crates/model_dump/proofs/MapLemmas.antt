@@ -14,7 +14,8 @@ use Rattle.std.proofs.lemmas.Str.Ascii.{IsAscii-from_all}
 use Rattle.model_names.specs.Name.{Name}
 use Rattle.model_names.specs.Order.{name_cmp}
 use Rattle.model_names.proofs.OrderLemmas.{name_cmp_total}
-use Rattle.model_maps.specs.Entry.{Entry, plain_entry, text_cmp, IsValue, longest_value}
+use Rattle.general_words.specs.Texts.{text_cmp}
+use Rattle.model_maps.specs.Entry.{Entry, plain_entry, IsValue, longest_value}
 use Rattle.model_names.specs.Spelling.{spelling}
 use Rattle.model_dump.specs.Adds.{with_meta}
 use Rattle.model_maps.specs.KeyMap.{KeyMap, no_keys, weight, weight_of_key}

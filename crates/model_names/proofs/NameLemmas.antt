@@ -16,7 +16,8 @@ use Rattle.model_names.specs.Name.{Name, Part}
 use Rattle.model_names.specs.RawParts.{raw_parts, raw_parts_from, put_before}
 use Rattle.model_names.specs.Refuses.{begins_with_slash}
 use Rattle.model_names.specs.Spells.{Spells, Adds, walked, moved, meaning, unescaped_from, part_of_text}
-use Rattle.model_names.specs.Spelling.{spelling, spelled, escaped, is_reserved, is_text, word_of, path_of_parts}
+use Rattle.general_words.specs.Texts.{is_text}
+use Rattle.model_names.specs.Spelling.{spelling, spelled, escaped, is_reserved, word_of, path_of_parts}
 use Rattle.model_names.specs.WellFormed.{IsName, IsPart}
 use Rattle.model_names.proofs.EscapeLemmas.{flat_map-escaped-letter}
 use Rattle.model_names.proofs.PartLemmas.{IsText, IsText-raw_parts, IsUtf8-byte, IsUtf8-cons, all_append, all_back, text_from_test, utf8_behind_slash, walked_parts}

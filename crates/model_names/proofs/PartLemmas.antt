@@ -21,7 +21,7 @@ use Rattle.std.proofs.Math.Seq.{take-append_seam, drop-append-add}
 use Rattle.model_names.specs.Name.{Part}
 use Rattle.model_names.specs.ArrayPart.{last_index, array_part, is_array_like, canonical_part, index_of, without_underscores}
 use Rattle.model_names.specs.RawParts.{raw_parts_from, put_before}
-use Rattle.model_names.specs.Spelling.{is_text}
+use Rattle.general_words.specs.Texts.{is_text}
 use Rattle.model_names.specs.Spells.{Move, Adds, Stays, GoesUp, meaning, moved, walked, part_of_text, unescaped_from}
 use Rattle.model_names.specs.WellFormed.{IsPart}
 use Rattle.model_names.proofs.EscapeLemmas.{IsUnescaped-encode_utf8, read_all, escapes_no_letter}

@@ -11,10 +11,12 @@ use Rattle.model_names.specs.declared.namespaces.Namespace.{Namespace}
 use Rattle.model_names.specs.declared.namespaces.Namespace.TheVariants.{Cascading, Spec, Proc, Dir, User, System, Default}
 use Rattle.model_names.specs.Name.{Name, Part}
 use Rattle.model_names.specs.ArrayPart.{is_array_like, canonical_part}
-use Rattle.model_names.specs.Spelling.{is_text, word_of, path, path_of_parts}
+use Rattle.general_words.specs.Texts.{is_text}
+use Rattle.general_words.specs.Searches.{first_some}
+use Rattle.model_names.specs.Spelling.{word_of, path, path_of_parts}
 use Rattle.model_names.specs.RawParts.{raw_parts}
 use Rattle.model_names.specs.Spells.{Spells, Move, Adds, meaning, moved, part_of_text, unescaped_from, walked, longest_path}
-use Rattle.model_names.specs.Refuses.{Refusal, NoNamespace, UnknownNamespace, NoSlash, BadEscape, BadArray, Nul, TooLong, Start, At, Refused, namespace_of_word, begins_with_slash, start_behind, start_of_text, placed, is_literal, bad_escape_from, bad_escape, bad_array, first_some, too_long, refusal_behind, refusal_of}
+use Rattle.model_names.specs.Refuses.{Refusal, NoNamespace, UnknownNamespace, NoSlash, BadEscape, BadArray, Nul, TooLong, Start, At, Refused, namespace_of_word, begins_with_slash, start_behind, start_of_text, placed, is_literal, bad_escape_from, bad_escape, bad_array, too_long, refusal_behind, refusal_of}
 use Rattle.model_names.proofs.SpellsLemmas.{drop-word}
 
 -- ---- options

@@ -24,7 +24,8 @@ use Rattle.model_names.specs.Spells.{Spells, longest_path}
 use Rattle.model_names.specs.WellFormed.{IsName, IsPart}
 use Rattle.model_names.proofs.BelowLemmas.{at_or_below-rest}
 use Rattle.model_names.proofs.RefusesLemmas.{position-no_nul}
-use Rattle.model_maps.specs.Entry.{Entry, text_cmp, plain_entry}
+use Rattle.general_words.specs.Texts.{text_cmp}
+use Rattle.model_maps.specs.Entry.{Entry, plain_entry}
 use Rattle.model_maps.specs.KeyMap.{KeyMap}
 use Rattle.kdb_outside.specs.Kind.{kind_word}
 use Rattle.kdb_outside.specs.declared.kinds.Kind.{Kind}

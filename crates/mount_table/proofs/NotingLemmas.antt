@@ -17,10 +17,10 @@ use Rattle.std.proofs.lemmas.Slice.Eq.{bytes_eq-Decides}
 use Rattle.sorted_map.proofs.MapLemmas.{from_sorted-put, from_sorted-nil, from_sorted-without}
 use Rattle.model_names.specs.Below.{is_at_or_below}
 use Rattle.model_names.specs.Name.{Name, Part}
-use Rattle.model_names.specs.Spelling.{is_text}
+use Rattle.general_words.specs.Texts.{is_text, text_cmp}
 use Rattle.model_names.specs.Order.{name_cmp}
 use Rattle.model_names.proofs.OrderLemmas.{name_cmp_total, name_cmp-IsAntisymmetric}
-use Rattle.model_maps.specs.Entry.{Entry, text_cmp}
+use Rattle.model_maps.specs.Entry.{Entry}
 use Rattle.model_maps.specs.KeyMap.{KeyMap}
 use Rattle.mount_table.specs.Entries.{entries_of, has_entry, said_by, value_at}
 use Rattle.mount_table.specs.Noting.{nothing_said, child_word, is_word, said_with, noted_in, noted_at, noted}

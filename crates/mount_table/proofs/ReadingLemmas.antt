@@ -7,8 +7,7 @@ use Rattle.std.specs.Ordering.{eq_by_cmp}
 use Rattle.std.proofs.lemmas.Cmp.{nat_list_cmp_total}
 use Rattle.std.proofs.lemmas.List.Folds.{list_any-append}
 use Rattle.model_names.specs.Name.{Name, Part}
-use Rattle.model_names.specs.Spelling.{is_text}
-use Rattle.model_maps.specs.Entry.{text_cmp}
+use Rattle.general_words.specs.Texts.{is_text, text_cmp}
 use Rattle.kdb_outside.specs.declared.kinds.Kind.{Kind}
 use Rattle.mount_table.specs.Answers.{IsFault}
 use Rattle.mount_table.specs.Points.{point_of, file_of}

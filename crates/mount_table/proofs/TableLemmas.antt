@@ -20,7 +20,7 @@ use Rattle.model_names.specs.Order.{name_cmp}
 use Rattle.model_names.proofs.OrderLemmas.{name_cmp_total, name_cmp-IsAntisymmetric}
 use Rattle.model_names.proofs.PartLemmas.{all_append}
 use Rattle.model_names.proofs.RefusesLemmas.{from_map, from_and_then, cond_some}
-use Rattle.model_maps.specs.Entry.{text_cmp}
+use Rattle.general_words.specs.Texts.{text_cmp}
 use Rattle.mount_table.specs.Entries.{Entries}
 use Rattle.mount_table.specs.Points.{has_files, name_in, name_of_text, is_point, point_of, file_of}
 use Rattle.mount_table.specs.Reading.{◌>>=◌, kind_said, mount_at, mount_of, next_mount, is_taken, mounts_from}

@@ -8,7 +8,7 @@ use Rattle.std.proofs.lemmas.List.Elements.{filter_map-append}
 use Rattle.std.proofs.lemmas.List.Sums.{fold-append}
 use Rattle.key_set.specs.WithAll.{with_all}
 use Rattle.model_names.specs.Name.{Name}
-use Rattle.model_names.specs.Refuses.{first_some}
+use Rattle.general_words.specs.Searches.{first_some}
 use Rattle.model_maps.specs.KeyMap.{KeyMap, no_keys}
 use Rattle.set_split.proofs.FrontLemmas.{take-next}
 use Rattle.mounted_store.specs.Getting.{fault_in, got, involved_files, visible_keys, visible_of, Gets, IsFaultIn}

@@ -8,8 +8,9 @@ use Rattle.std.specs.Ordering.{eq_by_cmp}
 use Rattle.std.proofs.lemmas.Bool.{cond-false, ltb-false, le-ltb}
 use Rattle.std.proofs.lemmas.Cmp.{nat_list_cmp_total}
 use Rattle.model_names.specs.Name.{Name}
-use Rattle.model_names.specs.Refuses.{first_some}
-use Rattle.model_maps.specs.Entry.{Entry, text_cmp, longest_value}
+use Rattle.general_words.specs.Searches.{first_some}
+use Rattle.general_words.specs.Texts.{text_cmp}
+use Rattle.model_maps.specs.Entry.{Entry, longest_value}
 use Rattle.model_maps.specs.KeyMap.{KeyMap, weight, heaviest_map}
 use Rattle.model_maps.specs.Limits.{IsLimited, IsLimitedKey}
 use Rattle.mounted_store.specs.Setting.{if_long}

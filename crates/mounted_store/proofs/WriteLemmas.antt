@@ -12,8 +12,8 @@ use Rattle.kdb_outside.specs.declared.kinds.Kind.{Kind}
 use Rattle.key_name.specs.Joining.{joined}
 use Rattle.model_names.proofs.PartLemmas.{all_append}
 use Rattle.model_names.specs.Name.{Name}
-use Rattle.model_names.specs.Refuses.{first_some}
-use Rattle.model_maps.specs.Entry.{text_cmp}
+use Rattle.general_words.specs.Searches.{first_some}
+use Rattle.general_words.specs.Texts.{text_cmp}
 use Rattle.model_maps.specs.KeyMap.{KeyMap}
 use Rattle.set_split.proofs.FrontLemmas.{take-next}
 use Rattle.sorted_map.proofs.MapLemmas.{from_sorted-nil}

@@ -2,7 +2,7 @@
 use Rattle.std.specs.Prelude.{◌≡◌, List, filter_map, slice_get, Option, Some, None, Result, Ok, Err}
 use Rattle.std.specs.List.{fold}
 use Rattle.model_names.specs.Name.{Name}
-use Rattle.model_names.specs.Refuses.{first_some}
+use Rattle.general_words.specs.Searches.{first_some}
 use Rattle.model_maps.specs.KeyMap.{KeyMap, no_keys}
 use Rattle.key_set.specs.WithAll.{with_all}
 use Rattle.set_split.specs.Involved.{involved_in}

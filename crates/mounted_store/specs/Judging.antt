@@ -9,8 +9,8 @@ use Rattle.kdb_outside.specs.declared.kinds.Kind.{Kind}
 use Rattle.key_name.specs.Joining.{joined}
 use Rattle.model_names.specs.Name.{Name}
 use Rattle.model_names.specs.Order.{name_eq}
-use Rattle.model_names.specs.Refuses.{first_some}
-use Rattle.model_maps.specs.Entry.{text_cmp}
+use Rattle.general_words.specs.Searches.{first_some}
+use Rattle.general_words.specs.Texts.{text_cmp}
 use Rattle.model_maps.specs.KeyMap.{KeyMap, weight, heaviest_map}
 use Rattle.mount_table.specs.Points.{own_point}
 use Rattle.mount_table.specs.Table.{table_of}

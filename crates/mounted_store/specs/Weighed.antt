@@ -2,7 +2,7 @@
 use Rattle.std.specs.Prelude.{ℕ, ◌+◌, ◌-◌, ◌^◌, min, nat_lt, Bool, if◌then◌else◌, List, [], ◌∷◌, Option, Some, None}
 use Rattle.std.specs.Option.{unwrap_or}
 use Rattle.model_names.specs.Order.{name_eq}
-use Rattle.model_names.specs.Refuses.{first_some}
+use Rattle.general_words.specs.Searches.{first_some}
 use Rattle.model_maps.specs.KeyMap.{weight, heaviest_map}
 use Rattle.mount_table.specs.Points.{own_point}
 use Rattle.mounted_store.specs.declared.causes.Cause.TheVariants.{TooHeavy}

@@ -7,7 +7,7 @@ ghost use Rattle.std.specs.Option.{option_map, unwrap_or};
 ghost use Rattle.key_set.specs.EntryView.{entry_of};
 ghost use Rattle.key_set.specs.WithAll.{with_all};
 ghost use Rattle.model_names.specs.Order.{name_cmp};
-ghost use Rattle.model_names.specs.Refuses.{first_some};
+ghost use Rattle.general_words.specs.Searches.{first_some};
 ghost use Rattle.set_split.specs.Involved.{owns};
 ghost use Rattle.set_split.specs.Seen.{numbered};
 ghost use Rattle.mounted_store.specs.Setting.{change_at, change_of, first_long_in, if_long, long_text, weight_after, weight_wanted};

@@ -8,7 +8,8 @@ use Rattle.model_names.specs.Name.{Name}
 use Rattle.model_names.specs.Order.{name_cmp}
 use Rattle.model_names.proofs.OrderLemmas.{name_cmp_total, name_cmp-IsAntisymmetric}
 use Rattle.model_names.proofs.SpellsLemmas.{Spells-once, Spells-from_tests}
-use Rattle.model_maps.specs.Entry.{Entry, plain_entry, text_cmp}
+use Rattle.general_words.specs.Texts.{text_cmp}
+use Rattle.model_maps.specs.Entry.{Entry, plain_entry}
 use Rattle.model_maps.specs.KeyMap.{KeyMap, no_keys, weight}
 use Rattle.model_dump.specs.Record.{Record, KeyKind, MetaKind, CopyKind, spelled_record}
 use Rattle.model_dump.specs.Adds.{Progress, start, Adds, with_meta}

@@ -9,7 +9,8 @@ use Rattle.model_names.specs.Name.{Name}
 use Rattle.model_names.specs.Order.{name_cmp}
 use Rattle.model_names.proofs.OrderLemmas.{name_cmp_total, name_cmp-IsAntisymmetric}
 use Rattle.model_names.proofs.SpellsLemmas.{Spells-from_tests}
-use Rattle.model_maps.specs.Entry.{Entry, plain_entry, text_cmp}
+use Rattle.general_words.specs.Texts.{text_cmp}
+use Rattle.model_maps.specs.Entry.{Entry, plain_entry}
 use Rattle.model_maps.specs.KeyMap.{KeyMap, no_keys, weight, weight_of_key}
 use Rattle.model_dump.specs.Record.{Record, KeyKind, MetaKind, CopyKind}
 use Rattle.model_dump.specs.Adds.{Progress, start, Adds, with_meta}

@@ -3,7 +3,7 @@ use Rattle.std.proofs.Common.{arith, ap, sym, ◌∙◌}
 use Rattle.std.specs.FinMap as map
 use Rattle.sorted_map.proofs.MapLemmas.{from_sorted-nil}
 use Rattle.key_set.specs.EntryView.{entry_of}
-use Rattle.model_maps.specs.Entry.{text_cmp}
+use Rattle.general_words.specs.Texts.{text_cmp}
 use Rattle.mount_table.specs.Entries.{entries_of}
 use Rattle.mount_table.specs.Noting.{noted}
 use Rattle.mount_table.proofs.NotingLemmas.{entries_of-insert, entries_of-none, first_keys, first_keys-more, first_keys-none, first_keys-all}

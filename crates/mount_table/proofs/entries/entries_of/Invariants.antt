@@ -1,7 +1,7 @@
 -- The entries of the keys so far have been noted.
 use Rattle.std.proofs.Common.{◌≡◌}
 use Rattle.std.specs.FinMap as map
-use Rattle.model_maps.specs.Entry.{text_cmp}
+use Rattle.general_words.specs.Texts.{text_cmp}
 use Rattle.mount_table.specs.Entries.{entries_of}
 use Rattle.mount_table.proofs.NotingLemmas.{first_keys}
 use Rattle.mount_table.proofs.entries.entries_of.Given as goal

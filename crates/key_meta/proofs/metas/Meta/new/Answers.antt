@@ -1,7 +1,7 @@
 -- No items make the empty map.
 use Rattle.std.proofs.Common.{ap, ◌∙◌}
 use Rattle.std.specs.FinMap as map
-use Rattle.model_maps.specs.Entry.{text_cmp}
+use Rattle.general_words.specs.Texts.{text_cmp}
 use Rattle.sorted_map.proofs.MapLemmas.{from_sorted-nil}
 use Rattle.key_meta.proofs.metas.Meta.new.Goals as goal
 

@@ -4,7 +4,7 @@ use Rattle.std.specs.FinMap as map
 use Rattle.std.specs.FinMap.{find}
 use Rattle.std.specs.FinMap.Entries.{put}
 use Rattle.std.proofs.lemmas.Cmp.{nat_list_cmp_total}
-use Rattle.model_maps.specs.Entry.{text_cmp}
+use Rattle.general_words.specs.Texts.{text_cmp}
 use Rattle.sorted_map.specs.Place.{IsPlace}
 use Rattle.sorted_map.proofs.MapLemmas.{get-place, insert-place, from_sorted-put, on_ok}
 use Rattle.std.specs.Str.{IsUtf8}

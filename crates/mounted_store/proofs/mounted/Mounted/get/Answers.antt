@@ -4,7 +4,7 @@ use Rattle.std.proofs.lemmas.Bool.{ltb-false}
 use Rattle.key_set.specs.WithAll.{with_all}
 use Rattle.set_split.specs.Involved.{involved_in}
 use Rattle.model_names.specs.Name.{Name}
-use Rattle.model_names.specs.Refuses.{first_some}
+use Rattle.general_words.specs.Searches.{first_some}
 use Rattle.mounted_store.specs.Files.{points_of}
 use Rattle.mounted_store.specs.Getting.{fault_in, got, involved_files, visible_keys, visible_of}
 use Rattle.mounted_store.specs.declared.files.MountedFile.{MountedFile}

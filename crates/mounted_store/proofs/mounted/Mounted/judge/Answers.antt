@@ -6,7 +6,7 @@ use Rattle.set_split.specs.Parts.{parts_of}
 use Rattle.set_split.specs.Seen.{numbered}
 use Rattle.set_split.specs.declared.parts.Part.{Part}
 use Rattle.sorted_map.proofs.MapLemmas.{for_ok}
-use Rattle.model_names.specs.Refuses.{first_some}
+use Rattle.general_words.specs.Searches.{first_some}
 use Rattle.model_maps.specs.KeyMap.{KeyMap}
 use Rattle.mounted_store.specs.Judging.{IsVerdict, bad_table, done, too_heavy}
 use Rattle.mounted_store.specs.Setting.{change_at, first_long_in, weight_after}
