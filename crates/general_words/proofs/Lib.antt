@@ -5,4 +5,5 @@ pub mod Texts
 pub mod Searches
 pub mod Entries
 pub mod Maps
+pub mod Lookups
 pub mod Fronts

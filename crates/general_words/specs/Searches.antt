@@ -8,7 +8,7 @@ first_some f [] = None
 first_some f (x ∷ xs) = option_or (f x) (first_some f xs)
 
 -- an answer is that of an element before which none has one
-pub record IsFirst {A B : Type 0} (f : A → Option B) (xs : List A) (answer : B) : Type 0 where
+pub record IsFirstAnswer {A B : Type 0} (f : A → Option B) (xs : List A) (answer : B) : Type 0 where
   pub place : ℕ
   pub element : A
   pub stands : Some element ≡ slice_get xs place

@@ -7,7 +7,7 @@ ghost use Rattle.std.specs.FinMap.{FinMap, IsAntisymmetric};
 ghost use Rattle.general_words.specs.Fronts.{front};
 ghost use Rattle.general_words.specs.Memory.{UnlessMemory};
 ghost use Rattle.general_words.specs.Saturated.{saturated};
-ghost use Rattle.general_words.specs.Searches.{first_some, IsFirst};
+ghost use Rattle.general_words.specs.Searches.{first_some, IsFirstAnswer};
 ghost use Rattle.general_words.specs.Texts.{is_text, text_cmp};
 
 /// The test of texts says whether two lists of bytes are one.
@@ -23,7 +23,7 @@ pub fn the_order_of_texts_is_total()
 
 /// A search finds an answer where one is given, and none is given before it; it finds none where none is given.
 pub fn the_first_answer_comes_before_all_others()
-    ensures found { (answer : ℕ → Option ℕ) (xs : List ℕ) (y : ℕ) → first_some answer xs ≡ Some y → IsFirst answer xs y }
+    ensures found { (answer : ℕ → Option ℕ) (xs : List ℕ) (y : ℕ) → first_some answer xs ≡ Some y → IsFirstAnswer answer xs y }
     ensures none { (answer : ℕ → Option ℕ) (xs : List ℕ) → first_some answer xs ≡ None → (i : ℕ) (x : ℕ) → Some x ≡ slice_get xs i → answer x ≡ None }
 {}
 
@@ -48,4 +48,10 @@ pub fn entries_join_the_front_of_a_map_one_by_one()
 /// Of two values that are set at one key the last one stays.
 pub fn of_two_values_the_last_stays()
     ensures { (texts : FinMap text_cmp (List ℕ)) (key first last : List ℕ) → map.insert (map.insert texts key first) key last ≡ map.insert texts key last }
+{}
+
+/// A key that is set is found, and nothing changes at any other key.
+pub fn an_insertion_changes_one_key()
+    ensures here { (texts : FinMap text_cmp (List ℕ)) (key text : List ℕ) → map.get (map.insert texts key text) key ≡ Some text }
+    ensures elsewhere { (texts : FinMap text_cmp (List ℕ)) (key text other : List ℕ) → other ≢ key → map.get (map.insert texts key text) other ≡ map.get texts other }
 {}

@@ -24,6 +24,10 @@ pub record Entry : Type 0 where
 abbrev pub plain_entry : List ℕ → Entry
 plain_entry value = record { value = value; meta = map.empty }
 
+-- the entry with one more metadata
+abbrev pub with_meta : Entry → List ℕ → List ℕ → Entry
+with_meta entry name text = record { value = entry.value; meta = map.insert entry.meta name text }
+
 -- the most bytes of a value and of a metadata text
 abbrev pub longest_value : ℕ
 longest_value = 65536
