@@ -1,7 +1,6 @@
 pub mod SizeLemmas
 pub mod RecordLemmas
 pub mod NameLemmas
-pub mod MapLemmas
 pub mod ProgressLemmas
 pub mod StepLemmas
 pub mod ReadingLemmas

@@ -7,15 +7,16 @@ use Rattle.model_names.specs.Spelling.{path}
 use Rattle.model_names.specs.Spells.{Spells}
 use Rattle.model_names.proofs.OrderLemmas.{name_cmp_total, name_cmp-IsAntisymmetric}
 use Rattle.model_names.proofs.SpellsLemmas.{Spells-once}
-use Rattle.model_maps.specs.Entry.{Entry, plain_entry, IsValue, IsMetaName}
+use Rattle.model_maps.specs.Entry.{Entry, plain_entry, IsValue, IsMetaName, with_meta}
 use Rattle.model_maps.specs.KeyMap.{KeyMap, no_keys, weight, heaviest_map}
 use Rattle.model_dump.specs.Record.{Record, KeyKind, MetaKind, CopyKind}
-use Rattle.model_dump.specs.Adds.{Progress, PutsMeta, Adds, with_meta}
-use Rattle.model_dump.proofs.MapLemmas.{insert-insert, weight-insert, weight-no_keys, weight_of_key-plain, weight_of_key-meta}
+use Rattle.model_dump.specs.Adds.{Progress, PutsMeta, Adds}
+use Rattle.general_words.proofs.Maps.{insert-insert, get-insert_same}
+use Rattle.model_dump.proofs.MapLemmas.{weight-insert, weight-no_keys, weight_of_key-plain, weight_of_key-meta}
 use Rattle.dump_storage.specs.Texts.{SpellsNothing}
 use Rattle.dump_storage.specs.ProgressView.{AddsNothing, HasMetaNames, IsSound}
 use Rattle.dump_storage.proofs.NameLemmas.{Spells-cascading, spelling-cascading}
-use Rattle.dump_storage.proofs.MapLemmas.{get-here, get-elsewhere, get-cases, not_found}
+use Rattle.general_words.proofs.Lookups.{get-elsewhere, get-cases, get-apart}
 
 -- a record of each kind
 abbrev pub key_record : List ℕ → List ℕ → Record
@@ -45,17 +46,11 @@ module _ (before : Progress) (text value : List ℕ) where
   pub AddsNothing-no_name : SpellsNothing text → AddsNothing before (key_record text value)
   AddsNothing-no_name nothing after adds = nothing adds.adds.name adds.adds.spelled
 
-  pub AddsNothing-no_value : (IsValue value → ⊥) → AddsNothing before (key_record text value)
-  AddsNothing-no_value nothing after adds = nothing adds.adds.is_value
-
   -- the name that the text spells is the one that was read
   new_name : (name : Name) → Spells (47 ∷ text) name → (after : Progress) → Adds before (key_record text value) after → (map.get before.keys name ≡ None) × (after ≡ behind_key name)
   new_name name spells after adds =
       let same = Spells-once (47 ∷ text) adds.adds.name name adds.adds.spelled spells in
       (ap (map.get before.keys) (sym same) ∙ adds.adds.is_new, adds.adds.added ∙ ap behind_key same)
-
-  pub AddsNothing-taken : (name : Name) → Spells (47 ∷ text) name → map.get before.keys name ≢ None → AddsNothing before (key_record text value)
-  AddsNothing-taken name spells taken after adds = taken (new_name name spells after adds).0
 
   pub AddsNothing-heavy_key : (name : Name) → Spells (47 ∷ text) name → heaviest_map < weight before.keys + (64 + length (path name)) + length value → AddsNothing before (key_record text value)
   AddsNothing-heavy_key name spells heavy after adds =
@@ -63,26 +58,8 @@ module _ (before : Progress) (text value : List ℕ) where
       let same : weight after.keys ≡ weight (behind_key name).keys = ap (λ (p : Progress). weight p.keys) new.1 in
       omega (arith, adds.light, same, weight-key name spells new.0)
 
--- without a present key no metadata has a reading
-pub AddsNothing-no_key : (keys : KeyMap) (name text : List ℕ) → AddsNothing (record { keys = keys; present = None }) (meta_record name text)
-AddsNothing-no_key keys name text after adds = let none = adds.adds.puts.present in absurd cc
-
-pub AddsNothing-no_key_for_copy : (keys : KeyMap) (source name : List ℕ) → AddsNothing (record { keys = keys; present = None }) (copy_record source name)
-AddsNothing-no_key_for_copy keys source name after adds = let none = adds.adds.puts.present in absurd cc
-
--- no metadata has a reading but under a name and with a text that may be
-pub AddsNothing-no_meta_name : (before : Progress) (name text : List ℕ) → (IsMetaName name → ⊥) → AddsNothing before (meta_record name text)
-AddsNothing-no_meta_name before name text nothing after adds = nothing adds.adds.is_name
-
-pub AddsNothing-no_text : (before : Progress) (name text : List ℕ) → (IsValue text → ⊥) → AddsNothing before (meta_record name text)
-AddsNothing-no_text before name text nothing after adds = nothing adds.adds.is_value
-
 pub AddsNothing-no_source : (before : Progress) (source name : List ℕ) → SpellsNothing source → AddsNothing before (copy_record source name)
 AddsNothing-no_source before source name nothing after adds = nothing adds.adds.source adds.adds.spelled
-
-pub AddsNothing-no_name_to_copy : (before : Progress) (source name : List ℕ) → HasMetaNames before.keys → (IsMetaName name → ⊥) → AddsNothing before (copy_record source name)
-AddsNothing-no_name_to_copy before source name names nothing after adds =
-    let copies = adds.adds in nothing (names copies.source copies.entry name copies.text copies.found copies.has)
 
 -- a key behind the keys before it
 module _ (keys : KeyMap) (key : Name) (entry : Entry) (apart : map.get keys key ≡ None) where
@@ -90,7 +67,7 @@ module _ (keys : KeyMap) (key : Name) (entry : Entry) (apart : map.get keys key 
   at_key e = record { keys = map.insert keys key e; present = Some key }
 
   present_found : (e : Entry) → map.get (map.insert keys key entry) key ≡ Some e → entry ≡ e
-  present_found e found = let here : ◌≡◌ {A = Option Entry} (Some entry) (Some e) = sym (get-here name_cmp_total keys key entry) ∙ found in cc
+  present_found e found = let here : ◌≡◌ {A = Option Entry} (Some entry) (Some e) = sym (get-insert_same name_cmp_total keys key entry) ∙ found in cc
 
   pub weight-meta : (name text : List ℕ) → map.get entry.meta name ≡ None → weight (map.insert keys key (with_meta entry name text)) ≡ weight (map.insert keys key entry) + length name + length text
   weight-meta name text none =
@@ -101,7 +78,7 @@ module _ (keys : KeyMap) (key : Name) (entry : Entry) (apart : map.get keys key 
     key = key;
     present = refl;
     entry = entry;
-    found = get-here name_cmp_total keys key entry;
+    found = get-insert_same name_cmp_total keys key entry;
     is_new = none;
     added = ap (λ (m : KeyMap). record { keys = m; present = Some key }) (sym (insert-insert name_cmp_total name_cmp-IsAntisymmetric keys key entry (with_meta entry name text)));
   }
@@ -170,7 +147,7 @@ module _ (keys : KeyMap) (key : Name) (entry : Entry) (apart : map.get keys key 
 
       pub Adds-copy : (name copied : List ℕ) → map.get e.meta name ≡ Some copied → map.get entry.meta name ≡ None → weight (map.insert keys key entry) + length name + length copied ≤ heaviest_map → Adds (at_key entry) (copy_record text name) (at_key (with_meta entry name copied))
       Adds-copy name copied has none light =
-          let other = not_found name_cmp_total name_cmp-IsAntisymmetric keys key entry source e apart found in record {
+          let other = get-apart name_cmp_total name_cmp-IsAntisymmetric keys key entry source e apart found in record {
             adds = record {
               source = source;
               spelled = spells;

@@ -1,37 +1,21 @@
 -- How reading goes on record by record, and where it ends.
-use Rattle.std.proofs.Common.{◌≡◌, ◌⊎◌, ℕ, ◌+◌, ◌-◌, ◌<◌, ◌≤◌, List, [], ◌∷◌, ◌++◌, length, refl, sym, ap, subst, ◌∙◌, arith, inl, inr, length-append}
-use Rattle.std.specs.Fmt.{decimal}
+use Rattle.std.proofs.Common.{◌≡◌, ◌⊎◌, ℕ, ◌+◌, ◌-◌, ◌<◌, ◌≤◌, List, [], ◌∷◌, ◌++◌, length, sym, ap, subst, ◌∙◌, arith, inl, inr, length-append}
 use Rattle.std.proofs.lemmas.List.{nil_from_length}
 use Rattle.model_maps.specs.KeyMap.{KeyMap}
-use Rattle.model_dump.specs.Record.{Record, words_of, header, ending}
-use Rattle.model_dump.specs.Adds.{Progress, start, Adds}
+use Rattle.model_dump.specs.Record.{Record, ending}
+use Rattle.model_dump.specs.Adds.{Progress, Adds}
 use Rattle.model_dump.specs.Dump.{Begins, Reads, Inside, Behind, line_at}
-use Rattle.model_dump.proofs.Begins.{Begins-start, Begins-more, length_rest-le}
+use Rattle.model_dump.proofs.Begins.{Begins-more, length_rest-le}
 use Rattle.model_dump.proofs.SpelledRecords.{spelled_record-once}
 use Rattle.dump_storage.specs.Pieces.{BeginsWith}
 use Rattle.dump_storage.specs.ProgressView.{AddsNothing}
 use Rattle.dump_storage.specs.Reading.{ReadsRecord, ReadsNoRecord, HasRead, HasReadAll, EndsBefore, HasNoEnding, StopsAtLine}
-use Rattle.dump_storage.proofs.RecordLemmas.{spelled_record-append}
 
 -- a record at the front that has no reading goes nowhere
 pub ReadsNoRecord-front : (before : Progress) (bytes : List ℕ) (r : Record) (rest : List ℕ) → BeginsWith bytes r rest → AddsNothing before r → ReadsNoRecord before bytes
 ReadsNoRecord-front before bytes r rest begins nothing after more goes =
     let one = spelled_record-once r goes.r rest more (sym begins.whole ∙ goes.begins.whole) begins.sized goes.begins.sized in
     nothing after (subst (λ (s : Record). Adds before s after) (sym one.0) goes.adds)
-
--- a record has bytes
-pub rest_shorter : (before after : Progress) (bytes rest : List ℕ) → ReadsRecord before bytes after rest → length rest < length bytes
-rest_shorter before after bytes rest goes =
-    let r = goes.r in
-    let texts = r.first ++ (10 ∷ (r.second ++ (10 ∷ rest))) in
-    let sizes = decimal (length r.second) ++ (10 ∷ texts) in
-    omega (arith, ap length (goes.begins.whole ∙ spelled_record-append r rest), length-append (words_of r.kind) (decimal (length r.first) ++ (32 ∷ sizes)), length-append (decimal (length r.first)) (32 ∷ sizes), length-append (decimal (length r.second)) (10 ∷ texts), length-append r.first (10 ∷ (r.second ++ (10 ∷ rest))), length-append r.second (10 ∷ rest))
-
--- behind the header, no record was read
-pub HasRead-start : (records : List ℕ) (progress : Progress) → progress ≡ start → HasRead (header ++ records) progress records
-HasRead-start records progress none =
-    subst (λ (p : Progress). HasRead (header ++ records) p records) (sym none)
-    (record { records = []; begins = Begins-start Adds (header ++ records) records refl })
 
 -- one record more was read
 pub HasRead-more : (bytes rest more : List ℕ) (before after : Progress) → HasRead bytes before rest → ReadsRecord before rest after more → HasRead bytes after more
@@ -92,7 +76,3 @@ module _ (bytes rest : List ℕ) (keys : KeyMap) (read : HasReadAll bytes keys r
     });
     is = is;
   }
-
-  -- what is left is no longer than the bytes
-  pub rest-le : length rest ≤ length bytes
-  rest-le = length_rest-le Adds bytes read.read.records read.progress rest read.read.begins

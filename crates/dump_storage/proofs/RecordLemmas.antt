@@ -1,9 +1,9 @@
 -- Bytes begin with the pieces of a record in one way.
-use Rattle.std.proofs.Common.{◌≡◌, ◌≢◌, ℕ, false, List, ◌∷◌, ◌++◌, length, refl, sym, ap, ◌∙◌, append_assoc}
+use Rattle.std.proofs.Common.{◌≡◌, ◌≢◌, ℕ, false, List, ◌∷◌, ◌++◌, length, refl, sym, ◌∙◌}
 use Rattle.std.specs.Char.{is_ascii_digit}
 use Rattle.std.specs.Fmt.{decimal}
-use Rattle.model_dump.specs.Record.{RecordKind, KeyKind, MetaKind, CopyKind, Record, words_of, sizes_and_texts, spelled_record}
-use Rattle.model_dump.proofs.SpelledRecords.{size_once, fronts_once, words_once, sizes_and_texts-append, spelled_record-lengths}
+use Rattle.model_dump.specs.Record.{RecordKind, KeyKind, MetaKind, CopyKind, Record, words_of}
+use Rattle.model_dump.proofs.SpelledRecords.{size_once, fronts_once, words_once, spelled_record-lengths}
 use Rattle.dump_storage.specs.Pieces.{BeginsWithSize, BeginsWithNoSize, BeginsWithNoWords, BeginsWithSizes, BeginsWithNoSizes, BeginsWithText, BeginsWithNoText, BeginsWith, BeginsWithNoRecord}
 use Rattle.dump_storage.proofs.SizeLemmas.{take_while-size}
 
@@ -25,39 +25,17 @@ BeginsWithNoWords-three bytes no_key no_meta no_copy KeyKind = no_key
 BeginsWithNoWords-three bytes no_key no_meta no_copy MetaKind = no_meta
 BeginsWithNoWords-three bytes no_key no_meta no_copy CopyKind = no_copy
 
--- no sizes stand where no kind's words do
-pub BeginsWithNoSizes-words : (bytes : List ℕ) → BeginsWithNoWords bytes → BeginsWithNoSizes bytes
-BeginsWithNoSizes-words bytes none kind first second rest begins = none kind _ begins.whole
-
 module _ (bytes sizes : List ℕ) (kind : RecordKind) (words : bytes ≡ words_of kind ++ sizes) where
   -- behind the words stands the first size
   first_size : (k : RecordKind) (first second : ℕ) (rest : List ℕ) → BeginsWithSizes bytes k first second rest → BeginsWithSize sizes 32 first (decimal second ++ (10 ∷ rest))
   first_size k first second rest begins =
       record { small = begins.first_small; whole = (words_once kind k sizes _ (sym words ∙ begins.whole)).1 }
 
-  -- no sizes stand where no first one does
-  pub BeginsWithNoSizes-first : BeginsWithNoSize sizes 32 → BeginsWithNoSizes bytes
-  BeginsWithNoSizes-first none k first second rest begins = none first _ (first_size k first second rest begins)
-
   -- nor where no second one does
   pub BeginsWithNoSizes-second : (n : ℕ) (seconds : List ℕ) → BeginsWithSize sizes 32 n seconds → BeginsWithNoSize seconds 10 → BeginsWithNoSizes bytes
   BeginsWithNoSizes-second n seconds one none k first second rest begins =
       let same = BeginsWithSize-once sizes seconds _ 32 n first refl one (first_size k first second rest begins) in
       none second rest (record { small = begins.second_small; whole = same.1 })
-
--- a record's bytes, one piece behind the other
-pub spelled_record-append : (r : Record) (rest : List ℕ) → spelled_record r ++ rest ≡ words_of r.kind ++ (decimal (length r.first) ++ (32 ∷ (decimal (length r.second) ++ (10 ∷ (r.first ++ (10 ∷ (r.second ++ (10 ∷ rest))))))))
-spelled_record-append r rest =
-    append_assoc (words_of r.kind) (sizes_and_texts r.first r.second) rest ∙ ap (λ x. words_of r.kind ++ x) (sizes_and_texts-append r.first r.second rest)
-
--- a record begins with the sizes of its texts
-record_sizes : (bytes : List ℕ) (r : Record) (rest : List ℕ) → BeginsWith bytes r rest → BeginsWithSizes bytes r.kind (length r.first) (length r.second) (r.first ++ (10 ∷ (r.second ++ (10 ∷ rest))))
-record_sizes bytes r rest begins =
-    record { first_small = begins.sized.first; second_small = begins.sized.second; whole = begins.whole ∙ spelled_record-append r rest }
-
--- no record stands where no sizes do
-pub BeginsWithNoRecord-sizes : (bytes : List ℕ) → BeginsWithNoSizes bytes → BeginsWithNoRecord bytes
-BeginsWithNoRecord-sizes bytes none r rest begins = none _ _ _ _ (record_sizes bytes r rest begins)
 
 module _ (bytes texts : List ℕ) (kind : RecordKind) (m n : ℕ) (sizes : BeginsWithSizes bytes kind m n texts) where
   -- behind the sizes stands the first text

@@ -1,7 +1,6 @@
 -- A step of the code is a record's reading, or shows that there is none.
 use Rattle.std.proofs.Common.{◌≡◌, ◌≢◌, ◌⊎◌, ℕ, ◌+◌, ◌<◌, ◌≤◌, Bool, true, false, List, ◌∷◌, length, Option, Some, None, refl, sym, ap, subst, ◌∙◌, inl, inr, arith}
 use Rattle.std.specs.FinMap as map
-use Rattle.std.specs.FinMap.{IsAntisymmetric, nat_cmp-IsAntisymmetric, slice_cmp-IsAntisymmetric}
 use Rattle.std.specs.Option.{option_map, is_some}
 use Rattle.std.specs.Ordering.{eq_by_cmp}
 use Rattle.std.proofs.lemmas.Cmp.{eq_by_cmp_equiv, nat_list_cmp_total}
@@ -11,17 +10,20 @@ use Rattle.model_names.specs.Spelling.{path}
 use Rattle.model_names.specs.Spells.{Spells}
 use Rattle.model_names.proofs.OrderLemmas.{name_cmp_total, name_cmp-IsAntisymmetric}
 use Rattle.key_name.specs.Comparing.{name_ties}
-use Rattle.model_maps.specs.Entry.{Entry, plain_entry, IsValue, IsMetaName, text_cmp}
+use Rattle.general_words.specs.Texts.{text_cmp}
+use Rattle.model_maps.specs.Entry.{Entry, plain_entry, IsValue, IsMetaName, with_meta}
 use Rattle.model_maps.specs.KeyMap.{KeyMap, weight, heaviest_map}
-use Rattle.model_dump.specs.Adds.{Progress, Adds, with_meta}
+use Rattle.model_dump.specs.Adds.{Progress, Adds}
 use Rattle.key_set.specs.declared.entries.Entry as code_entry
 use Rattle.dump_storage.specs.declared.progress.Present.{Present}
 use Rattle.dump_storage.specs.declared.progress.Progress as code
 use Rattle.key_set.specs.EntryView.{entry_of}
 use Rattle.dump_storage.specs.ProgressView.{AddsNothing, HasMetaNames, IsSound, PutsInto, CannotPut, with_present, progress_of}
-use Rattle.dump_storage.proofs.MapLemmas.{get-here, get-elsewhere, get-cases, not_found, tied_or_not}
+use Rattle.general_words.proofs.Maps.{get-insert_same}
+use Rattle.general_words.proofs.Lookups.{get-elsewhere, get-cases, get-apart, tied_or_not}
 use Rattle.dump_storage.proofs.ProgressLemmas as lemmas
 use Rattle.dump_storage.proofs.ProgressLemmas.{key_record, meta_record, copy_record, HasMetaNames-insert, weight-key, weight-meta, behind_key}
+use Rattle.general_words.proofs.Texts.{text_cmp-IsAntisymmetric}
 
 -- names are equal where the comparison says so
 pub name_eq-same : (a b : Name) → name_eq a b ≡ true → a ≡ b
@@ -39,16 +41,12 @@ pub is_some-mapped : {A B : Type 0} (f : A → B) (o : Option A) (m : Option B) 
 is_some-mapped f None m e = (λ some. absurd cc, λ some. absurd (some (sym e)))
 is_some-mapped f (Some x) m e = (λ _ none. let clash = e ∙ none in absurd cc, λ _. refl)
 
-pub none-mapped : {A B : Type 0} (f : A → B) (o : Option A) (m : Option B) → option_map f o ≡ m → is_some o ≡ false → m ≡ None
-none-mapped f None m e none = sym e
-none-mapped f (Some x) m e none = absurd cc
-
 -- the keys with the present one have its name
 pub is_present-found : (keys : KeyMap) (present : Option Present) (name : Name) → option_map (λ (p : Present). p.name) present ≡ Some name → map.get (with_present keys present) name ≢ None
 is_present-found keys None name is none = absurd cc
 is_present-found keys (Some present) name is none =
     let same : present.name ≡ name = cc in
-    let here = sym (get-here name_cmp_total keys present.name (entry_of present.entry)) ∙ ap (map.get (map.insert keys present.name (entry_of present.entry))) same ∙ none in
+    let here = sym (get-insert_same name_cmp_total keys present.name (entry_of present.entry)) ∙ ap (map.get (map.insert keys present.name (entry_of present.entry))) same ∙ none in
     absurd cc
 
 -- any other name is found among the keys before it
@@ -61,9 +59,6 @@ plain_names : (entry : Entry) (value : List ℕ) → entry ≡ plain_entry value
 plain_names entry value plain name text has =
     let none : ◌≡◌ {A = Option (List ℕ)} None (Some text) = sym (ap (λ (e : Entry). map.get e.meta name) plain ∙ map.get-empty text_cmp name) ∙ has in
     absurd cc
-
-text_cmp-IsAntisymmetric : IsAntisymmetric text_cmp
-text_cmp-IsAntisymmetric = slice_cmp-IsAntisymmetric nat_cmp-IsAntisymmetric
 
 -- a key that was read
 module _ (p : code.Progress) (sound : IsSound p) (text value : List ℕ) (name : Name) (spells : Spells (47 ∷ text) name) where
@@ -122,7 +117,7 @@ module _ (p : code.Progress) (present : Present) (is : p.present ≡ Some presen
       cases (get-cases nat_list_cmp_total text_cmp-IsAntisymmetric present.entry.meta name text n t (ap (λ (e : Entry). map.get e.meta n) (sym puts.added) ∙ has))
     where
       cases : (map.get present.entry.meta n ≡ Some t) ⊎ ((n ≡ name) × (text ≡ t)) → IsMetaName n
-      cases (inl before) = sound_key.meta_names present.name (entry_of present.entry) n t (get-here name_cmp_total p.keys present.name (entry_of present.entry)) before
+      cases (inl before) = sound_key.meta_names present.name (entry_of present.entry) n t (get-insert_same name_cmp_total p.keys present.name (entry_of present.entry)) before
       cases (inr here) = subst IsMetaName (sym here.0) is_name
 
   -- metadata that was put
@@ -141,7 +136,7 @@ module _ (p : code.Progress) (present : Present) (is : p.present ≡ Some presen
         before_names : HasMetaNames p.keys
         before_names q e n t found has =
             sound_key.meta_names q e n t
-            (get-elsewhere name_cmp_total name_cmp-IsAntisymmetric p.keys present.name (entry_of present.entry) q (not_found name_cmp_total name_cmp-IsAntisymmetric p.keys present.name (entry_of present.entry) q e sound_key.apart found) ∙ found)
+            (get-elsewhere name_cmp_total name_cmp-IsAntisymmetric p.keys present.name (entry_of present.entry) q (get-apart name_cmp_total name_cmp-IsAntisymmetric p.keys present.name (entry_of present.entry) q e sound_key.apart found) ∙ found)
             has
 
     pub meta_step : IsValue text → Adds (progress_of p) (meta_record name text) (progress_of (with_key after weighed))
@@ -175,17 +170,6 @@ module _ (p : code.Progress) (present : Present) (is : p.present ≡ Some presen
     pub copy_refused : (e : Entry) (copied : List ℕ) → map.get p.keys source ≡ Some e → map.get e.meta name ≡ Some copied → CannotPut present p.weight name copied → AddsNothing (progress_of p) (copy_record text name)
     copy_refused e copied found has refused =
         copy_back (lemmas.AddsNothing-put_copy p.keys present.name (entry_of present.entry) sound_key.apart text source spells e found name copied has (cannot name copied refused))
-
--- without a present key metadata has no reading
-pub meta_no_key : (p : code.Progress) (name text : List ℕ) → p.present ≡ None → AddsNothing (progress_of p) (meta_record name text)
-meta_no_key p name text none =
-    subst (λ (q : code.Progress). AddsNothing (progress_of q) (meta_record name text)) (λ i. record { keys = p.keys; present = sym none i; weight = p.weight })
-    (lemmas.AddsNothing-no_key p.keys name text)
-
-pub copy_no_key : (p : code.Progress) (source name : List ℕ) → p.present ≡ None → AddsNothing (progress_of p) (copy_record source name)
-copy_no_key p source name none =
-    subst (λ (q : code.Progress). AddsNothing (progress_of q) (copy_record source name)) (λ i. record { keys = p.keys; present = sym none i; weight = p.weight })
-    (lemmas.AddsNothing-no_key_for_copy p.keys source name)
 
 -- what isn't something is nothing
 pub none-by_test : {A : Type 0} (o : Option A) (b : Bool) → ((b ≡ true → o ≢ None) × (o ≢ None → b ≡ true)) → b ≡ false → o ≡ None

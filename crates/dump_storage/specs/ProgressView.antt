@@ -3,10 +3,10 @@ use Rattle.std.specs.Prelude.{◌≡◌, ℕ, ◌+◌, ◌<◌, ◌≤◌, Bool,
 use Rattle.std.specs.FinMap as map
 use Rattle.std.specs.Option.{option_map}
 use Rattle.model_names.specs.Name.{Name}
-use Rattle.model_maps.specs.Entry.{Entry, IsMetaName}
+use Rattle.model_maps.specs.Entry.{Entry, IsMetaName, with_meta}
 use Rattle.model_maps.specs.KeyMap.{KeyMap, weight, heaviest_map}
 use Rattle.model_dump.specs.Record.{Record}
-use Rattle.model_dump.specs.Adds.{Progress, Adds, with_meta}
+use Rattle.model_dump.specs.Adds.{Progress, Adds}
 use Rattle.dump_storage.specs.declared.progress.Present as code_present
 use Rattle.dump_storage.specs.declared.progress.Progress as code
 use Rattle.key_set.specs.EntryView.{entry_of}

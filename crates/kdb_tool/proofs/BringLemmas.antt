@@ -11,7 +11,8 @@ use Rattle.std.proofs.lemmas.Option.{slice_get_within, get_or_from_slice_get}
 use Rattle.model_names.specs.Name.{Name}
 use Rattle.model_names.specs.Below.{is_at_or_below}
 use Rattle.model_names.specs.Order.{name_cmp}
-use Rattle.model_names.specs.Refuses.{first_some, TooLong}
+use Rattle.general_words.specs.Searches.{first_some}
+use Rattle.model_names.specs.Refuses.{TooLong}
 use Rattle.model_names.proofs.BelowLemmas.{is_at_or_below-Decides}
 use Rattle.model_names.proofs.OrderLemmas.{name_cmp_total, name_cmp-IsAntisymmetric}
 use Rattle.model_maps.specs.Entry.{Entry}

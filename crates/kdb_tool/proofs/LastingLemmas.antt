@@ -5,7 +5,7 @@ use Rattle.std.specs.Ordering.{is_lt}
 use Rattle.std.specs.FinMap.{is_sorted}
 use Rattle.std.specs.FinMap.Entries.{below_all}
 use Rattle.kdb_outside.specs.Images.{Only, KeepsImages, KeepsOtherImages}
-use Rattle.model_names.specs.Spelling.{is_text}
+use Rattle.general_words.specs.Texts.{is_text}
 use Rattle.kdb_tool.specs.Answer.{Texts, is_stored}
 use Rattle.kdb_tool.specs.Lasting.{Lasts, SparesUnnamed}
 use Rattle.kdb_tool.proofs.StoringLemmas.{order, first, second, apart, other_file}

@@ -9,7 +9,7 @@ use Rattle.std.specs.Cmp.Lexicographic.{slice_cmp, texts_ties, nat_list_cmp_tota
 use Rattle.std.specs.FinMap.{is_sorted}
 use Rattle.std.specs.FinMap.Entries.{below_all}
 use Rattle.kdb_outside.specs.Files.{ChangesTo, KeepsOthers}
-use Rattle.model_names.specs.Spelling.{is_text}
+use Rattle.general_words.specs.Texts.{is_text}
 use Rattle.kdb_tool.specs.Answer.{Texts, is_stored, KeepsUnnamed, LeavesFiles}
 
 -- the order of file names

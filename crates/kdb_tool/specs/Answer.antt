@@ -2,7 +2,7 @@
 -- (This project's own.)
 use Rattle.std.specs.Prelude.{◌≡◌, ℕ, Bool, false, List, []}
 use Rattle.std.specs.List.{AllByRecursion, list_any}
-use Rattle.model_names.specs.Spelling.{is_text}
+use Rattle.general_words.specs.Texts.{is_text}
 use Rattle.kdb_tool.specs.Lines.{line}
 
 -- what a run tells: its status, and what it puts on out and on err

@@ -5,7 +5,8 @@ use Rattle.std.specs.List.{flat_map}
 use Rattle.model_names.specs.declared.namespaces.Namespace.TheVariants.{Cascading}
 use Rattle.model_names.specs.Name.{Name}
 use Rattle.model_names.specs.Below.{is_at_or_below}
-use Rattle.model_names.specs.Refuses.{TooLong, first_some}
+use Rattle.general_words.specs.Searches.{first_some}
+use Rattle.model_names.specs.Refuses.{TooLong}
 use Rattle.model_names.specs.Spelling.{path, spelling}
 use Rattle.model_names.specs.Spells.{longest_path}
 use Rattle.model_maps.specs.Entry.{Entry, plain_entry}

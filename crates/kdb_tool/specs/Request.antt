@@ -3,7 +3,7 @@ use Rattle.std.specs.Prelude.{◌≡◌, ℕ, nat_le, nat_lt, not, ◌&&◌, ◌
 use Rattle.std.specs.List.{before_first, after_first}
 use Rattle.model_names.specs.Name.{Name}
 use Rattle.model_names.specs.Refuses.{refusal_of}
-use Rattle.model_names.specs.Spelling.{is_text}
+use Rattle.general_words.specs.Texts.{is_text}
 use Rattle.model_names.specs.Spells.{Spells}
 use Rattle.kdb_tool.specs.declared.extents.Extent.{Extent}
 use Rattle.kdb_tool.specs.declared.extents.Extent.TheVariants.{Alone, WithBelow}

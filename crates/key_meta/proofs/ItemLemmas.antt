@@ -1,16 +1,15 @@
 -- Items of metadata stay such items where one is put in, written over or taken out.
-use Rattle.std.proofs.Common.{◌≡◌, ℕ, zero, suc, List, [], ◌∷◌, ◌++◌, take, drop, Option, Some, None, Bool, true, false, cond, refl, sym, ap, subst, ◌∙◌, slice_set, slice_index_or, T}
-use Rattle.std.specs.FinMap as map
+use Rattle.std.proofs.Common.{◌≡◌, ℕ, zero, suc, List, [], ◌∷◌, take, drop, Some, true, false, cond, refl, sym, subst, slice_set, slice_index_or}
 use Rattle.std.specs.FinMap.{find}
 use Rattle.std.specs.FinMap.Entries.{put, by_order}
-use Rattle.std.specs.List.{AllByRecursion, remove}
-use Rattle.std.specs.Ordering.{eq_by_cmp, is_eq}
-use Rattle.std.specs.declared.cmp.Ordering.{Ordering}
+use Rattle.std.specs.List.{remove}
+use Rattle.std.specs.Ordering.{eq_by_cmp}
 use Rattle.std.specs.declared.cmp.Ordering.TheVariants.{Less, Equal, Greater}
-use Rattle.std.specs.FinMap.{slice_cmp-IsAntisymmetric, nat_cmp-IsAntisymmetric, is_sorted}
+use Rattle.std.specs.FinMap.{slice_cmp-IsAntisymmetric, nat_cmp-IsAntisymmetric}
 use Rattle.model_names.proofs.PartLemmas.{all_append}
-use Rattle.model_maps.specs.Entry.{text_cmp}
+use Rattle.general_words.specs.Texts.{text_cmp}
 use Rattle.key_meta.specs.MetaView.{IsItem, AreItems}
+use Rattle.general_words.proofs.Orders.{tied}
 
 pub AreItems-put : (name text : List ℕ) → IsItem (name, text) → (items : List (List ℕ × List ℕ)) → AreItems items → AreItems (put text_cmp name text items)
 AreItems-put name text is [] all = (is, tt)
@@ -44,11 +43,6 @@ pub AreItems-set : (i : ℕ) (items : List (List ℕ × List ℕ)) (item : List 
 AreItems-set i [] item is all = all
 AreItems-set zero (x ∷ items) item is all = (is, all.1)
 AreItems-set (suc i) (x ∷ items) item is all = (all.0, AreItems-set i items item is all.1)
-
-tied : (r : Ordering) → is_eq r ≡ true → r ≡ Equal
-tied Less e = cc
-tied Equal e = refl
-tied Greater e = cc
 
 -- what is found among items is one of them
 pub IsItem-find : (name text : List ℕ) (items : List (List ℕ × List ℕ)) → AreItems items → find text_cmp name items ≡ Some text → IsItem (name, text)

@@ -1,9 +1,11 @@
 //! Metadata of a key: a finite map from names to texts, walked by bytes.
-ghost use Rattle.std.specs.Prelude.{◌≡◌, ◌==◌, ◌+◌, ◌-◌, ◌^◌, ◌<◌, ◌≤◌, T, length, min, IfOk, IfErr, OnOk, OnErr, slice_get, sum_by};
+ghost use Rattle.std.specs.Prelude.{◌≡◌, ◌==◌, ◌+◌, ◌<◌, ◌≤◌, T, length, IfOk, IfErr, OnOk, OnErr, slice_get, sum_by};
 ghost use Rattle.std.specs.Option.{option_map};
 ghost use Rattle.std.specs.FinMap as map;
 ghost use Rattle.std.specs.FinMap.{is_sorted};
-ghost use Rattle.model_maps.specs.Entry.{IsArray, meta_bytes, text_cmp};
+ghost use Rattle.general_words.specs.Saturated.{saturated};
+ghost use Rattle.general_words.specs.Texts.{text_cmp};
+ghost use Rattle.model_maps.specs.Entry.{IsArray, meta_bytes};
 ghost use Rattle.sorted_map.specs.Place.{IsPlace, IsGap};
 ghost use Rattle.std.specs.Cmp.{partial_equiv_from_equiv};
 ghost use Rattle.key_meta.specs.MetaView.{AreTexts};
@@ -134,7 +136,7 @@ impl Meta {
 
     /// How many bytes its names and texts have. A number beyond the type's end is given as its last value.
     pub fn bytes(&self) -> u64
-        ensures { result ≡ min (meta_bytes self.now) (2 ^ 64 - 1) }
+        ensures { result ≡ saturated (meta_bytes self.now) }
     {
         bytes_of(self.items.entries())
     }
@@ -190,7 +192,7 @@ fn copy_of(alloc: Global, items: &[(Text, Text)]) -> Result<Vec<(Text, Text)>, M
 
 /// How many bytes the names and the texts of some items have.
 fn bytes_of(items: &[(Text, Text)]) -> u64
-    ensures { result ≡ min (sum_by (λ item. length item.0 + length item.1) items.now) (2 ^ 64 - 1) }
+    ensures { result ≡ saturated (sum_by (λ item. length item.0 + length item.1) items.now) }
 {
     let mut bytes: u64 = 0;
     for item in items {

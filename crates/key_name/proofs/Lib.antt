@@ -1,5 +1,3 @@
-pub mod LengthLemmas
-pub mod RawLemmas
 pub mod CutLemmas
 pub mod ArrayLemmas
 pub mod PassLemmas

@@ -8,15 +8,17 @@ use Rattle.model_names.specs.declared.namespaces.Namespace.{Namespace}
 use Rattle.model_names.specs.Name.{Part}
 use Rattle.model_names.specs.ArrayPart.{is_array_like, canonical_part, without_underscores}
 use Rattle.model_names.specs.RawParts.{raw_parts}
-use Rattle.model_names.specs.Spelling.{escaped, spelled, is_reserved, is_text, path_of_parts, word_of}
+use Rattle.general_words.specs.Texts.{is_text}
+use Rattle.model_names.specs.Spelling.{escaped, spelled, is_reserved, path_of_parts, word_of}
 use Rattle.model_names.specs.Spells.{Move, Adds, Stays, GoesUp, meaning, moved, part_of_text, unescaped_from, walked}
 use Rattle.model_names.proofs.EscapeLemmas.{IsUnescaped, flat_map-escaped-same}
 use Rattle.model_names.proofs.NameLemmas.{spelled-text}
 use Rattle.model_names.proofs.PartLemmas.{slashed-raw_parts}
 use Rattle.model_names.proofs.RefusesLemmas.{from_map, from_and_then, branch_taken, cond_some}
 use Rattle.key_name.proofs.ArrayLemmas.{HasForm-from_canonical, are_digits-like, array_ordinary, digits_fit, is_array_like-canonical, part_of_digits}
-use Rattle.key_name.proofs.PassLemmas.{other_text, same_text}
+use Rattle.general_words.proofs.Texts.{other_text, same_text}
 use Rattle.key_name.proofs.WellFormedLemmas.{slashed, length-slashed-append}
+use Rattle.general_words.proofs.Lists.{some_is}
 
 -- ---- one part
 
@@ -64,7 +66,7 @@ escaped_as_it_is (b ∷ part) h =
     ]
 
 -- a spelled part has at most one byte more than twice its own
-length-spelled : (part : Part) → length (spelled part) ≤ 2 * length part + 1
+pub length-spelled : (part : Part) → length (spelled part) ≤ 2 * length part + 1
 length-spelled part = by_spelling part (2 * length part + 1) (omega arith) (omega arith) (omega (arith, length-all_escaped part))
 
 -- and one more than its own where none of them is escaped
@@ -75,9 +77,6 @@ length-spelled-unescaped part h = let same = ap length (flat_map-escaped-same pa
 
 length-unescaped : (waits : Bool) (raw : List ℕ) (part : Part) → unescaped_from waits raw ≡ Some part → length part ≤ length raw
 length-unescaped false [] part h = let none = ap length (some_is [] part h) in omega arith
-  where
-    some_is : (a b : List ℕ) → ◌≡◌ {A = Option (List ℕ)} (Some a) (Some b) → a ≡ b
-    some_is a b e = cc
 length-unescaped true [] part h = absurd cc
 length-unescaped true (b ∷ raw) part h =
     let escapes = cond_some ((b == 92) || (b == 47)) (option_map (λ part. b ∷ part) (unescaped_from false raw)) part h in
@@ -115,9 +114,6 @@ length-part_of_text text part h =
           let same = ap (λ p. length (spelled p)) (some_is text part (sym (cond-false (is_array_like text) (canonical_part text) (Some text) other) ∙ h)) in
           omega (arith, same, length-spelled text)
     ]
-  where
-    some_is : (a b : List ℕ) → ◌≡◌ {A = Option (List ℕ)} (Some a) (Some b) → a ≡ b
-    some_is a b e = cc
 
 -- a move adds no part whose spelling has more bytes
 abbrev AddsAtMost : ℕ → Move → Type 0
@@ -126,10 +122,7 @@ AddsAtMost n Stays = Unit {0}
 AddsAtMost n GoesUp = Unit {0}
 
 at_most : (n : ℕ) (m move : Move) → ◌≡◌ {A = Option Move} (Some m) (Some move) → AddsAtMost n m → AddsAtMost n move
-at_most n m move e h = subst (AddsAtMost n) (by m move e) h
-  where
-    by : (m n : Move) → ◌≡◌ {A = Option Move} (Some m) (Some n) → m ≡ n
-    by m n e = cc
+at_most n m move e h = subst (AddsAtMost n) (some_is m move e) h
 
 text_at_most : (raw : List ℕ) (move : Move) → option_map Adds (option_and_then part_of_text (unescaped_from false raw)) ≡ Some move → AddsAtMost (2 * length raw + 1) move
 text_at_most raw move h =
@@ -168,9 +161,6 @@ moved_length path GoesUp n h = omega (arith, length-slashed-take (length path - 
 
 walked_length : (path : List Part) (raws : List (List ℕ)) (parts : List Part) → walked path raws ≡ Some parts → length (slashed parts) ≤ length (slashed path) + 2 * length (flat_map (λ raw. 47 ∷ raw) raws)
 walked_length path [] parts h = let same = ap (λ p. length (slashed p)) (some_is path parts h) in omega (arith, same)
-  where
-    some_is : (a b : List Part) → ◌≡◌ {A = Option (List Part)} (Some a) (Some b) → a ≡ b
-    some_is a b e = cc
 walked_length path (raw ∷ raws) parts h =
     let move = from_and_then (λ move. walked (moved path move) raws) (meaning raw) parts h in
     let step = moved_length path move.0 (2 * length raw + 1) (meaning_at_most raw move.0 move.1) in

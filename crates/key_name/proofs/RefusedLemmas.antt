@@ -8,8 +8,9 @@ use Rattle.model_names.specs.Name.{Name, Part}
 use Rattle.model_names.specs.Spelling.{word_of, path_of_parts}
 use Rattle.model_names.specs.RawParts.{raw_parts}
 use Rattle.model_names.specs.Spells.{Spells, walked, longest_path}
-use Rattle.model_names.specs.Refuses.{NoNamespace, UnknownNamespace, NoSlash, BadEscape, BadArray, Nul, TooLong, namespace_of_word, begins_with_slash, start_of_text, placed, bad_escape, bad_array, first_some, too_long, refusal_of}
-use Rattle.model_names.proofs.RefusesLemmas.{no_nul-from_position, start_at, start_of_text-no_colon, start_of_text-colon, refusal_of-refused, refusal_of-behind, first_refusal, too_long-at, AreFine-from_walked, walked-fine, word_is, word_cut, colon_cut}
+use Rattle.general_words.specs.Searches.{first_some}
+use Rattle.model_names.specs.Refuses.{NoNamespace, UnknownNamespace, NoSlash, BadEscape, BadArray, Nul, TooLong, namespace_of_word, begins_with_slash, start_of_text, placed, bad_escape, bad_array, too_long, refusal_of}
+use Rattle.model_names.proofs.RefusesLemmas.{no_nul-from_position, start_at, start_of_text-no_colon, start_of_text-colon, refusal_of-refused, refusal_of-behind, first_refusal, too_long-at, AreFine-from_walked, walked-fine}
 use Rattle.key_name.specs.declared.raw_parts.Raw.{Raw}
 use Rattle.key_name.specs.Raws.{with_places, texts}
 
@@ -41,10 +42,6 @@ pub refusal_of-no_slash : (text word behind : List ℕ) (namespace : Namespace) 
 unfolding start_at
 refusal_of-no_slash text word behind namespace slash cut some none =
     refusal_of-refused text NoSlash (start_of_text-cut text word behind slash cut ∙ ap (start_at word behind) some ∙ cond-false (begins_with_slash behind) _ _ none)
-
-pub text_cut : (text word behind path : List ℕ) (namespace : Namespace) → IsCut text word behind → namespace_of_word word ≡ Some namespace → behind ≡ 47 ∷ path → text ≡ word_of namespace ++ 47 ∷ path
-text_cut text word behind path namespace cut some slash =
-    colon_cut text cut.within ∙ ap₂ (λ w b. w ++ 58 ∷ b) (sym cut.word_is_before) (sym cut.behind_is_after) ∙ word_cut word behind path namespace (word_is word namespace some) slash
 
 -- ---- what stands behind it
 

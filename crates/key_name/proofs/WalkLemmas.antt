@@ -9,14 +9,16 @@ use Rattle.std.specs.Str.{IsUtf8, chars}
 use Rattle.std.proofs.lemmas.Str.{encodes-chars, encode_ascii, encodes-append}
 use Rattle.model_names.specs.Name.{Part}
 use Rattle.model_names.specs.ArrayPart.{is_array_like, canonical_part, without_underscores}
-use Rattle.model_names.specs.Spelling.{is_text}
+use Rattle.general_words.specs.Texts.{is_text}
 use Rattle.model_names.specs.Spells.{Move, Adds, Stays, GoesUp, meaning, moved, part_of_text, unescaped_from, walked}
 use Rattle.model_names.proofs.RefusesLemmas.{branch_taken, from_map, from_and_then}
 use Rattle.key_name.specs.declared.raw_parts.Raw.{Raw}
 use Rattle.key_name.specs.Raws.{texts}
 use Rattle.key_name.proofs.ArrayLemmas.{HasForm-from_canonical, part_of_digits, unescaped_from-array, is_array_like-unescaped}
 use Rattle.model_names.proofs.EscapeLemmas.{IsUnescaped-encode_utf8, read_all, escapes_no_letter}
-use Rattle.key_name.proofs.PassLemmas.{drop-item, other_text, same_text}
+use Rattle.general_words.proofs.Texts.{other_text, same_text}
+use Rattle.key_name.proofs.PassLemmas.{drop-item}
+use Rattle.general_words.proofs.Lists.{some_is}
 
 -- ---- what a raw part means
 
@@ -79,17 +81,11 @@ pub record Leads (waits : Bool) (written left part : List ℕ) : Type 0 where
   pub reads : unescaped_from waits left ≡ Some rest
   pub whole : part ≡ written ++ rest
 
-pub Leads-start : (raw part : List ℕ) → unescaped_from false raw ≡ Some part → Leads false [] raw part
-Leads-start raw part h = record { rest = part; reads = h; whole = refl }
-
 pub Leads-end : (waits : Bool) (written part : List ℕ) → Leads waits written [] part → written ≡ part
 Leads-end true written part h = let reads = h.reads in absurd (cc)
 Leads-end false written part h =
     let empty : [] ≡ h.rest = some_is [] h.rest h.reads in
     sym (h.whole ∙ ap (λ rest. written ++ rest) (sym empty) ∙ append-nil written)
-  where
-    some_is : (a b : List ℕ) → ◌≡◌ {A = Option (List ℕ)} (Some a) (Some b) → a ≡ b
-    some_is a b e = cc
 
 one_letter : (letter left : List ℕ) (b : ℕ) → letter ≡ b ∷ [] → letter ++ left ≡ b ∷ left
 one_letter letter left b e = ap (λ bytes. bytes ++ left) e

@@ -4,7 +4,7 @@ use Rattle.std.specs.Cmp.Derive.Mapped.{pointwise-map}
 use Rattle.std.specs.Cmp.Lexicographic.{pointwise}
 use Rattle.std.specs.List.{AllByRecursion, flat_map, starts_with}
 use Rattle.std.proofs.lemmas.Bool.{cond-true}
-use Rattle.std.proofs.lemmas.List.{append-nil, take_all, length-map, take-append-drop, take-map, drop-map}
+use Rattle.std.proofs.lemmas.List.{take_all, length-map, take-append-drop, take-map, drop-map}
 use Rattle.std.proofs.lemmas.List.Concat.{flat_map-append}
 use Rattle.model_names.specs.declared.namespaces.Namespace.{Namespace}
 use Rattle.model_names.specs.declared.namespaces.Namespace.TheVariants.{Cascading}
@@ -29,12 +29,6 @@ path_some (part ∷ parts) = omega arith
 
 pub length-slashed-append : (front back : List Part) → length (slashed (front ++ back)) ≡ length (slashed front) + length (slashed back)
 length-slashed-append front back = ap length (flat_map-append (λ p. 47 ∷ spelled p) front back) ∙ length-append (slashed front) (slashed back)
-
--- the path of parts with others behind them is no longer than both paths, and no shorter than the second
-pub length-path-append : (front back : List Part) → length (path_of_parts (front ++ back)) ≤ length (path_of_parts front) + length (path_of_parts back)
-length-path-append [] back = omega arith
-length-path-append (part ∷ front) [] = let same = ap (λ p. length (path_of_parts p)) (append-nil (part ∷ front)) in omega arith
-length-path-append (part ∷ front) (next ∷ back) = omega (arith, length-slashed-append (part ∷ front) (next ∷ back))
 
 pub length-path-back : (front back : List Part) → length (path_of_parts back) ≤ length (path_of_parts (front ++ back))
 length-path-back [] back = omega arith

@@ -5,7 +5,8 @@ use Rattle.std.specs.Option.{option_map, option_or}
 use Rattle.model_names.specs.ArrayPart.{is_array_like, canonical_part}
 use Rattle.model_names.specs.Name.{Name, Part}
 use Rattle.model_names.specs.Refuses.{Refusal, BadArray, Nul, TooLong}
-use Rattle.model_names.specs.Spelling.{is_text, path}
+use Rattle.general_words.specs.Texts.{is_text}
+use Rattle.model_names.specs.Spelling.{path}
 use Rattle.model_names.specs.Spells.{longest_path}
 
 -- a name with a part behind its own

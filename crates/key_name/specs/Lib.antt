@@ -7,7 +7,6 @@ pub mod Comparing
 pub mod Joining
 pub mod KeyName
 pub mod Owner
-pub mod Plain
 pub mod Raws
 pub mod Refused
 pub mod Arrays

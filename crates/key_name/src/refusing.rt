@@ -2,7 +2,8 @@
 ghost use Rattle.std.specs.Prelude.{◌≡◌, ◌+◌, ◌^◌, ◌<◌, length, ◌&&◌, ◌||◌, ◌==◌, not, false, is_none};
 ghost use Rattle.std.specs.List.{position};
 ghost use Rattle.model_names.specs.ArrayPart.{is_array_like, canonical_part};
-ghost use Rattle.model_names.specs.Refuses.{bad_escape, bad_escape_from, bad_array, first_some};
+ghost use Rattle.general_words.specs.Searches.{first_some};
+ghost use Rattle.model_names.specs.Refuses.{bad_escape, bad_escape_from, bad_array};
 ghost use Rattle.key_name.specs.Raws.{with_places};
 
 use crate::arrays::is_bad_array;

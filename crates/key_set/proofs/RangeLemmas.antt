@@ -1,5 +1,5 @@
 -- Where the keys at or below a name begin and end.
-use Rattle.std.proofs.Common.{◌≡◌, ℕ, ◌<◌, ◌≤◌, Bool, true, false, T, not, ◌||◌, List, length, get_or, slice_range, refl, sym, ap, subst, ◌∙◌, inl, inr, ◌⊎◌, [], ◌∷◌, true≢false, arith}
+use Rattle.std.proofs.Common.{◌≡◌, ℕ, ◌<◌, ◌≤◌, Bool, true, false, T, not, ◌||◌, List, length, get_or, slice_range, refl, sym, ap, ◌∙◌, inl, inr, ◌⊎◌, [], ◌∷◌, true≢false, arith}
 use Rattle.std.specs.FinMap.{is_sorted}
 use Rattle.std.specs.FinMap.Entries.{where_key}
 use Rattle.std.specs.List.{remove_range}
@@ -14,18 +14,12 @@ use Rattle.model_names.specs.Order.{name_cmp}
 use Rattle.model_names.proofs.OrderLemmas.{name_cmp_total}
 use Rattle.model_names.proofs.BelowOrder.{at_or_below-not_before, at_or_below-between}
 use Rattle.sorted_map.proofs.RangeLemmas.{where_key-range, where_key-rest, parts_in_two}
+use Rattle.general_words.proofs.Tests.{true_of, true_is}
 
 less : (r : Ordering) → is_lt r ≡ true → r ≡ Less
 less Less e = refl
 less Equal e = absurd cc
 less Greater e = absurd cc
-
-true_of : (b : Bool) → T b → b ≡ true
-true_of true p = refl
-true_of false p = absurd p
-
-true_is : (b : Bool) → b ≡ true → T b
-true_is b e = subst T (sym e) tt
 
 or_second : (a b : Bool) → a ≡ false → (a || b) ≡ b
 or_second true b e = absurd cc

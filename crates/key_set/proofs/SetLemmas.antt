@@ -9,7 +9,7 @@ use Rattle.model_names.specs.Name.{Name}
 use Rattle.model_names.specs.Order.{name_cmp}
 use Rattle.model_names.proofs.OrderLemmas.{name_cmp_total, name_cmp-IsAntisymmetric}
 use Rattle.sorted_map.proofs.SeenLemmas.{seen, is_sorted-seen, find-seen, put-seen, where_key-seen}
-use Rattle.sorted_map.proofs.MapLemmas.{from_sorted-put, from_sorted-without, from_sorted-where_key}
+use Rattle.general_words.proofs.Maps.{from_sorted-put, from_sorted-without, from_sorted-where_key}
 use Rattle.key_set.specs.declared.entries.Entry as code
 use Rattle.std.proofs.lemmas.List.Sums.{sum_by-cons}
 use Rattle.model_maps.specs.KeyMap.{weight_of_key}

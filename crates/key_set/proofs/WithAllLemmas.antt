@@ -1,5 +1,5 @@
 -- Keys with others set among them: what is found there, and how sorted entries make them.
-use Rattle.std.proofs.Common.{◌≡◌, ◌&&◌, Bool, true, false, T, cond, List, [], ◌∷◌, Option, Some, None, refl, sym, ap, subst, ◌∙◌}
+use Rattle.std.proofs.Common.{◌≡◌, true, false, T, cond, List, [], ◌∷◌, Some, None, refl, sym, ap, subst, ◌∙◌}
 use Rattle.std.specs.FinMap as map
 use Rattle.std.specs.FinMap.{find, is_sorted}
 use Rattle.std.specs.FinMap.Entries.{below_all, put, is_sorted-put}
@@ -17,24 +17,13 @@ use Rattle.sorted_map.proofs.SeenLemmas.{seen}
 use Rattle.key_set.specs.EntryView.{entry_of, keys_of}
 use Rattle.key_set.specs.WithAll.{with_keys, with_all}
 use Rattle.key_set.proofs.SetLemmas.{Keys, entries-keys, put-keys}
-
-first : (a b : Bool) → T (a && b) → T a
-first true b p = tt
-first false b p = p
-
-second : (a b : Bool) → T (a && b) → T b
-second true b p = p
-second false b p = absurd p
+use Rattle.general_words.proofs.Tests.{first, second}
+use Rattle.general_words.proofs.Orders.{tied}
 
 not_tied : (r : Ordering) → T (is_lt r) → is_eq r ≡ false
 not_tied Less p = refl
 not_tied Equal p = absurd p
 not_tied Greater p = absurd p
-
-tied : (r : Ordering) → is_eq r ≡ true → r ≡ Equal
-tied Less e = absurd (subst T (sym e) tt)
-tied Equal e = refl
-tied Greater e = absurd (subst T (sym e) tt)
 
 -- a name before all others is none of them
 find-below : (name : Name) (others : List (Name × Entry)) → T (below_all name_cmp name others) → find name_cmp name others ≡ None

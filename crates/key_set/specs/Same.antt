@@ -1,5 +1,5 @@
 -- When keys, and maps of keys, are the same, as a test. (This project's own.)
-use Rattle.std.specs.Prelude.{◌≡◌, ℕ, nat_eq, true, refl, Bool, ◌&&◌, List}
+use Rattle.std.specs.Prelude.{nat_eq, Bool, ◌&&◌}
 use Rattle.std.specs.Cmp.{IsEquivalence, and_equiv, on_equiv}
 use Rattle.std.specs.Cmp.Lexicographic.{pointwise, lists_equiv, nat_list_eq_equiv}
 use Rattle.std.specs.FinMap as map

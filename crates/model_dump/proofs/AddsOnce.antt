@@ -4,9 +4,9 @@ use Rattle.std.proofs.Common.{sym, ap, ap₂, subst, ◌∙◌}
 use Rattle.std.specs.FinMap as map
 use Rattle.model_names.specs.Name.{Name}
 use Rattle.model_names.proofs.SpellsLemmas.{Spells-once}
-use Rattle.model_maps.specs.Entry.{Entry, plain_entry}
+use Rattle.model_maps.specs.Entry.{Entry, plain_entry, with_meta}
 use Rattle.model_dump.specs.Record.{RecordKind, KeyKind, MetaKind, CopyKind, Record}
-use Rattle.model_dump.specs.Adds.{Progress, AddsKey, PutsMeta, CopiesMeta, AddsBy, Adds, with_meta}
+use Rattle.model_dump.specs.Adds.{Progress, AddsKey, PutsMeta, CopiesMeta, AddsBy, Adds}
 
 -- what one place holds
 found_once : {A : Type 0} {o : Option A} (a b : A) → o ≡ Some a → o ≡ Some b → a ≡ b

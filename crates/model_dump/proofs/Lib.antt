@@ -3,7 +3,6 @@ pub mod AddsOnce
 pub mod Readings
 pub mod Begins
 pub mod MapLemmas
-pub mod MapFronts
 pub mod TextReads
 pub mod StorableReads
 pub mod SmallDumps

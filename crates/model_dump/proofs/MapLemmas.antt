@@ -1,12 +1,8 @@
 -- Maps of keys: what they weigh, and a key that is inserted again.
-use Rattle.std.specs.Prelude.{◌≡◌, ℕ, ◌+◌, ◌<◌, ◌≤◌, Bool, true, false, List, length, None, Some}
-use Rattle.std.proofs.Common.{cond, refl, sym, ap, ◌∙◌, arith}
-use Rattle.std.specs.Cmp.{IsTotalOrder}
+use Rattle.std.specs.Prelude.{◌≡◌, ℕ, ◌+◌, ◌<◌, ◌≤◌, List, length, None}
+use Rattle.std.proofs.Common.{arith}
 use Rattle.std.specs.FinMap as map
-use Rattle.std.specs.FinMap.{FinMap, IsAntisymmetric}
 use Rattle.std.specs.List.{AllByRecursion}
-use Rattle.std.specs.Ordering.{eq_by_cmp}
-use Rattle.std.specs.declared.cmp.Ordering.{Ordering}
 use Rattle.std.proofs.lemmas.List.Elements.{All-from_recursion}
 use Rattle.std.proofs.lemmas.Cmp.{nat_list_cmp_total}
 use Rattle.std.proofs.lemmas.Str.{IsUtf8-from_ascii}
@@ -14,23 +10,11 @@ use Rattle.std.proofs.lemmas.Str.Ascii.{IsAscii-from_all}
 use Rattle.model_names.specs.Name.{Name}
 use Rattle.model_names.specs.Order.{name_cmp}
 use Rattle.model_names.proofs.OrderLemmas.{name_cmp_total}
-use Rattle.model_maps.specs.Entry.{Entry, plain_entry, text_cmp, IsValue, longest_value}
+use Rattle.general_words.specs.Texts.{text_cmp}
+use Rattle.model_maps.specs.Entry.{Entry, plain_entry, IsValue, longest_value, with_meta}
 use Rattle.model_names.specs.Spelling.{spelling}
-use Rattle.model_dump.specs.Adds.{with_meta}
+use Rattle.general_words.proofs.Maps.{sum_by-insert, sum_by-empty}
 use Rattle.model_maps.specs.KeyMap.{KeyMap, no_keys, weight, weight_of_key}
-use Rattle.model_maps.proofs.Sums.{sum_by-insert, sum_by-empty}
-
-last_wins : {A : Type 0} (b : Bool) (x y z : A) → cond b x (cond b y z) ≡ cond b x z
-last_wins true x y z = refl
-last_wins false x y z = refl
-
--- of two values at one key the last stays
-pub insert-insert : {K X : Type 0} {R : K → K → Ordering} → IsTotalOrder R → IsAntisymmetric R → (m : FinMap R X) (k : K) (v w : X) → map.insert (map.insert m k v) k w ≡ map.insert m k w
-insert-insert {R = R} total same m k v w = map.same_map total same _ _ (λ q.
-    map.get-insert total (map.insert m k v) k w q
-    ∙ ap (cond (eq_by_cmp R q k) (Some w)) (map.get-insert total m k v q)
-    ∙ last_wins (eq_by_cmp R q k) (Some w) (Some v) (map.get m q)
-    ∙ sym (map.get-insert total m k w q))
 
 -- a new key's own weight is added
 pub weight-insert : (keys : KeyMap) (name : Name) (entry : Entry) → map.get keys name ≡ None → weight (map.insert keys name entry) ≡ weight keys + weight_of_key name entry

@@ -13,7 +13,7 @@ use Rattle.model_maps.specs.KeyMap.{KeyMap, no_keys, weight}
 use Rattle.model_dump.specs.Record.{Record, KeyKind, IsSized, spelled_record}
 use Rattle.model_dump.specs.Adds.{Progress, start, Adds}
 use Rattle.model_dump.specs.Dump.{HasNoNext}
-use Rattle.model_dump.proofs.MapFronts.{get-insert_same}
+use Rattle.general_words.proofs.Maps.{get-insert_same}
 use Rattle.model_dump.proofs.MapLemmas.{weight-insert, weight-no_keys, weight_of_key-plain, IsValue-from_ascii}
 use Rattle.model_dump.proofs.SpelledRecords.{spelled_record-once, spelled_record-ending}
 

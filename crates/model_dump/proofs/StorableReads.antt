@@ -1,46 +1,22 @@
 -- What some bytes read as can be stored: each record keeps it so.
-use Rattle.std.specs.Prelude.{◌≡◌, ◌⊎◌, ℕ, Bool, true, false, List, [], ◌∷◌, Option, None, Some}
+use Rattle.std.specs.Prelude.{◌≡◌, ℕ, List, [], ◌∷◌, Option, None, Some}
 use Rattle.std.specs.FinMap as finite
-use Rattle.std.specs.FinMap.{FinMap, IsAntisymmetric, slice_cmp-IsAntisymmetric, nat_cmp-IsAntisymmetric}
-use Rattle.std.specs.Cmp.{IsTotalOrder}
-use Rattle.std.specs.Ordering.{is_eq, eq_by_cmp}
-use Rattle.std.specs.declared.cmp.Ordering.{Ordering}
-use Rattle.std.specs.declared.cmp.Ordering.TheVariants.{Less, Equal, Greater}
-use Rattle.std.proofs.Common.{cond, refl, sym, subst, ◌∙◌, arith, inl, inr}
+use Rattle.std.proofs.Common.{refl, sym, subst, ◌∙◌, arith, inl, inr}
 use Rattle.std.proofs.lemmas.Cmp.{nat_list_cmp_total}
 use Rattle.model_names.specs.Name.{Name}
 use Rattle.model_names.specs.Order.{name_cmp}
 use Rattle.model_names.proofs.NameLemmas.{spelled_is_name, slash_is_cascading}
 use Rattle.model_names.proofs.OrderLemmas.{name_cmp_total, name_cmp-IsAntisymmetric}
-use Rattle.model_maps.specs.Entry.{Entry, plain_entry, text_cmp}
+use Rattle.general_words.specs.Texts.{text_cmp}
+use Rattle.model_maps.specs.Entry.{Entry, plain_entry, with_meta}
 use Rattle.model_maps.specs.KeyMap.{KeyMap, no_keys}
 use Rattle.model_dump.specs.Record.{RecordKind, KeyKind, MetaKind, CopyKind, Record}
-use Rattle.model_dump.specs.Adds.{Progress, start, AddsKey, PutsMeta, AddsBy, Adds, with_meta}
+use Rattle.model_dump.specs.Adds.{Progress, start, AddsKey, PutsMeta, AddsBy, Adds}
 use Rattle.model_dump.specs.Dump.{Leads, Reads}
 use Rattle.model_dump.specs.Storable.{IsStorableMeta, IsStorableKey, IsStorable}
 use Rattle.model_dump.proofs.MapLemmas.{weight-no_keys}
-
-tied_by : (r : Ordering) → is_eq r ≡ true → r ≡ Equal
-tied_by Less e = absurd cc
-tied_by Equal e = refl
-tied_by Greater e = absurd cc
-
--- one of two holds what a choice of them holds
-chosen : {A : Type 0} (b : Bool) (v x : A) (rest : Option A) → cond b (Some v) rest ≡ Some x → ((b ≡ true) × (v ≡ x)) ⊎ (rest ≡ Some x)
-chosen true v x rest e = inl (refl, cc)
-chosen false v x rest e = inr e
-
--- what a map holds after an insertion is what was inserted, or stood there before
-pub found_in_insert : {K X : Type 0} {R : K → K → Ordering} → IsTotalOrder R → IsAntisymmetric R → (m : FinMap R X) (k : K) (v : X) (q : K) (x : X) → finite.get (finite.insert m k v) q ≡ Some x → ((q ≡ k) × (v ≡ x)) ⊎ (finite.get m q ≡ Some x)
-found_in_insert {X = X} {R = R} total same m k v q x e =
-    let which : ((eq_by_cmp R q k ≡ true) × (v ≡ x)) ⊎ (finite.get m q ≡ Some x) = chosen (eq_by_cmp R q k) v x (finite.get m q) (sym (finite.get-insert total m k v q) ∙ e) in
-    elim which as (λ _. ((q ≡ k) × (v ≡ x)) ⊎ (finite.get m q ≡ Some x)) [
-      | inl here ↦ inl (same q k (tied_by (R q k) here.0), here.1)
-      | inr there ↦ inr there
-    ]
-
-text_cmp-IsAntisymmetric : IsAntisymmetric text_cmp
-text_cmp-IsAntisymmetric = slice_cmp-IsAntisymmetric nat_cmp-IsAntisymmetric
+use Rattle.general_words.proofs.Maps.{each-insert}
+use Rattle.general_words.proofs.Texts.{text_cmp-IsAntisymmetric}
 
 -- every key of a map can be stored
 abbrev HasStorableKeys : KeyMap → Type 0
@@ -51,11 +27,7 @@ no_keys-storable name entry found = let none : ◌≡◌ {A = Option Entry} None
 
 -- a key that can be stored joins others
 insert-storable : (keys : KeyMap) (name : Name) (entry : Entry) → HasStorableKeys keys → IsStorableKey name entry → HasStorableKeys (finite.insert keys name entry)
-insert-storable keys name entry each storable q e found =
-    elim (found_in_insert name_cmp_total name_cmp-IsAntisymmetric keys name entry q e found) as (λ _. IsStorableKey q e) [
-      | inl here ↦ subst (λ n. IsStorableKey n e) (sym here.0) (subst (IsStorableKey name) here.1 storable)
-      | inr there ↦ each q e there
-    ]
+insert-storable keys name entry each storable = each-insert name_cmp_total name_cmp-IsAntisymmetric IsStorableKey keys name entry each storable
 
 -- metadata that can be stored joins a key that can
 with_meta-storable : (name : Name) (entry : Entry) (meta_name text : List ℕ) → IsStorableKey name entry → IsStorableMeta meta_name text → IsStorableKey name (with_meta entry meta_name text)
@@ -63,10 +35,7 @@ with_meta-storable name entry meta_name text storable meta = record {
   is_name = storable.is_name;
   cascading = storable.cascading;
   is_value = storable.is_value;
-  each_meta = λ q t found. elim (found_in_insert nat_list_cmp_total text_cmp-IsAntisymmetric entry.meta meta_name text q t found) as (λ _. IsStorableMeta q t) [
-    | inl here ↦ subst (λ n. IsStorableMeta n t) (sym here.0) (subst (IsStorableMeta meta_name) here.1 meta)
-    | inr there ↦ storable.each_meta q t there
-  ];
+  each_meta = each-insert nat_list_cmp_total text_cmp-IsAntisymmetric IsStorableMeta entry.meta meta_name text storable.each_meta meta;
 }
 
 puts-storable : (before : Progress) (name text : List ℕ) (after : Progress) → HasStorableKeys before.keys → IsStorableMeta name text → PutsMeta before name text after → HasStorableKeys after.keys

@@ -19,8 +19,9 @@ use Rattle.model_dump.specs.Adds.{Progress, Adds}
 use Rattle.model_dump.specs.Dump.{Leads, Reads}
 use Rattle.model_dump.specs.Text.{relative_text, record_of_meta, records_of_key, records_of, text}
 use Rattle.model_dump.specs.Storable.{IsStorableMeta, IsStorableKey, IsStorable}
-use Rattle.model_dump.proofs.MapFronts.{get-insert_same, next_is_new, next_is_there, next_joins, none_left, all_left, sum_by-front}
-use Rattle.model_dump.proofs.MapLemmas.{insert-insert, weight-insert}
+use Rattle.general_words.proofs.Maps.{get-insert_same, insert-insert}
+use Rattle.general_words.proofs.Fronts.{next_is_new, next_is_there, next_joins, none_left, all_left, sum_by-front}
+use Rattle.model_dump.proofs.MapLemmas.{weight-insert}
 use Rattle.model_dump.proofs.AddsOnce.{Adds-once}
 use Rattle.model_dump.proofs.Readings.{Reads-once}
 

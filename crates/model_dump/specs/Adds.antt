@@ -3,7 +3,7 @@ use Rattle.std.specs.Prelude.{◌≡◌, ◌≢◌, ℕ, ◌≤◌, List, ◌∷
 use Rattle.std.specs.FinMap as map
 use Rattle.model_names.specs.Name.{Name}
 use Rattle.model_names.specs.Spells.{Spells}
-use Rattle.model_maps.specs.Entry.{Entry, plain_entry, IsValue, IsMetaName}
+use Rattle.model_maps.specs.Entry.{Entry, plain_entry, IsValue, IsMetaName, with_meta}
 use Rattle.model_maps.specs.KeyMap.{KeyMap, no_keys, weight, heaviest_map}
 use Rattle.model_dump.specs.Record.{RecordKind, KeyKind, MetaKind, CopyKind, Record}
 
@@ -23,10 +23,6 @@ pub record AddsKey (before : Progress) (text value : List ℕ) (after : Progress
   pub is_new : map.get before.keys name ≡ None
   pub is_value : IsValue value
   pub added : after ≡ record { keys = map.insert before.keys name (plain_entry value); present = Some name }
-
--- the entry with one more metadata
-abbrev pub with_meta : Entry → List ℕ → List ℕ → Entry
-with_meta entry name text = record { value = entry.value; meta = map.insert entry.meta name text }
 
 -- the present key gets a text under a metadata name that it hasn't
 pub record PutsMeta (before : Progress) (name text : List ℕ) (after : Progress) : Type 0 where

@@ -1,10 +1,9 @@
 -- The keys at or below a name stand together among the entries of a map.
-use Rattle.std.proofs.Common.{◌≡◌, Bool, true, false, T, cond, not, ◌&&◌, List, [], ◌∷◌, ◌++◌, None, refl, sym, ap, subst, ◌∙◌}
+use Rattle.std.proofs.Common.{◌≡◌, true, false, T, cond, not, List, [], ◌∷◌, ◌++◌, refl, sym, ap, subst, ◌∙◌}
 use Rattle.std.specs.FinMap as map
-use Rattle.std.specs.FinMap.{FinMap, is_sorted}
-use Rattle.std.specs.FinMap.Entries.{below_all, where_key, is_sorted-where_key, find-where_key}
+use Rattle.std.specs.FinMap.{is_sorted}
+use Rattle.std.specs.FinMap.Entries.{below_all, where_key}
 use Rattle.std.specs.Ordering.{is_lt}
-use Rattle.std.specs.declared.cmp.Ordering.{Ordering}
 use Rattle.std.specs.declared.cmp.Ordering.TheVariants.{Less, Equal, Greater}
 use Rattle.model_names.specs.Below.{is_at_or_below}
 use Rattle.model_names.specs.Name.{Name}
@@ -13,36 +12,9 @@ use Rattle.model_names.proofs.OrderLemmas.{name_cmp_total, name_cmp-IsAntisymmet
 use Rattle.model_names.proofs.BelowOrder.{at_or_below-not_before, at_or_below-between}
 use Rattle.model_maps.specs.KeyMap.{KeyMap}
 use Rattle.model_maps.specs.Together.{StandTogether}
-
-first : (a b : Bool) → T (a && b) → T a
-first true b p = tt
-first false b p = p
-
-second : (a b : Bool) → T (a && b) → T b
-second true b p = p
-second false b p = absurd p
-
-less : (r : Ordering) → T (is_lt r) → r ≡ Less
-less Less p = refl
-less Equal p = absurd p
-less Greater p = absurd p
-
--- what implies a false test is false
-not_true : (a : Bool) → (T a → ⊥) → a ≡ false
-not_true true h = absurd (h tt)
-not_true false h = refl
-
--- the entries of the keys that pass a test
-pub entries-retain_keys : {X : Type 0} (m : FinMap name_cmp X) (p : Name → Bool) → map.entries (map.retain_keys m p) ≡ where_key name_cmp p (map.entries m)
-entries-retain_keys m p =
-    let es = map.entries m in
-    let h : T (is_sorted name_cmp (where_key name_cmp p es)) = is_sorted-where_key name_cmp p es (map.entries_sorted m) in
-    ap map.entries (map.same_map name_cmp_total name_cmp-IsAntisymmetric (map.retain_keys m p) (map.from_sorted (where_key name_cmp p es)) (λ q.
-    let alike : (x : Name) → name_cmp q x ≡ Equal → p x ≡ p q = λ x t. ap p (sym (name_cmp-IsAntisymmetric q x t)) in
-    map.get-retain_keys m p q alike
-    ∙ ap (λ v. cond (p q) v None) (map.get-entries m q)
-    ∙ sym (map.get-from_sorted name_cmp (where_key name_cmp p es) q h ∙ find-where_key name_cmp p q alike es)))
-    ∙ map.entries-from_sorted name_cmp (where_key name_cmp p es) h
+use Rattle.general_words.proofs.Tests.{first, second, not_true}
+use Rattle.general_words.proofs.Orders.{less}
+use Rattle.general_words.proofs.Maps.{entries-retain}
 
 -- who is behind one that is not before a name isn't before it either
 pub still_behind : (above x y : Name) → is_lt (name_cmp x above) ≡ false → name_cmp x y ≡ Less → is_lt (name_cmp y above) ≡ false
@@ -106,6 +78,6 @@ stand_together above keys =
     record {
       before = parts.0;
       behind = parts.1;
-      all = parts.2 ∙ ap (λ es. parts.0 ++ (es ++ parts.1)) (sym (entries-retain_keys keys (is_at_or_below above)));
-      others = entries-retain_keys keys (λ name. not (is_at_or_below above name)) ∙ parts.3;
+      all = parts.2 ∙ ap (λ es. parts.0 ++ (es ++ parts.1)) (sym (entries-retain name_cmp_total name_cmp-IsAntisymmetric keys (is_at_or_below above)));
+      others = entries-retain name_cmp_total name_cmp-IsAntisymmetric keys (λ name. not (is_at_or_below above name)) ∙ parts.3;
     }

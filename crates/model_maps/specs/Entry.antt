@@ -1,17 +1,11 @@
 -- What a key holds: a value, and metadata by name. (Elektra's API documentation: a key has a value and metadata.)
 use Rattle.std.specs.Coded.{Coded, code_by, coded×, coded_list, coded_ℕ}
 use Rattle.std.specs.Prelude.{◌≡◌, refl, ℕ, ◌+◌, ◌<◌, ◌≤◌, List, ◌∷◌, ◌++◌, length, sum_by, slice_get, None}
-use Rattle.std.specs.Ordering.{nat_cmp}
-use Rattle.std.specs.Cmp.Lexicographic.{slice_cmp}
 use Rattle.std.specs.FinMap as map
 use Rattle.std.specs.FinMap.{FinMap}
 use Rattle.std.specs.Str.{IsUtf8}
-use Rattle.std.specs.declared.cmp.Ordering.{Ordering}
 use Rattle.model_names.specs.ArrayPart.{array_part}
-
--- texts sort by their bytes
-abbrev pub text_cmp : List ℕ → List ℕ → Ordering
-text_cmp = slice_cmp nat_cmp
+use Rattle.general_words.specs.Texts.{text_cmp}
 
 -- metadata: a text for each of some names, by bytes
 abbrev pub Meta : Type 0
@@ -29,6 +23,10 @@ pub record Entry : Type 0 where
 -- an entry with this value and no metadata
 abbrev pub plain_entry : List ℕ → Entry
 plain_entry value = record { value = value; meta = map.empty }
+
+-- the entry with one more metadata
+abbrev pub with_meta : Entry → List ℕ → List ℕ → Entry
+with_meta entry name text = record { value = entry.value; meta = map.insert entry.meta name text }
 
 -- the most bytes of a value and of a metadata text
 abbrev pub longest_value : ℕ

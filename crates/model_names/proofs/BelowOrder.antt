@@ -1,5 +1,5 @@
 -- The names at or below a name stand together in the order of names: none is before it, and a name between two of them is one.
-use Rattle.std.proofs.Common.{◌≡◌, Bool, true, false, T, ◌&&◌, nat_eq, List, [], ◌∷◌, refl, sym, ap, subst, ◌∙◌, eqb-true, eq-eqb}
+use Rattle.std.proofs.Common.{◌≡◌, Bool, false, T, ◌&&◌, nat_eq, List, [], ◌∷◌, refl, sym, ap, subst, ◌∙◌, eqb-true, eq-eqb}
 use Rattle.std.specs.Cmp.{IsTotalOrder, tied_itself}
 use Rattle.std.specs.Cmp.Lexicographic.{slice_cmp, pointwise}
 use Rattle.std.specs.FinMap.{IsAntisymmetric, nat_cmp-IsAntisymmetric, slice_cmp-IsAntisymmetric}
@@ -12,22 +12,7 @@ use Rattle.std.proofs.lemmas.Slice.Eq.{bytes_eq-Decides}
 use Rattle.model_names.specs.Below.{is_at_or_below}
 use Rattle.model_names.specs.Name.{Name, Part, rank}
 use Rattle.model_names.specs.Order.{name_cmp, part_cmp}
-
-both : (a b : Bool) → T a → T b → T (a && b)
-both true b p q = q
-both false b p q = p
-
-first : (a b : Bool) → T (a && b) → T a
-first true b p = tt
-first false b p = p
-
-second : (a b : Bool) → T (a && b) → T b
-second true b p = p
-second false b p = absurd p
-
-true_of : (b : Bool) → T b → b ≡ true
-true_of true p = refl
-true_of false p = absurd p
+use Rattle.general_words.proofs.Tests.{both, first, second, true_of}
 
 -- lists that have a list for their front
 module _ {A : Type 0} {C : A → A → Ordering} (E : A → A → Bool) (o : IsTotalOrder C) (ties : IsAntisymmetric C) (same : (x y : A) → T (E x y) → x ≡ y) (itself : (x : A) → T (E x x)) where

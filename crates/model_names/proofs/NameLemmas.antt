@@ -16,12 +16,15 @@ use Rattle.model_names.specs.Name.{Name, Part}
 use Rattle.model_names.specs.RawParts.{raw_parts, raw_parts_from, put_before}
 use Rattle.model_names.specs.Refuses.{begins_with_slash}
 use Rattle.model_names.specs.Spells.{Spells, Adds, walked, moved, meaning, unescaped_from, part_of_text}
-use Rattle.model_names.specs.Spelling.{spelling, spelled, escaped, is_reserved, is_text, word_of, path_of_parts}
+use Rattle.general_words.specs.Texts.{is_text}
+use Rattle.model_names.specs.Spelling.{spelling, spelled, escaped, is_reserved, word_of, path_of_parts}
 use Rattle.model_names.specs.WellFormed.{IsName, IsPart}
 use Rattle.model_names.proofs.EscapeLemmas.{flat_map-escaped-letter}
 use Rattle.model_names.proofs.PartLemmas.{IsText, IsText-raw_parts, IsUtf8-byte, IsUtf8-cons, all_append, all_back, text_from_test, utf8_behind_slash, walked_parts}
 use Rattle.model_names.proofs.RefusesLemmas.{slash_begins}
 use Rattle.model_names.proofs.SpellsLemmas.{Spells-once, same_cut}
+use Rattle.general_words.proofs.Lists.{some_is}
+use Rattle.general_words.proofs.Texts.{same_text}
 
 -- ---- what a text spells
 
@@ -76,9 +79,6 @@ data SpelledAs (part : Part) : Type 0 where
   AsDot : part ≡ codes "." → SpelledAs part
   AsDots : part ≡ codes ".." → SpelledAs part
   AsText : (length part == 0) ≡ false → is_reserved part ≡ false → SpelledAs part
-
-same_text : (a b : List ℕ) → is_text a b ≡ true → a ≡ b
-same_text a b e = (bytes_eq-Decides a b).0 e
 
 empty_from_length : (part : Part) → (length part == 0) ≡ true → part ≡ []
 empty_from_length [] e = refl
@@ -143,9 +143,6 @@ unescaped-escaped (b ∷ part) =
 
 other_raw : (raw text : List ℕ) (part : Part) → unescaped_from false raw ≡ Some part → (unescaped_from false text ≡ Some part → ⊥) → is_text raw text ≡ false
 other_raw raw text part reads apart = false_from_ne_true (is_text raw text) (λ e. apart (sym (ap (unescaped_from false) (same_text raw text e)) ∙ reads))
-
-some_is : (a b : List ℕ) → ◌≡◌ {A = Option (List ℕ)} (Some a) (Some b) → a ≡ b
-some_is a b e = cc
 
 not_empty : (raw : List ℕ) (part : Part) → unescaped_from false raw ≡ Some part → (length part == 0) ≡ false → (length raw == 0) ≡ false
 not_empty [] part reads filled = let none = ap length (some_is [] part reads) in absurd (true≢false (ap (λ n. n == 0) none ∙ filled))

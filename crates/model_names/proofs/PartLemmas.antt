@@ -21,12 +21,13 @@ use Rattle.std.proofs.Math.Seq.{take-append_seam, drop-append-add}
 use Rattle.model_names.specs.Name.{Part}
 use Rattle.model_names.specs.ArrayPart.{last_index, array_part, is_array_like, canonical_part, index_of, without_underscores}
 use Rattle.model_names.specs.RawParts.{raw_parts_from, put_before}
-use Rattle.model_names.specs.Spelling.{is_text}
+use Rattle.general_words.specs.Texts.{is_text}
 use Rattle.model_names.specs.Spells.{Move, Adds, Stays, GoesUp, meaning, moved, walked, part_of_text, unescaped_from}
 use Rattle.model_names.specs.WellFormed.{IsPart}
 use Rattle.model_names.proofs.EscapeLemmas.{IsUnescaped-encode_utf8, read_all, escapes_no_letter}
 use Rattle.model_names.proofs.RefusesLemmas.{from_map, from_and_then, cond_some, branch_taken}
 use Rattle.model_names.proofs.SpellsLemmas.{is_ascii_text_byte, no_nul-from_test, is_ascii-from_test}
+use Rattle.general_words.proofs.Lists.{some_is}
 
 -- ---- texts
 
@@ -129,9 +130,6 @@ IsText-raw_parts bytes h no_nul =
     all_texts (raw_parts_from false bytes) (subst (λ (t : List ℕ). IsUtf8 t) whole h) (subst (λ (t : List ℕ). AllByRecursion (λ b. 0 < b) t) whole no_nul)
 
 -- ---- what is unescaped
-
-some_is : (a b : List ℕ) → ◌≡◌ {A = Option (List ℕ)} (Some a) (Some b) → a ≡ b
-some_is a b e = cc
 
 unescaped_no_nul : (waits : Bool) (raw : List ℕ) (part : Part) → unescaped_from waits raw ≡ Some part → AllByRecursion (λ b. 0 < b) raw → AllByRecursion (λ b. 0 < b) part
 unescaped_no_nul false [] part h bytes = subst (λ (t : List ℕ). AllByRecursion (λ b. 0 < b) t) (some_is [] part h) tt
@@ -265,10 +263,7 @@ AddsPart Stays = Unit {0}
 AddsPart GoesUp = Unit {0}
 
 adds_at : (m n : Move) → ◌≡◌ {A = Option Move} (Some m) (Some n) → AddsPart m → AddsPart n
-adds_at m n e h = subst AddsPart (by m n e) h
-  where
-    by : (m n : Move) → ◌≡◌ {A = Option Move} (Some m) (Some n) → m ≡ n
-    by m n e = cc
+adds_at m n e h = subst AddsPart (some_is m n e) h
 
 plain_part : (part : Part) → IsText part → is_array_like part ≡ false → IsPart part
 plain_part part text other = record { utf8 = text.utf8; no_nul = text.no_nul; canonical = λ like. absurd (true≢false (sym like ∙ other)) }

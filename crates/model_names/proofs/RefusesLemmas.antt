@@ -6,16 +6,18 @@ use Rattle.std.specs.Option.{option_map, option_or}
 use Rattle.std.specs.Str.{IsUtf8}
 use Rattle.std.proofs.lemmas.Bool.{cond-true, cond-false, cond_both, eqb-true, eqb-false, ne_eqb, le-ltb, ltb-false, or_cases, or_from, cases_Bool}
 use Rattle.std.proofs.lemmas.List.Sums.{split_at_first, passes_at_first}
-use Rattle.std.proofs.lemmas.Slice.Eq.{bytes_eq-Decides}
 use Rattle.model_names.specs.declared.namespaces.Namespace.{Namespace}
 use Rattle.model_names.specs.declared.namespaces.Namespace.TheVariants.{Cascading, Spec, Proc, Dir, User, System, Default}
 use Rattle.model_names.specs.Name.{Name, Part}
 use Rattle.model_names.specs.ArrayPart.{is_array_like, canonical_part}
-use Rattle.model_names.specs.Spelling.{is_text, word_of, path, path_of_parts}
+use Rattle.general_words.specs.Texts.{is_text}
+use Rattle.general_words.specs.Searches.{first_some}
+use Rattle.model_names.specs.Spelling.{word_of, path, path_of_parts}
 use Rattle.model_names.specs.RawParts.{raw_parts}
 use Rattle.model_names.specs.Spells.{Spells, Move, Adds, meaning, moved, part_of_text, unescaped_from, walked, longest_path}
-use Rattle.model_names.specs.Refuses.{Refusal, NoNamespace, UnknownNamespace, NoSlash, BadEscape, BadArray, Nul, TooLong, Start, At, Refused, namespace_of_word, begins_with_slash, start_behind, start_of_text, placed, is_literal, bad_escape_from, bad_escape, bad_array, first_some, too_long, refusal_behind, refusal_of}
+use Rattle.model_names.specs.Refuses.{Refusal, NoNamespace, UnknownNamespace, NoSlash, BadEscape, BadArray, Nul, TooLong, Start, At, Refused, namespace_of_word, begins_with_slash, start_behind, start_of_text, placed, is_literal, bad_escape_from, bad_escape, bad_array, too_long, refusal_behind, refusal_of}
 use Rattle.model_names.proofs.SpellsLemmas.{drop-word}
+use Rattle.general_words.proofs.Texts.{same_text}
 
 -- ---- options
 
@@ -93,9 +95,6 @@ unescaped_from-some true place (b ∷ bytes) h =
 pub record IsFine (place : ℕ) (raw : List ℕ) : Type 0 where
   pub escapes : bad_escape (place, raw) ≡ None
   pub arrays : bad_array (place, raw) ≡ None
-
-same_text : (a b : List ℕ) → is_text a b ≡ true → a ≡ b
-same_text a b e = (bytes_eq-Decides a b).0 e
 
 fine_at : (place : ℕ) (raw text : List ℕ) → is_text raw text ≡ true → IsFine place text → IsFine place raw
 fine_at place raw text e h = let P : List ℕ → Type 0 = λ r. IsFine place r in subst P (sym (same_text raw text e)) h

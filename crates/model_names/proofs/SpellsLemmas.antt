@@ -13,6 +13,7 @@ use Rattle.model_names.specs.Name.{Name, Part}
 use Rattle.model_names.specs.Spelling.{word_of, path}
 use Rattle.model_names.specs.RawParts.{raw_parts}
 use Rattle.model_names.specs.Spells.{Spells, walked, longest_path}
+use Rattle.general_words.proofs.Lists.{some_is}
 
 -- the namespace that the first two bytes of a text tell
 namespace_of : List ℕ → Namespace
@@ -47,9 +48,6 @@ same_cut m n a b e =
     let rest : drop (length (word_of m) + 1) (word_of m ++ 47 ∷ a) ≡ drop (length (word_of n) + 1) (word_of n ++ 47 ∷ b) =
     ap (drop (length (word_of m) + 1)) e ∙ ap (λ k. drop (length (word_of k) + 1) (word_of n ++ 47 ∷ b)) one in
     (one, sym (drop-word m a) ∙ rest ∙ drop-word n b)
-
-some_is : (a b : List Part) → ◌≡◌ {A = Option (List Part)} (Some a) (Some b) → a ≡ b
-some_is a b e = cc
 
 pub Spells-once : (text : List ℕ) (a b : Name) → Spells text a → Spells text b → a ≡ b
 Spells-once text a b p q =

@@ -5,7 +5,9 @@ use Rattle.std.specs.Option.{option_map, option_or}
 use Rattle.model_names.specs.declared.namespaces.Namespace.{Namespace}
 use Rattle.model_names.specs.declared.namespaces.Namespace.TheVariants.{Spec, Proc, Dir, User, System, Default}
 use Rattle.model_names.specs.ArrayPart.{is_array_like, canonical_part}
-use Rattle.model_names.specs.Spelling.{is_text, path_of_parts}
+use Rattle.general_words.specs.Texts.{is_text}
+use Rattle.general_words.specs.Searches.{first_some}
+use Rattle.model_names.specs.Spelling.{path_of_parts}
 use Rattle.model_names.specs.RawParts.{raw_parts}
 use Rattle.model_names.specs.Spells.{unescaped_from, walked, longest_path}
 
@@ -77,11 +79,6 @@ bad_escape part = if is_literal part.1 then None else bad_escape_from false part
 -- the place of a raw part that looks like an array's and has no canonical form
 abbrev pub bad_array : ℕ × List ℕ → Option ℕ
 bad_array part = option_and_then (λ text. if is_array_like text && is_none (canonical_part text) then Some part.0 else None) (unescaped_from false part.1)
-
--- the first answer that there is
-abbrev pub first_some : {A B : Type 0} → (A → Option B) → List A → Option B
-first_some f [] = None
-first_some f (x ∷ xs) = option_or (f x) (first_some f xs)
 
 -- the length of the path that raw parts lead to, where it is over the limit
 abbrev pub too_long : List (List ℕ) → Option ℕ

@@ -1,10 +1,10 @@
 -- The one canonical text of a name. (After Elektra's page on key names; the escapes are this project's own.)
-use Rattle.std.specs.Prelude.{ℕ, nat_eq, Bool, ◌||◌, ◌==◌, if◌then◌else◌, List, [], ◌∷◌, ◌++◌, length, codes}
-use Rattle.std.specs.Cmp.Lexicographic.{pointwise}
+use Rattle.std.specs.Prelude.{ℕ, Bool, ◌||◌, ◌==◌, if◌then◌else◌, List, [], ◌∷◌, ◌++◌, length, codes}
 use Rattle.std.specs.List.{flat_map}
 use Rattle.model_names.specs.declared.namespaces.Namespace.{Namespace}
 use Rattle.model_names.specs.declared.namespaces.Namespace.TheVariants.{Cascading, Spec, Proc, Dir, User, System, Default}
 use Rattle.model_names.specs.Name.{Part, Name}
+use Rattle.general_words.specs.Texts.{is_text}
 
 -- what stands before the first slash of a name in a namespace
 abbrev pub word_of : Namespace → List ℕ
@@ -15,10 +15,6 @@ word_of Dir = codes "dir:"
 word_of User = codes "user:"
 word_of System = codes "system:"
 word_of Default = codes "default:"
-
--- two lists of bytes are one text
-abbrev pub is_text : List ℕ → List ℕ → Bool
-is_text a b = pointwise nat_eq a b
 
 -- a byte of a part as a spelling has it: a backslash stands before a backslash and before a slash
 abbrev pub escaped : ℕ → List ℕ

@@ -6,7 +6,8 @@ use Rattle.std.specs.Option.{option_map}
 use Rattle.std.specs.Str.{IsUtf8}
 use Rattle.model_names.specs.Name.{Part, Name}
 use Rattle.model_names.specs.ArrayPart.{is_array_like, canonical_part}
-use Rattle.model_names.specs.Spelling.{is_text, word_of, path}
+use Rattle.general_words.specs.Texts.{is_text}
+use Rattle.model_names.specs.Spelling.{word_of, path}
 use Rattle.model_names.specs.RawParts.{raw_parts}
 
 -- the most bytes of a path

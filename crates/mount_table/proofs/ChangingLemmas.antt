@@ -1,30 +1,30 @@
 -- What an entry that is added or removed changes.
-use Rattle.std.proofs.Common.{◌≡◌, ℕ, ◌+◌, ◌*◌, ◌≤◌, Bool, true, false, cond, not, ◌&&◌, ◌||◌, ◌==◌, T, List, [], ◌∷◌, ◌++◌, length, take, drop, slice_get, is_some, unwrap_or, Option, Some, None, Ok, Err, refl, sym, ap, ap₂, subst, ◌∙◌, inl, inr, ◌⊎◌, codes, arith, length-append, Bor}
-use Rattle.std.specs.Cmp.{IsTotalOrder, Equal-is, tied_itself}
+use Rattle.std.proofs.Common.{◌≡◌, ℕ, ◌+◌, ◌*◌, ◌≤◌, Bool, true, false, cond, not, ◌&&◌, T, List, [], ◌∷◌, ◌++◌, length, take, drop, slice_get, is_some, unwrap_or, Option, Some, None, Ok, Err, refl, sym, ap, ap₂, subst, ◌∙◌, inl, inr, ◌⊎◌, codes, arith, length-append, Bor}
+use Rattle.std.specs.Cmp.{Equal-is}
 use Rattle.std.specs.FinMap as map
-use Rattle.std.specs.FinMap.{FinMap, IsAntisymmetric, find, is_sorted}
+use Rattle.std.specs.FinMap.{find, is_sorted}
 use Rattle.std.specs.FinMap.Entries.{put}
-use Rattle.std.specs.List.{AllByRecursion, flat_map, list_any}
+use Rattle.std.specs.List.{AllByRecursion, list_any}
 use Rattle.std.specs.Option.{option_copied}
 use Rattle.std.specs.Ordering.{eq_by_cmp}
-use Rattle.std.specs.declared.cmp.Ordering.{Ordering}
-use Rattle.std.proofs.lemmas.Bool.{and_parts, cond-true, cond-false, cond_both, cases_Bool, leb-true, or_from}
+use Rattle.std.proofs.lemmas.Bool.{and_parts, cond-true, cond-false, cases_Bool, leb-true, or_from}
 use Rattle.std.proofs.lemmas.Cmp.{nat_list_cmp_total}
 use Rattle.std.proofs.lemmas.List.Folds.{list_any_more, list_any_at}
 use Rattle.std.proofs.lemmas.Option.{slice_get_within, get_or_from_slice_get}
 use Rattle.std.proofs.lemmas.Slice.Eq.{bytes_eq-Decides}
-use Rattle.sorted_map.proofs.MapLemmas.{from_sorted-put}
+use Rattle.general_words.proofs.Texts.{text_cmp-IsAntisymmetric}
 use Rattle.model_names.specs.declared.namespaces.Namespace.{Namespace}
 use Rattle.model_names.specs.declared.namespaces.Namespace.TheVariants.{Cascading, Spec, Proc, Dir, User, System, Default}
 use Rattle.model_names.specs.ArrayPart.{is_array_like, canonical_part}
 use Rattle.model_names.specs.Below.{is_at_or_below}
 use Rattle.model_names.specs.Name.{Name, Part}
-use Rattle.model_names.specs.Spelling.{spelling, spelled, escaped, is_reserved, path, word_of, path_of_parts}
+use Rattle.model_names.specs.Spelling.{spelling, spelled, path, word_of, path_of_parts}
 use Rattle.model_names.specs.Spells.{Spells, longest_path}
 use Rattle.model_names.specs.WellFormed.{IsName, IsPart}
 use Rattle.model_names.proofs.BelowLemmas.{at_or_below-rest}
 use Rattle.model_names.proofs.RefusesLemmas.{position-no_nul}
-use Rattle.model_maps.specs.Entry.{Entry, text_cmp, plain_entry}
+use Rattle.general_words.specs.Texts.{text_cmp}
+use Rattle.model_maps.specs.Entry.{Entry, plain_entry}
 use Rattle.model_maps.specs.KeyMap.{KeyMap}
 use Rattle.kdb_outside.specs.Kind.{kind_word}
 use Rattle.kdb_outside.specs.declared.kinds.Kind.{Kind}
@@ -42,31 +42,13 @@ use Rattle.mount_table.specs.declared.entries.MountEntry.{MountEntry}
 use Rattle.mount_table.specs.declared.faults.TableFault.{TableFault}
 use Rattle.mount_table.specs.declared.faults.TableFault.TheVariants.{AlreadyMounted}
 use Rattle.mount_table.specs.declared.mounts.Mount.{Mount}
-use Rattle.mount_table.proofs.NotingLemmas.{text_cmp-IsAntisymmetric, get-entries_of, entries_of-insert}
+use Rattle.mount_table.proofs.NotingLemmas.{get-entries_of, entries_of-insert}
 use Rattle.mount_table.proofs.TableLemmas.{is_some-copied, IsPoint, IsPoint-from, point_of-mount, mount_of-next, from_then}
+use Rattle.general_words.proofs.Maps.{insert-insert, from_sorted-put}
+use Rattle.general_words.proofs.Orders.{itself}
+use Rattle.key_name.proofs.MeasureLemmas.{length-spelled}
 
 -- ---- maps
-
-insert-insert : {K X : Type 0} {R : K → K → Ordering} → IsTotalOrder R → IsAntisymmetric R → (m : FinMap R X) (k : K) (u v : X) → map.insert (map.insert m k u) k v ≡ map.insert m k v
-insert-insert {X = X} {R = R} o same m k u v = map.same_map o same _ _ (λ q.
-    map.get-insert o (map.insert m k u) k v q ∙ ap (cond (eq_by_cmp R q k) (Some v)) (map.get-insert o m k u q) ∙ by (eq_by_cmp R q k) (map.get m q) ∙ sym (map.get-insert o m k v q))
-  where
-    by : (b : Bool) (x : Option X) → cond b (Some v) (cond b (Some u) x) ≡ cond b (Some v) x
-    by true x = refl
-    by false x = refl
-
--- to take out a new key is to leave the map as it was
-pub remove-insert : {K X : Type 0} {R : K → K → Ordering} → IsTotalOrder R → IsAntisymmetric R → (m : FinMap R X) (k : K) (v : X) → map.get m k ≡ None → map.remove (map.insert m k v) k ≡ m
-remove-insert {X = X} {R = R} o same m k v new = map.same_map o same _ _ (λ q.
-    map.get-remove o (map.insert m k v) k q ∙ ap (cond (eq_by_cmp R q k) None) (map.get-insert o m k v q)
-    ∙ by (eq_by_cmp R q k) (map.get m q) (λ e. ap (map.get m) (same q k ((Equal-is (R q k)).0 e)) ∙ new))
-  where
-    by : (b : Bool) (x : Option X) → (b ≡ true → x ≡ None) → cond b None (cond b (Some v) x) ≡ x
-    by true x h = sym (h refl)
-    by false x h = refl
-
-tied : (text : Part) → eq_by_cmp text_cmp text text ≡ true
-tied text = (Equal-is (text_cmp text text)).1 (tied_itself nat_list_cmp_total text)
 
 -- ---- an entry among the keys
 
@@ -90,7 +72,7 @@ entries_of-with keys text file kind new =
     let all : MountEntry = record { path = Some file; plugin = Some (kind_word kind) } in
     let first : entries_of (map.insert keys (child_name text path_word) (plain_entry file)) ≡ map.insert es text said =
     entries_of-insert keys (child_name text path_word) (plain_entry file) ∙ ap (λ o. map.insert es text (record (unwrap_or o nothing_said) { path = Some file })) none in
-    let there : map.get (map.insert es text said) text ≡ Some said = map.get-insert nat_list_cmp_total es text said text ∙ cond-true _ _ _ (tied text) in
+    let there : map.get (map.insert es text said) text ≡ Some said = map.get-insert nat_list_cmp_total es text said text ∙ cond-true _ _ _ (itself nat_list_cmp_total text) in
     entries_of-insert (map.insert keys (child_name text path_word) (plain_entry file)) (child_name text plugin_word) (plain_entry (kind_word kind))
     ∙ ap (λ m. map.insert m text (record (unwrap_or (map.get m text) nothing_said) { plugin = Some (kind_word kind) })) first
     ∙ ap (λ o. map.insert (map.insert es text said) text (record (unwrap_or o nothing_said) { plugin = Some (kind_word kind) })) there
@@ -139,7 +121,7 @@ short_entry keys text file kind table free ok =
     let es = entries_of (with_entry keys text file kind) in
     let all : MountEntry = record { path = Some file; plugin = Some (kind_word kind) } in
     let found : find text_cmp text (map.entries es) ≡ Some all =
-    sym (map.get-entries es text) ∙ ap (λ m. map.get m text) (entries_of-with keys text file kind free) ∙ map.get-insert nat_list_cmp_total (entries_of keys) text all text ∙ cond-true _ _ _ (tied text) in
+    sym (map.get-entries es text) ∙ ap (λ m. map.get m text) (entries_of-with keys text file kind free) ∙ map.get-insert nat_list_cmp_total (entries_of keys) text all text ∙ cond-true _ _ _ (itself nat_list_cmp_total text) in
     let mounts = from_then (mounts_from (remaining es) (map.entries es)) (λ ms. limited (in_order ms)) table ok in
     let point = is_at_point (remaining es) (map.entries es) mounts.0 text all mounts.1 found in
     short_point text point.0 point.1
@@ -160,20 +142,6 @@ entry-refusal text name is below =
     let parts : AllByRecursion IsPart (codes "elektra" ∷ codes "mountpoints" ∷ text ∷ drop 3 name.parts) = subst (AllByRecursion IsPart) rest is.parts in
     let limit : length (path_of_parts (codes "elektra" ∷ codes "mountpoints" ∷ text ∷ drop 3 name.parts)) ≤ longest_path = subst (λ ps. length (path_of_parts ps) ≤ longest_path) rest is.limit in
     is_part-refusal mountpoints text parts.1.1.0 (omega (arith, limit, length-slashed-append (codes "elektra" ∷ codes "mountpoints" ∷ text ∷ []) (drop 3 name.parts)))
-
-length-escaped : (b : ℕ) → length (escaped b) ≤ 2
-length-escaped b = cond_both ((b == 92) || (b == 47)) (92 ∷ b ∷ []) (b ∷ []) (λ bytes. length bytes ≤ 2) (λ _. omega arith) (λ _. omega arith)
-
-length-all_escaped : (part : Part) → length (flat_map escaped part) ≤ 2 * length part
-length-all_escaped [] = omega arith
-length-all_escaped (b ∷ part) = omega (arith, length-escaped b, length-all_escaped part, length-append (escaped b) (flat_map escaped part))
-
--- a spelled part has at most one byte more than twice its own
-length-spelled : (part : Part) → length (spelled part) ≤ 2 * length part + 1
-length-spelled part =
-    cond_both (length part == 0) (codes "%") (cond (is_reserved part) (92 ∷ part) (flat_map escaped part)) (λ bytes. length bytes ≤ 2 * length part + 1)
-    (λ _. omega arith)
-    (λ _. cond_both (is_reserved part) (92 ∷ part) (flat_map escaped part) (λ bytes. length bytes ≤ 2 * length part + 1) (λ _. omega arith) (λ _. omega (arith, length-all_escaped part)))
 
 not_array : (at : Name) → is_array_like (spelling at) ≡ false
 not_array at = by at.namespace at.parts

@@ -17,7 +17,7 @@ use Rattle.model_names.specs.Order.{name_cmp}
 use Rattle.model_names.specs.Spelling.{spelling}
 use Rattle.model_names.proofs.OrderLemmas.{name_cmp_total, name_cmp-IsAntisymmetric}
 use Rattle.model_names.proofs.PartLemmas.{all_append}
-use Rattle.model_maps.specs.Entry.{text_cmp}
+use Rattle.general_words.specs.Texts.{text_cmp}
 use Rattle.model_maps.specs.KeyMap.{KeyMap}
 use Rattle.mount_table.specs.Entries.{Entries, entries_of}
 use Rattle.mount_table.specs.Points.{own_point}

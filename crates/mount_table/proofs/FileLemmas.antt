@@ -4,7 +4,7 @@ use Rattle.std.specs.Bool.{Decides}
 use Rattle.std.specs.Char.{is_ascii_alphanumeric, IsAsciiAlphanumeric}
 use Rattle.std.specs.Int.{is_in_range, IsInRange}
 use Rattle.std.specs.List.{list_all, starts_with}
-use Rattle.std.proofs.lemmas.Bool.{cond-true, cond-false, and_from, and_right, leb-true, le-leb, false_from_ne_true, not_from_false, not_from_true}
+use Rattle.std.proofs.lemmas.Bool.{cond-true, cond-false, and_from, leb-true, le-leb, false_from_ne_true, not_from_false}
 use Rattle.std.proofs.lemmas.Bool.Decides.{Decides-and, Decides-or, Decides-not, Decides-eqb, Decides-like, Decides-by_and}
 use Rattle.kdb_outside.specs.FileName.{IsNameByte, IsFileName, dot, underscore, hyphen}
 use Rattle.mount_table.specs.Points.{is_file_byte, is_file_name, file_of}
@@ -41,10 +41,6 @@ is_file_name-Decides bytes =
     (Decides-and (nat_le 1 (length bytes)) (nat_le (length bytes) 100 && (plain && not first)) (le_decides 1 (length bytes))
     (Decides-and (nat_le (length bytes) 100) (plain && not first) (le_decides (length bytes) 100)
     (Decides-and plain (not first) (bytes_decide bytes) (Decides-not first (Decides-eqb (slice_index bytes 0) dot)))))
-
--- a text that begins with `journal` names no mount's file
-pub file_of-journal : (text : List ℕ) → starts_with nat_eq text (codes "journal") ≡ true → None ≡ file_of text
-file_of-journal text h = sym (cond-false _ _ _ (and_right (is_file_name text) _ (not_from_true _ h)))
 
 -- any other names one where it is a file's name
 pub file_of-other : (text : List ℕ) (found : Option (List ℕ)) → starts_with nat_eq text (codes "journal") ≡ false → SomeIff found (IsFileName text) text → found ≡ file_of text

@@ -1,57 +1,34 @@
 -- Entries noted key by key are those of all keys.
-use Rattle.std.proofs.Common.{◌≡◌, ℕ, ◌+◌, ◌≤◌, Bool, true, false, cond, not, ◌&&◌, ◌||◌, T, List, [], ◌∷◌, ◌++◌, length, take, drop, filter_map, slice_get, Option, Some, None, unwrap_or, refl, sym, ap, subst, ◌∙◌, take_all, append_assoc, take-append-drop}
-use Rattle.std.specs.Cmp.{IsTotalOrder, Equal-is}
+use Rattle.std.proofs.Common.{◌≡◌, ℕ, Bool, true, false, cond, not, ◌&&◌, ◌||◌, T, List, [], ◌∷◌, filter_map, Option, Some, None, unwrap_or, refl, sym, ap, ◌∙◌}
+use Rattle.std.specs.Cmp.{Equal-is}
 use Rattle.std.specs.FinMap as map
-use Rattle.std.specs.FinMap.{FinMap, IsAntisymmetric, find, is_sorted, nat_cmp-IsAntisymmetric, slice_cmp-IsAntisymmetric}
-use Rattle.std.specs.FinMap.Entries.{put, by_order, below_all, where_key, is_sorted-where_key}
+use Rattle.std.specs.FinMap.{find, is_sorted}
+use Rattle.std.specs.FinMap.Entries.{put, by_order, where_key, is_sorted-where_key}
 use Rattle.std.specs.List.{list_any, cons_option}
 use Rattle.std.specs.Option.{option_map}
-use Rattle.std.specs.Ordering.{eq_by_cmp, is_lt, ordering_reverse}
+use Rattle.std.specs.Ordering.{eq_by_cmp}
 use Rattle.std.specs.declared.cmp.Ordering.{Ordering}
 use Rattle.std.specs.declared.cmp.Ordering.TheVariants.{Less, Equal, Greater}
 use Rattle.std.proofs.lemmas.Bool.{cond-false, or_parts, true≢false}
 use Rattle.std.proofs.lemmas.Cmp.{nat_list_cmp_total}
-use Rattle.std.proofs.lemmas.List.{take_more}
-use Rattle.std.proofs.lemmas.Option.{slice_get_within, get_or_from_slice_get}
 use Rattle.std.proofs.lemmas.Slice.Eq.{bytes_eq-Decides}
-use Rattle.sorted_map.proofs.MapLemmas.{from_sorted-put, from_sorted-nil, from_sorted-without}
 use Rattle.model_names.specs.Below.{is_at_or_below}
 use Rattle.model_names.specs.Name.{Name, Part}
-use Rattle.model_names.specs.Spelling.{is_text}
+use Rattle.general_words.specs.Texts.{is_text, text_cmp}
 use Rattle.model_names.specs.Order.{name_cmp}
 use Rattle.model_names.proofs.OrderLemmas.{name_cmp_total, name_cmp-IsAntisymmetric}
-use Rattle.model_maps.specs.Entry.{Entry, text_cmp}
+use Rattle.model_maps.specs.Entry.{Entry}
 use Rattle.model_maps.specs.KeyMap.{KeyMap}
 use Rattle.mount_table.specs.Entries.{entries_of, has_entry, said_by, value_at}
 use Rattle.mount_table.specs.Noting.{nothing_said, child_word, is_word, said_with, noted_in, noted_at, noted}
 use Rattle.mount_table.specs.Places.{entry_name, child_name, path_word, plugin_word, text_of_entry}
 use Rattle.mount_table.specs.declared.entries.MountEntry.{MountEntry}
 use Rattle.mount_table.proofs.PlaceLemmas.{is_found, at_or_below-entry, is_child}
-
-pub text_cmp-IsAntisymmetric : IsAntisymmetric text_cmp
-text_cmp-IsAntisymmetric = slice_cmp-IsAntisymmetric nat_cmp-IsAntisymmetric
+use Rattle.general_words.proofs.Texts.{text_cmp-IsAntisymmetric}
+use Rattle.general_words.proofs.Maps.{insert-remove, entries-empty, from_sorted-put, from_sorted-without}
 
 same_text : (a b : Part) → eq_by_cmp text_cmp a b ≡ true → a ≡ b
 same_text a b e = text_cmp-IsAntisymmetric a b ((Equal-is (text_cmp a b)).0 e)
-
--- ---- facts on tests
-
-T_first : (a b : Bool) → T (a && b) → T a
-T_first true b h = tt
-T_first false b h = h
-
-T_second : (a b : Bool) → T (a && b) → T b
-T_second true b h = h
-T_second false b h = absurd h
-
-T_both : (a b : Bool) → T a → T b → T (a && b)
-T_both true b h k = k
-T_both false b h k = h
-
-is_less : (r : Ordering) → T (is_lt r) → r ≡ Less
-is_less Less h = refl
-is_less Equal h = absurd h
-is_less Greater h = absurd h
 
 -- ---- what the entries have at a text
 
@@ -121,9 +98,6 @@ said_once found said value word = record { path = cond (found && is_word path_wo
 said_by-insert : (keys : KeyMap) (name : Name) (entry : Entry) (text : Part) → said_by (map.insert keys name entry) text ≡ said_once (is_found text (text_of_entry name)) (said_by keys text) entry.value (child_word name)
 said_by-insert keys name entry text = λ i. record { path = value_at-insert keys name entry text path_word i; plugin = value_at-insert keys name entry text plugin_word i }
 
-said_once-other : (said : MountEntry) (value : List ℕ) (word : Option Part) → said_once false said value word ≡ said
-said_once-other said value word = refl
-
 -- a word is not both children's
 said_once-own : (said : MountEntry) (value : List ℕ) (word : Option Part) → said_once true said value word ≡ said_with said value word
 said_once-own said value None = refl
@@ -182,70 +156,14 @@ pub entries_of-insert : (keys : KeyMap) (name : Name) (entry : Entry) → entrie
 entries_of-insert keys name entry = map.same_map nat_list_cmp_total text_cmp-IsAntisymmetric _ _ (λ text.
     get-entries_of (map.insert keys name entry) text ∙ entry_at-insert keys name entry text ∙ noted_same keys name entry text (text_of_entry name))
 
--- ---- the keys one by one
-
--- the first keys in name order
-abbrev pub first_keys : ℕ → KeyMap → KeyMap
-first_keys i keys = map.from_sorted (take i (map.entries keys))
-
-module _ {K X : Type 0} (R : K → K → Ordering) (o : IsTotalOrder R) where
-  below_all-front : (k : K) (es rest : List (K × X)) → T (below_all R k (es ++ rest)) → T (below_all R k es)
-  below_all-front k [] rest h = tt
-  below_all-front k (e ∷ es) rest h = T_both _ _ (T_first _ _ h) (below_all-front k es rest (T_second _ _ h))
-
-  is_sorted-front : (es rest : List (K × X)) → T (is_sorted R (es ++ rest)) → T (is_sorted R es)
-  is_sorted-front [] rest h = tt
-  is_sorted-front (e ∷ es) rest h = T_both _ _ (below_all-front e.0 es rest (T_first _ _ h)) (is_sorted-front es rest (T_second _ _ h))
-
-  below_last : (k : K) (es rest : List (K × X)) (e : K × X) → T (below_all R k (es ++ e ∷ rest)) → R k e.0 ≡ Less
-  below_last k [] rest e h = is_less _ (T_first _ _ h)
-  below_last k (f ∷ es) rest e h = below_last k es rest e (T_second _ _ h)
-
-  -- a key behind all others is put at the end
-  put_last : (es rest : List (K × X)) (k : K) (v : X) → T (is_sorted R (es ++ (k, v) ∷ rest)) → put R k v es ≡ es ++ (k, v) ∷ []
-  put_last [] rest k v h = refl
-  put_last (e ∷ es) rest k v h =
-      ap (λ r. by_order r ((k, v) ∷ e ∷ es) ((e.0, v) ∷ es) (e ∷ put R k v es)) (o.antisymm k e.0 ∙ ap ordering_reverse (below_last e.0 es rest (k, v) (T_first _ _ h)))
-      ∙ ap (λ fs. e ∷ fs) (put_last es rest k v (T_second _ _ h))
-
--- one key more is inserted behind the first ones
-pub first_keys-more : (keys : KeyMap) (i : ℕ) (key : Name × Entry) → Some key ≡ slice_get (map.entries keys) i → first_keys (i + 1) keys ≡ map.insert (first_keys i keys) key.0 key.1
-first_keys-more keys i key found =
-    let es = map.entries keys in
-    let lt = slice_get_within es i key (sym found) in
-    let next : take (i + 1) es ≡ take i es ++ key ∷ [] = take_more es i key lt ∙ ap (λ k. take i es ++ k ∷ []) (get_or_from_slice_get es i key key (sym found)) in
-    let all : T (is_sorted name_cmp (take i es ++ key ∷ drop (i + 1) es)) = subst (λ fs. T (is_sorted name_cmp fs)) (split_at es i key next) (map.entries_sorted keys) in
-    ap map.from_sorted (next ∙ sym (put_last name_cmp name_cmp_total (take i es) (drop (i + 1) es) key.0 key.1 all))
-    ∙ from_sorted-put name_cmp name_cmp_total (take i es) key.0 key.1 (is_sorted-front name_cmp name_cmp_total (take i es) (key ∷ drop (i + 1) es) all)
-  where
-    split_at : (es : List (Name × Entry)) (i : ℕ) (key : Name × Entry) → take (i + 1) es ≡ take i es ++ key ∷ [] → es ≡ take i es ++ key ∷ drop (i + 1) es
-    split_at es i key next = sym (take-append-drop (i + 1) es) ∙ ap (λ front. front ++ drop (i + 1) es) next ∙ append_assoc (take i es) (key ∷ []) (drop (i + 1) es)
-
-pub first_keys-none : (keys : KeyMap) → first_keys 0 keys ≡ map.empty
-first_keys-none keys = from_sorted-nil name_cmp
-
-pub first_keys-all : (keys : KeyMap) (i : ℕ) → length (map.entries keys) ≤ i → first_keys i keys ≡ keys
-first_keys-all keys i all = map.same_entries_map _ _ (
-    ap (λ es. map.entries (map.from_sorted {R = name_cmp} es)) (take_all i (map.entries keys) all)
-    ∙ map.entries-from_sorted name_cmp (map.entries keys) (map.entries_sorted keys))
-
 -- no keys have no entries
 pub entries_of-none : entries_of map.empty ≡ map.empty
 entries_of-none = map.same_map nat_list_cmp_total text_cmp-IsAntisymmetric _ _ (λ text.
-    let none : map.entries (map.empty {X = Entry} {R = name_cmp}) ≡ [] = ap map.entries (sym (from_sorted-nil name_cmp)) ∙ map.entries-from_sorted name_cmp [] tt in
     get-entries_of map.empty text
-    ∙ ap (λ es. cond (list_any (λ key. is_at_or_below (entry_name text) key.0) es) (Some (said_by map.empty text)) None) none
+    ∙ ap (λ es. cond (list_any (λ key. is_at_or_below (entry_name text) key.0) es) (Some (said_by map.empty text)) None) (entries-empty name_cmp Entry)
     ∙ sym (map.get-empty text_cmp text))
 
 -- ---- an entry's place among those that were collected
-
-pub insert-remove : {K X : Type 0} {R : K → K → Ordering} → IsTotalOrder R → IsAntisymmetric R → (m : FinMap R X) (k : K) (v : X) → map.insert (map.remove m k) k v ≡ map.insert m k v
-insert-remove {X = X} {R = R} o same m k v = map.same_map o same _ _ (λ q.
-    map.get-insert o (map.remove m k) k v q ∙ ap (cond (eq_by_cmp R q k) (Some v)) (map.get-remove o m k q) ∙ by (eq_by_cmp R q k) (map.get m q) ∙ sym (map.get-insert o m k v q))
-  where
-    by : (b : Bool) (x : Option X) → cond b (Some v) (cond b None x) ≡ cond b (Some v) x
-    by true x = refl
-    by false x = refl
 
 -- to take a text's entry out and put it back with one more key is to note the key
 pub noted_put : (before after removed : List (Part × MountEntry)) (name : Name) (value : List ℕ) (text found : Part) (old said : MountEntry) → T (is_sorted text_cmp before) → Some found ≡ text_of_entry name → text ≡ found → removed ≡ where_key text_cmp (λ k. not (eq_by_cmp text_cmp text k)) before → old ≡ unwrap_or (find text_cmp text before) nothing_said → said ≡ noted_in old name value → after ≡ put text_cmp text said removed → map.from_sorted {R = text_cmp} after ≡ noted (map.from_sorted before) name value

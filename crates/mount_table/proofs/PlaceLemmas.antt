@@ -9,8 +9,7 @@ use Rattle.model_names.specs.declared.namespaces.Namespace.TheVariants.{System}
 use Rattle.model_names.specs.Below.{is_at_or_below}
 use Rattle.model_names.specs.Name.{Name, Part, rank}
 use Rattle.model_names.specs.Order.{name_cmp}
-use Rattle.model_names.specs.Spelling.{is_text}
-use Rattle.model_maps.specs.Entry.{text_cmp}
+use Rattle.general_words.specs.Texts.{is_text, text_cmp}
 use Rattle.key_name.specs.Comparing.{name_ties}
 use Rattle.mount_table.specs.Noting.{child_word, is_word}
 use Rattle.mount_table.specs.Places.{mountpoints, entry_name, child_name, text_of_entry}

@@ -7,15 +7,14 @@ use Rattle.std.specs.Ordering.{eq_by_cmp}
 use Rattle.std.proofs.lemmas.Cmp.{nat_list_cmp_total}
 use Rattle.std.proofs.lemmas.List.Folds.{list_any-append}
 use Rattle.model_names.specs.Name.{Name, Part}
-use Rattle.model_names.specs.Spelling.{is_text}
-use Rattle.model_maps.specs.Entry.{text_cmp}
+use Rattle.general_words.specs.Texts.{is_text, text_cmp}
 use Rattle.kdb_outside.specs.declared.kinds.Kind.{Kind}
 use Rattle.mount_table.specs.Answers.{IsFault}
 use Rattle.mount_table.specs.Points.{point_of, file_of}
 use Rattle.mount_table.specs.Reading.{◌>>=◌, kind_said, mount_at, mount_of, next_mount, is_taken, mounts_from}
 use Rattle.mount_table.specs.declared.entries.MountEntry.{MountEntry}
 use Rattle.mount_table.specs.declared.faults.TableFault.{TableFault}
-use Rattle.mount_table.specs.declared.faults.TableFault.TheVariants.{BadMountpoint, NoPath, BadPath, UnknownPlugin, FileTwice, TooMany, AlreadyMounted, NotMounted, Memory}
+use Rattle.mount_table.specs.declared.faults.TableFault.TheVariants.{BadMountpoint, NoPath, BadPath, UnknownPlugin, FileTwice}
 use Rattle.mount_table.specs.declared.mounts.Mount.{Mount}
 
 -- ---- one entry
@@ -90,12 +89,4 @@ module _ (mounts : List Mount) (entries : List (Part × MountEntry)) (i : ℕ) (
 
 -- a fault that comes in one place comes in another
 pub IsFault-along : {A B : Type 0} (r : Result A TableFault) (s : Result B TableFault) → ((fault : TableFault) → r ≡ Err fault → s ≡ Err fault) → (fault : TableFault) → IsFault r fault → IsFault s fault
-IsFault-along r s on (BadMountpoint entry) h = on (BadMountpoint entry) h
-IsFault-along r s on (NoPath entry) h = on (NoPath entry) h
-IsFault-along r s on (BadPath entry) h = on (BadPath entry) h
-IsFault-along r s on (UnknownPlugin entry) h = on (UnknownPlugin entry) h
-IsFault-along r s on (FileTwice entry) h = on (FileTwice entry) h
-IsFault-along r s on (TooMany count) h = on (TooMany count) h
-IsFault-along r s on (AlreadyMounted entry) h = on (AlreadyMounted entry) h
-IsFault-along r s on (NotMounted entry) h = on (NotMounted entry) h
-IsFault-along r s on Memory h = tt
+IsFault-along r s on fault h other = on fault (h other)

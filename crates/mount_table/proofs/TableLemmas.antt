@@ -12,7 +12,7 @@ use Rattle.std.specs.declared.cmp.Ordering.TheVariants.{Less, Equal, Greater}
 use Rattle.std.proofs.lemmas.Bool.{cond-true, cond-false, lt-ltb, le-ltb}
 use Rattle.std.proofs.lemmas.List.{length-map}
 use Rattle.std.proofs.lemmas.List.Sums.{fold_more}
-use Rattle.sorted_map.proofs.MapLemmas.{from_sorted-nil}
+use Rattle.general_words.proofs.Maps.{from_sorted-nil}
 use Rattle.model_names.specs.declared.namespaces.Namespace.{Namespace}
 use Rattle.model_names.specs.declared.namespaces.Namespace.TheVariants.{Spec, Dir, User, System}
 use Rattle.model_names.specs.Name.{Name, Part}
@@ -20,7 +20,7 @@ use Rattle.model_names.specs.Order.{name_cmp}
 use Rattle.model_names.proofs.OrderLemmas.{name_cmp_total, name_cmp-IsAntisymmetric}
 use Rattle.model_names.proofs.PartLemmas.{all_append}
 use Rattle.model_names.proofs.RefusesLemmas.{from_map, from_and_then, cond_some}
-use Rattle.model_maps.specs.Entry.{text_cmp}
+use Rattle.general_words.specs.Texts.{text_cmp}
 use Rattle.mount_table.specs.Entries.{Entries}
 use Rattle.mount_table.specs.Points.{has_files, name_in, name_of_text, is_point, point_of, file_of}
 use Rattle.mount_table.specs.Reading.{◌>>=◌, kind_said, mount_at, mount_of, next_mount, is_taken, mounts_from}
@@ -29,6 +29,7 @@ use Rattle.mount_table.specs.declared.entries.MountEntry.{MountEntry}
 use Rattle.mount_table.specs.declared.faults.TableFault.{TableFault}
 use Rattle.mount_table.specs.declared.faults.TableFault.TheVariants.{BadMountpoint, NoPath, BadPath, UnknownPlugin, FileTwice, TooMany}
 use Rattle.mount_table.specs.declared.mounts.Mount.{Mount}
+use Rattle.general_words.proofs.Lists.{some_is}
 
 pub is_some-copied : {X : Type 0} (o : Option (Bor X)) → is_some (option_copied o) ≡ is_some o
 is_some-copied None = refl
@@ -52,9 +53,6 @@ from_ok_or (Some y) fault x h = some_of y x h
 
 pub ok_is : {A : Type 0} (x y : A) → ◌≡◌ {A = Result A TableFault} (Ok x) (Ok y) → x ≡ y
 ok_is x y e = cc
-
-some_is : {A : Type 0} (x y : A) → ◌≡◌ {A = Option A} (Some x) (Some y) → x ≡ y
-some_is x y e = cc
 
 -- a mount's mountpoint is its entry's text
 pub point_of-mount : (text : Part) (said : MountEntry) (mount : Mount) → mount_of text said ≡ Ok mount → point_of text ≡ Some mount.at

@@ -1,19 +1,12 @@
 -- What an answer of the table's calls tells. Want of memory tells nothing. (This project's own.)
 use Rattle.std.specs.Prelude.{◌≡◌, Result, Ok, Err}
+use Rattle.general_words.specs.Memory.{UnlessMemory}
 use Rattle.mount_table.specs.declared.faults.TableFault.{TableFault}
 use Rattle.mount_table.specs.declared.faults.TableFault.TheVariants.{BadMountpoint, NoPath, BadPath, UnknownPlugin, FileTwice, TooMany, AlreadyMounted, NotMounted, Memory}
 
 -- a fault is the one that comes
 abbrev pub IsFault : {A : Type 0} → Result A TableFault → TableFault → Type 0
-IsFault wanted (BadMountpoint entry) = wanted ≡ Err (BadMountpoint entry)
-IsFault wanted (NoPath entry) = wanted ≡ Err (NoPath entry)
-IsFault wanted (BadPath entry) = wanted ≡ Err (BadPath entry)
-IsFault wanted (UnknownPlugin entry) = wanted ≡ Err (UnknownPlugin entry)
-IsFault wanted (FileTwice entry) = wanted ≡ Err (FileTwice entry)
-IsFault wanted (TooMany count) = wanted ≡ Err (TooMany count)
-IsFault wanted (AlreadyMounted entry) = wanted ≡ Err (AlreadyMounted entry)
-IsFault wanted (NotMounted entry) = wanted ≡ Err (NotMounted entry)
-IsFault wanted Memory = Unit {0}
+IsFault wanted fault = UnlessMemory Memory (wanted ≡ Err fault) fault
 
 -- an answer is the one that is wanted
 abbrev pub Gives : {A : Type 0} → Result A TableFault → Result A TableFault → Type 0

@@ -6,7 +6,8 @@ use Rattle.std.specs.List.{list_any}
 use Rattle.std.specs.Option.{option_map}
 use Rattle.model_names.specs.Below.{is_at_or_below}
 use Rattle.model_names.specs.Name.{Name, Part}
-use Rattle.model_maps.specs.Entry.{text_cmp, plain_entry}
+use Rattle.general_words.specs.Texts.{text_cmp}
+use Rattle.model_maps.specs.Entry.{plain_entry}
 use Rattle.model_maps.specs.KeyMap.{KeyMap}
 use Rattle.kdb_outside.specs.Kind.{kind_word}
 use Rattle.kdb_outside.specs.declared.kinds.Kind.{Kind}

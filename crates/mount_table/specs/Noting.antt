@@ -3,7 +3,7 @@ use Rattle.std.specs.Prelude.{ℕ, Bool, false, ◌==◌, if◌then◌else◌, L
 use Rattle.std.specs.FinMap as map
 use Rattle.std.specs.Option.{unwrap_or}
 use Rattle.model_names.specs.Name.{Name, Part}
-use Rattle.model_names.specs.Spelling.{is_text}
+use Rattle.general_words.specs.Texts.{is_text}
 use Rattle.mount_table.specs.Entries.{Entries}
 use Rattle.mount_table.specs.Places.{path_word, plugin_word, text_of_entry}
 use Rattle.mount_table.specs.declared.entries.MountEntry.{MountEntry}

@@ -9,8 +9,10 @@ use Rattle.model_names.specs.declared.namespaces.Namespace.TheVariants.{Cascadin
 use Rattle.model_names.specs.Below.{is_at_or_below}
 use Rattle.model_names.specs.Name.{Name}
 use Rattle.model_names.specs.RawParts.{raw_parts}
-use Rattle.model_names.specs.Refuses.{first_some, refusal_of}
-use Rattle.model_names.specs.Spelling.{is_text, word_of, spelling}
+use Rattle.general_words.specs.Searches.{first_some}
+use Rattle.general_words.specs.Texts.{is_text}
+use Rattle.model_names.specs.Refuses.{refusal_of}
+use Rattle.model_names.specs.Spelling.{word_of, spelling}
 use Rattle.model_names.specs.Spells.{walked}
 
 -- the namespaces whose keys are in files

@@ -2,7 +2,7 @@
 use Rattle.std.specs.Prelude.{ℕ, Bool, if◌then◌else◌, List, [], ◌∷◌, ◌++◌, Option, Some, None, Result, Ok, Err, ok_or}
 use Rattle.std.specs.List.{list_any}
 use Rattle.model_names.specs.Name.{Name, Part}
-use Rattle.model_names.specs.Spelling.{is_text}
+use Rattle.general_words.specs.Texts.{is_text}
 use Rattle.kdb_outside.specs.Kind.{kind_of}
 use Rattle.kdb_outside.specs.declared.kinds.Kind.{Kind}
 use Rattle.kdb_outside.specs.declared.kinds.Kind.TheVariants.{Dump}

@@ -4,7 +4,7 @@ ghost use Rattle.std.specs.FinMap as map;
 ghost use Rattle.kdb_outside.specs.declared.kinds.Kind.TheVariants.{Dump};
 ghost use Rattle.kdb_outside.specs.FileName.{IsFileName};
 ghost use Rattle.model_names.specs.Spelling.{spelling};
-ghost use Rattle.model_maps.specs.Entry.{text_cmp};
+ghost use Rattle.general_words.specs.Texts.{text_cmp};
 ghost use Rattle.mount_table.specs.Table.{root_mount, own_mount, remains, remaining};
 
 use crate::Mount;

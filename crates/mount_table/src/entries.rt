@@ -5,7 +5,7 @@ ghost use Rattle.std.specs.FinMap as map;
 ghost use Rattle.model_names.specs.declared.namespaces.Namespace.TheVariants.{System};
 ghost use Rattle.model_names.specs.Name.{rank};
 ghost use Rattle.model_names.specs.Below.{is_at_or_below};
-ghost use Rattle.model_maps.specs.Entry.{text_cmp};
+ghost use Rattle.general_words.specs.Texts.{text_cmp};
 ghost use Rattle.mount_table.specs.Entries.{entries_of};
 ghost use Rattle.mount_table.specs.Noting.{noted, noted_in, child_word, is_word};
 ghost use Rattle.mount_table.specs.Places.{mountpoints, text_of_entry};

@@ -2,7 +2,7 @@
 ghost use Rattle.std.specs.Prelude.{◌≡◌, IfOk, length, slice_get, map as over};
 ghost use Rattle.std.specs.FinMap as map;
 ghost use Rattle.std.specs.Option.{option_copied};
-ghost use Rattle.model_maps.specs.Entry.{text_cmp};
+ghost use Rattle.general_words.specs.Texts.{text_cmp};
 ghost use Rattle.model_names.specs.Order.{name_cmp};
 ghost use Rattle.mount_table.specs.Answers.{Gives};
 ghost use Rattle.mount_table.specs.Table.{ArePoints, by_point, table_from, table_of};

@@ -11,7 +11,7 @@ use Rattle.key_set.specs.Same.{same_keys}
 use Rattle.key_set.specs.WithAll.{with_all}
 use Rattle.model_names.specs.Name.{Name}
 use Rattle.model_names.specs.Order.{name_cmp}
-use Rattle.model_names.specs.Refuses.{first_some}
+use Rattle.general_words.specs.Searches.{first_some}
 use Rattle.model_names.proofs.OrderLemmas.{name_cmp_total, name_cmp-IsAntisymmetric}
 use Rattle.model_maps.specs.Entry.{Entry}
 use Rattle.model_maps.specs.KeyMap.{KeyMap, no_keys}
@@ -20,7 +20,10 @@ use Rattle.set_split.specs.Involved.{owns, involved_in}
 use Rattle.set_split.specs.Parts.{owned_by, parts_of}
 use Rattle.set_split.specs.Seen.{numbered}
 use Rattle.set_split.specs.declared.parts.Part.{Part}
-use Rattle.set_split.proofs.FrontLemmas.{get-retain, take-next}
+use Rattle.general_words.proofs.Maps.{get-retain}
+use Rattle.general_words.proofs.Lists.{take-next}
+use Rattle.general_words.proofs.Orders.{tied}
+use Rattle.model_names.proofs.RefusesLemmas.{cond_some}
 use Rattle.mounted_store.specs.Setting.{change_at, change_of, first_long_in, long_in, long_text}
 use Rattle.mounted_store.specs.Short.{AreShort, HasShortShadow, HaveShortShadows}
 use Rattle.mounted_store.specs.Whole.{as_way, as_whole, relative, whole}
@@ -28,17 +31,13 @@ use Rattle.mounted_store.specs.declared.changes.Change.{Change}
 use Rattle.mounted_store.specs.declared.files.FileState.{FileState}
 use Rattle.mounted_store.specs.declared.files.FileState.TheVariants.{Good, Bad}
 use Rattle.mounted_store.specs.declared.files.MountedFile.{MountedFile}
-use Rattle.mounted_store.proofs.MapLemmas.{tied, each-with_keys, each-none, all-entries}
+use Rattle.mounted_store.proofs.MapLemmas.{each-with_keys, each-none, all-entries}
 use Rattle.mounted_store.proofs.WholeLemmas.{over-append}
-
-passes : {A : Type 0} (b : Bool) (o : Option A) (x : A) → cond b o None ≡ Some x → (b ≡ true) × (o ≡ Some x)
-passes true o x e = (refl, e)
-passes false o x e = absurd cc
 
 -- keys that pass a test are short where all are
 pub short-kept : (keys : KeyMap) (p : Name → Bool) → AreShort keys → AreShort (map.retain_keys keys p)
 short-kept keys p short name entry found =
-    short name entry (passes (p name) (map.get keys name) entry (sym (get-retain name_cmp_total name_cmp-IsAntisymmetric keys p name) ∙ found)).1
+    short name entry (cond_some (p name) (map.get keys name) entry (sym (get-retain name_cmp_total name_cmp-IsAntisymmetric keys p name) ∙ found)).1
 
 all_over : (f : Name × Entry → Name × Entry) → ((e : Name × Entry) → (f e).1 ≡ e.1) → (es : List (Name × Entry)) → AllByRecursion (λ (e : Name × Entry). long_text e.1 ≡ None) es → AllByRecursion (λ (e : Name × Entry). long_text e.1 ≡ None) (over f es)
 all_over f same [] all = tt
@@ -109,7 +108,7 @@ module _ (points : List Name) (keys : KeyMap) (mounts : List ℕ) (none : first_
   -- the keys that one of the mounts owns are short
   owned-short : (i : ℕ) → ((name : Name) → owns points i name ≡ true → list_any (λ j. owns points j name) mounts ≡ true) → AreShort (owned_by points i keys)
   owned-short i within name entry found =
-      let kept = passes (owns points i name) (map.get keys name) entry (sym (get-retain name_cmp_total name_cmp-IsAntisymmetric keys (owns points i) name) ∙ found) in
+      let kept = cond_some (owns points i name) (map.get keys name) entry (sym (get-retain name_cmp_total name_cmp-IsAntisymmetric keys (owns points i) name) ∙ found) in
       by name (list_any (λ j. owns points j name) mounts) (within name kept.0) (long_text entry) (none-find (long_in points mounts) (map.entries keys) name entry none (sym (map.get-entries keys name) ∙ kept.1))
     where
       by : (n : Name) (b : Bool) → b ≡ true → (o : Option ℕ) → cond b (option_map {U = Name × ℕ} (λ bytes. (n, bytes)) o) None ≡ None → o ≡ None

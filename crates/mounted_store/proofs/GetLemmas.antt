@@ -8,14 +8,13 @@ use Rattle.std.proofs.lemmas.List.Elements.{filter_map-append}
 use Rattle.std.proofs.lemmas.List.Sums.{fold-append}
 use Rattle.key_set.specs.WithAll.{with_all}
 use Rattle.model_names.specs.Name.{Name}
-use Rattle.model_names.specs.Refuses.{first_some}
+use Rattle.general_words.specs.Searches.{first_some}
 use Rattle.model_maps.specs.KeyMap.{KeyMap, no_keys}
-use Rattle.set_split.proofs.FrontLemmas.{take-next}
+use Rattle.general_words.proofs.Lists.{take-next}
 use Rattle.mounted_store.specs.Getting.{fault_in, got, involved_files, visible_keys, visible_of, Gets, IsFaultIn}
 use Rattle.mounted_store.specs.declared.files.MountedFile.{MountedFile}
 use Rattle.mounted_store.specs.declared.refusals.GetFault.{GetFault}
-use Rattle.mounted_store.specs.declared.refusals.GetFault.TheVariants.{BadFile, TooLong, TooHeavy, Memory}
-use Rattle.mounted_store.proofs.FirstLemmas.{first-found, first-next}
+use Rattle.general_words.proofs.Searches.{first_some-found, first_some-next}
 
 -- what is told of those that a function gives
 first-through : {A B C : Type 0} (f : B → Option C) (g : A → Option B) (xs : List A) → first_some f (filter_map g xs) ≡ first_some (λ x. option_and_then f (g x)) xs
@@ -42,13 +41,13 @@ module _ (files : List MountedFile) (mounts : List ℕ) (k m : ℕ) (there : Som
   pub fault-more : (file : MountedFile) → Some file ≡ slice_get files m → first_some fault_in (first_files files mounts k) ≡ None → fault_in file ≡ None → first_some fault_in (first_files files mounts (k + 1)) ≡ None
   fault-more file found none this =
       first-through fault_in (slice_get files) (take (k + 1) mounts)
-      ∙ first-next (λ (i : ℕ). option_and_then fault_in (slice_get files i)) mounts k m there (sym (first-through fault_in (slice_get files) (take k mounts)) ∙ none) (ap (option_and_then fault_in) (sym found) ∙ this)
+      ∙ first_some-next (λ (i : ℕ). option_and_then fault_in (slice_get files i)) mounts k m there (sym (first-through fault_in (slice_get files) (take k mounts)) ∙ none) (ap (option_and_then fault_in) (sym found) ∙ this)
 
   -- the first fault is that of the file of the next mount
   pub fault-found : (file : MountedFile) (why : GetFault) → Some file ≡ slice_get files m → first_some fault_in (first_files files mounts k) ≡ None → fault_in file ≡ Some why → first_some fault_in (filter_map (slice_get files) mounts) ≡ Some why
   fault-found file why found none this =
       first-through fault_in (slice_get files) mounts
-      ∙ first-found (λ (i : ℕ). option_and_then fault_in (slice_get files i)) mounts k m why there (sym (first-through fault_in (slice_get files) (take k mounts)) ∙ none) (ap (option_and_then fault_in) (sym found) ∙ this)
+      ∙ first_some-found (λ (i : ℕ). option_and_then fault_in (slice_get files i)) mounts k m why there (sym (first-through fault_in (slice_get files) (take k mounts)) ∙ none) (ap (option_and_then fault_in) (sym found) ∙ this)
 
   -- a mount of which there is no file adds none
   pub files-same : None ≡ slice_get files m → first_files files mounts (k + 1) ≡ first_files files mounts k
@@ -70,10 +69,7 @@ got-bad files parent why is = rw is refl
 
 -- a fault of a file is told where it is the first
 pub gets-fault : (files : List MountedFile) (parent : Name) (file : MountedFile) → ((why : GetFault) → fault_in file ≡ Some why → first_some fault_in (involved_files files parent) ≡ Some why) → (fault : GetFault) → IsFaultIn file fault → Gets (got files parent) fault
-gets-fault files parent file told (BadFile mount line) is = got-bad files parent (BadFile mount line) (told (BadFile mount line) is)
-gets-fault files parent file told (TooLong mount bytes) is = got-bad files parent (TooLong mount bytes) (told (TooLong mount bytes) is)
-gets-fault files parent file told (TooHeavy mount weight) is = got-bad files parent (TooHeavy mount weight) (told (TooHeavy mount weight) is)
-gets-fault files parent file told Memory is = tt
+gets-fault files parent file told fault is other = got-bad files parent fault (told fault (is other))
 
 -- a fault that is handed on is the one that is wanted
 pub err-gets : (wanted : Result KeyMap GetFault) (r : Result KeyMap GetFault) (fault : GetFault) → IsErrAnd r (λ why. why ≡ fault) → Gets wanted fault → MatchResult r (λ keys. wanted ≡ Ok keys) (Gets wanted)

@@ -4,9 +4,10 @@ use Rattle.std.specs.FinMap as map
 use Rattle.std.specs.List.{AllByRecursion}
 use Rattle.std.specs.Option.{option_map, option_or, unwrap_or}
 use Rattle.std.proofs.lemmas.Bool.{ltb-false}
+use Rattle.general_words.specs.Saturated.{saturated}
 use Rattle.kdb_outside.specs.declared.kinds.Kind.{Kind}
 use Rattle.model_names.specs.Name.{Name}
-use Rattle.model_names.specs.Refuses.{first_some}
+use Rattle.general_words.specs.Searches.{first_some}
 use Rattle.model_maps.specs.KeyMap.{KeyMap, weight, heaviest_map}
 use Rattle.set_split.specs.Involved.{involved_in}
 use Rattle.set_split.specs.Parts.{parts_of}
@@ -15,13 +16,13 @@ use Rattle.mounted_store.specs.Judging.{AreStorable, Breaks, Follows, IsVerdict,
 use Rattle.mounted_store.specs.Setting.{aside, change_at, changes, first_long_in, weight_after}
 use Rattle.mounted_store.specs.Short.{AreShort}
 use Rattle.mounted_store.specs.Sound.{AreSoundChanges}
-use Rattle.mounted_store.specs.Weighed.{told}
 use Rattle.mounted_store.specs.Written.{AreWritable}
 use Rattle.mounted_store.specs.declared.changes.Change.{Change}
 use Rattle.mounted_store.specs.declared.files.MountedFile.{MountedFile}
 use Rattle.mounted_store.specs.declared.verdicts.Verdict.{Verdict}
 use Rattle.mounted_store.specs.declared.verdicts.Verdict.TheVariants.{FileTooLarge, ValueTooLong}
 use Rattle.mounted_store.proofs.LimitLemmas.{limited-from}
+use Rattle.general_words.proofs.Searches.{none_before, none_behind}
 
 -- what is refused early, by what is known of a set
 abbrev pub early_by : List Name → List ℕ → KeyMap → List Change → Option Verdict
@@ -36,18 +37,10 @@ pub no_heavy : (o : Option (Name × ℕ)) (p : Option Verdict) → option_or (op
 no_heavy None p e = e
 no_heavy (Some long) p e = absurd cc
 
-none_before : (o p : Option Verdict) → option_or o p ≡ None → o ≡ None
-none_before None p e = refl
-none_before (Some v) p e = e
-
-none_behind : (o p : Option Verdict) → option_or o p ≡ None → p ≡ None
-none_behind None p e = e
-none_behind (Some v) p e = absurd cc
-
 is_light : (change : Change) → too_heavy change ≡ None → weight change.contents ≤ heaviest_map
 is_light change e = ltb-false heaviest_map (weight change.contents) (by (nat_lt heaviest_map (weight change.contents)) e)
   where
-    by : (b : Bool) → cond b (Some (FileTooLarge change.mount.at (told (weight change.contents)))) None ≡ None → b ≡ false
+    by : (b : Bool) → cond b (Some (FileTooLarge change.mount.at (saturated (weight change.contents)))) None ≡ None → b ≡ false
     by true h = absurd cc
     by false h = refl
 
@@ -84,12 +77,12 @@ module _ (files : List MountedFile) (parent : Name) (keys : KeyMap) (points : Li
         (inl (subst (λ (cs : List Change). Breaks IsStorable BreaksAt cs verdict) all_is breaks))
 
     -- and what comes of the others
-    pub verdict-late : early_by points mounts keys all ≡ None → AreStorable IsStorable all → (long : Option Verdict) → long ≡ first_some (too_long text) all → (full left : ℕ) → full ≡ told (weight_after all files) → left ≡ aside points parent keys → (texts : List (List ℕ × List ℕ)) → texts ≡ map.entries (texts_of text all) → verdict ≡ unwrap_or (option_or long (first_some bad_table all)) (done all full texts left) → IsVerdict text IsStorable BreaksAt files parent keys verdict
+    pub verdict-late : early_by points mounts keys all ≡ None → AreStorable IsStorable all → (long : Option Verdict) → long ≡ first_some (too_long text) all → (full left : ℕ) → full ≡ saturated (weight_after all files) → left ≡ aside points parent keys → (texts : List (List ℕ × List ℕ)) → texts ≡ map.entries (texts_of text all) → verdict ≡ unwrap_or (option_or long (first_some bad_table all)) (done all full texts left) → IsVerdict text IsStorable BreaksAt files parent keys verdict
     verdict-late e storable long is_long full left is_full is_left texts are_texts is =
         subst (λ (o : Option Verdict). Follows o verdict (Breaks IsStorable BreaksAt (changes files parent keys) verdict ⊎ (AreStorable IsStorable (changes files parent keys) × (verdict ≡ late_verdict text files parent keys)))) (sym e ∙ early_is)
         (inr (
           subst (λ (cs : List Change). AreStorable IsStorable cs) all_is storable,
           is
               ∙ (λ i. unwrap_or (option_or (is_long i) (first_some bad_table all)) (done all (is_full i) (are_texts i) (is_left i)))
-              ∙ (λ i. unwrap_or (option_or (first_some (too_long text) (all_is i)) (first_some bad_table (all_is i))) (done (all_is i) (told (weight_after (all_is i) files)) (map.entries (texts_of text (all_is i))) (aside (are i) parent keys))),
+              ∙ (λ i. unwrap_or (option_or (first_some (too_long text) (all_is i)) (first_some bad_table (all_is i))) (done (all_is i) (saturated (weight_after (all_is i) files)) (map.entries (texts_of text (all_is i))) (aside (are i) parent keys))),
         ))

@@ -1,21 +1,24 @@
 -- Keys with sound names and short texts that weigh little enough are within the limits of a file, and such keys have short texts.
-use Rattle.std.proofs.Common.{◌≡◌, ℕ, ◌≤◌, nat_lt, Bool, true, false, cond, List, [], ◌∷◌, length, map as over, Option, Some, None, refl, sym, ap, subst, ◌∙◌}
+use Rattle.std.proofs.Common.{◌≡◌, ℕ, ◌≤◌, nat_lt, Bool, true, false, cond, List, [], ◌∷◌, length, map as over, Some, None, refl, sym, ap, subst, ◌∙◌}
 use Rattle.std.specs.FinMap as map
-use Rattle.std.specs.FinMap.{find, slice_cmp-IsAntisymmetric, nat_cmp-IsAntisymmetric}
+use Rattle.std.specs.FinMap.{find}
 use Rattle.std.specs.List.{AllByRecursion}
 use Rattle.std.specs.Option.{option_or}
 use Rattle.std.specs.Ordering.{eq_by_cmp}
 use Rattle.std.proofs.lemmas.Bool.{cond-false, ltb-false, le-ltb}
 use Rattle.std.proofs.lemmas.Cmp.{nat_list_cmp_total}
 use Rattle.model_names.specs.Name.{Name}
-use Rattle.model_names.specs.Refuses.{first_some}
-use Rattle.model_maps.specs.Entry.{Entry, text_cmp, longest_value}
+use Rattle.general_words.specs.Searches.{first_some}
+use Rattle.general_words.specs.Texts.{text_cmp}
+use Rattle.model_maps.specs.Entry.{Entry, longest_value}
 use Rattle.model_maps.specs.KeyMap.{KeyMap, weight, heaviest_map}
 use Rattle.model_maps.specs.Limits.{IsLimited, IsLimitedKey}
 use Rattle.mounted_store.specs.Setting.{if_long}
 use Rattle.mounted_store.specs.Short.{AreShort}
 use Rattle.mounted_store.specs.Sound.{AreSound, AreCascading}
-use Rattle.mounted_store.proofs.MapLemmas.{get-at, all_from_places}
+use Rattle.general_words.proofs.Maps.{get-at}
+use Rattle.general_words.proofs.Lists.{all_from_places}
+use Rattle.general_words.proofs.Searches.{none_before, none_behind}
 
 not_long : (text : List ℕ) → if_long text ≡ None → length text ≤ longest_value
 not_long text e = ltb-false longest_value (length text) (by (nat_lt longest_value (length text)) e)
@@ -26,14 +29,6 @@ not_long text e = ltb-false longest_value (length text) (by (nat_lt longest_valu
 
 is_short : (text : List ℕ) → length text ≤ longest_value → if_long text ≡ None
 is_short text le = cond-false (nat_lt longest_value (length text)) (Some (length text)) None (le-ltb longest_value (length text) le)
-
-none_before : {A : Type 0} (o p : Option A) → option_or o p ≡ None → o ≡ None
-none_before None p e = refl
-none_before (Some x) p e = e
-
-none_behind : {A : Type 0} (o p : Option A) → option_or o p ≡ None → p ≡ None
-none_behind None p e = e
-none_behind (Some x) p e = absurd cc
 
 -- what is found among short texts is short
 short-find : (items : List (List ℕ × List ℕ)) (name text : List ℕ) → first_some if_long (over (λ item. item.1) items) ≡ None → find text_cmp name items ≡ Some text → length text ≤ longest_value
@@ -53,7 +48,7 @@ short-all (item ∷ items) all = ap (λ o. option_or o (first_some if_long (over
 pub short-limited : (keys : KeyMap) → IsLimited keys → AreShort keys
 short-limited keys limited name entry found =
     let key = limited.each name entry found in
-    let metas = all_from_places (λ (item : List ℕ × List ℕ). length item.1 ≤ longest_value) (map.entries entry.meta) (λ i item there. (key.each_meta item.0 item.1 (get-at nat_list_cmp_total (slice_cmp-IsAntisymmetric nat_cmp-IsAntisymmetric) entry.meta i item there)).is_value.limit) in
+    let metas = all_from_places (λ (item : List ℕ × List ℕ). length item.1 ≤ longest_value) (map.entries entry.meta) (λ i item there. (key.each_meta item.0 item.1 (get-at nat_list_cmp_total entry.meta i item there)).is_value.limit) in
     ap (λ o. option_or o (first_some if_long (over (λ (i : List ℕ × List ℕ). i.1) (map.entries entry.meta)))) (is_short entry.value key.is_value.limit)
     ∙ short-all (map.entries entry.meta) metas
 

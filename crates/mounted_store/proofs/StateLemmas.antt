@@ -5,7 +5,7 @@ use Rattle.backend_files.specs.WholeFile.{IsWhole}
 use Rattle.backend_files.specs.declared.reading.FileRead.{FileRead}
 use Rattle.model_names.specs.Name.{Name}
 use Rattle.mount_table.specs.declared.mounts.Mount.{Mount}
-use Rattle.set_split.proofs.FrontLemmas.{take-next}
+use Rattle.general_words.proofs.Lists.{take-next}
 use Rattle.mounted_store.specs.Files.{AreStates, Badness, IsState, Reading}
 use Rattle.mounted_store.specs.Holding.{IsHolding, IsStateOf}
 use Rattle.mounted_store.specs.Short.{HasShortShadow, HaveShortShadows}

@@ -1,8 +1,9 @@
 -- Weighing keeps mounts and shadows, and goes on file by file.
 use Rattle.std.proofs.Common.{◌≡◌, ℕ, ◌+◌, nat_lt, Bool, true, false, cond, List, [], ◌∷◌, map as over, refl, ap}
+use Rattle.general_words.specs.Saturated.{saturated}
 use Rattle.model_maps.specs.KeyMap.{weight, heaviest_map}
 use Rattle.mounted_store.specs.Short.{HasShortShadow, HaveShortShadows}
-use Rattle.mounted_store.specs.Weighed.{added_weight, told, weighed, weighed_behind, weighed_file, weighed_from, own_weight}
+use Rattle.mounted_store.specs.Weighed.{added_weight, weighed, weighed_behind, weighed_file, weighed_from, own_weight}
 use Rattle.mounted_store.specs.declared.causes.Cause.TheVariants.{TooHeavy}
 use Rattle.mounted_store.specs.declared.files.FileState.{FileState}
 use Rattle.mounted_store.specs.declared.files.FileState.TheVariants.{Good, Bad}
@@ -19,7 +20,7 @@ weighed-mounts files = mounts-from (own_weight files) files
 short-behind : (sum : ℕ) (state : FileState) → HasShortShadow state → HasShortShadow (weighed_behind sum state)
 short-behind sum (Good visible shadow) short = by (nat_lt heaviest_map (sum + weight visible))
   where
-    by : (b : Bool) → HasShortShadow (cond b (Bad (TooHeavy (told (sum + weight visible)))) (Good visible shadow))
+    by : (b : Bool) → HasShortShadow (cond b (Bad (TooHeavy (saturated (sum + weight visible)))) (Good visible shadow))
     by true = tt
     by false = short
 short-behind sum (Bad cause) short = tt

@@ -1,17 +1,16 @@
 -- Keys under whole and under relative names, key by key.
-use Rattle.std.proofs.Common.{◌≡◌, ℕ, zero, suc, ◌+◌, ◌≤◌, Bool, true, false, cond, ◌&&◌, List, [], ◌∷◌, ◌++◌, length, take, slice_get, map as over, filter_map, Some, None, refl, sym, ap, ◌∙◌}
+use Rattle.std.proofs.Common.{◌≡◌, ℕ, zero, suc, ◌+◌, ◌≤◌, Bool, true, false, cond, ◌&&◌, List, [], ◌∷◌, ◌++◌, length, take, slice_get, map as over, filter_map, Some, None, refl, ap, ◌∙◌}
 use Rattle.std.specs.FinMap as map
 use Rattle.std.specs.List.{list_all}
-use Rattle.std.specs.Option.{option_map}
 use Rattle.std.proofs.lemmas.List.{take_all}
 use Rattle.std.proofs.lemmas.List.Elements.{filter_map-append}
-use Rattle.key_name.specs.Joining.{joined, way_to}
+use Rattle.key_name.specs.Joining.{joined}
 use Rattle.key_set.specs.WithAll.{with_keys}
 use Rattle.model_names.specs.Name.{Name}
 use Rattle.model_maps.specs.Entry.{Entry}
 use Rattle.model_maps.specs.KeyMap.{KeyMap, no_keys}
-use Rattle.set_split.proofs.FrontLemmas.{take-next}
-use Rattle.mounted_store.specs.Whole.{as_way, as_whole, fits, whole, all_fit, relative}
+use Rattle.general_words.proofs.Lists.{take-next}
+use Rattle.mounted_store.specs.Whole.{as_way, as_whole, fits, whole, all_fit}
 use Rattle.mounted_store.proofs.MapLemmas.{with_keys-append, with_keys-more}
 
 pub over-append : {A B : Type 0} (f : A → B) (xs : List A) (y : A) → over f (xs ++ y ∷ []) ≡ over f xs ++ f y ∷ []
@@ -77,16 +76,6 @@ module _ (point : Name) (keys : KeyMap) where
   relative-next i e there =
       ap (λ es. with_keys es no_keys) (ap (filter_map (as_way point)) (take-next (map.entries keys) i e there) ∙ filter_map-append (as_way point) (take i (map.entries keys)) (e ∷ []))
       ∙ with_keys-append (filter_map (as_way point) (take i (map.entries keys))) (filter_map (as_way point) (e ∷ [])) no_keys
-
-  pub relative-all : (n : ℕ) → length (map.entries keys) ≤ n → relative_front n ≡ relative point keys
-  relative-all n le = ap (λ es. with_keys (filter_map (as_way point) es) no_keys) (take_all n (map.entries keys) le)
-
--- where a name has a way, its key is set under that way, and else none is
-pub way-set : (point : Name) (key : Name × Entry) (way : Name) (keys : KeyMap) → Some way ≡ way_to point key.0 → with_keys (filter_map (as_way point) (key ∷ [])) keys ≡ map.insert keys way key.1
-way-set point key way keys leads = ap (λ o. with_keys (filter_map (λ (k : Name × Entry). option_map (λ w. (w, key.1)) o) (key ∷ [])) keys) (sym leads)
-
-pub no-way : (point : Name) (key : Name × Entry) (keys : KeyMap) → None ≡ way_to point key.0 → with_keys (filter_map (as_way point) (key ∷ [])) keys ≡ keys
-no-way point key keys leads = ap (λ o. with_keys (filter_map (λ (k : Name × Entry). option_map (λ w. (w, key.1)) o) (key ∷ [])) keys) (sym leads)
 
 -- what there is by a test that passes, and by one that fails
 pub some_if : {A : Type 0} (b : Bool) (x y : A) → Some y ≡ cond b (Some x) None → (b ≡ true) × (y ≡ x)

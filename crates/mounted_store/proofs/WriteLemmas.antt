@@ -1,33 +1,27 @@
 -- The texts of changes, change by change.
-use Rattle.std.proofs.Common.{◌≡◌, ℕ, ◌+◌, ◌≤◌, List, [], ◌∷◌, ◌++◌, length, take, drop, slice_get, Some, None, refl, sym, ap, ap₂, subst, ◌∙◌}
+use Rattle.std.proofs.Common.{◌≡◌, ℕ, ◌+◌, List, [], ◌∷◌, take, drop, slice_get, Some, None, refl, sym, ap, ap₂, subst, ◌∙◌}
 use Rattle.std.specs.FinMap as map
 use Rattle.std.specs.FinMap.{FinMap}
 use Rattle.std.specs.FinMap.Entries.{put}
 use Rattle.std.specs.Option.{option_or}
 use Rattle.std.proofs.lemmas.Cmp.{nat_list_cmp_total}
-use Rattle.std.proofs.lemmas.List.{take_all, take-append-drop, drop_more}
 use Rattle.std.proofs.lemmas.List.Sums.{fold-append}
-use Rattle.std.proofs.lemmas.Option.{slice_get_within, get_or_from_slice_get}
 use Rattle.kdb_outside.specs.declared.kinds.Kind.{Kind}
 use Rattle.key_name.specs.Joining.{joined}
 use Rattle.model_names.proofs.PartLemmas.{all_append}
 use Rattle.model_names.specs.Name.{Name}
-use Rattle.model_names.specs.Refuses.{first_some}
-use Rattle.model_maps.specs.Entry.{text_cmp}
+use Rattle.general_words.specs.Searches.{first_some}
+use Rattle.general_words.specs.Texts.{text_cmp}
 use Rattle.model_maps.specs.KeyMap.{KeyMap}
-use Rattle.set_split.proofs.FrontLemmas.{take-next}
-use Rattle.sorted_map.proofs.MapLemmas.{from_sorted-nil}
+use Rattle.general_words.proofs.Lists.{take-next, cut-next}
+use Rattle.general_words.proofs.Maps.{from_sorted-nil}
 use Rattle.mounted_store.specs.Judging.{AreStorable, Breaks, if_too_long, texts_of, too_long}
 use Rattle.mounted_store.specs.Written.{AreWritten}
 use Rattle.mounted_store.specs.declared.changes.Change.{Change}
 use Rattle.mounted_store.specs.declared.verdicts.Verdict.{Verdict}
 use Rattle.mounted_store.specs.declared.verdicts.Verdict.TheVariants.{NotStorable}
 use Rattle.mounted_store.specs.declared.writing.Written.{Written}
-use Rattle.mounted_store.proofs.FirstLemmas.{first-append}
-
-cut-at : {A : Type 0} (xs : List A) (i : ℕ) (x : A) → Some x ≡ slice_get xs i → xs ≡ take i xs ++ x ∷ drop (i + 1) xs
-cut-at xs i x found =
-    sym (take-append-drop i xs) ∙ ap (λ rest. take i xs ++ rest) (drop_more xs i x (slice_get_within xs i x (sym found)) ∙ ap (λ y. y ∷ drop (i + 1) xs) (get_or_from_slice_get xs i x x (sym found)))
+use Rattle.general_words.proofs.Searches.{first_some-snoc}
 
 -- no text is written at the start
 pub written-none : (text : Kind → KeyMap → List ℕ) (IsStorable : Kind → KeyMap → Type 0) (files : List (List ℕ × List ℕ)) → files ≡ [] → AreWritten text IsStorable [] (record { files = files; too_long = None })
@@ -51,7 +45,7 @@ module _ (text : Kind → KeyMap → List ℕ) (IsStorable : Kind → KeyMap →
       long =
           long
           ∙ ap₂ (λ o b. option_or o (if_too_long change b)) so_far.long is
-          ∙ sym (ap (first_some (too_long text)) (take-next all k change there) ∙ first-append (too_long text) (take k all) change);
+          ∙ sym (ap (first_some (too_long text)) (take-next all k change there) ∙ first_some-snoc (too_long text) (take k all) change);
     }
 
     -- its format can't hold the keys of the next one
@@ -60,12 +54,9 @@ module _ (text : Kind → KeyMap → List ℕ) (IsStorable : Kind → KeyMap →
       before = take k all;
       change = change;
       behind = drop (k + 1) all;
-      stand = cut-at all k change there;
+      stand = cut-next all k change there;
       storable = so_far.storable;
       key = key;
       breaks = breaks;
       is = is;
     }
-
-  pub written-all : (k : ℕ) (written : Written) → length all ≤ k → AreWritten text IsStorable (take k all) written → AreWritten text IsStorable all written
-  written-all k written le done = subst (λ (cs : List Change). AreWritten text IsStorable cs written) (take_all k all le) done

@@ -2,7 +2,8 @@
 use Rattle.std.specs.Prelude.{◌≡◌, List, filter_map, slice_get, Option, Some, None, Result, Ok, Err}
 use Rattle.std.specs.List.{fold}
 use Rattle.model_names.specs.Name.{Name}
-use Rattle.model_names.specs.Refuses.{first_some}
+use Rattle.general_words.specs.Memory.{UnlessMemory}
+use Rattle.general_words.specs.Searches.{first_some}
 use Rattle.model_maps.specs.KeyMap.{KeyMap, no_keys}
 use Rattle.key_set.specs.WithAll.{with_all}
 use Rattle.set_split.specs.Involved.{involved_in}
@@ -52,14 +53,8 @@ got files parent = unless_fault (first_some fault_in (involved_files files paren
 
 -- a fault is that of a file; want of memory tells nothing
 abbrev pub IsFaultIn : MountedFile → GetFault → Type 0
-IsFaultIn file (fault.BadFile mount line) = fault_in file ≡ Some (fault.BadFile mount line)
-IsFaultIn file (fault.TooLong mount bytes) = fault_in file ≡ Some (fault.TooLong mount bytes)
-IsFaultIn file (fault.TooHeavy mount weight) = fault_in file ≡ Some (fault.TooHeavy mount weight)
-IsFaultIn file fault.Memory = Unit {0}
+IsFaultIn file why = UnlessMemory fault.Memory (fault_in file ≡ Some why) why
 
 -- an answer is the one that is wanted; want of memory tells nothing
 abbrev pub Gets : Result KeyMap GetFault → GetFault → Type 0
-Gets wanted (fault.BadFile mount line) = wanted ≡ Err (fault.BadFile mount line)
-Gets wanted (fault.TooLong mount bytes) = wanted ≡ Err (fault.TooLong mount bytes)
-Gets wanted (fault.TooHeavy mount weight) = wanted ≡ Err (fault.TooHeavy mount weight)
-Gets wanted fault.Memory = Unit {0}
+Gets wanted why = UnlessMemory fault.Memory (wanted ≡ Err why) why

@@ -4,20 +4,20 @@ use Rattle.std.specs.FinMap as map
 use Rattle.std.specs.FinMap.{FinMap}
 use Rattle.std.specs.List.{AllByRecursion, fold}
 use Rattle.std.specs.Option.{option_map, option_or, unwrap_or}
+use Rattle.general_words.specs.Saturated.{saturated}
 use Rattle.backend_files.specs.WholeFile.{longest_file}
 use Rattle.kdb_outside.specs.declared.kinds.Kind.{Kind}
 use Rattle.key_name.specs.Joining.{joined}
 use Rattle.model_names.specs.Name.{Name}
 use Rattle.model_names.specs.Order.{name_eq}
-use Rattle.model_names.specs.Refuses.{first_some}
-use Rattle.model_maps.specs.Entry.{text_cmp}
+use Rattle.general_words.specs.Searches.{first_some}
+use Rattle.general_words.specs.Texts.{text_cmp}
 use Rattle.model_maps.specs.KeyMap.{KeyMap, weight, heaviest_map}
 use Rattle.mount_table.specs.Points.{own_point}
 use Rattle.mount_table.specs.Table.{table_of}
 use Rattle.mount_table.specs.declared.faults.TableFault.{TableFault}
 use Rattle.mounted_store.specs.Files.{points_of}
 use Rattle.mounted_store.specs.Setting.{aside, changes, first_long, weight_after}
-use Rattle.mounted_store.specs.Weighed.{told}
 use Rattle.mounted_store.specs.declared.changes.Change.{Change}
 use Rattle.mounted_store.specs.declared.files.MountedFile.{MountedFile}
 use Rattle.mounted_store.specs.declared.verdicts.Verdict.{Verdict}
@@ -25,7 +25,7 @@ use Rattle.mounted_store.specs.declared.verdicts.Verdict.TheVariants.{ValueTooLo
 
 -- a touched mount is to hold keys that are too heavy for a file
 abbrev pub too_heavy : Change → Option Verdict
-too_heavy change = if nat_lt heaviest_map (weight change.contents) then Some (FileTooLarge change.mount.at (told (weight change.contents))) else None
+too_heavy change = if nat_lt heaviest_map (weight change.contents) then Some (FileTooLarge change.mount.at (saturated (weight change.contents))) else None
 
 -- what is refused before the formats are asked: the first text that is too long, and then the first file that is too heavy
 abbrev pub early_refusal : List MountedFile → Name → KeyMap → Option Verdict
@@ -72,7 +72,7 @@ done (change ∷ others) full texts left = if nat_lt heaviest_map full then Data
 abbrev pub late_verdict : (Kind → KeyMap → List ℕ) → List MountedFile → Name → KeyMap → Verdict
 late_verdict text files parent keys =
     let all = changes files parent keys in
-    unwrap_or (option_or (first_some (too_long text) all) (first_some bad_table all)) (done all (told (weight_after all files)) (map.entries (texts_of text all)) (aside (points_of files) parent keys))
+    unwrap_or (option_or (first_some (too_long text) all) (first_some bad_table all)) (done all (saturated (weight_after all files)) (map.entries (texts_of text all)) (aside (points_of files) parent keys))
 
 -- each changed file can be stored in its format
 abbrev pub AreStorable : (Kind → KeyMap → Type 0) → List Change → Type 0

@@ -4,7 +4,7 @@ use Rattle.std.specs.FinMap as map
 use Rattle.std.specs.List.{list_any, sum_by}
 use Rattle.std.specs.Option.{option_map, unwrap_or}
 use Rattle.model_names.specs.Name.{Name}
-use Rattle.model_names.specs.Refuses.{first_some}
+use Rattle.general_words.specs.Searches.{first_some}
 use Rattle.model_maps.specs.Entry.{Entry, longest_value}
 use Rattle.model_maps.specs.KeyMap.{KeyMap, weight}
 use Rattle.key_set.specs.Same.{same_keys}

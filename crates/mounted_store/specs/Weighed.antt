@@ -1,18 +1,15 @@
 -- The visible keys of all mounts together have a limit: a mount that goes over it is bad. (This project's own.)
-use Rattle.std.specs.Prelude.{ℕ, ◌+◌, ◌-◌, ◌^◌, min, nat_lt, Bool, if◌then◌else◌, List, [], ◌∷◌, Option, Some, None}
+use Rattle.std.specs.Prelude.{ℕ, ◌+◌, nat_lt, Bool, if◌then◌else◌, List, [], ◌∷◌, Option, Some, None}
 use Rattle.std.specs.Option.{unwrap_or}
+use Rattle.general_words.specs.Saturated.{saturated}
 use Rattle.model_names.specs.Order.{name_eq}
-use Rattle.model_names.specs.Refuses.{first_some}
+use Rattle.general_words.specs.Searches.{first_some}
 use Rattle.model_maps.specs.KeyMap.{weight, heaviest_map}
 use Rattle.mount_table.specs.Points.{own_point}
 use Rattle.mounted_store.specs.declared.causes.Cause.TheVariants.{TooHeavy}
 use Rattle.mounted_store.specs.declared.files.FileState.{FileState}
 use Rattle.mounted_store.specs.declared.files.FileState.TheVariants.{Good, Bad}
 use Rattle.mounted_store.specs.declared.files.MountedFile.{MountedFile}
-
--- a number of bytes as it is told: beyond the type's end it is the last value
-abbrev pub told : ℕ → ℕ
-told n = min n (2 ^ 64 - 1)
 
 -- what the visible keys of a file weigh; those of a bad one are left out
 abbrev pub visible_weight : FileState → ℕ
@@ -22,7 +19,7 @@ visible_weight (Bad cause) = 0
 -- a file that is weighed behind others of some weight: it is bad where it brings the sum over the limit
 abbrev pub weighed_behind : ℕ → FileState → FileState
 weighed_behind sum (Good visible shadow) =
-    if nat_lt heaviest_map (sum + weight visible) then Bad (TooHeavy (told (sum + weight visible))) else Good visible shadow
+    if nat_lt heaviest_map (sum + weight visible) then Bad (TooHeavy (saturated (sum + weight visible))) else Good visible shadow
 weighed_behind sum (Bad cause) = Bad cause
 
 -- a mounted file is that of the table's own keys

@@ -3,7 +3,7 @@ ghost use Rattle.std.specs.Prelude.{◌≡◌, IfOk};
 ghost use Rattle.std.specs.List.Sorted.{IsStrictlySortedBy};
 ghost use Rattle.std.specs.Option.{option_map, option_or, unwrap_or};
 ghost use Rattle.model_names.specs.Order.{name_cmp};
-ghost use Rattle.model_names.specs.Refuses.{first_some};
+ghost use Rattle.general_words.specs.Searches.{first_some};
 ghost use Rattle.mounted_store.specs.Judging.{bad_table, done, too_heavy};
 ghost use Rattle.mounted_store.specs.Setting.{first_long_in};
 ghost use Rattle.mounted_store.specs.declared.verdicts.Verdict.TheVariants.{ValueTooLong};

@@ -4,15 +4,16 @@ ghost use Rattle.std.specs.FinMap as map;
 ghost use Rattle.std.specs.List.{list_any};
 ghost use Rattle.std.specs.List.Sorted.{IsStrictlySortedBy};
 ghost use Rattle.std.specs.Option.{option_map, unwrap_or};
+ghost use Rattle.general_words.specs.Saturated.{saturated};
 ghost use Rattle.key_set.specs.EntryView.{entry_of};
 ghost use Rattle.key_set.specs.WithAll.{with_all};
 ghost use Rattle.model_names.specs.Order.{name_cmp};
-ghost use Rattle.model_names.specs.Refuses.{first_some};
+ghost use Rattle.general_words.specs.Searches.{first_some};
 ghost use Rattle.set_split.specs.Involved.{owns};
 ghost use Rattle.set_split.specs.Seen.{numbered};
 ghost use Rattle.mounted_store.specs.Setting.{change_at, change_of, first_long_in, if_long, long_text, weight_after, weight_wanted};
 ghost use Rattle.mounted_store.specs.Sound.{AreSound, AreSoundChanges};
-ghost use Rattle.mounted_store.specs.Weighed.{told, visible_weight};
+ghost use Rattle.mounted_store.specs.Weighed.{visible_weight};
 ghost use Rattle.mounted_store.specs.Whole.{relative};
 
 use crate::changes::Change;
@@ -100,7 +101,7 @@ fn made_change(
 
 /// What all visible keys weigh after some changes. A weight beyond the type's end is given as its last value.
 pub fn weight_after(changes: &[Change], files: &[MountedFile]) -> u64
-    ensures { result ≡ told (weight_after changes.now files.now) }
+    ensures { result ≡ saturated (weight_after changes.now files.now) }
 {
     let mut weight: u64 = 0;
     for file in files {
@@ -111,7 +112,7 @@ pub fn weight_after(changes: &[Change], files: &[MountedFile]) -> u64
 
 /// What the visible keys of a file weigh after some changes.
 fn weight_of_file(changes: &[Change], file: &MountedFile) -> u64
-    ensures { result ≡ told (unwrap_or (weight_wanted changes.now file.now.mount.at) (visible_weight file.now.state)) }
+    ensures { result ≡ saturated (unwrap_or (weight_wanted changes.now file.now.mount.at) (visible_weight file.now.state)) }
 {
     for change in changes {
         if change.mount.at == file.mount.at {

@@ -1,9 +1,10 @@
 //! The visible keys of all mounts together have a limit: a mount that goes over it is bad.
 ghost use Rattle.std.specs.Prelude.{◌≡◌, ◌+◌, ◌≤◌, if◌then◌else◌, Some, None};
+ghost use Rattle.general_words.specs.Saturated.{saturated};
 ghost use Rattle.model_names.specs.Order.{name_eq};
 ghost use Rattle.model_maps.specs.KeyMap.{heaviest_map};
 ghost use Rattle.mount_table.specs.Points.{own_point};
-ghost use Rattle.mounted_store.specs.Weighed.{added_weight, own_weight, told, visible_weight, weighed, weighed_behind, weighed_file};
+ghost use Rattle.mounted_store.specs.Weighed.{added_weight, own_weight, visible_weight, weighed, weighed_behind, weighed_file};
 
 use crate::{Cause, FileState, MountedFile};
 use key_name::{KeyName, Namespace};
@@ -84,7 +85,7 @@ fn weight_behind(sum: u64, state: &FileState) -> u64
 
 /// What the visible keys of a file weigh. A weight beyond the type's end is given as its last value.
 pub fn visible_weight(state: &FileState) -> u64
-    ensures { result ≡ told (visible_weight state.now) }
+    ensures { result ≡ saturated (visible_weight state.now) }
 {
     match state {
         FileState::Good { visible, .. } => visible.weight(),

@@ -5,7 +5,7 @@ ghost use Rattle.std.specs.Option.{option_or};
 ghost use Rattle.key_name.specs.Joining.{joined};
 ghost use Rattle.model_names.specs.declared.namespaces.Namespace.TheVariants.{Cascading};
 ghost use Rattle.model_names.specs.WellFormed.{IsName};
-ghost use Rattle.model_maps.specs.Entry.{text_cmp};
+ghost use Rattle.general_words.specs.Texts.{text_cmp};
 ghost use Rattle.mounted_store.specs.Judging.{if_too_long};
 ghost use Rattle.mounted_store.specs.Written.{AreWritable, IsWriting};
 ghost use Rattle.mounted_store.specs.declared.verdicts.Verdict.TheVariants.{NotStorable};

@@ -1,5 +1,4 @@
 pub mod MountLemmas
-pub mod FrontLemmas
 pub mod SplitLemmas
 pub mod UnionLemmas
 pub mod NowhereLemmas

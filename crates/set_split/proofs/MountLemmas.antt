@@ -1,10 +1,9 @@
 -- Lists that are passed item by item.
-use Rattle.std.proofs.Common.{◌≡◌, ℕ, ◌+◌, ◌<◌, Bool, true, false, cond, ◌||◌, List, [], ◌∷◌, ◌++◌, length, get_or, map, take, refl, sym, ap, subst, ◌∙◌, arith}
+use Rattle.std.proofs.Common.{◌≡◌, ℕ, ◌+◌, ◌<◌, Bool, true, cond, ◌||◌, List, [], ◌∷◌, ◌++◌, length, get_or, map, refl, sym, ap, subst, ◌∙◌, arith}
 use Rattle.std.specs.List.{AllByRecursion, filter, list_any, range_with_len}
-use Rattle.std.proofs.lemmas.Bool.{or_from}
 use Rattle.std.proofs.lemmas.List.{map-id}
 use Rattle.std.proofs.lemmas.List.Elements.{All-from_recursion, filter-append}
-use Rattle.std.proofs.lemmas.List.Folds.{list_any_at, list_any_more}
+use Rattle.std.proofs.lemmas.List.Folds.{list_any_at}
 use Rattle.std.proofs.lemmas.List.FromFn.{map-range_with_len_more}
 
 pub any-map : {A B : Type 0} (h : A → B) (p : B → Bool) (xs : List A) → list_any p (map h xs) ≡ list_any (λ x. p (h x)) xs
@@ -19,13 +18,6 @@ module _ {A B : Type 0} (h : A → B) (p : B → Bool) (xs : List A) (i : ℕ) (
   -- one item passes
   pub any-found : p (h x) ≡ true → list_any p (map h xs) ≡ true
   any-found passes = any-map h p xs ∙ list_any_at (λ y. p (h y)) xs i x lt (ap (λ y. p (h y)) (sym is) ∙ passes)
-
-  -- neither those before it nor the next one does
-  pub any-next : list_any p (map h (take i xs)) ≡ false → p (h x) ≡ false → list_any p (map h (take (i + 1) xs)) ≡ false
-  any-next before fails =
-      any-map h p (take (i + 1) xs)
-      ∙ list_any_more (λ y. p (h y)) xs i x lt
-      ∙ or_from _ _ (sym (any-map h p (take i xs)) ∙ before) (ap (λ y. p (h y)) (sym is) ∙ fails)
 
 range-next : (n : ℕ) → range_with_len 0 (n + 1) ≡ range_with_len 0 n ++ n ∷ []
 range-next n = sym (map-id (range_with_len 0 (n + 1))) ∙ map-range_with_len_more (λ x. x) 0 n n (omega arith) ∙ ap (λ xs. xs ++ n ∷ []) (map-id (range_with_len 0 n))

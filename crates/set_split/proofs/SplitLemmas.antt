@@ -13,14 +13,16 @@ use Rattle.model_names.specs.Order.{name_cmp}
 use Rattle.model_names.proofs.OrderLemmas.{name_cmp_total, name_cmp-IsAntisymmetric}
 use Rattle.model_maps.specs.Entry.{Entry}
 use Rattle.model_maps.specs.KeyMap.{KeyMap, no_keys}
-use Rattle.sorted_map.proofs.MapLemmas.{from_sorted-nil}
+use Rattle.general_words.proofs.Maps.{from_sorted-nil, retain-insert, retain-empty, entries-retain}
+use Rattle.general_words.specs.Fronts.{front}
+use Rattle.general_words.proofs.Fronts.{front-all, front-next}
+use Rattle.general_words.proofs.Lists.{take-next}
 use Rattle.key_name.specs.Owner.{owner_of}
 use Rattle.set_split.specs.declared.parts.Part.{Part}
 use Rattle.set_split.specs.Involved.{involved_in, owns}
 use Rattle.set_split.specs.Parts.{owned_by, parts_of, is_reached}
 use Rattle.set_split.specs.Seen.{numbered}
 use Rattle.set_split.proofs.MountLemmas.{any-map}
-use Rattle.set_split.proofs.FrontLemmas.{front, front-all, front-next, retain-insert, retain-empty, entries-retain, take-next}
 
 -- ---- the parts
 

@@ -11,7 +11,7 @@ use Rattle.model_maps.specs.KeyMap.{KeyMap, no_keys}
 use Rattle.set_split.specs.Involved.{involved_in, owns}
 use Rattle.set_split.specs.Parts.{owned_by, parts_of, is_reached, in_reach}
 use Rattle.set_split.specs.Union.{IsUnion, last_entry}
-use Rattle.set_split.proofs.FrontLemmas.{get-retain}
+use Rattle.general_words.proofs.Maps.{get-retain}
 
 either : (a b : Bool) (o : Option Entry) → option_or (cond b o None) (cond a o None) ≡ cond (a || b) o None
 either true true None = refl

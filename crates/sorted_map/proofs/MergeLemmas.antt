@@ -1,37 +1,14 @@
 -- Two lists of entries as one list: which entry comes first in it, and that its keys rise.
-use Rattle.std.proofs.Common.{◌≡◌, ◌&&◌, Bool, true, false, T, List, [], ◌∷◌, ◌++◌, Option, Some, None, refl, sym, ap, subst, ◌∙◌}
+use Rattle.std.proofs.Common.{◌≡◌, T, List, [], ◌∷◌, ◌++◌, Option, Some, None, refl, sym, ap, subst, ◌∙◌}
 use Rattle.std.specs.Cmp.{IsTotalOrder, tied_back}
 use Rattle.std.specs.FinMap.{is_sorted}
 use Rattle.std.specs.FinMap.Entries.{below_all, put, by_order, is_sorted-put}
 use Rattle.std.specs.Option.{option_to_list}
-use Rattle.std.specs.Ordering.{is_lt, ordering_reverse}
 use Rattle.std.specs.declared.cmp.Ordering.{Ordering}
 use Rattle.std.specs.declared.cmp.Ordering.TheVariants.{Less, Equal, Greater}
 use Rattle.sorted_map.specs.Merge.{put_all, firsts_cmp}
-
-both : (a b : Bool) → T a → T b → T (a && b)
-both true b p q = q
-both false b p q = p
-
-first : (a b : Bool) → T (a && b) → T a
-first true b p = tt
-first false b p = p
-
-second : (a b : Bool) → T (a && b) → T b
-second true b p = p
-second false b p = absurd p
-
-less : (r : Ordering) → T (is_lt r) → r ≡ Less
-less Less p = refl
-less Equal p = absurd p
-less Greater p = absurd p
-
-is_less : (r : Ordering) → r ≡ Less → T (is_lt r)
-is_less r e = subst (λ s. T (is_lt s)) (sym e) tt
-
-module _ {K : Type 0} (R : K → K → Ordering) (o : IsTotalOrder R) where
-  turned : (x y : K) (r : Ordering) → R x y ≡ r → R y x ≡ ordering_reverse r
-  turned x y r e = o.antisymm y x ∙ ap ordering_reverse e
+use Rattle.general_words.proofs.Tests.{both, first, second}
+use Rattle.general_words.proofs.Orders.{less, is_less, turned}
 
 module _ {K X : Type 0} (R : K → K → Ordering) (o : IsTotalOrder R) where
   -- what stands before a key stands before the keys behind that
@@ -48,7 +25,7 @@ module _ {K X : Type 0} (R : K → K → Ordering) (o : IsTotalOrder R) where
   put_all-first : (e : K × X) (es others : List (K × X)) → T (below_all R e.0 others) → put_all R others (e ∷ es) ≡ e ∷ put_all R others es
   put_all-first e es [] h = refl
   put_all-first e es (f ∷ fs) h =
-      ap (λ r. put_all R fs (by_order r (f ∷ e ∷ es) ((e.0, f.1) ∷ es) (e ∷ put R f.0 f.1 es))) (turned R o e.0 f.0 Less (less _ (first _ _ h)))
+      ap (λ r. put_all R fs (by_order r (f ∷ e ∷ es) ((e.0, f.1) ∷ es) (e ∷ put R f.0 f.1 es))) (turned o e.0 f.0 Less (less _ (first _ _ h)))
       ∙ put_all-first e (put R f.0 f.1 es) fs (second _ _ h)
 
   -- the first entry of the list into which others are put, where it has the smaller key
@@ -60,7 +37,7 @@ module _ {K X : Type 0} (R : K → K → Ordering) (o : IsTotalOrder R) where
   first_of_theirs : (f : K × X) (es fs : List (K × X)) → T (is_sorted R (f ∷ fs)) → firsts_cmp R es (f ∷ fs) ≡ Greater → put_all R (f ∷ fs) es ≡ f ∷ put_all R fs es
   first_of_theirs f [] fs h gt = put_all-first f [] fs (first _ _ h)
   first_of_theirs f (e ∷ es) fs h gt =
-      ap (λ r. put_all R fs (by_order r (f ∷ e ∷ es) ((e.0, f.1) ∷ es) (e ∷ put R f.0 f.1 es))) (turned R o e.0 f.0 Greater gt)
+      ap (λ r. put_all R fs (by_order r (f ∷ e ∷ es) ((e.0, f.1) ∷ es) (e ∷ put R f.0 f.1 es))) (turned o e.0 f.0 Greater gt)
       ∙ put_all-first f (e ∷ es) fs (first _ _ h)
 
   -- both, where their keys tie

@@ -11,26 +11,9 @@ use Rattle.std.specs.declared.cmp.Ordering.{Ordering}
 use Rattle.std.specs.declared.cmp.Ordering.TheVariants.{Less, Equal, Greater}
 use Rattle.std.proofs.lemmas.Bool.{cases_lt}
 use Rattle.sorted_map.specs.Place.{IsPlace, IsGap}
-
-both : (a b : Bool) → T a → T b → T (a && b)
-both true b p q = q
-both false b p q = p
-
-first : (a b : Bool) → T (a && b) → T a
-first true b p = tt
-first false b p = p
-
-second : (a b : Bool) → T (a && b) → T b
-second true b p = p
-second false b p = absurd p
-
-less : (r : Ordering) → T (is_lt r) → r ≡ Less
-less Less p = refl
-less Equal p = absurd p
-less Greater p = absurd p
-
-true_is : (b : Bool) → b ≡ true → T b
-true_is b e = subst T (sym e) tt
+use Rattle.general_words.proofs.Tests.{both, first, second, true_is}
+use Rattle.general_words.proofs.Orders.{less}
+use Rattle.general_words.proofs.Entries.{below_at, find_nowhere}
 
 index_within : (r : Ordering) → ordering_index r ≤ 2
 index_within Less = omega arith
@@ -63,11 +46,6 @@ module _ {K X : Type 0} (R : K → K → Ordering) where
   -- each key stands before q
   abbrev pub all_below : K → List (K × X) → Bool
   all_below q = list_all (λ e. is_lt (R e.0 q))
-
-  below_at : (x : K) (es : List (K × X)) → T (below_all R x es) → (j : ℕ) (d : K × X) → j < length es → R x (get_or es j d).0 ≡ Less
-  below_at x [] h j d lt = absurd (omega arith)
-  below_at x (e ∷ es) h zero d lt = less _ (first _ _ h)
-  below_at x (e ∷ es) h (suc j) d lt = below_at x es (second _ _ h) j d (omega arith)
 
   -- each of them, by its place
   all_below_at : (q : K) (es : List (K × X)) → T (all_below q es) → (j : ℕ) (d : K × X) → j < length es → R (get_or es j d).0 q ≡ Less
@@ -136,7 +114,7 @@ module _ {K X : Type 0} (R : K → K → Ordering) where
     comparisons_rise : (q : K) (es : List (K × X)) → T (is_sorted R es) → IsNonDecreasingBy (λ e. ordering_index (R e.0 q)) es
     comparisons_rise q [] h i j d le lt = absurd (omega arith)
     comparisons_rise q (e ∷ es) h zero zero d le lt = omega arith
-    comparisons_rise q (e ∷ es) h zero (suc j) d le lt = index_rises o e.0 (get_or es j d).0 q (below_at e.0 es (first _ _ h) j d (omega arith))
+    comparisons_rise q (e ∷ es) h zero (suc j) d le lt = index_rises o e.0 (get_or es j d).0 q (below_at R e.0 es (first _ _ h) j d (omega arith))
     comparisons_rise q (e ∷ es) h (suc i) zero d le lt = absurd (omega arith)
     comparisons_rise q (e ∷ es) h (suc i) (suc j) d le lt = comparisons_rise q es (second _ _ h) i j d (omega arith) (omega arith)
 
@@ -149,7 +127,7 @@ module _ {K X : Type 0} (R : K → K → Ordering) where
 
     -- at a place that ties, the keys before it are smaller
     before_place : (q : K) (e : K × X) (es : List (K × X)) → T (is_sorted R (e ∷ es)) → (i : ℕ) (d : K × X) → i < length es → R (get_or es i d).0 q ≡ Equal → R e.0 q ≡ Less
-    before_place q e es h i d lt ties = sym (alike_right o (get_or es i d).0 q e.0 ties) ∙ below_at e.0 es (first _ _ h) i d lt
+    before_place q e es h i d lt ties = sym (alike_right o (get_or es i d).0 q e.0 ties) ∙ below_at R e.0 es (first _ _ h) i d lt
 
     -- the entry at the place is the one that is found
     pub find-place : (q : K) (es : List (K × X)) → T (is_sorted R es) → (i : ℕ) (d : K × X) → i < length es → R (get_or es i d).0 q ≡ Equal → find R q es ≡ Some (get_or es i d).1
@@ -173,11 +151,6 @@ module _ {K X : Type 0} (R : K → K → Ordering) where
     pub put-read : (q : K) (v : X) (es : List (K × X)) → T (is_sorted R es) → (i : ℕ) (e : K × X) → IsPlace R es q i → e ≡ get_or es i e → set es i (e.0, v) ≡ put R q v es
     put-read q v es h i e there read = ap (λ (f : K × X). set es i (f.0, v)) read ∙ sym (put-place q v es h i e there.in_range (there.tied e))
 
-    -- where no key ties, none is found
-    find_nowhere : (q : K) (es : List (K × X)) → ((k : ℕ) (d : K × X) → k < length es → eq_by_cmp R q (get_or es k d).0 ≡ false) → find R q es ≡ None
-    find_nowhere q [] h = refl
-    find_nowhere q (e ∷ es) h = ap (λ b. cond b (Some e.1) (find R q es)) (h 0 e (omega arith)) ∙ find_nowhere q es (λ k d lt. h (suc k) d (omega arith))
-
     -- and none is taken out
     without_nowhere : (q : K) (es : List (K × X)) → ((k : ℕ) (d : K × X) → k < length es → eq_by_cmp R q (get_or es k d).0 ≡ false) → where_key R (λ x. not (eq_by_cmp R q x)) es ≡ es
     without_nowhere q [] h = refl
@@ -191,7 +164,7 @@ module _ {K X : Type 0} (R : K → K → Ordering) where
     without-place q (e ∷ es) h zero d lt ties =
         let rest = where_key R (λ x. not (eq_by_cmp R q x)) es in
         ap (λ r. cond (not (is_eq r)) (e ∷ rest) rest) (tied_back o e.0 q ties)
-        ∙ without_nowhere q es (λ k f in_range. ap is_eq (sym (o.congr e.0 q (get_or es k f).0 ties) ∙ below_at e.0 es (first _ _ h) k f in_range))
+        ∙ without_nowhere q es (λ k f in_range. ap is_eq (sym (o.congr e.0 q (get_or es k f).0 ties) ∙ below_at R e.0 es (first _ _ h) k f in_range))
     without-place q (e ∷ es) h (suc i) d lt ties =
         let rest = where_key R (λ x. not (eq_by_cmp R q x)) es in
         ap (λ b. cond (not b) (e ∷ rest) rest) (apart o e.0 q (before_place q e es h i d (omega arith) ties)) ∙ ap (λ fs. e ∷ fs) (without-place q es (second _ _ h) i d (omega arith) ties)
@@ -203,7 +176,7 @@ module _ {K X : Type 0} (R : K → K → Ordering) where
     ]
 
     pub find-gap : (q : K) (es : List (K × X)) (i : ℕ) → IsGap R es q i → find R q es ≡ None
-    find-gap q es i gap = find_nowhere q es (gap_apart q es i gap)
+    find-gap q es i gap = find_nowhere R q es (gap_apart q es i gap)
 
     pub without-gap : (q : K) (es : List (K × X)) (i : ℕ) → IsGap R es q i → where_key R (λ x. not (eq_by_cmp R q x)) es ≡ es
     without-gap q es i gap = without_nowhere q es (gap_apart q es i gap)

@@ -1,6 +1,6 @@
 use Rattle.std.proofs.Common.{ap, ◌+◌, length}
-use Rattle.model_maps.specs.Entry.{text_cmp}
-use Rattle.model_maps.proofs.Sums.{sum_by-empty}
+use Rattle.general_words.specs.Texts.{text_cmp}
+use Rattle.general_words.proofs.Maps.{sum_by-empty}
 use Rattle.model_maps.proofs.a_key_weighs_its_texts.Goals as goal
 
 pub returns : goal.returns

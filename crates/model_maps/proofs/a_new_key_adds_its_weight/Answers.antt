@@ -1,7 +1,7 @@
 use Rattle.model_names.specs.Order.{name_cmp}
 use Rattle.model_names.proofs.OrderLemmas.{name_cmp_total}
 use Rattle.model_maps.specs.KeyMap.{weight_of_key}
-use Rattle.model_maps.proofs.Sums.{sum_by-insert, sum_by-empty}
+use Rattle.general_words.proofs.Maps.{sum_by-insert, sum_by-empty}
 use Rattle.model_maps.proofs.a_new_key_adds_its_weight.Goals as goal
 
 pub returns-clause-empty : goal.returns-clause-empty

@@ -4,7 +4,8 @@ use Rattle.std.specs.FinMap as map
 use Rattle.std.specs.List.{flat_map}
 use Rattle.model_dump.specs.Record.{spelled_record}
 use Rattle.model_dump.specs.Text.{record_of_meta}
-use Rattle.dump_storage.proofs.WritingLemmas.{flat_map-more, appended}
+use Rattle.general_words.proofs.Lists.{flat_map-more}
+use Rattle.dump_storage.proofs.WritingLemmas.{appended}
 use Rattle.dump_storage.proofs.writing.push_metadata.Goals as goal
 
 pub loop-i-preserved : goal.loop-i-preserved

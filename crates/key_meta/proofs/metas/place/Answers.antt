@@ -2,7 +2,7 @@
 use Rattle.std.proofs.Common.{rules}
 use Rattle.std.proofs.lemmas.Fn.{always_returns_same}
 use Rattle.std.proofs.lemmas.Cmp.{nat_list_cmp_total}
-use Rattle.model_maps.specs.Entry.{text_cmp}
+use Rattle.general_words.specs.Texts.{text_cmp}
 use Rattle.sorted_map.specs.Place.{IsPlace, IsGap}
 use Rattle.sorted_map.proofs.RisingLemmas.{searched, if_ok, if_err}
 use Rattle.key_meta.proofs.metas.place.Goals as goal

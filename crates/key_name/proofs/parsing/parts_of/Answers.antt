@@ -1,5 +1,6 @@
 use Rattle.std.proofs.Common.{map, string_bytes, sym, ap, ◌∙◌}
-use Rattle.model_names.specs.Refuses.{bad_array, bad_escape, first_some}
+use Rattle.general_words.specs.Searches.{first_some}
+use Rattle.model_names.specs.Refuses.{bad_array, bad_escape}
 use Rattle.key_name.specs.Raws.{with_places}
 use Rattle.key_name.proofs.RefusedLemmas.{AreOf, IsSound-from_passes, refusal_of-array, refusal_of-escape, refusal_of-nul, walked-found}
 use Rattle.key_name.proofs.parsing.parts_of.Goals as goal

@@ -1,5 +1,6 @@
 use Rattle.std.proofs.Common.{◌≡◌, drop}
-use Rattle.model_names.specs.Refuses.{bad_array, first_some}
+use Rattle.general_words.specs.Searches.{first_some}
+use Rattle.model_names.specs.Refuses.{bad_array}
 use Rattle.key_name.specs.Raws.{with_places}
 use Rattle.key_name.proofs.refusing.first_bad_array.Given as goal
 

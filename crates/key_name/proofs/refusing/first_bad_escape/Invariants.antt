@@ -1,5 +1,6 @@
 use Rattle.std.proofs.Common.{◌≡◌, drop}
-use Rattle.model_names.specs.Refuses.{bad_escape, first_some}
+use Rattle.general_words.specs.Searches.{first_some}
+use Rattle.model_names.specs.Refuses.{bad_escape}
 use Rattle.key_name.specs.Raws.{with_places}
 use Rattle.key_name.proofs.refusing.first_bad_escape.Given as goal
 

@@ -8,22 +8,21 @@ use Rattle.model_names.specs.Name.{Name}
 use Rattle.model_names.specs.Order.{name_cmp}
 use Rattle.model_names.proofs.OrderLemmas.{name_cmp_total, name_cmp-IsAntisymmetric}
 use Rattle.model_names.proofs.SpellsLemmas.{Spells-once, Spells-from_tests}
-use Rattle.model_maps.specs.Entry.{Entry, plain_entry, text_cmp}
+use Rattle.general_words.specs.Texts.{text_cmp}
+use Rattle.model_maps.specs.Entry.{Entry, plain_entry, with_meta}
 use Rattle.model_maps.specs.KeyMap.{KeyMap, no_keys, weight}
 use Rattle.model_dump.specs.Record.{Record, KeyKind, MetaKind, CopyKind, spelled_record}
-use Rattle.model_dump.specs.Adds.{Progress, start, Adds, with_meta}
+use Rattle.model_dump.specs.Adds.{Progress, start, Adds}
 use Rattle.model_dump.specs.Dump.{Begins, Inside}
 use Rattle.model_dump.proofs.Begins.{Begins-start, Begins-more}
-use Rattle.model_dump.proofs.MapFronts.{get-insert_same}
-use Rattle.model_dump.proofs.MapLemmas.{insert-insert, weight-insert, weight-no_keys, weight_of_key-plain, weight_of_key-meta, IsValue-from_ascii}
+use Rattle.general_words.proofs.Maps.{get-insert_same, insert-insert}
+use Rattle.model_dump.proofs.MapLemmas.{weight-insert, weight-no_keys, weight_of_key-plain, weight_of_key-meta, IsValue-from_ascii}
 use Rattle.model_dump.proofs.SmallDumps.{small, name_a, plain_a, record_a, after_a, spells_a, plain_a_has, adds_a, HasNoNext-record}
 use Rattle.model_dump.proofs.examples.records_without_reading_stop.Goals as goal
+use Rattle.general_words.proofs.Lists.{some_is}
 
 nothing_is_some : {A : Type 0} (x : A) → ◌≡◌ {A = Option A} None (Some x) → ⊥
 nothing_is_some x e = absurd cc
-
-some_is : {A : Type 0} (x y : A) → Some x ≡ Some y → x ≡ y
-some_is x y e = cc
 
 -- behind the key `/a` = `1` stands this record
 behind_a : (r : Record) (more bytes : List ℕ) → bytes ≡ codes "kdbOpen 2\n$key string 1 1\na\n1\n" ++ (spelled_record r ++ more) → Begins Adds bytes (record_a ∷ []) after_a (spelled_record r ++ more)

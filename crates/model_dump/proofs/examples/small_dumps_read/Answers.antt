@@ -9,14 +9,16 @@ use Rattle.model_names.specs.Name.{Name}
 use Rattle.model_names.specs.Order.{name_cmp}
 use Rattle.model_names.proofs.OrderLemmas.{name_cmp_total, name_cmp-IsAntisymmetric}
 use Rattle.model_names.proofs.SpellsLemmas.{Spells-from_tests}
-use Rattle.model_maps.specs.Entry.{Entry, plain_entry, text_cmp}
+use Rattle.general_words.specs.Texts.{text_cmp}
+use Rattle.model_maps.specs.Entry.{Entry, plain_entry, with_meta}
 use Rattle.model_maps.specs.KeyMap.{KeyMap, no_keys, weight, weight_of_key}
 use Rattle.model_dump.specs.Record.{Record, KeyKind, MetaKind, CopyKind}
-use Rattle.model_dump.specs.Adds.{Progress, start, Adds, with_meta}
+use Rattle.model_dump.specs.Adds.{Progress, start, Adds}
 use Rattle.model_dump.specs.Dump.{Leads}
 use Rattle.model_dump.proofs.Begins.{Begins-start}
 use Rattle.model_dump.proofs.SmallDumps.{small, name_a, plain_a, record_a, after_a, plain_a_has, adds_a}
-use Rattle.model_dump.proofs.MapLemmas.{insert-insert, weight-insert, weight-no_keys, weight_of_key-plain, weight_of_key-meta, IsValue-from_ascii}
+use Rattle.general_words.proofs.Maps.{insert-insert}
+use Rattle.model_dump.proofs.MapLemmas.{weight-insert, weight-no_keys, weight_of_key-plain, weight_of_key-meta, IsValue-from_ascii}
 use Rattle.model_dump.proofs.examples.small_dumps_read.Goals as goal
 
 pub returns-clause-no_line_feed : goal.returns-clause-no_line_feed

@@ -8,12 +8,12 @@ use Rattle.model_names.specs.declared.namespaces.Namespace.TheVariants.{Cascadin
 use Rattle.model_names.specs.Name.{Name}
 use Rattle.model_names.specs.Order.{name_cmp}
 use Rattle.model_names.proofs.OrderLemmas.{name_cmp_total}
-use Rattle.model_maps.specs.Entry.{Entry, plain_entry, text_cmp}
+use Rattle.general_words.specs.Texts.{text_cmp}
+use Rattle.model_maps.specs.Entry.{Entry, plain_entry, with_meta}
 use Rattle.model_maps.specs.KeyMap.{no_keys}
 use Rattle.model_dump.specs.Record.{spelled_record, header, ending}
-use Rattle.model_dump.specs.Adds.{with_meta}
 use Rattle.model_dump.specs.Text.{records_of_key}
-use Rattle.model_dump.proofs.MapFronts.{entries-empty}
+use Rattle.general_words.proofs.Maps.{entries-empty}
 use Rattle.model_dump.proofs.examples.small_maps_have_their_texts.Goals as goal
 
 -- the text of a map with these entries

@@ -12,7 +12,7 @@ returns-then-is_some-clause-err c =
     let entries = c.in_ok-entries.entries in
     let text = c.args.text.now in
     let there = c.is_some.ensures ∙ has_entry-found entries c.args.keys.now text c.get.result c.get.ensures.sorted c.in_ok-entries.ensures c.get.ensures.found in
-    added-there c.args.keys.now text c.in_ok-copy.field-0 c.args.file.now c.args.kind (sym there ∙ c.if-is_some.true) c.in_ok-copy.ensures
+    λ _. added-there c.args.keys.now text c.in_ok-copy.field-0 c.args.file.now c.args.kind (sym there ∙ c.if-is_some.true) c.in_ok-copy.ensures
 
 pub returns-clause-free : goal.returns-clause-free
 returns-clause-free c =

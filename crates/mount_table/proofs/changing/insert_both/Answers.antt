@@ -3,7 +3,7 @@ use Rattle.std.proofs.Common.{ap, ◌∙◌}
 use Rattle.std.specs.FinMap as map
 use Rattle.key_set.specs.EntryView.{entry_of}
 use Rattle.model_names.proofs.OrderLemmas.{name_cmp_total, name_cmp-IsAntisymmetric}
-use Rattle.mount_table.proofs.ChangingLemmas.{remove-insert}
+use Rattle.general_words.proofs.Maps.{remove-insert}
 use Rattle.mount_table.proofs.changing.insert_both.Goals as goal
 
 pub returns-in-Err-clause-err : goal.returns-in-Err-clause-err

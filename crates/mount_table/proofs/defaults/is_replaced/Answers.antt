@@ -3,7 +3,7 @@ use Rattle.std.proofs.Common.{is_some, ap, sym, ◌∙◌}
 use Rattle.std.specs.FinMap as map
 use Rattle.std.specs.FinMap.{find}
 use Rattle.model_names.specs.Spelling.{spelling}
-use Rattle.model_maps.specs.Entry.{text_cmp}
+use Rattle.general_words.specs.Texts.{text_cmp}
 use Rattle.mount_table.proofs.TableLemmas.{is_some-copied}
 use Rattle.mount_table.proofs.defaults.is_replaced.Goals as goal
 

@@ -1,16 +1,19 @@
 -- Each turn notes one more key, and in the end all are noted.
 use Rattle.std.proofs.Common.{arith, ap, sym, ◌∙◌}
 use Rattle.std.specs.FinMap as map
-use Rattle.sorted_map.proofs.MapLemmas.{from_sorted-nil}
+use Rattle.general_words.proofs.Maps.{from_sorted-nil}
 use Rattle.key_set.specs.EntryView.{entry_of}
-use Rattle.model_maps.specs.Entry.{text_cmp}
+use Rattle.general_words.specs.Texts.{text_cmp}
 use Rattle.mount_table.specs.Entries.{entries_of}
 use Rattle.mount_table.specs.Noting.{noted}
-use Rattle.mount_table.proofs.NotingLemmas.{entries_of-insert, entries_of-none, first_keys, first_keys-more, first_keys-none, first_keys-all}
+use Rattle.mount_table.proofs.NotingLemmas.{entries_of-insert, entries_of-none}
+use Rattle.model_names.proofs.OrderLemmas.{name_cmp_total, name_cmp-IsAntisymmetric}
+use Rattle.general_words.specs.Fronts.{front}
+use Rattle.general_words.proofs.Fronts.{front-none, front-next, front-all}
 use Rattle.mount_table.proofs.entries.entries_of.Goals as goal
 
 pub loop-i-init : goal.loop-i-init
-loop-i-init c = ap map.from_sorted c.new-entries.ensures ∙ from_sorted-nil text_cmp ∙ sym entries_of-none ∙ ap entries_of (sym (first_keys-none c.args.keys.now))
+loop-i-init c = ap map.from_sorted c.new-entries.ensures ∙ from_sorted-nil text_cmp ∙ sym entries_of-none ∙ ap entries_of (sym (front-none c.args.keys.now))
 
 pub loop-i-preserved : goal.loop-i-preserved
 loop-i-preserved c =
@@ -18,8 +21,8 @@ loop-i-preserved c =
     let entry = entry_of c.in-Some.entry.now in
     c.in_ok-note.ensures
     ∙ ap (λ entries. noted entries c.in-Some.name.now entry.value) c.loop-i.invariant
-    ∙ sym (entries_of-insert (first_keys c.loop-i.i keys) c.in-Some.name.now entry)
-    ∙ ap entries_of (sym (first_keys-more keys c.loop-i.i (c.in-Some.name.now, entry) c.in-Some.ensures))
+    ∙ sym (entries_of-insert (front keys c.loop-i.i) c.in-Some.name.now entry)
+    ∙ ap entries_of (sym (front-next name_cmp_total name_cmp-IsAntisymmetric keys c.loop-i.i (c.in-Some.name.now, entry) c.in-Some.ensures))
 
 pub returns : goal.returns
-returns c = c.loop-i.invariant ∙ ap entries_of (first_keys-all c.args.keys.now c.loop-i.i (omega arith))
+returns c = c.loop-i.invariant ∙ ap entries_of (front-all c.args.keys.now c.loop-i.i (omega arith))

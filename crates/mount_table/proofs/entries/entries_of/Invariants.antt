@@ -1,10 +1,10 @@
 -- The entries of the keys so far have been noted.
 use Rattle.std.proofs.Common.{◌≡◌}
 use Rattle.std.specs.FinMap as map
-use Rattle.model_maps.specs.Entry.{text_cmp}
+use Rattle.general_words.specs.Texts.{text_cmp}
 use Rattle.mount_table.specs.Entries.{entries_of}
-use Rattle.mount_table.proofs.NotingLemmas.{first_keys}
+use Rattle.general_words.specs.Fronts.{front}
 use Rattle.mount_table.proofs.entries.entries_of.Given as goal
 
 abbrev pub invariant-loop-i : goal.invariant-loop-i
-invariant-loop-i l = map.from_sorted {R = text_cmp} l.entries ≡ entries_of (first_keys l.i l.keys)
+invariant-loop-i l = map.from_sorted {R = text_cmp} l.entries ≡ entries_of (front l.keys l.i)

@@ -1,7 +1,7 @@
 -- The files of the mounts so far are taken.
 use Rattle.std.proofs.Common.{◌≡◌, ℕ, List, is_some, take}
 use Rattle.std.specs.FinMap.{find}
-use Rattle.model_maps.specs.Entry.{text_cmp}
+use Rattle.general_words.specs.Texts.{text_cmp}
 use Rattle.mount_table.specs.Reading.{is_taken}
 use Rattle.mount_table.proofs.reading.files_of.Given as goal
 

@@ -1,7 +1,7 @@
 -- Each turn reads one more entry, and the first faulty one tells its fault.
 use Rattle.std.proofs.Common.{◌+◌, ◌||◌, drop, ap, sym, ◌∙◌}
 use Rattle.std.proofs.lemmas.Result.{err_from_is_err_and}
-use Rattle.model_names.specs.Spelling.{is_text}
+use Rattle.general_words.specs.Texts.{is_text}
 use Rattle.mount_table.specs.Reading.{is_taken, mounts_from}
 use Rattle.mount_table.proofs.ReadingLemmas.{same_next, is_taken-more, mounts_from-ok, mounts_from-err, IsFault-along}
 use Rattle.mount_table.proofs.reading.mounts_from.Goals as goal

@@ -1,7 +1,7 @@
 -- The mounts so far and the entries that are left lead to what all lead to.
 use Rattle.std.proofs.Common.{◌≡◌, ℕ, List, is_some, drop}
 use Rattle.std.specs.FinMap.{find}
-use Rattle.model_maps.specs.Entry.{text_cmp}
+use Rattle.general_words.specs.Texts.{text_cmp}
 use Rattle.mount_table.specs.Reading.{is_taken, mounts_from}
 use Rattle.mount_table.proofs.reading.mounts_from.Given as goal
 

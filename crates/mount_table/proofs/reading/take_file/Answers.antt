@@ -2,7 +2,7 @@
 use Rattle.std.proofs.Common.{is_some, ap, ◌∙◌}
 use Rattle.std.specs.FinMap.{find}
 use Rattle.std.specs.FinMap.Entries.{put}
-use Rattle.model_maps.specs.Entry.{text_cmp}
+use Rattle.general_words.specs.Texts.{text_cmp}
 use Rattle.mount_table.proofs.ReadingLemmas.{find-file}
 use Rattle.mount_table.proofs.reading.take_file.Goals as goal
 

@@ -2,7 +2,7 @@
 use Rattle.std.proofs.Common.{ap, ap₂, sym, ◌∙◌}
 use Rattle.std.specs.FinMap as map
 use Rattle.std.specs.FinMap.Entries.{put}
-use Rattle.sorted_map.proofs.MapLemmas.{from_sorted-nil, from_sorted-put}
+use Rattle.general_words.proofs.Maps.{from_sorted-nil, from_sorted-put}
 use Rattle.model_names.specs.Order.{name_cmp}
 use Rattle.model_names.proofs.OrderLemmas.{name_cmp_total}
 use Rattle.mount_table.proofs.TableLemmas.{by_point-more}

@@ -19,7 +19,7 @@ returns-in_err-mounts-2 c =
 pub returns-then-len-gt-MOST_MOUNTS : goal.returns-then-len-gt-MOST_MOUNTS
 returns-then-len-gt-MOST_MOUNTS c =
     let long : 64 < length c.in_ok-table.table = omega (arith, c.len.ensures.len, c.if-len-gt-MOST_MOUNTS.true) in
-    table_from-long c.args.entries.now c.entries.ensures.sorted c.in_ok-mounts.mounts.items c.in_ok-mounts.ensures c.in_ok-mounts-2.mounts.items
+    λ _. table_from-long c.args.entries.now c.entries.ensures.sorted c.in_ok-mounts.mounts.items c.in_ok-mounts.ensures c.in_ok-mounts-2.mounts.items
     (ap (mounts_from c.in_ok-mounts.mounts.items) (sym c.entries.ensures.all) ∙ c.in_ok-mounts-2.ensures.ok)
     c.in_ok-table.table c.len.ensures.sorted (c.in_ok-table.ensures ∙ ap by_point c.deref.ensures.value) long
     ∙ ap (λ n. Err (TooMany n)) (sym c.len-then-len-gt-MOST_MOUNTS.ensures.len)

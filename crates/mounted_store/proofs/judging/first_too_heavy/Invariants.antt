@@ -1,6 +1,6 @@
 -- None of the changes so far is refused.
 use Rattle.std.proofs.Common.{◌≡◌, None, take}
-use Rattle.model_names.specs.Refuses.{first_some}
+use Rattle.general_words.specs.Searches.{first_some}
 use Rattle.mounted_store.specs.Judging.{too_heavy}
 use Rattle.mounted_store.proofs.judging.first_too_heavy.Given as goal
 

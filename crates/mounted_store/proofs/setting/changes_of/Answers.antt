@@ -3,7 +3,7 @@ use Rattle.std.proofs.Common.{List, ◌++◌, ◌∷◌, [], Option, Some, IfSom
 use Rattle.model_names.proofs.PartLemmas.{all_append}
 use Rattle.mounted_store.specs.Sound.{AreSound, AreSoundChanges}
 use Rattle.mounted_store.specs.declared.changes.Change.{Change}
-use Rattle.mounted_store.proofs.FirstLemmas.{at_place}
+use Rattle.general_words.proofs.Lists.{at_place}
 use Rattle.mounted_store.proofs.ChangeLemmas.{changes-more, changes-same}
 use Rattle.mounted_store.proofs.setting.changes_of.Goals as goal
 use Rattle.mounted_store.proofs.setting.changes_of.Goals.{in-Some+in_ok-push, in_default}

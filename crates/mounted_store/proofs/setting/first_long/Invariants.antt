@@ -1,7 +1,7 @@
 -- None of the keys so far has a text that is too long.
 use Rattle.std.proofs.Common.{◌≡◌, None, take}
 use Rattle.std.specs.FinMap as map
-use Rattle.model_names.specs.Refuses.{first_some}
+use Rattle.general_words.specs.Searches.{first_some}
 use Rattle.mounted_store.specs.Setting.{long_in}
 use Rattle.mounted_store.proofs.setting.first_long.Given as goal
 

@@ -2,11 +2,13 @@
 use Rattle.std.proofs.Common.{Some, None, ap, sym, ◌∙◌, if◌then◌else◌}
 use Rattle.std.specs.Option.{unwrap_or}
 use Rattle.std.proofs.lemmas.Bool.{cond-true, cond-false}
+use Rattle.general_words.specs.Saturated.{saturated}
 use Rattle.model_names.specs.Order.{name_eq}
 use Rattle.model_maps.specs.KeyMap.{weight}
-use Rattle.mounted_store.specs.Weighed.{told, visible_weight}
+use Rattle.mounted_store.specs.Weighed.{visible_weight}
 use Rattle.mounted_store.specs.declared.changes.Change.{Change}
-use Rattle.mounted_store.proofs.FirstLemmas.{at_place, first-found, first-next}
+use Rattle.general_words.proofs.Searches.{first_some-found, first_some-next}
+use Rattle.general_words.proofs.Lists.{at_place}
 use Rattle.mounted_store.proofs.setting.weight_of_file.Goals as goal
 
 pub returns-then-eq : goal.returns-then-eq
@@ -15,8 +17,8 @@ returns-then-eq c =
     let change = c.change-item.result in
     let f = λ (x : Change). if name_eq x.mount.at point then Some (weight x.wanted) else None in
     c.weight.ensures
-    ∙ ap (λ o. told (unwrap_or o (visible_weight c.args.file.now.state)))
-    (sym (first-found f c.args.changes.now c.loop-change.change-index change (weight change.wanted)
+    ∙ ap (λ o. saturated (unwrap_or o (visible_weight c.args.file.now.state)))
+    (sym (first_some-found f c.args.changes.now c.loop-change.change-index change (weight change.wanted)
     (at_place c.args.changes.now c.loop-change.change-index change c.loop-change-test.true c.change-item.is)
     c.loop-change.invariant (cond-true (name_eq change.mount.at point) (Some (weight change.wanted)) None (sym c.eq.ensures ∙ c.if-eq.true))))
 
@@ -25,6 +27,6 @@ loop-change-preserved c =
     let point = c.args.file.now.mount.at in
     let change = c.change-item.result in
     let f = λ (x : Change). if name_eq x.mount.at point then Some (weight x.wanted) else None in
-    first-next f c.args.changes.now c.loop-change.change-index change
+    first_some-next f c.args.changes.now c.loop-change.change-index change
     (at_place c.args.changes.now c.loop-change.change-index change c.loop-change-test.true c.change-item.is)
     c.loop-change.invariant (cond-false (name_eq change.mount.at point) (Some (weight change.wanted)) None (sym c.eq.ensures ∙ c.if-eq.false))

@@ -1,6 +1,6 @@
 -- None of the files so far is the table's own.
 use Rattle.std.proofs.Common.{◌≡◌, None, take}
-use Rattle.model_names.specs.Refuses.{first_some}
+use Rattle.general_words.specs.Searches.{first_some}
 use Rattle.mounted_store.specs.Weighed.{own_alone}
 use Rattle.mounted_store.proofs.weighing.own_weight.Given as goal
 

@@ -9,7 +9,7 @@ use Rattle.storage_api.specs.Formats.{RefusesToWrite}
 use Rattle.storage_api.specs.declared.refusals.WriteRefusal.{WriteRefusal}
 use Rattle.mounted_store.specs.Written.{IsWritable}
 use Rattle.mounted_store.specs.declared.verdicts.Verdict.TheVariants.{NotStorable}
-use Rattle.mounted_store.proofs.FirstLemmas.{at_place}
+use Rattle.general_words.proofs.Lists.{at_place}
 use Rattle.mounted_store.proofs.WriteLemmas.{written-none, written-more, written-breaks}
 use Rattle.mounted_store.proofs.writing.write_all.Goals as goal
 

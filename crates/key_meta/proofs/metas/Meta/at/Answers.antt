@@ -1,7 +1,7 @@
 -- The map has the items for entries.
 use Rattle.std.proofs.Common.{Some, slice_get, sym, ap, ◌∙◌}
 use Rattle.std.specs.FinMap as map
-use Rattle.model_maps.specs.Entry.{text_cmp}
+use Rattle.general_words.specs.Texts.{text_cmp}
 use Rattle.key_meta.proofs.metas.Meta.at.Goals as goal
 
 pub returns-in-Some : goal.returns-in-Some

@@ -2,7 +2,7 @@
 use Rattle.std.proofs.Common.{Some, get_or, ap, ◌∙◌, subst}
 use Rattle.std.specs.FinMap as map
 use Rattle.std.proofs.lemmas.Cmp.{nat_list_cmp_total}
-use Rattle.model_maps.specs.Entry.{text_cmp}
+use Rattle.general_words.specs.Texts.{text_cmp}
 use Rattle.sorted_map.specs.Place.{IsPlace, IsGap}
 use Rattle.sorted_map.proofs.MapLemmas.{get-place, get-gap}
 use Rattle.key_meta.proofs.metas.Meta.get.Goals as goal

@@ -1,7 +1,7 @@
 -- The map has the items for entries, and each text that is found is an item's.
-use Rattle.std.proofs.Common.{length, ◌==◌, sym, ap, subst, ◌∙◌}
+use Rattle.std.proofs.Common.{length, ◌==◌, sym, ap, ◌∙◌}
 use Rattle.std.specs.FinMap as map
-use Rattle.model_maps.specs.Entry.{text_cmp}
+use Rattle.general_words.specs.Texts.{text_cmp}
 use Rattle.key_meta.proofs.ItemLemmas.{IsItem-find}
 use Rattle.key_meta.proofs.metas.Meta.is_empty.Goals as goal
 

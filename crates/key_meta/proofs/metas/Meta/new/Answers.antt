@@ -1,8 +1,8 @@
 -- No items make the empty map.
 use Rattle.std.proofs.Common.{ap, ◌∙◌}
 use Rattle.std.specs.FinMap as map
-use Rattle.model_maps.specs.Entry.{text_cmp}
-use Rattle.sorted_map.proofs.MapLemmas.{from_sorted-nil}
+use Rattle.general_words.specs.Texts.{text_cmp}
+use Rattle.general_words.proofs.Maps.{from_sorted-nil}
 use Rattle.key_meta.proofs.metas.Meta.new.Goals as goal
 
 pub returns : goal.returns

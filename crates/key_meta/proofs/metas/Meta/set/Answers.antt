@@ -4,9 +4,10 @@ use Rattle.std.specs.FinMap as map
 use Rattle.std.specs.FinMap.{find}
 use Rattle.std.specs.FinMap.Entries.{put}
 use Rattle.std.proofs.lemmas.Cmp.{nat_list_cmp_total}
-use Rattle.model_maps.specs.Entry.{text_cmp}
+use Rattle.general_words.specs.Texts.{text_cmp}
 use Rattle.sorted_map.specs.Place.{IsPlace}
-use Rattle.sorted_map.proofs.MapLemmas.{get-place, insert-place, from_sorted-put, on_ok}
+use Rattle.general_words.proofs.Maps.{from_sorted-put}
+use Rattle.sorted_map.proofs.MapLemmas.{get-place, insert-place, on_ok}
 use Rattle.std.specs.Str.{IsUtf8}
 use Rattle.key_meta.specs.MetaView.{AreItems, IsItem}
 use Rattle.key_meta.proofs.ItemLemmas.{AreItems-put, AreItems-set, IsItem-at}

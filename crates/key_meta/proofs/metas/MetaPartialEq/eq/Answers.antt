@@ -1,8 +1,8 @@
 -- The maps have the items for entries.
-use Rattle.std.proofs.Common.{◌≡◌, ap, ◌∙◌, sym, List, ℕ}
+use Rattle.std.proofs.Common.{◌≡◌, ap, ◌∙◌, sym}
 use Rattle.std.specs.FinMap as map
 use Rattle.std.specs.Cmp.Lexicographic.{pointwise}
-use Rattle.model_maps.specs.Entry.{Meta, text_cmp}
+use Rattle.general_words.specs.Texts.{text_cmp}
 use Rattle.key_meta.specs.Same.{same_item}
 use Rattle.key_meta.proofs.metas.MetaPartialEq.eq.Goals as goal
 

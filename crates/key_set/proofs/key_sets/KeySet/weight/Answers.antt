@@ -1,6 +1,7 @@
 -- The map has an entry for each key.
-use Rattle.std.proofs.Common.{◌-◌, ◌^◌, min, sum_by, sym, ap, ◌∙◌}
+use Rattle.std.proofs.Common.{sum_by, sym, ap, ◌∙◌}
 use Rattle.std.specs.FinMap as map
+use Rattle.general_words.specs.Saturated.{saturated}
 use Rattle.model_maps.specs.KeyMap.{weight_of_key}
 use Rattle.key_set.proofs.SetLemmas.{entries-keys, weight-seen}
 use Rattle.key_set.proofs.key_sets.KeySet.weight.Goals as goal
@@ -8,4 +9,4 @@ use Rattle.key_set.proofs.key_sets.KeySet.weight.Goals as goal
 pub returns : goal.returns
 returns c =
     let entries = sym (entries-keys c.self.inside.keys c.entries.ensures.sorted) ∙ ap map.entries c.self.view_is in
-    c.weight_of_all.ensures ∙ ap (λ n. min n (2 ^ 64 - 1)) (rw c.entries.ensures.all (weight-seen c.self.inside.keys ∙ ap (sum_by (λ key. weight_of_key key.0 key.1)) entries))
+    c.weight_of_all.ensures ∙ ap saturated (rw c.entries.ensures.all (weight-seen c.self.inside.keys ∙ ap (sum_by (λ key. weight_of_key key.0 key.1)) entries))

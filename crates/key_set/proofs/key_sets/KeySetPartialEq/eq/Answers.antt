@@ -1,5 +1,5 @@
 -- The maps have the keys for entries.
-use Rattle.std.proofs.Common.{◌≡◌, ◌&&◌, ap, ◌∙◌, sym}
+use Rattle.std.proofs.Common.{◌&&◌, ap, ◌∙◌, sym}
 use Rattle.std.specs.FinMap as map
 use Rattle.std.specs.Cmp.Lexicographic.{pointwise}
 use Rattle.model_names.specs.Order.{name_eq}

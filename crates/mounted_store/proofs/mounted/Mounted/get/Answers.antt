@@ -4,11 +4,11 @@ use Rattle.std.proofs.lemmas.Bool.{ltb-false}
 use Rattle.key_set.specs.WithAll.{with_all}
 use Rattle.set_split.specs.Involved.{involved_in}
 use Rattle.model_names.specs.Name.{Name}
-use Rattle.model_names.specs.Refuses.{first_some}
+use Rattle.general_words.specs.Searches.{first_some}
 use Rattle.mounted_store.specs.Files.{points_of}
 use Rattle.mounted_store.specs.Getting.{fault_in, got, involved_files, visible_keys, visible_of}
 use Rattle.mounted_store.specs.declared.files.MountedFile.{MountedFile}
-use Rattle.mounted_store.proofs.FirstLemmas.{at_place}
+use Rattle.general_words.proofs.Lists.{at_place}
 use Rattle.mounted_store.proofs.PointLemmas.{points-from_table}
 use Rattle.mounted_store.proofs.SeenLemmas.{points-are}
 use Rattle.mounted_store.proofs.GetLemmas.{err-gets, fault-found, fault-more, files-all, files-same, gets-fault, got-good, none-at, number-at, visible-more}

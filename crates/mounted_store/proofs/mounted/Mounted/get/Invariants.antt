@@ -1,6 +1,6 @@
 -- The visible keys of the files so far, of which none is bad.
 use Rattle.std.proofs.Common.{◌≡◌, None, take, filter_map, slice_get}
-use Rattle.model_names.specs.Refuses.{first_some}
+use Rattle.general_words.specs.Searches.{first_some}
 use Rattle.mounted_store.specs.Getting.{fault_in, visible_keys}
 use Rattle.mounted_store.proofs.mounted.Mounted.get.Given as goal
 

@@ -2,16 +2,16 @@
 use Rattle.std.proofs.Common.{◌≡◌, ℕ, List, Option, None, filter_map, sym, ap, subst, ◌∙◌}
 use Rattle.std.specs.List.{AllByRecursion}
 use Rattle.std.specs.Option.{option_or, unwrap_or}
+use Rattle.general_words.specs.Saturated.{saturated}
 use Rattle.set_split.specs.Parts.{parts_of}
 use Rattle.set_split.specs.Seen.{numbered}
 use Rattle.set_split.specs.declared.parts.Part.{Part}
 use Rattle.sorted_map.proofs.MapLemmas.{for_ok}
-use Rattle.model_names.specs.Refuses.{first_some}
+use Rattle.general_words.specs.Searches.{first_some}
 use Rattle.model_maps.specs.KeyMap.{KeyMap}
 use Rattle.mounted_store.specs.Judging.{IsVerdict, bad_table, done, too_heavy}
 use Rattle.mounted_store.specs.Setting.{change_at, first_long_in, weight_after}
 use Rattle.mounted_store.specs.Short.{AreShort}
-use Rattle.mounted_store.specs.Weighed.{told}
 use Rattle.mounted_store.specs.Written.{AreWritable, AreWritten, IsWriting}
 use Rattle.mounted_store.specs.declared.changes.Change.{Change}
 use Rattle.mounted_store.specs.declared.files.MountedFile.{MountedFile}
@@ -86,7 +86,7 @@ returns-in-Done g c =
     F.text F.is_storable F.breaks_at verdict
     ((λ i. early_by points (sym c.as_slice-2.ensures i) keys (sym c.deref-2.ensures.value i)) ∙ sym c.in_ok-refusal.ensures ∙ c.in_default.is)
     done_well.storable c.in-Done.written.too_long done_well.long c.weight_after-weight.result c.in_ok-parts.parts.aside
-    (c.weight_after-weight.ensures ∙ (λ i. told (weight_after (c.deref-in-Done.ensures.value i) (c.deref-in-Done-2.ensures.value i))) ∙ ap (λ fs. told (weight_after all fs)) c.self.view_is)
+    (c.weight_after-weight.ensures ∙ (λ i. saturated (weight_after (c.deref-in-Done.ensures.value i) (c.deref-in-Done-2.ensures.value i))) ∙ ap (λ fs. saturated (weight_after all fs)) c.self.view_is)
     c.in_ok-parts.ensures.aside c.in-Done.written.files done_well.texts
     (late-over verdict c.in-Done.written.too_long c.deref-in-Done-3.result.now all c.weight_after-weight.result c.in-Done.written.files c.in_ok-parts.parts.aside is c.deref-in-Done-3.ensures.value))
     c.late_verdict.ensures

@@ -1,7 +1,8 @@
 -- A range of entries and what is left stay in order.
 use Rattle.std.proofs.Common.{T, subst, sym}
 use Rattle.std.specs.FinMap.{is_sorted}
-use Rattle.sorted_map.proofs.RangeLemmas.{is_sorted-slice_range, is_sorted-remove_range}
+use Rattle.general_words.proofs.Entries.{is_sorted-slice_range}
+use Rattle.sorted_map.proofs.RangeLemmas.{is_sorted-remove_range}
 use Rattle.sorted_map.proofs.sorted_maps.SortedMap.take_range.Goals as goal
 
 pub invariant_of-result : goal.invariant_of-result

@@ -6,7 +6,6 @@ use Rattle.std.specs.FinMap.{FinMap, IsAntisymmetric}
 use Rattle.std.specs.Ordering.{eq_by_cmp, is_eq}
 use Rattle.std.specs.declared.cmp.Ordering.{Ordering}
 use Rattle.std.specs.declared.cmp.Ordering.TheVariants.{Less, Equal, Greater}
-use Rattle.std.proofs.lemmas.Cmp.{eq_by_cmp_equiv}
 
 tells : {K : Type 0} (q k : K) (o : Ordering) → (o ≡ Equal → q ≡ k) → (is_eq o ≡ false) ⊎ ((is_eq o ≡ true) × (q ≡ k))
 tells q k Less same = inl refl
@@ -18,10 +17,8 @@ pub tied_or_not : {K : Type 0} {R : K → K → Ordering} → IsAntisymmetric R 
 tied_or_not {R = R} same q k = tells q k (R q k) (same q k)
 
 module _ {K X : Type 0} {R : K → K → Ordering} (total : IsTotalOrder R) where
-  pub get-here : (m : FinMap R X) (k : K) (v : X) → map.get (map.insert m k v) k ≡ Some v
-  get-here m k v = map.get-insert total m k v k ∙ ap (λ b. cond b (Some v) (map.get m k)) ((eq_by_cmp_equiv total).refl k)
-
   module _ (same : IsAntisymmetric R) (m : FinMap R X) (k : K) (v : X) (q : K) where
+    -- what is found at another key was there before
     pub get-elsewhere : q ≢ k → map.get (map.insert m k v) q ≡ map.get m q
     get-elsewhere other = elsewhere (tied_or_not {R = R} same q k)
       where
@@ -40,5 +37,5 @@ module _ {K X : Type 0} {R : K → K → Ordering} (total : IsTotalOrder R) wher
             inr (tied.1, cc)
 
     -- a key that isn't in a map is none of those that are
-    pub not_found : (x : X) → map.get m k ≡ None → map.get m q ≡ Some x → q ≢ k
-    not_found x none found e = let here : map.get m q ≡ map.get m k = ap (map.get m) e in absurd cc
+    pub get-apart : (x : X) → map.get m k ≡ None → map.get m q ≡ Some x → q ≢ k
+    get-apart x none found e = let here : map.get m q ≡ map.get m k = ap (map.get m) e in absurd cc

@@ -1,0 +1,41 @@
+-- Lists: one more of their elements behind those before it, and none where the length is 0.
+use Rattle.std.proofs.Common.{◌≡◌, ℕ, zero, suc, ◌+◌, ◌<◌, List, [], ◌∷◌, ◌++◌, length, get_or, take, drop, slice_get, Option, Some, refl, sym, ap, ◌∙◌, arith, append-nil}
+use Rattle.std.specs.List.{AllByRecursion, flat_map}
+use Rattle.std.proofs.lemmas.List.{take_more, take-append-drop, drop_more}
+use Rattle.std.proofs.lemmas.List.Concat.{flat_map-append}
+use Rattle.std.proofs.lemmas.Option.{slice_get_within, get_or_from_slice_get}
+
+pub no_entries : {A : Type 0} (es : List A) → length es ≡ 0 → es ≡ []
+no_entries [] e = refl
+no_entries (x ∷ es) e = absurd (omega arith)
+
+-- what two present values hold is one, where they are
+pub some_is : {A : Type 0} (a b : A) → ◌≡◌ {A = Option A} (Some a) (Some b) → a ≡ b
+some_is a b e = cc
+
+-- an element that was read stands at its place
+pub at_place : {A : Type 0} (xs : List A) (i : ℕ) (x : A) → i < length xs → x ≡ get_or xs i x → Some x ≡ slice_get xs i
+at_place [] i x lt is = absurd (omega arith)
+at_place (y ∷ xs) zero x lt is = ap Some is
+at_place (y ∷ xs) (suc i) x lt is = at_place xs i x (omega arith) is
+
+-- one more element of a list
+pub take-next : {A : Type 0} (xs : List A) (i : ℕ) (x : A) → Some x ≡ slice_get xs i → take (i + 1) xs ≡ take i xs ++ x ∷ []
+take-next xs i x found = take_more xs i x (slice_get_within xs i x (sym found)) ∙ ap (λ y. take i xs ++ y ∷ []) (get_or_from_slice_get xs i x x (sym found))
+
+-- a list is what stands before one of its elements, that element, and what stands behind it
+pub cut-next : {A : Type 0} (xs : List A) (i : ℕ) (x : A) → Some x ≡ slice_get xs i → xs ≡ take i xs ++ x ∷ drop (i + 1) xs
+cut-next xs i x found =
+    sym (take-append-drop i xs) ∙ ap (λ rest. take i xs ++ rest) (drop_more xs i x (slice_get_within xs i x (sym found)) ∙ ap (λ y. y ∷ drop (i + 1) xs) (get_or_from_slice_get xs i x x (sym found)))
+
+-- what one more element adds to the lists that elements stand for
+pub flat_map-more : {A B : Type 0} (f : A → List B) (xs : List A) (i : ℕ) (x : A) → Some x ≡ slice_get xs i → flat_map f (take (i + 1) xs) ≡ flat_map f (take i xs) ++ f x
+flat_map-more f xs i x found =
+    ap (flat_map f) (take-next xs i x found)
+    ∙ flat_map-append f (take i xs) (x ∷ [])
+    ∙ ap (λ ys. flat_map f (take i xs) ++ ys) (append-nil (f x))
+
+-- a property of all places of a list is one of all its elements
+pub all_from_places : {A : Type 0} (P : A → Type 0) (xs : List A) → ((i : ℕ) (x : A) → Some x ≡ slice_get xs i → P x) → AllByRecursion P xs
+all_from_places P [] each = tt
+all_from_places P (x ∷ xs) each = (each 0 x refl, all_from_places P xs (λ i y there. each (suc i) y there))
