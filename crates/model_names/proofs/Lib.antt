@@ -6,3 +6,4 @@ pub mod EscapeLemmas
 pub mod PartLemmas
 pub mod NameLemmas
 pub mod BelowLemmas
+pub mod NameOfLemmas

@@ -111,7 +111,7 @@ is_at_point mounts (entry ∷ entries) all text said ok found =
     ]
 
 pub short_point : (text : Part) (name : Name) → IsPoint text name → length text ≤ longest_point
-short_point text name h = leb-true _ _ (and_parts _ _ h.is).0
+short_point text name h = leb-true _ _ (and_parts _ _ (and_parts _ _ h.is).1).0
 
 -- ---- what is looked at before an entry is added
 
