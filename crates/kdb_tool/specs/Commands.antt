@@ -33,7 +33,7 @@ abbrev pub every_key : Name
 every_key = record { namespace = Cascading; parts = [] }
 
 -- the parent whose keys a command gets, and sets where it sets any
-abbrev pub parent_of : Name → Action Name → Name
+abbrev pub parent_of : Name → Action → Name
 parent_of name Get = every_key
 parent_of name (Set value) = name
 parent_of name (Remove extent) = name
@@ -154,7 +154,7 @@ mounted (Ok keys) = Sets keys []
 mounted (Err fault) = Tells (warned 5 (bad_table fault))
 
 -- an action on a key, over the keys that were got
-abbrev pub step_of : KeyMap → Name → Action Name → Step
+abbrev pub step_of : KeyMap → Name → Action → Step
 step_of keys name Get = Tells (got name (map.get keys name))
 step_of keys name (Set value) = set_in keys name value
 step_of keys name (Remove extent) = removed name (sources extent name keys) (others extent name keys)
