@@ -10,4 +10,3 @@ pub mod Owner
 pub mod Plain
 pub mod Raws
 pub mod Refused
-pub mod Arrays

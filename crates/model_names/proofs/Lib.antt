@@ -3,6 +3,7 @@ pub mod SpellsLemmas
 pub mod RefusesLemmas
 pub mod BelowOrder
 pub mod EscapeLemmas
+pub mod ArrayLemmas
 pub mod PartLemmas
 pub mod NameLemmas
 pub mod BelowLemmas

@@ -1,10 +1,11 @@
 //! The laws of names that everything above stands on.
-ghost use Rattle.std.specs.Prelude.{◌≡◌, List, ℕ, None, Some, true};
+ghost use Rattle.std.specs.Prelude.{◌≡◌, ◌≤◌, List, ℕ, None, Some, true};
 ghost use Rattle.std.specs.Bool.{Decides};
 ghost use Rattle.std.specs.Cmp.{IsTotalOrder};
 ghost use Rattle.std.specs.FinMap.{IsAntisymmetric};
 ghost use Rattle.std.specs.Str.{IsUtf8};
 ghost use Rattle.model_names.specs.declared.namespaces.Namespace.TheVariants.{Cascading};
+ghost use Rattle.model_names.specs.ArrayPart.{IsArrayPart, array_part, last_index};
 ghost use Rattle.model_names.specs.Below.{IsBelowOrSame, is_at_or_below};
 ghost use Rattle.model_names.specs.Name.{Name};
 ghost use Rattle.model_names.specs.NameOf.{name_of};
@@ -55,6 +56,12 @@ pub fn one_spelling_one_name()
 pub fn a_slash_in_front_means_cascading()
     ensures texts { (text : List ℕ) (name : Name) → begins_with_slash text ≡ true → Spells text name → name.namespace ≡ Cascading }
     ensures spellings { (name : Name) → name.namespace ≡ Cascading → begins_with_slash (spelling name) ≡ true }
+{}
+
+/// A part stands for an item of an array exactly where it is the part of an index.
+pub fn an_array_part_is_that_of_an_index()
+    ensures index { (part : List ℕ) → IsArrayPart part → (index : ℕ) × (index ≤ last_index) × (part ≡ array_part index) }
+    ensures part { (index : ℕ) → index ≤ last_index → IsArrayPart (array_part index) }
 {}
 
 /// The test of the names at or below a name tells just those that are it or below it.
