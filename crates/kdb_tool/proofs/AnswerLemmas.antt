@@ -19,17 +19,12 @@ use Rattle.mounted_store.specs.declared.refusals.GetFault.{GetFault}
 use Rattle.mounted_store.specs.declared.refusals.GetFault.TheVariants as faults
 use Rattle.kdb_tool.specs.Answer.{Answer, done, refused, warned}
 use Rattle.kdb_tool.specs.Lines.{line_of_mount, bad_table}
-use Rattle.kdb_tool.specs.Request.{Action, Question, Request}
-use Rattle.kdb_tool.specs.RequestView.{IsAsked, IsSaidBarred}
-use Rattle.kdb_tool.specs.Untold.{IsStatusOf, AnswersUntold}
-use Rattle.kdb_tool.specs.Uses.{barred}
-use Rattle.kdb_tool.specs.declared.uses.Use.{Use}
-use Rattle.kdb_tool.proofs.StatusLemmas.{by_status}
+use Rattle.kdb_tool.specs.Request.{Action}
 use Rattle.kdb_tool.specs.Commands.{Step, Tells, parent_of, step_of, mounted}
-use Rattle.kdb_tool.specs.Answers.{AnswersStep, AnswersGot, AnswersOver, AnswersRequest, file_told, line_of_get, owner_in}
+use Rattle.kdb_tool.specs.Answers.{AnswersStep, AnswersGot, file_told, line_of_get, owner_in}
 
 -- the answer to an action whose keys were got
-pub got-keys : (files : List MountedFile) (name parent : Name) (action : Action Name) (keys : KeyMap) (step : Step) (answer : Answer) → parent ≡ parent_of name action → got files parent ≡ Ok keys → step ≡ step_of keys name action
+pub got-keys : (files : List MountedFile) (name parent : Name) (action : Action) (keys : KeyMap) (step : Step) (answer : Answer) → parent ≡ parent_of name action → got files parent ≡ Ok keys → step ≡ step_of keys name action
     → AnswersStep files parent step answer → AnswersGot files name action (got files (parent_of name action)) answer
 got-keys files name parent action keys step answer parent_is got_is step_is answers =
     let at_parent = subst (λ p. AnswersStep files p step answer) parent_is answers in
@@ -38,7 +33,7 @@ got-keys files name parent action keys step answer parent_is got_is step_is answ
     subst (λ r. AnswersGot files name action r answer) (sym is) at_step
 
 -- the answer to one whose keys can't be got
-pub got-fault : (files : List MountedFile) (name parent : Name) (action : Action Name) (fault : GetFault) (answer : Answer) → parent ≡ parent_of name action → Gets (got files parent) fault → fault ≢ faults.Memory
+pub got-fault : (files : List MountedFile) (name parent : Name) (action : Action) (fault : GetFault) (answer : Answer) → parent ≡ parent_of name action → Gets (got files parent) fault → fault ≢ faults.Memory
     → answer ≡ refused 5 (line_of_get fault) → AnswersGot files name action (got files (parent_of name action)) answer
 got-fault files name parent action fault answer parent_is gets no_memory is = by_fault fault gets no_memory is
   where
@@ -80,21 +75,6 @@ told-nobody name (Some file) is = absurd (none-some file.mount is)
 -- the lines of the mounts are those of their files
 pub lines-of-mounts : (files : List MountedFile) → flat_map line_of_mount (over (λ (file : MountedFile). file.mount) files) ≡ flat_map (λ file. line_of_mount file.mount) files
 lines-of-mounts files = flat_map-map line_of_mount (λ (file : MountedFile). file.mount) files
-
--- the answer to a question that words ask
-pub asked-told : (asked : Request) (question : Question Name) (bytes_of : List ℕ → List ℕ) (answer : Answer) → IsAsked question asked → AnswersOver question bytes_of answer → AnswersRequest asked bytes_of answer
-asked-told asked question bytes_of answer is over =
-    subst (λ r. AnswersRequest r bytes_of answer) (sym is.is) (record { question = question; spelled = is.spelled; over = over })
-
-pub asked-untold : (asked : Request) (question : Question Name) (answer : Answer) → IsAsked question asked → IsStatusOf question answer.report.status → AnswersUntold asked answer
-asked-untold asked question answer is status = subst (λ r. AnswersUntold r answer) (sym is.is) (by_status is.by question answer.report.status is.spelled status)
-
--- the answer to a name that can't be used so
-pub barred-told : (by : Use) (name : Name) (asked : Request) (bytes_of : List ℕ → List ℕ) (answer : Answer) → IsSaidBarred by name asked → answer ≡ refused 2 (barred by name) → AnswersRequest asked bytes_of answer
-barred-told by name asked bytes_of answer is refuses = subst (λ r. AnswersRequest r bytes_of answer) (sym is.is) (record { name = name; spelled = is.spelled; is = refuses })
-
-pub barred-untold : (by : Use) (name : Name) (asked : Request) (answer : Answer) → IsSaidBarred by name asked → answer ≡ refused 2 (barred by name) → AnswersUntold asked answer
-barred-untold by name asked answer is refuses = subst (λ r. AnswersUntold r answer) (sym is.is) (record { name = name; spelled = is.spelled; is = refuses })
 
 -- what is told of a table that can't be changed so
 pub refused-table : (wanted : Result KeyMap TableFault) (fault : TableFault) → fault ≢ table.Memory → IsFault wanted fault → Tells (warned 5 (bad_table fault)) ≡ mounted wanted

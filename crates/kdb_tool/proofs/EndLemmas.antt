@@ -7,17 +7,16 @@ use Rattle.kdb_tool.specs.declared.answers.Answer as code
 use Rattle.kdb_tool.specs.declared.answers.Stop.{Stop}
 use Rattle.kdb_tool.specs.declared.answers.Stop.TheVariants as stops
 use Rattle.kdb_tool.specs.Lines.{disk_fault, out_of_memory}
-use Rattle.kdb_tool.specs.declared.uses.Use.{Use}
 use Rattle.kdb_tool.specs.Answer.{Report, Answer, Texts, warned, KeepsUnnamed, LeavesFiles}
 use Rattle.kdb_tool.specs.Request.{Request, Refuses, Bars, Asks}
-use Rattle.kdb_tool.specs.Answers.{Answers, AnswersBarred}
+use Rattle.kdb_tool.specs.Answers.{Answers}
 use Rattle.kdb_tool.specs.AnswerView.{report_of, answer_of}
 use Rattle.kdb_tool.specs.Untold.{IsStatusOf, AnswersUntold}
 use Rattle.kdb_tool.specs.Work.{Leaves, Stores}
 use Rattle.kdb_tool.specs.Ending.{ending}
 use Rattle.kdb_tool.specs.Lasting.{Lasts, SparesUnnamed}
 use Rattle.kdb_tool.specs.Outcome.{Change, Failed, Gives, Gains, GainsFront, Delivers, Whole, OutFails, ErrFails}
-use Rattle.kdb_tool.specs.Ends.{IsAnswered, EndsAsAnswered, GivesAnswer, EndsBarred, EndsByWords, EndsWithoutMemory, EndsInFault, FaultCause, OfDisk, OfOut, OfErr, LeftBy, Unwritten, Left}
+use Rattle.kdb_tool.specs.Ends.{IsAnswered, EndsAsAnswered, GivesAnswer, EndsByWords, EndsWithoutMemory, EndsInFault, FaultCause, OfDisk, OfOut, OfErr, LeftBy, Unwritten, Left}
 use Rattle.kdb_tool.proofs.AnswersOnce.{Answers-once}
 
 not_fault : (status : ℕ) → status ≡ 70 → status ≢ 74
@@ -37,19 +36,15 @@ answered (Err stops.Memory) words before after status out err answers leaves del
 answered (Err stops.DiskFault) words before after status out err answers leaves delivers =
     λ is. absurd (is.1 (whole (warned 74 disk_fault) status out err delivers is.1).status_is)
 
-barred : (by : Use) (text : List ℕ) (answer : Answer) (status : ℕ) (out err : Change) → AnswersBarred by text answer → Gives answer.report status out err → EndsBarred by text status out err
-barred by text answer status out err is gives =
-    record { name = is.name; spelled = is.spelled; gives = subst (λ (a : Answer). Gives a.report status out err) is.is gives }
-
 by_request : (asked : Request) (answer : Answer) (status : ℕ) (out err : Change) → AnswersUntold asked answer → (status ≢ 74 → Gives answer.report status out err) → EndsByWords asked status out err
 by_request (Refuses code text) answer status out err is gives = λ answered. subst (λ (a : Answer). Gives a.report status out err) is (gives answered.1)
-by_request (Bars by text) answer status out err is gives = λ answered. barred by text answer status out err is (gives answered.1)
-by_request (Asks by) answer status out err is gives = λ answered. subst (IsStatusOf by) (sym (gives answered.1).status_is) is
+by_request (Bars by name) answer status out err is gives = λ answered. subst (λ (a : Answer). Gives a.report status out err) is (gives answered.1)
+by_request (Asks question) answer status out err is gives = λ answered. subst (IsStatusOf question) (sym (gives answered.1).status_is) is
 
 stopped_by : (asked : Request) (code : ℕ) (answer : Report) (status : ℕ) (out err : Change) → (IsAnswered status → ⊥) → EndsByWords asked status out err
 stopped_by (Refuses number text) code answer status out err never = λ answered. absurd (never answered)
-stopped_by (Bars by text) code answer status out err never = λ answered. absurd (never answered)
-stopped_by (Asks by) code answer status out err never = λ answered. absurd (never answered)
+stopped_by (Bars by name) code answer status out err never = λ answered. absurd (never answered)
+stopped_by (Asks question) code answer status out err never = λ answered. absurd (never answered)
 
 pub by_words : (r : Result code.Answer Stop) (asked : Request) (status : ℕ) (out err : Change) → IfOk r (λ answer. AnswersUntold asked (answer_of answer)) → Delivers (ending r) status out err → EndsByWords asked status out err
 by_words (Ok answer) asked status out err untold delivers = by_request asked (answer_of answer) status out err untold (whole (report_of answer.report) status out err delivers)

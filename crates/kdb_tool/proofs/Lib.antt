@@ -1,4 +1,3 @@
-pub mod UseLemmas
 pub mod WordLemmas
 pub mod TreeLemmas
 pub mod BringLemmas

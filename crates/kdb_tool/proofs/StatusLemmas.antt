@@ -17,7 +17,7 @@ use Rattle.mounted_store.specs.declared.verdicts.Verdict.{Verdict}
 use Rattle.mounted_store.specs.declared.verdicts.Verdict.TheVariants.{ValueTooLong, FileTooLarge, NotStorable, BadTable, DatabaseFull, Same, Stores}
 use Rattle.kdb_tool.specs.Answer.{Answer, warned}
 use Rattle.kdb_tool.specs.Lines.{no_name, not_found}
-use Rattle.kdb_tool.specs.Request.{Action, Get, Set, Remove, Names, GetMeta, SetMeta, MetaNames, Bring, MountFile, Unmount, Question, Mounts, FileOf, On, SpellsAction, SpellsQuestion}
+use Rattle.kdb_tool.specs.Request.{Action, Get, Set, Remove, Names, GetMeta, SetMeta, MetaNames, Bring, MountFile, Unmount, Question, Mounts, FileOf, On}
 use Rattle.kdb_tool.specs.declared.extents.Extent.{Extent}
 use Rattle.kdb_tool.specs.declared.ways.Way.{Way}
 use Rattle.kdb_tool.specs.Commands.{Step, Tells, Sets, parent_of, step_of, got as got_report, sources, others, text_got, meta_got, meta_listed, with_brought, brought_over, first_too_long, staying, mounted}
@@ -26,7 +26,7 @@ use Rattle.kdb_tool.specs.Ends.{IsAnswered}
 use Rattle.kdb_tool.specs.Untold.{IsStatusOf, IsStatusOfAction}
 
 -- every action may be done, and may be refused by the store
-zero_is : {N : Type 0} (action : Action N) → IsStatusOfAction action 0
+zero_is : (action : Action) → IsStatusOfAction action 0
 zero_is Get = inl refl
 zero_is (Set value) = inl refl
 zero_is (Remove extent) = inl refl
@@ -38,7 +38,7 @@ zero_is (Bring way extent to) = inl refl
 zero_is (MountFile file kind) = inl refl
 zero_is Unmount = inl refl
 
-five_is : {N : Type 0} (action : Action N) → IsStatusOfAction action 5
+five_is : (action : Action) → IsStatusOfAction action 5
 five_is Get = inr (inl refl)
 five_is (Set value) = inr refl
 five_is (Remove extent) = inr (inl refl)
@@ -60,19 +60,19 @@ either P true a c p q = p
 either P false a c p q = q
 
 -- the reports of commands that look for a key
-got_is : (name : Name) (found : Option Entry) → IsStatusOfAction {N = Name} Get (got_report name found).status
+got_is : (name : Name) (found : Option Entry) → IsStatusOfAction Get (got_report name found).status
 got_is name None = inr (inr refl)
 got_is name (Some entry) = inl refl
 
-text_is : (meta : List ℕ) (found : Option (List ℕ)) → IsStatusOfAction {N = Name} (GetMeta meta) (text_got meta found).status
+text_is : (meta : List ℕ) (found : Option (List ℕ)) → IsStatusOfAction (GetMeta meta) (text_got meta found).status
 text_is meta None = inr (inr refl)
 text_is meta (Some text) = inl refl
 
-meta_is : (name : Name) (meta : List ℕ) (found : Option Entry) → IsStatusOfAction {N = Name} (GetMeta meta) (meta_got name meta found).status
+meta_is : (name : Name) (meta : List ℕ) (found : Option Entry) → IsStatusOfAction (GetMeta meta) (meta_got name meta found).status
 meta_is name meta None = inr (inr refl)
 meta_is name meta (Some entry) = text_is meta (map.get entry.meta meta)
 
-listed_is : (name : Name) (found : Option Entry) → IsStatusOfAction {N = Name} MetaNames (meta_listed name found).status
+listed_is : (name : Name) (found : Option Entry) → IsStatusOfAction MetaNames (meta_listed name found).status
 listed_is name None = inr (inr refl)
 listed_is name (Some entry) = inl refl
 
@@ -88,11 +88,11 @@ brought_tells way extent from to taken keys = by_first (first_too_long from to t
     by_first None = tt
     by_first (Some bytes) = inr (inl refl)
 
-step_tells : (keys : KeyMap) (name : Name) (action : Action Name) → TellsBy (IsStatusOfAction action) (step_of keys name action)
+step_tells : (keys : KeyMap) (name : Name) (action : Action) → TellsBy (IsStatusOfAction action) (step_of keys name action)
 step_tells keys name Get = got_is name (map.get keys name)
 step_tells keys name (Set value) = tt
 step_tells keys name (Remove extent) =
-    either (TellsBy (IsStatusOfAction {N = Name} (Remove extent))) (length (map.entries (sources extent name keys)) == 0) (Tells (warned 11 (not_found name))) (Sets (others extent name keys) []) (inr (inr refl)) tt
+    either (TellsBy (IsStatusOfAction (Remove extent))) (length (map.entries (sources extent name keys)) == 0) (Tells (warned 11 (not_found name))) (Sets (others extent name keys) []) (inr (inr refl)) tt
 step_tells keys name Names = inl refl
 step_tells keys name (GetMeta meta) = meta_is name meta (map.get keys name)
 step_tells keys name (SetMeta meta text) = tt
@@ -101,8 +101,8 @@ step_tells keys name (Bring way extent to) =
     let taken = map.entries (sources extent name keys) in
     let left = staying way extent name keys in
     either (TellsBy (IsStatusOfAction (Bring way extent to))) (length taken == 0) (Tells (warned 11 (not_found name))) (brought_over name to taken left) (inr (inr (inr refl))) (brought_tells way extent name to taken left)
-step_tells keys name (MountFile file kind) = mounted_tells (IsStatusOfAction {N = Name} (MountFile file kind)) (table.added keys (spelling name) file kind) (inr refl)
-step_tells keys name Unmount = mounted_tells (IsStatusOfAction {N = Name} Unmount) (table.removed keys (spelling name)) (inr refl)
+step_tells keys name (MountFile file kind) = mounted_tells (IsStatusOfAction (MountFile file kind)) (table.added keys (spelling name) file kind) (inr refl)
+step_tells keys name Unmount = mounted_tells (IsStatusOfAction Unmount) (table.removed keys (spelling name)) (inr refl)
 
 -- a verdict lets a set be done, or refuses it
 verdict_is : (Is : ℕ → Type 0) (verdict : Verdict) (out : List ℕ) → Is 0 → Is 5 → Is (answer_by verdict out).report.status
@@ -119,7 +119,7 @@ step_is Is files parent (Tells report) answer zero five tells answers = subst (�
 step_is Is files parent (Sets keys out) answer zero five tells answers =
     subst (λ (a : Answer). Is a.report.status) (sym answers.is) (verdict_is Is answers.verdict out zero five)
 
-got_action_is : (files : List MountedFile) (name : Name) (action : Action Name) (keys : Result KeyMap GetFault) (answer : Answer) → AnswersGot files name action keys answer → IsStatusOfAction action answer.report.status
+got_action_is : (files : List MountedFile) (name : Name) (action : Action) (keys : Result KeyMap GetFault) (answer : Answer) → AnswersGot files name action keys answer → IsStatusOfAction action answer.report.status
 got_action_is files name action (Ok keys) answer answers =
     step_is (IsStatusOfAction action) files (parent_of name action) (step_of keys name action) answer (zero_is action) (five_is action) (step_tells keys name action) answers
 got_action_is files name action (Err fault) answer answers = subst (λ (a : Answer). IsStatusOfAction action a.report.status) (sym answers) (five_is action)
@@ -128,18 +128,18 @@ file_is : (name : Name) (found : Option MountedFile) → IsStatusOf (FileOf name
 file_is name None = inr (inr refl)
 file_is name (Some file) = inl refl
 
-in_is : (files : List MountedFile) (question : Question Name) (answer : Answer) → AnswersIn files question answer → IsStatusOf question answer.report.status
-in_is files Mounts answer answers = subst (λ (a : Answer). IsStatusOf {N = Name} Mounts a.report.status) (sym answers) (inl refl)
+in_is : (files : List MountedFile) (question : Question) (answer : Answer) → AnswersIn files question answer → IsStatusOf question answer.report.status
+in_is files Mounts answer answers = subst (λ (a : Answer). IsStatusOf Mounts a.report.status) (sym answers) (inl refl)
 in_is files (FileOf name) answer answers = subst (λ (a : Answer). IsStatusOf (FileOf name) a.report.status) (sym answers) (file_is name (owner_in files name))
 in_is files (On name action) answer answers = got_action_is files name action (got files (parent_of name action)) answer answers
 
-refused_is : (question : Question Name) → IsStatusOf question 5
+refused_is : (question : Question) → IsStatusOf question 5
 refused_is Mounts = inr refl
 refused_is (FileOf name) = inr (inl refl)
 refused_is (On name action) = five_is action
 
 -- an answer to a question has one of its statuses
-pub opened_is : (opened : Result (List MountedFile) OpenRefusal) (question : Question Name) (answer : Answer) → AnswersOpened opened question answer → IsStatusOf question answer.report.status
+pub opened_is : (opened : Result (List MountedFile) OpenRefusal) (question : Question) (answer : Answer) → AnswersOpened opened question answer → IsStatusOf question answer.report.status
 opened_is (Ok files) question answer answers = in_is files question answer answers
 opened_is (Err refusal) question answer answers = subst (λ (a : Answer). IsStatusOf question a.report.status) (sym answers.1) (refused_is question)
 
@@ -158,7 +158,7 @@ of_four status (inl e) = of_two status (inl e)
 of_four status (inr (inl e)) = (λ f. absurd (omega (arith, e, f)), λ f. absurd (omega (arith, e, f)))
 of_four status (inr (inr is)) = of_three status (inr is)
 
-own_action : (action : Action Name) (status : ℕ) → IsStatusOfAction action status → IsAnswered status
+own_action : (action : Action) (status : ℕ) → IsStatusOfAction action status → IsAnswered status
 own_action Get status is = of_three status is
 own_action (Set value) status is = of_two status is
 own_action (Remove extent) status is = of_three status is
@@ -171,25 +171,7 @@ own_action (MountFile file kind) status is = of_two status is
 own_action Unmount status is = of_two status is
 
 -- none of them is that of want of memory or of a fault
-pub own_status : (question : Question Name) (status : ℕ) → IsStatusOf question status → IsAnswered status
+pub own_status : (question : Question) (status : ℕ) → IsStatusOf question status → IsAnswered status
 own_status Mounts status is = of_two status is
 own_status (FileOf name) status is = of_three status is
 own_status (On name action) status is = own_action action status is
-
-by_action : (by : Action (List ℕ)) (action : Action Name) (status : ℕ) → SpellsAction by action → IsStatusOfAction action status → IsStatusOfAction by status
-by_action Get action status spelled is = subst (λ (a : Action Name). IsStatusOfAction a status) spelled is
-by_action (Set value) action status spelled is = subst (λ (a : Action Name). IsStatusOfAction a status) spelled is
-by_action (Remove extent) action status spelled is = subst (λ (a : Action Name). IsStatusOfAction a status) spelled is
-by_action Names action status spelled is = subst (λ (a : Action Name). IsStatusOfAction a status) spelled is
-by_action (GetMeta meta) action status spelled is = subst (λ (a : Action Name). IsStatusOfAction a status) spelled is
-by_action (SetMeta meta text) action status spelled is = subst (λ (a : Action Name). IsStatusOfAction a status) spelled is
-by_action MetaNames action status spelled is = subst (λ (a : Action Name). IsStatusOfAction a status) spelled is
-by_action (Bring way extent text) action status spelled is = subst (λ (a : Action Name). IsStatusOfAction a status) spelled.is is
-by_action (MountFile file kind) action status spelled is = subst (λ (a : Action Name). IsStatusOfAction a status) spelled is
-by_action Unmount action status spelled is = subst (λ (a : Action Name). IsStatusOfAction a status) spelled is
-
--- a question about the keys that texts spell has the statuses of the question about the texts
-pub by_status : (by : Question (List ℕ)) (question : Question Name) (status : ℕ) → SpellsQuestion by question → IsStatusOf question status → IsStatusOf by status
-by_status Mounts question status spelled is = subst (λ (q : Question Name). IsStatusOf q status) spelled is
-by_status (FileOf text) question status spelled is = subst (λ (q : Question Name). IsStatusOf q status) spelled.is is
-by_status (On text by) question status spelled is = by_action by spelled.action status spelled.action_spelled (subst (λ (q : Question Name). IsStatusOf q status) spelled.is is)

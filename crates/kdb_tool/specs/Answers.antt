@@ -4,7 +4,6 @@ use Rattle.std.specs.List.{flat_map}
 use Rattle.all_formats.specs.Meanings as all
 use Rattle.key_name.specs.Owner.{owner_of}
 use Rattle.model_names.specs.Name.{Name}
-use Rattle.model_names.specs.Spells.{Spells}
 use Rattle.model_maps.specs.KeyMap.{KeyMap}
 use Rattle.mount_table.specs.Points.{own_point}
 use Rattle.mounted_store.specs.Files.{points_of}
@@ -18,11 +17,10 @@ use Rattle.mounted_store.specs.declared.refusals.OpenRefusal.{OpenRefusal}
 use Rattle.mounted_store.specs.declared.refusals.OpenRefusal.TheVariants as refusals
 use Rattle.mounted_store.specs.declared.verdicts.Verdict.{Verdict}
 use Rattle.mounted_store.specs.declared.verdicts.Verdict.TheVariants.{ValueTooLong, FileTooLarge, NotStorable, BadTable, DatabaseFull, Same, Stores}
-use Rattle.kdb_tool.specs.declared.uses.Use.{Use}
 use Rattle.kdb_tool.specs.Lines.{too_long, bad_file, too_heavy, bad_table, value_too_long, file_too_large, not_storable, database_full, not_found, out_of_memory, line_of_mount}
 use Rattle.kdb_tool.specs.Answer.{Answer, tells, done, stores, refused}
 use Rattle.kdb_tool.specs.Uses.{barred}
-use Rattle.kdb_tool.specs.Request.{Action, Question, Mounts, FileOf, On, Request, Refuses, Bars, Asks, SpellsQuestion, request}
+use Rattle.kdb_tool.specs.Request.{Action, Question, Mounts, FileOf, On, Request, Refuses, Bars, Asks, request}
 use Rattle.kdb_tool.specs.Commands.{Step, Tells, Sets, parent_of, step_of}
 
 -- the answer that a verdict on a set gives, with what is put out where nothing is refused
@@ -54,7 +52,7 @@ line_of_get (faults.TooHeavy mount weight) = too_heavy mount weight
 line_of_get faults.Memory = out_of_memory
 
 -- the answer to an action, by what it got
-abbrev pub AnswersGot : List MountedFile → Name → Action Name → Result KeyMap GetFault → Answer → Type 0
+abbrev pub AnswersGot : List MountedFile → Name → Action → Result KeyMap GetFault → Answer → Type 0
 AnswersGot files name action (Ok keys) answer = AnswersStep files (parent_of name action) (step_of keys name action) answer
 AnswersGot files name action (Err fault) answer = answer ≡ refused 5 (line_of_get fault)
 
@@ -72,7 +70,7 @@ abbrev pub mounts_told : List MountedFile → Answer
 mounts_told files = done (flat_map (λ file. line_of_mount file.mount) files)
 
 -- the answer to a question over mounted files
-abbrev pub AnswersIn : List MountedFile → Question Name → Answer → Type 0
+abbrev pub AnswersIn : List MountedFile → Question → Answer → Type 0
 AnswersIn files Mounts answer = answer ≡ mounts_told files
 AnswersIn files (FileOf name) answer = answer ≡ file_told name (owner_in files name)
 AnswersIn files (On name action) answer = AnswersGot files name action (got files (parent_of name action)) answer
@@ -89,33 +87,21 @@ abbrev pub IsRefusedBy : OpenRefusal → Answer → Type 0
 IsRefusedBy refusal answer = (refusal ≢ refusals.Memory) × (answer ≡ refused 5 (line_of_opening refusal))
 
 -- the answer to a question by what came of the opening
-abbrev pub AnswersOpened : Result (List MountedFile) OpenRefusal → Question Name → Answer → Type 0
+abbrev pub AnswersOpened : Result (List MountedFile) OpenRefusal → Question → Answer → Type 0
 AnswersOpened (Ok files) question answer = AnswersIn files question answer
 AnswersOpened (Err refusal) question answer = IsRefusedBy refusal answer
 
 -- the answer to a question over what the files mean
-pub record AnswersOver (question : Question Name) (bytes_of : List ℕ → List ℕ) (answer : Answer) : Type 0 where
+pub record AnswersOver (question : Question) (bytes_of : List ℕ → List ℕ) (answer : Answer) : Type 0 where
   pub opened : Result (List MountedFile) OpenRefusal
   pub opens : Opens all.Reads all.IsBadAt bytes_of opened
   pub answers : AnswersOpened opened question answer
 
--- the answer to a question by texts, which spell the names of its keys
-pub record AnswersSpelled (by : Question (List ℕ)) (bytes_of : List ℕ → List ℕ) (answer : Answer) : Type 0 where
-  pub question : Question Name
-  pub spelled : SpellsQuestion by question
-  pub over : AnswersOver question bytes_of answer
-
--- the answer to a text that names a key which can't be used so
-pub record AnswersBarred (by : Use) (text : List ℕ) (answer : Answer) : Type 0 where
-  pub name : Name
-  pub spelled : Spells text name
-  pub is : answer ≡ refused 2 (barred by name)
-
 -- the answer to a request
 abbrev pub AnswersRequest : Request → (List ℕ → List ℕ) → Answer → Type 0
 AnswersRequest (Refuses status text) bytes_of answer = answer ≡ refused status text
-AnswersRequest (Bars by text) bytes_of answer = AnswersBarred by text answer
-AnswersRequest (Asks by) bytes_of answer = AnswersSpelled by bytes_of answer
+AnswersRequest (Bars by name) bytes_of answer = answer ≡ refused 2 (barred by name)
+AnswersRequest (Asks question) bytes_of answer = AnswersOver question bytes_of answer
 
 -- the answer to a command line, where files gives each file name its bytes
 abbrev pub Answers : List (List ℕ) → (List ℕ → List ℕ) → Answer → Type 0

@@ -9,9 +9,8 @@ use Rattle.general_words.specs.Searches.{first_some}
 use Rattle.model_names.specs.Refuses.{TooLong}
 use Rattle.model_names.specs.Spelling.{path, spelling}
 use Rattle.model_names.specs.Spells.{longest_path}
-use Rattle.model_maps.specs.Entry.{Entry, plain_entry}
+use Rattle.model_maps.specs.Entry.{Entry, plain_entry, with_meta}
 use Rattle.model_maps.specs.KeyMap.{KeyMap, no_keys, at_or_below, not_below}
-use Rattle.model_dump.specs.Adds.{with_meta}
 use Rattle.mount_table.specs.Changing as table
 use Rattle.mount_table.specs.Points.{own_point}
 use Rattle.mount_table.specs.declared.faults.TableFault.{TableFault}
@@ -34,7 +33,7 @@ abbrev pub every_key : Name
 every_key = record { namespace = Cascading; parts = [] }
 
 -- the parent whose keys a command gets, and sets where it sets any
-abbrev pub parent_of : Name → Action Name → Name
+abbrev pub parent_of : Name → Action → Name
 parent_of name Get = every_key
 parent_of name (Set value) = name
 parent_of name (Remove extent) = name
@@ -155,7 +154,7 @@ mounted (Ok keys) = Sets keys []
 mounted (Err fault) = Tells (warned 5 (bad_table fault))
 
 -- an action on a key, over the keys that were got
-abbrev pub step_of : KeyMap → Name → Action Name → Step
+abbrev pub step_of : KeyMap → Name → Action → Step
 step_of keys name Get = Tells (got name (map.get keys name))
 step_of keys name (Set value) = set_in keys name value
 step_of keys name (Remove extent) = removed name (sources extent name keys) (others extent name keys)

@@ -1,9 +1,6 @@
 -- How a run ends, as the top call says it. (This project's own.)
 use Rattle.std.specs.Prelude.{◌≡◌, ◌≢◌, ℕ, List}
-use Rattle.model_names.specs.Name.{Name}
-use Rattle.model_names.specs.Spells.{Spells}
 use Rattle.kdb_tool.specs.Lines.{disk_fault, out_of_memory, line, write_fault}
-use Rattle.kdb_tool.specs.declared.uses.Use.{Use}
 use Rattle.kdb_tool.specs.Uses.{barred}
 use Rattle.kdb_tool.specs.Answer.{Answer, warned, LeavesFiles}
 use Rattle.kdb_tool.specs.Request.{Request, Refuses, Bars, Asks}
@@ -25,17 +22,11 @@ pub record GivesAnswer (words : List (List ℕ)) (before after : List ℕ → Li
 abbrev pub EndsAsAnswered : List (List ℕ) → (List ℕ → List ℕ) → (List ℕ → List ℕ) → ℕ → Change → Change → Type 0
 EndsAsAnswered words before after status out err = IsAnswered status → GivesAnswer words before after status out err
 
--- a text that names a key which can't be used so is refused
-pub record EndsBarred (by : Use) (text : List ℕ) (status : ℕ) (out err : Change) : Type 0 where
-  pub name : Name
-  pub spelled : Spells text name
-  pub gives : Gives (warned 2 (barred by name)) status out err
-
 -- words that are refused are answered so; a question to the store ends with its own statuses alone
 abbrev pub EndsByWords : Request → ℕ → Change → Change → Type 0
 EndsByWords (Refuses code text) status out err = IsAnswered status → Gives (warned code text) status out err
-EndsByWords (Bars by text) status out err = IsAnswered status → EndsBarred by text status out err
-EndsByWords (Asks by) status out err = IsAnswered status → IsStatusOf by status
+EndsByWords (Bars by name) status out err = IsAnswered status → Gives (warned 2 (barred by name)) status out err
+EndsByWords (Asks question) status out err = IsAnswered status → IsStatusOf question status
 
 abbrev pub EndsWithoutMemory : ℕ → Change → Change → Type 0
 EndsWithoutMemory status out err = status ≡ 70 → Gives (warned 70 out_of_memory) status out err

@@ -1,10 +1,10 @@
 -- What a command line asks for, or how its words are refused. (This project's own.)
-use Rattle.std.specs.Prelude.{◌≡◌, ℕ, nat_le, nat_lt, not, ◌&&◌, ◌==◌, Bool, List, [], ◌∷◌, ◌++◌, length, if◌then◌else◌, Option, None, Some, codes, filter, slice_index}
+use Rattle.std.specs.Prelude.{ℕ, nat_le, nat_lt, not, ◌&&◌, ◌==◌, Bool, List, [], ◌∷◌, ◌++◌, length, if◌then◌else◌, Option, None, Some, codes, filter, slice_index}
 use Rattle.std.specs.List.{before_first, after_first}
 use Rattle.model_names.specs.Name.{Name}
+use Rattle.model_names.specs.NameOf.{name_of}
 use Rattle.model_names.specs.Refuses.{refusal_of}
 use Rattle.general_words.specs.Texts.{is_text}
-use Rattle.model_names.specs.Spells.{Spells}
 use Rattle.kdb_tool.specs.declared.extents.Extent.{Extent}
 use Rattle.kdb_tool.specs.declared.extents.Extent.TheVariants.{Alone, WithBelow}
 use Rattle.kdb_tool.specs.declared.ways.Way.{Way}
@@ -16,36 +16,35 @@ use Rattle.kdb_tool.specs.declared.uses.Use.TheVariants.{Looks, Writes}
 use Rattle.kdb_outside.specs.Kind.{kind_of}
 use Rattle.kdb_outside.specs.declared.kinds.Kind.{Kind}
 use Rattle.kdb_outside.specs.declared.kinds.Kind.TheVariants.{Dump}
-use Rattle.kdb_tool.specs.Uses.{is_barred}
+use Rattle.kdb_tool.specs.Uses.{bars}
 use Rattle.kdb_tool.specs.Lines.{argument, no_command, unknown_command, options_refused, no_name}
 
 -- what is done with a key: it is looked up, gets a value, is taken out, or is listed with all below it; its metadata
 -- is looked up, set or listed; it is brought to another name; or its name becomes or ceases to be a mountpoint. Any other
--- key of the action is given as an N
-pub data Action (N : Type 0) : Type 0 where
-  Get : Action N
-  Set : List ℕ → Action N
-  Remove : Extent → Action N
-  Names : Action N
-  GetMeta : List ℕ → Action N
-  SetMeta : List ℕ → List ℕ → Action N
-  MetaNames : Action N
-  Bring : Way → Extent → N → Action N
-  MountFile : List ℕ → Kind → Action N
-  Unmount : Action N
+-- key of the action is given by its name
+pub data Action : Type 0 where
+  Get : Action
+  Set : List ℕ → Action
+  Remove : Extent → Action
+  Names : Action
+  GetMeta : List ℕ → Action
+  SetMeta : List ℕ → List ℕ → Action
+  MetaNames : Action
+  Bring : Way → Extent → Name → Action
+  MountFile : List ℕ → Kind → Action
+  Unmount : Action
 
--- what is asked of a store: its mounts, the file of a key, or an action on a key. Each key is given as an N
-pub data Question (N : Type 0) : Type 0 where
-  Mounts : Question N
-  FileOf : N → Question N
-  On : N → Action N → Question N
+-- what is asked of a store: its mounts, the file of a key, or an action on a key
+pub data Question : Type 0 where
+  Mounts : Question
+  FileOf : Name → Question
+  On : Name → Action → Question
 
--- a question about keys by the texts of their names, a text that names a key which can't be used so, or a status with the
--- text of its line
+-- a question, a name that can't be used so, or a status with the text of its line
 pub data Request : Type 0 where
   Refuses : ℕ → List ℕ → Request
-  Bars : Use → List ℕ → Request
-  Asks : Question (List ℕ) → Request
+  Bars : Use → Name → Request
+  Asks : Question → Request
 
 -- a word that ends the options
 abbrev pub ends_options : List ℕ → Bool
@@ -115,13 +114,17 @@ on_two_or_three take (a ∷ b ∷ []) = take a b None
 on_two_or_three take (a ∷ b ∷ c ∷ []) = take a b (Some c)
 on_two_or_three take (a ∷ b ∷ c ∷ d ∷ words) = Refuses 1 options_refused
 
--- a word that is to be a name, and what is asked for where it is one
-abbrev pub on_name : List ℕ → Request → Request
-on_name word asked = elim (refusal_of word) [ None ↦ asked | Some refusal ↦ Refuses 2 (no_name refusal) ]
+-- a word that is to be a name and is none: it is told why. Bytes that are no text have no refusal, and no word is such
+abbrev pub unnamed : List ℕ → Request
+unnamed word = elim (refusal_of word) [ Some refusal ↦ Refuses 2 (no_name refusal) | None ↦ Refuses 2 (argument word) ]
+
+-- a word that is to be a name, and what is asked for by the name
+abbrev pub on_name : List ℕ → (Name → Request) → Request
+on_name word asked = elim (name_of word) [ Some name ↦ asked name | None ↦ unnamed word ]
 
 -- a word that is to be a name which can be used so
-abbrev pub on_name_for : Use → List ℕ → Request → Request
-on_name_for by word asked = on_name word (if is_barred by word then Bars by word else asked)
+abbrev pub on_name_for : Use → List ℕ → (Name → Request) → Request
+on_name_for by word asked = on_name word (λ name. if bars by name.namespace then Bars by name else asked name)
 
 -- a text may be a metadata name: it has 1 to 4,096 bytes
 abbrev pub is_meta : List ℕ → Bool
@@ -137,16 +140,16 @@ on_kind None asked = asked Dump
 on_kind (Some word) asked = elim (kind_of word) [ None ↦ Refuses 2 (argument word) | Some kind ↦ asked kind ]
 
 -- an action on the key of a word alone
-abbrev pub asks : Use → Action (List ℕ) → List ℕ → Request
-asks by action name = on_name_for by name (Asks (On name action))
+abbrev pub asks : Use → Action → List ℕ → Request
+asks by action word = on_name_for by word (λ name. Asks (On name action))
 
 -- the key of a word is brought to the name that another word spells
 abbrev pub asks_to_bring : Way → Extent → List ℕ → List ℕ → Request
-asks_to_bring way extent from to = on_name_for Writes from (on_name_for Writes to (Asks (On from (Bring way extent to))))
+asks_to_bring way extent from to = on_name_for Writes from (λ name. on_name_for Writes to (λ other. Asks (On name (Bring way extent other))))
 
 -- a file is mounted at the name of a word
 abbrev pub asks_to_mount : List ℕ → List ℕ → Option (List ℕ) → Request
-asks_to_mount file name plugin = on_name_for Writes name (on_kind plugin (λ kind. Asks (On name (MountFile file kind))))
+asks_to_mount file word plugin = on_name_for Writes word (λ name. on_kind plugin (λ kind. Asks (On name (MountFile file kind))))
 
 -- the command that a word names
 abbrev pub verb_of : List ℕ → Option Verb
@@ -168,53 +171,20 @@ verb_of word =
 -- what the words behind a command ask for
 abbrev pub request_of : Verb → List (List ℕ) → Request
 request_of verbs.Get = plain (on_one (asks Looks Get))
-request_of verbs.Set = plain (on_two (λ name value. asks Writes (Set value) name))
+request_of verbs.Set = plain (on_two (λ word value. asks Writes (Set value) word))
 request_of verbs.Rm = extended (λ extent. on_one (asks Writes (Remove extent)))
-request_of verbs.Ls = plain (on_one (λ name. on_name name (Asks (On name Names))))
-request_of verbs.MetaGet = plain (on_two (λ name meta. on_name_for Looks name (on_meta meta (Asks (On name (GetMeta meta))))))
-request_of verbs.MetaSet = plain (on_three (λ name meta text. on_name_for Writes name (on_meta meta (Asks (On name (SetMeta meta text))))))
+request_of verbs.Ls = plain (on_one (λ word. on_name word (λ name. Asks (On name Names))))
+request_of verbs.MetaGet = plain (on_two (λ word meta. on_name_for Looks word (λ name. on_meta meta (Asks (On name (GetMeta meta))))))
+request_of verbs.MetaSet = plain (on_three (λ word meta text. on_name_for Writes word (λ name. on_meta meta (Asks (On name (SetMeta meta text))))))
 request_of verbs.MetaLs = plain (on_one (asks Looks MetaNames))
 request_of verbs.Cp = extended (λ extent. on_two (asks_to_bring Copies extent))
 request_of verbs.Mv = extended (λ extent. on_two (asks_to_bring Moves extent))
 request_of verbs.Mount = plain (on_two_or_three asks_to_mount)
 request_of verbs.Umount = plain (on_one (asks Writes Unmount))
 request_of verbs.Mounts = plain (on_none (Asks Mounts))
-request_of verbs.File = plain (on_one (λ name. on_name_for Writes name (Asks (FileOf name))))
+request_of verbs.File = plain (on_one (λ word. on_name_for Writes word (λ name. Asks (FileOf name))))
 
 -- the words of a command line, without the program's name
 abbrev pub request : List (List ℕ) → Request
 request [] = Refuses 4 no_command
 request (word ∷ words) = elim (verb_of word) [ None ↦ Refuses 4 (unknown_command word) | Some verb ↦ request_of verb words ]
-
--- a key that a text spells makes this of something
-pub record SpellsOne {A : Type 0} (text : List ℕ) (made : Name → A) (whole : A) : Type 0 where
-  pub name : Name
-  pub spelled : Spells text name
-  pub is : whole ≡ made name
-
--- an action whose other keys are given by texts is this one on the keys that they spell
-abbrev pub SpellsAction : Action (List ℕ) → Action Name → Type 0
-SpellsAction Get action = action ≡ Get
-SpellsAction (Set value) action = action ≡ Set value
-SpellsAction (Remove extent) action = action ≡ Remove extent
-SpellsAction Names action = action ≡ Names
-SpellsAction (GetMeta meta) action = action ≡ GetMeta meta
-SpellsAction (SetMeta meta text) action = action ≡ SetMeta meta text
-SpellsAction MetaNames action = action ≡ MetaNames
-SpellsAction (Bring way extent text) action = SpellsOne text (Bring way extent) action
-SpellsAction (MountFile file kind) action = action ≡ MountFile file kind
-SpellsAction Unmount action = action ≡ Unmount
-
--- an action on the key that a text spells
-pub record SpellsOn (text : List ℕ) (by : Action (List ℕ)) (question : Question Name) : Type 0 where
-  pub name : Name
-  pub spelled : Spells text name
-  pub action : Action Name
-  pub action_spelled : SpellsAction by action
-  pub is : question ≡ On name action
-
--- a question about keys that are given by texts is this one about the keys that they spell
-abbrev pub SpellsQuestion : Question (List ℕ) → Question Name → Type 0
-SpellsQuestion Mounts question = question ≡ Mounts
-SpellsQuestion (FileOf text) question = SpellsOne text FileOf question
-SpellsQuestion (On text by) question = SpellsOn text by question

@@ -1,9 +1,8 @@
 //! What is asked for by words that are to be names.
-ghost use Rattle.std.specs.Prelude.{◌≡◌, IfOk, List, ℕ};
+ghost use Rattle.std.specs.Prelude.{IfOk};
 ghost use Rattle.std.specs.Option.{option_map};
-ghost use Rattle.model_names.specs.Spells.{Spells};
 ghost use Rattle.kdb_tool.specs.Request as asked;
-ghost use Rattle.kdb_tool.specs.Request.{SpellsAction, on_name, on_name_for, asks, asks_to_bring, asks_to_mount};
+ghost use Rattle.kdb_tool.specs.Request.{on_name, on_name_for, asks, asks_to_bring, asks_to_mount};
 ghost use Rattle.kdb_tool.specs.Lines.{argument};
 ghost use Rattle.kdb_tool.specs.RequestView.{IsRead, IsSeenAs, action_of};
 ghost use Rattle.kdb_tool.specs.declared.uses.Use.TheVariants.{Writes};
@@ -19,18 +18,20 @@ use std::alloc::{AllocError, Global};
 
 /// A word that is to be a name.
 fn read_any_name<'a>(alloc: Global, word: &'a str) -> Result<Named<'a>, Memory>
-    ensures { IfOk result (IsRead (on_name word.now) word.now) }
+    ensures { IfOk result (IsRead (on_name word.now)) }
 {
     match KeyName::parse(alloc, word) {
         Ok(name) => Ok(Named::Is(name)),
-        Err(NameFault::Memory) => Err(AllocError),
-        Err(fault) => Ok(Named::IsNone(Request::Refuses(Refusal::NoName(fault)))),
+        Err(fault) => match fault {
+            NameFault::Memory => Err(AllocError),
+            _ => Ok(Named::IsNone(Request::Refuses(Refusal::NoName(fault)))),
+        },
     }
 }
 
 /// A word that is to be a name which can be used so.
 fn read_name<'a>(alloc: Global, word: &'a str, by: Use) -> Result<Named<'a>, Memory>
-    ensures { IfOk result (IsRead (on_name_for by word.now) word.now) }
+    ensures { IfOk result (IsRead (on_name_for by word.now)) }
 {
     match read_any_name(alloc, word)? {
         Named::Is(name) => {
@@ -51,7 +52,7 @@ pub fn ask<'a>(
     by: Use,
     action: Action<'a>,
 ) -> Result<Request<'a>, Memory>
-    ensures { IfOk result (λ read. (spelled : asked.Action (List ℕ)) → SpellsAction spelled (action_of action.entry) → IsSeenAs read (asks by spelled word.now)) }
+    ensures { IfOk result (λ read. IsSeenAs read (asks by (action_of action.entry) word.now)) }
 {
     match read_name(alloc, word, by)? {
         Named::Is(name) => Ok(Request::Asks(Question::On { name, action })),
@@ -61,7 +62,7 @@ pub fn ask<'a>(
 
 /// An action on the key that a word is to name, whatever its namespace.
 pub fn ask_any<'a>(alloc: Global, word: &'a str, action: Action<'a>) -> Result<Request<'a>, Memory>
-    ensures { IfOk result (λ read. (spelled : asked.Action (List ℕ)) → SpellsAction spelled (action_of action.entry) → IsSeenAs read (on_name word.now (asked.Asks (asked.On word.now spelled)))) }
+    ensures { IfOk result (λ read. IsSeenAs read (on_name word.now (λ name. asked.Asks (asked.On name (action_of action.entry))))) }
 {
     match read_any_name(alloc, word)? {
         Named::Is(name) => Ok(Request::Asks(Question::On { name, action })),
@@ -71,7 +72,7 @@ pub fn ask_any<'a>(alloc: Global, word: &'a str, action: Action<'a>) -> Result<R
 
 /// The file of the key that a word is to name.
 pub fn ask_for_file<'a>(alloc: Global, word: &'a str) -> Result<Request<'a>, Memory>
-    ensures { IfOk result (λ read. IsSeenAs read (on_name_for Writes word.now (asked.Asks (asked.FileOf word.now)))) }
+    ensures { IfOk result (λ read. IsSeenAs read (on_name_for Writes word.now (λ name. asked.Asks (asked.FileOf name)))) }
 {
     match read_name(alloc, word, Use::Writes)? {
         Named::Is(name) => Ok(Request::Asks(Question::FileOf(name))),
@@ -122,7 +123,7 @@ fn ask_to_bring_key<'a>(
     way: Way,
     extent: Extent,
 ) -> Result<Request<'a>, Memory>
-    ensures { IfOk result (λ read. (text : List ℕ) → Spells text name → IsSeenAs read (on_name_for Writes to.now (asked.Asks (asked.On text (asked.Bring way extent to.now))))) }
+    ensures { IfOk result (λ read. IsSeenAs read (on_name_for Writes to.now (λ other. asked.Asks (asked.On name (asked.Bring way extent other))))) }
 {
     match read_name(alloc, to, Use::Writes)? {
         Named::Is(to) => {
@@ -140,7 +141,7 @@ pub fn refuse_argument<'a>(
     by: Use,
     word: &'a str,
 ) -> Result<Request<'a>, Memory>
-    ensures { IfOk result (λ read. IsSeenAs read (on_name_for by name.now (asked.Refuses 2 (argument word.now)))) }
+    ensures { IfOk result (λ read. IsSeenAs read (on_name_for by name.now (λ _. asked.Refuses 2 (argument word.now)))) }
 {
     match read_name(alloc, name, by)? {
         Named::Is(_name) => Ok(Request::Refuses(Refusal::NoArgument(word))),

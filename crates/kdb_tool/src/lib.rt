@@ -2,12 +2,8 @@
 #![tactic(auto)]
 
 ghost use Rattle.std.specs.Prelude.{◌≡◌, List, ℕ};
-ghost use Rattle.model_names.specs.Name.{Name};
-ghost use Rattle.model_names.specs.Spells.{Spells};
 ghost use Rattle.kdb_tool.specs.Answer.{Answer};
 ghost use Rattle.kdb_tool.specs.Answers.{Answers};
-ghost use Rattle.kdb_tool.specs.Uses.{bars, is_barred};
-ghost use Rattle.kdb_tool.specs.declared.uses.Use.{Use};
 
 mod answering;
 mod answers;
@@ -39,9 +35,4 @@ pub use tool::run;
 /// A command line has one answer over the files of a store.
 pub fn words_have_one_answer()
     ensures { (words : List (List ℕ)) (files : List ℕ → List ℕ) (a b : Answer) → Answers words files a → Answers words files b → a ≡ b }
-{}
-
-/// A text that spells a name is barred exactly where the name's namespace is.
-pub fn texts_are_barred_by_their_namespaces()
-    ensures { (by : Use) (text : List ℕ) (name : Name) → Spells text name → is_barred by text ≡ bars by name.namespace }
 {}

@@ -1,7 +1,7 @@
 //! What the words of a command line ask for.
-ghost use Rattle.std.specs.Prelude.{◌≡◌, IfOk, List, ℕ};
+ghost use Rattle.std.specs.Prelude.{IfOk};
 ghost use Rattle.kdb_tool.specs.Request as asked;
-ghost use Rattle.kdb_tool.specs.Request.{SpellsAction, request, request_of, plain, extended, on_none, on_one, on_two, on_three, on_two_or_three, on_name, on_name_for, on_meta, asks, asks_to_bring, asks_to_mount};
+ghost use Rattle.kdb_tool.specs.Request.{request, request_of, plain, extended, on_none, on_one, on_two, on_three, on_two_or_three, on_name, on_name_for, on_meta, asks, asks_to_bring, asks_to_mount};
 ghost use Rattle.kdb_tool.specs.RequestView.{IsSeenAs, action_of};
 ghost use Rattle.kdb_tool.specs.declared.uses.Use.TheVariants.{Looks, Writes};
 
@@ -57,7 +57,7 @@ fn read_one<'a>(
     by: Use,
     action: Action<'a>,
 ) -> Result<Request<'a>, Memory>
-    ensures { IfOk result (λ read. (spelled : asked.Action (List ℕ)) → SpellsAction spelled (action_of action.entry) → IsSeenAs read (plain (on_one (asks by spelled)) words.now)) }
+    ensures { IfOk result (λ read. IsSeenAs read (plain (on_one (asks by (action_of action.entry))) words.now)) }
 {
     let Some(arguments) = plain_arguments(alloc, words)? else {
         return Ok(Request::Refuses(Refusal::OptionsRefused));
@@ -70,7 +70,7 @@ fn read_one<'a>(
 
 /// The words behind `set`.
 fn read_name_and_value<'a>(alloc: Global, words: &'a [Text]) -> Result<Request<'a>, Memory>
-    ensures { IfOk result (λ read. IsSeenAs read (plain (on_two (λ name value. asks Writes (asked.Set value) name)) words.now)) }
+    ensures { IfOk result (λ read. IsSeenAs read (plain (on_two (λ word value. asks Writes (asked.Set value) word)) words.now)) }
 {
     let Some(arguments) = plain_arguments(alloc, words)? else {
         return Ok(Request::Refuses(Refusal::OptionsRefused));
@@ -96,7 +96,7 @@ fn read_removal<'a>(alloc: Global, words: &'a [Text]) -> Result<Request<'a>, Mem
 
 /// The words behind `meta-get`.
 fn read_meta<'a>(alloc: Global, words: &'a [Text]) -> Result<Request<'a>, Memory>
-    ensures { IfOk result (λ read. IsSeenAs read (plain (on_two (λ name meta. on_name_for Looks name (on_meta meta (asked.Asks (asked.On name (asked.GetMeta meta)))))) words.now)) }
+    ensures { IfOk result (λ read. IsSeenAs read (plain (on_two (λ word meta. on_name_for Looks word (λ name. on_meta meta (asked.Asks (asked.On name (asked.GetMeta meta)))))) words.now)) }
 {
     let Some(arguments) = plain_arguments(alloc, words)? else {
         return Ok(Request::Refuses(Refusal::OptionsRefused));
@@ -112,7 +112,7 @@ fn read_meta<'a>(alloc: Global, words: &'a [Text]) -> Result<Request<'a>, Memory
 
 /// The words behind `meta-set`.
 fn read_meta_and_text<'a>(alloc: Global, words: &'a [Text]) -> Result<Request<'a>, Memory>
-    ensures { IfOk result (λ read. IsSeenAs read (plain (on_three (λ name meta text. on_name_for Writes name (on_meta meta (asked.Asks (asked.On name (asked.SetMeta meta text)))))) words.now)) }
+    ensures { IfOk result (λ read. IsSeenAs read (plain (on_three (λ word meta text. on_name_for Writes word (λ name. on_meta meta (asked.Asks (asked.On name (asked.SetMeta meta text)))))) words.now)) }
 {
     let Some(arguments) = plain_arguments(alloc, words)? else {
         return Ok(Request::Refuses(Refusal::OptionsRefused));
@@ -141,7 +141,7 @@ fn read_bringing<'a>(alloc: Global, words: &'a [Text], way: Way) -> Result<Reque
 
 /// The words behind `ls`.
 fn read_listing<'a>(alloc: Global, words: &'a [Text]) -> Result<Request<'a>, Memory>
-    ensures { IfOk result (λ read. IsSeenAs read (plain (on_one (λ name. on_name name (asked.Asks (asked.On name asked.Names)))) words.now)) }
+    ensures { IfOk result (λ read. IsSeenAs read (plain (on_one (λ word. on_name word (λ name. asked.Asks (asked.On name asked.Names)))) words.now)) }
 {
     let Some(arguments) = plain_arguments(alloc, words)? else {
         return Ok(Request::Refuses(Refusal::OptionsRefused));
@@ -181,7 +181,7 @@ fn read_none<'a>(alloc: Global, words: &'a [Text]) -> Result<Request<'a>, Memory
 
 /// The words behind `file`.
 fn read_file_name<'a>(alloc: Global, words: &'a [Text]) -> Result<Request<'a>, Memory>
-    ensures { IfOk result (λ read. IsSeenAs read (plain (on_one (λ name. on_name_for Writes name (asked.Asks (asked.FileOf name)))) words.now)) }
+    ensures { IfOk result (λ read. IsSeenAs read (plain (on_one (λ word. on_name_for Writes word (λ name. asked.Asks (asked.FileOf name)))) words.now)) }
 {
     let Some(arguments) = plain_arguments(alloc, words)? else {
         return Ok(Request::Refuses(Refusal::OptionsRefused));

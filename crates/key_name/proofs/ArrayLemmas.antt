@@ -1,246 +1,54 @@
--- Array parts: their digits, their canonical form, and that none of them has an escape.
-use Rattle.std.proofs.Common.{◌≡◌, ◌≢◌, ℕ, ◌+◌, ◌-◌, ◌^◌, ◌<◌, ◌≤◌, Bool, true, false, cond, eqb, ltb, leb, ◌==◌, ◌&&◌, ◌||◌, List, [], ◌∷◌, ◌++◌, length, get_or, drop, replicate, zero, suc, Option, Some, None, option_and_then, is_none, refl, sym, ap, ap₂, subst, ◌∙◌, inl, inr, ◌⊎◌, arith, length-append, lit<}
+-- Array parts: their forms by lengths, and that none of them has an escape.
+use Rattle.std.proofs.Common.{◌≡◌, ◌≢◌, ℕ, ◌+◌, ◌-◌, ◌≤◌, Bool, true, false, cond, ltb, ◌==◌, ◌&&◌, ◌||◌, List, [], ◌∷◌, ◌++◌, length, Option, Some, None, option_and_then, is_none, refl, sym, ap, ap₂, subst, ◌∙◌, inl, inr, arith}
 use Rattle.std.specs.Option.{option_map, is_some}
 use Rattle.std.specs.Char.{is_ascii_digit}
-use Rattle.std.specs.Fmt.{decimal}
-use Rattle.std.specs.Int.{IsInRange}
 use Rattle.std.specs.List.{AllByRecursion, list_all}
-use Rattle.std.specs.Str.Parse.{digits_value}
-use Rattle.std.specs.Cmp.Lexicographic.{pointwise}
-use Rattle.std.proofs.lemmas.Bool.{cond-true, cond-false, cond_both, and_parts, and_from, and_left, or_left, or_right, or_cases, eqb-true, eq-eqb, ne_eqb, leb-true, le-leb, ltb-true, ltb-false, cases_Bool}
-use Rattle.std.proofs.lemmas.Fmt.{decimal-digits_value, decimal_digit, first_decimal, decimal_is_IsNumeral}
-use Rattle.std.proofs.lemmas.List.{length-replicate}
-use Rattle.std.proofs.lemmas.Slice.Eq.{bytes_eq-Decides}
-use Rattle.std.proofs.lemmas.Str.Parse.{IsDigitsTest, IsNumeralModel, numerals_by_value}
+use Rattle.std.proofs.lemmas.Bool.{cond-true, cond-false, and_parts, and_left, or_cases, eqb-true, eq-eqb, ne_eqb, cases_Bool, cases_eq}
 use Rattle.model_names.specs.Name.{Part}
-use Rattle.model_names.specs.ArrayPart.{last_index, array_part, without_underscores, are_digits, is_array_like, canonical_part}
+use Rattle.model_names.specs.ArrayPart.{without_underscores, are_digits, is_array_like, digits_of, underscores_of, is_index, is_canonical, is_bare, part_of_digits, canonical_part}
 use Rattle.model_names.specs.Spells.{unescaped_from}
 use Rattle.model_names.specs.Refuses.{bad_array}
+use Rattle.model_names.proofs.ArrayLemmas.{digit_range, length-like, like_parts}
 use Rattle.model_names.proofs.EscapeLemmas.{IsUnescaped}
-use Rattle.model_names.proofs.PartLemmas.{decimal-first, without_underscores-leads}
 use Rattle.model_names.proofs.RefusesLemmas.{from_map, cond_some}
-use Rattle.key_name.specs.Arrays.{IsIndex}
 
--- ---- digits
+-- ---- the forms of a part
 
-digit_range : (c : ℕ) → is_ascii_digit c ≡ true → IsInRange 48 57 c
-digit_range c h = let parts = and_parts (leb 48 c) (leb c 57) h in (leb-true 48 c parts.0, leb-true c 57 parts.1)
+pub digits_fit : (part : List ℕ) → is_array_like part ≡ true → length (digits_of part) + 1 ≤ length part
+digits_fit part like = omega (arith, length-like part like)
 
-tells_ascii_digits : IsDigitsTest (λ ds. list_all is_ascii_digit ds ≡ true)
-tells_ascii_digits = record {
-  empty = refl;
-  parts = λ c cs h. let both = and_parts (is_ascii_digit c) (list_all is_ascii_digit cs) h in (digit_range c both.0, both.1);
-  more = λ c cs range h. and_from (is_ascii_digit c) (list_all is_ascii_digit cs) (and_from (leb 48 c) (leb c 57) (le-leb 48 c range.0) (le-leb c 57 range.1)) h;
-}
+-- the canonical form has as many underscores before its digits as leave the part twice as long as they are
+pub canonical-lead : (part digits : List ℕ) → is_array_like part ≡ true → digits ≡ digits_of part → is_canonical part ≡ (is_index digits && (length part - length digits == length digits))
+canonical-lead part digits like is =
+    let count : underscores_of part + 1 ≡ length part - length digits = omega (arith, length-like part like, ap length is) in
+    ap₂ (λ d n. is_index d && (n == length d)) (sym is) count
 
-pub ascii_digits : IsNumeralModel (λ ds. list_all is_ascii_digit ds ≡ true) (digits_value 10)
-ascii_digits = numerals_by_value _ tells_ascii_digits
-
--- ---- an index
-
-one_zero : (ds : List ℕ) → decimal (digits_value 10 ds) ≡ ds → digits_value 10 ds < 2 ^ 64 → get_or ds 0 0 ≡ 48 → length ds ≡ 1
-one_zero ds spelled small zero_first =
-    elim (cases_zero (digits_value 10 ds)) [
-      | inl none ↦ ap length (sym spelled ∙ ap decimal none ∙ decimal_digit 0 (lit< tt))
-      | inr some ↦ let first = first_decimal (digits_value 10 ds) some small in let same = ap (λ t. get_or t 0 0) spelled in absurd (omega arith)
+-- that of a part without underscores is the digits behind the sign
+bare-lead : (part digits : List ℕ) → is_array_like part ≡ true → digits ≡ digits_of part → is_bare part ≡ (is_index digits && (length part - length digits == 1))
+bare-lead part digits like is = ap₂ (λ i l. i && l) (ap is_index (sym is)) by
+  where
+    by : (underscores_of part == 0) ≡ (length part - length digits == 1)
+    by = elim (cases_eq (underscores_of part) 0) [
+      | inl none ↦ eq-eqb _ 0 none ∙ sym (eq-eqb _ 1 (omega (arith, length-like part like, ap length is, none)))
+      | inr some ↦ ne_eqb _ 0 some ∙ sym (ne_eqb _ 1 (λ e. some (omega (arith, length-like part like, ap length is, e))))
     ]
+
+pub form-lead : (part digits : List ℕ) → is_array_like part ≡ true → digits ≡ digits_of part → is_some (canonical_part part) ≡ (is_index digits && ((length part - length digits == 1) || (length part - length digits == length digits)))
+form-lead part digits like is =
+    by (is_canonical part || is_bare part)
+    ∙ ap₂ (λ a b. a || b) (canonical-lead part digits like is) (bare-lead part digits like is)
+    ∙ factor (is_index digits) (length part - length digits == length digits) (length part - length digits == 1)
   where
-    cases_zero : (n : ℕ) → (n ≡ 0) ⊎ (0 < n)
-    cases_zero zero = inl refl
-    cases_zero (suc n) = inr (omega arith)
+    by : (t : Bool) → is_some (cond t (Some (part_of_digits (digits_of part))) None) ≡ t
+    by true = refl
+    by false = refl
 
-leads : (ds : List ℕ) → (ltb 1 (length ds) && (get_or ds 0 0 == 48)) ≡ true → (1 < length ds) × (get_or ds 0 0 ≡ 48)
-leads ds h = let parts = and_parts (ltb 1 (length ds)) (get_or ds 0 0 == 48) h in (ltb-true 1 (length ds) parts.0, eqb-true (get_or ds 0 0) 48 parts.1)
-
--- digits with a zero before others are no index
-pub IsIndex-leading_zero : (ds : List ℕ) → (ltb 1 (length ds) && (get_or ds 0 0 == 48)) ≡ true → IsIndex ds → ⊥
-IsIndex-leading_zero ds h index =
-    let parts = leads ds h in
-    let small : digits_value 10 ds < 2 ^ 64 = omega (arith, index.within) in
-    let one = one_zero ds index.spelled small parts.1 in
-    omega arith
-
-pub IsIndex-within : (ds : List ℕ) → are_digits ds ≡ true → (ltb 1 (length ds) && (get_or ds 0 0 == 48)) ≡ false → digits_value 10 ds ≤ last_index → IsIndex ds
-IsIndex-within ds digits zero_first within =
-    let parts = and_parts (ltb 0 (length ds)) (list_all is_ascii_digit ds) digits in
-    let some = ltb-true 0 (length ds) parts.0 in
-    let small : digits_value 10 ds < 2 ^ 64 = omega (arith, within) in
-    record {
-      spelled = decimal-digits_value ascii_digits ds parts.1 some (λ e. by e (length ds) some zero_first) small;
-      within = within;
-    }
-  where
-    by : get_or ds 0 0 ≡ 48 → (n : ℕ) → 0 < n → (ltb 1 n && (get_or ds 0 0 == 48)) ≡ false → n ≡ 1
-    by e n some h =
-        elim (cases_Bool (ltb 1 n)) [
-          | inl lt ↦ let both = and_from (ltb 1 n) (get_or ds 0 0 == 48) lt (eq-eqb _ 48 e) in absurd (cc)
-          | inr le ↦ let most = ltb-false 1 n le in omega arith
-        ]
-
--- ---- underscores
-
--- how many underscores stand before some digits
-pub record Leads (bytes digits : List ℕ) : Type 0 where
-  pub count : ℕ
-  pub split : bytes ≡ replicate count 95 ++ digits
-
-leads_all : (bytes : List ℕ) → Leads bytes (without_underscores bytes)
-leads_all [] = record { count = 0; split = refl }
-leads_all (b ∷ bytes) =
-    let rest = leads_all bytes in
-    cond_both (b == 95) (without_underscores bytes) (b ∷ bytes) (λ digits. Leads (b ∷ bytes) digits)
-    (λ e. record { count = suc rest.count; split = ap₂ (λ b bytes. b ∷ bytes) (eqb-true b 95 e) rest.split })
-    (λ _. record { count = 0; split = refl })
-
-length-leads : (bytes digits : List ℕ) (l : Leads bytes digits) → length bytes ≡ l.count + length digits
-length-leads bytes digits l = ap length l.split ∙ length-append (replicate l.count 95) digits ∙ ap (λ n. n + length digits) (length-replicate l.count 95)
-
--- ---- the canonical form
-
--- the part that an index's digits stand for
-unfoldable pub part_of_digits : List ℕ → Part
-part_of_digits digits = 35 ∷ (replicate (length digits - 1) 95 ++ digits)
-
-array_part-index : (digits : List ℕ) → IsIndex digits → array_part (digits_value 10 digits) ≡ part_of_digits digits
-unfolding part_of_digits
-array_part-index digits index = ap (λ d. 35 ∷ (replicate (length d - 1) 95 ++ d)) index.spelled
-
--- a part of an array has its canonical form
-pub record HasForm (part digits canonical : List ℕ) : Type 0 where
-  pub index : IsIndex digits
-  pub lead : (length part ≡ length digits + 1) ⊎ (length part ≡ length digits + length digits)
-  pub is : canonical ≡ part_of_digits digits
-
-same_bytes : (a b : List ℕ) → pointwise eqb a b ≡ true → a ≡ b
-same_bytes a b e = (bytes_eq-Decides a b).0 e
-
-behind_sign : (a b : ℕ) (x y : List ℕ) → a ∷ x ≡ b ∷ y → x ≡ y
-behind_sign a b x y e = cc
-
--- what stands behind the underscores of a canonical part, or of one without underscores, is the index
-index_behind : (bytes : List ℕ) (n index : ℕ) → index ≤ last_index → digits_value 10 (without_underscores bytes) ≡ index → bytes ≡ replicate n 95 ++ decimal index → without_underscores bytes ≡ decimal index
-index_behind bytes n index within v e = ap without_underscores e ∙ without_underscores-leads n (decimal index) (decimal-first index within)
-
-form_from : (bytes canonical : List ℕ) (n : ℕ) → (n ≡ 0) ⊎ (n + 1 ≡ length (decimal (digits_value 10 (without_underscores bytes)))) → digits_value 10 (without_underscores bytes) ≤ last_index → bytes ≡ replicate n 95 ++ decimal (digits_value 10 (without_underscores bytes)) → array_part (digits_value 10 (without_underscores bytes)) ≡ canonical → HasForm (35 ∷ bytes) (without_underscores bytes) canonical
-form_from bytes canonical n count within e same =
-    let digits = without_underscores bytes in
-    let index = digits_value 10 digits in
-    let spelled = index_behind bytes n index within refl e in
-    let is_index : IsIndex digits = record { spelled = sym spelled; within = within } in
-    let bytes_length = ap length e ∙ length-append (replicate n 95) (decimal index) ∙ ap (λ k. k + length (decimal index)) (length-replicate n 95) in
-    let digits_length = ap length spelled in
-    record {
-      index = is_index;
-      lead = elim count [ inl none ↦ inl (omega arith) | inr all ↦ inr (omega arith) ];
-      is = sym same ∙ array_part-index digits is_index;
-    }
-
-like_parts : (b : ℕ) (bytes : List ℕ) → is_array_like (b ∷ bytes) ≡ true → (b ≡ 35) × (are_digits (without_underscores bytes) ≡ true)
-like_parts b bytes h = let parts = and_parts (b == 35) (are_digits (without_underscores bytes)) h in (eqb-true b 35 parts.0, parts.1)
-
-form_of_bytes : (bytes canonical : List ℕ) → canonical_part (35 ∷ bytes) ≡ Some canonical → HasForm (35 ∷ bytes) (without_underscores bytes) canonical
-form_of_bytes bytes canonical h =
-    let digits = without_underscores bytes in
-    let index = digits_value 10 digits in
-    let part = 35 ∷ bytes in
-    let full = pointwise eqb part (array_part index) in
-    let bare = pointwise eqb part (35 ∷ decimal index) in
-    let chosen = cond_some (leb index last_index && (full || bare)) (Some (array_part index)) canonical h in
-    let tests = and_parts (leb index last_index) (full || bare) chosen.0 in
-    let within = leb-true index last_index tests.0 in
-    let same : array_part index ≡ canonical = some_part (array_part index) canonical chosen.1 in
-    let small : index < 2 ^ 64 = omega arith in
-    let some = (decimal_is_IsNumeral index small).0.0 in
-    elim (or_cases full bare tests.1) [
-      | inl e ↦ form_from bytes canonical (length (decimal index) - 1) (inr (omega (arith, some))) within (behind_sign 35 35 bytes _ (same_bytes part (array_part index) e)) same
-      | inr e ↦ form_from bytes canonical 0 (inl refl) within (behind_sign 35 35 bytes _ (same_bytes part (35 ∷ decimal index) e)) same
-    ]
-  where
-    some_part : (a b : Part) → ◌≡◌ {A = Option Part} (Some a) (Some b) → a ≡ b
-    some_part a b e = cc
-
--- and it looks like an array's, since its digits are left where its underscores go
-pub is_array_like-canonical : (digits : List ℕ) → are_digits digits ≡ true → IsIndex digits → is_array_like (part_of_digits digits) ≡ true
-unfolding part_of_digits
-is_array_like-canonical digits h index =
-    let first : get_or digits 0 0 ≢ 95 = λ e. decimal-first (digits_value 10 digits) index.within (ap (λ d. get_or d 0 0) index.spelled ∙ e) in
-    ap are_digits (without_underscores-leads (length digits - 1) digits first) ∙ h
-
-pub HasForm-from_canonical : (part canonical : List ℕ) → is_array_like part ≡ true → canonical_part part ≡ Some canonical → HasForm part (without_underscores (drop 1 part)) canonical
-HasForm-from_canonical [] canonical like h = absurd cc
-HasForm-from_canonical (b ∷ bytes) canonical like h =
-    let sign = (like_parts b bytes like).0 in
-    let P : ℕ → Type 0 = λ b. canonical_part (b ∷ bytes) ≡ Some canonical → HasForm (b ∷ bytes) (without_underscores bytes) canonical in
-    subst P (sym sign) (form_of_bytes bytes canonical) h
-
-canonical_of_bytes : (bytes : List ℕ) → IsIndex (without_underscores bytes) → (length bytes ≡ length (without_underscores bytes)) ⊎ (length bytes + 1 ≡ length (without_underscores bytes) + length (without_underscores bytes)) → canonical_part (35 ∷ bytes) ≡ Some (part_of_digits (without_underscores bytes))
-canonical_of_bytes bytes index lead =
-    let digits = without_underscores bytes in
-    let value = digits_value 10 digits in
-    let part = 35 ∷ bytes in
-    let leads = leads_all bytes in
-    let total = length-leads bytes digits leads in
-    let full = pointwise eqb part (array_part value) in
-    let bare = pointwise eqb part (35 ∷ decimal value) in
-    let matches : (full || bare) ≡ true = elim lead [
-      | inl none ↦ let zero_count : leads.count ≡ 0 = omega arith in
-          or_right full bare ((bytes_eq-Decides part (35 ∷ decimal value)).1 (ap (λ b. 35 ∷ b) (leads.split ∙ ap₂ (λ n d. replicate n 95 ++ d) zero_count (sym index.spelled))))
-      | inr all ↦ let full_count : leads.count ≡ length digits - 1 = omega arith in
-          or_left full bare ((bytes_eq-Decides part (array_part value)).1 (ap (λ b. 35 ∷ b) (leads.split ∙ ap (λ n. replicate n 95 ++ digits) full_count) ∙ ap (λ d. 35 ∷ (replicate (length d - 1) 95 ++ d)) (sym index.spelled)))
-    ] in
-    cond-true (leb value last_index && (full || bare)) _ _ (and_from (leb value last_index) (full || bare) (le-leb value last_index index.within) matches) ∙ ap (λ part. Some part) (array_part-index digits index)
-
-pub canonical_part-index : (part : List ℕ) → is_array_like part ≡ true → IsIndex (without_underscores (drop 1 part)) → (length part ≡ length (without_underscores (drop 1 part)) + 1) ⊎ (length part ≡ length (without_underscores (drop 1 part)) + length (without_underscores (drop 1 part))) → canonical_part part ≡ Some (part_of_digits (without_underscores (drop 1 part)))
-canonical_part-index [] like index lead = absurd cc
-canonical_part-index (b ∷ bytes) like index lead =
-    let sign = (like_parts b bytes like).0 in
-    ap (λ b. canonical_part (b ∷ bytes)) sign ∙ canonical_of_bytes bytes index (elim lead [ inl e ↦ inl (omega arith) | inr e ↦ inr (omega arith) ])
-
--- the digits of a part that looks like an array's
-pub are_digits-like : (part : List ℕ) → is_array_like part ≡ true → are_digits (without_underscores (drop 1 part)) ≡ true
-are_digits-like [] like = absurd cc
-are_digits-like (b ∷ bytes) like = (like_parts b bytes like).1
-
-digits_fit_bytes : (bytes : List ℕ) → length (without_underscores bytes) ≤ length bytes
-digits_fit_bytes bytes = let leads = leads_all bytes in omega (arith, length-leads bytes (without_underscores bytes) leads)
-
-pub digits_fit : (part : List ℕ) → is_array_like part ≡ true → length (without_underscores (drop 1 part)) + 1 ≤ length part
-digits_fit [] like = absurd cc
-digits_fit (b ∷ bytes) like = omega (arith, digits_fit_bytes bytes)
-
-pub is_some-canonical_part : (part : List ℕ) → is_array_like part ≡ true → IsIndex (without_underscores (drop 1 part)) → (length part ≡ length (without_underscores (drop 1 part)) + 1) ⊎ (length part ≡ length (without_underscores (drop 1 part)) + length (without_underscores (drop 1 part))) → is_some (canonical_part part) ≡ true
-is_some-canonical_part part like index lead = ap is_some (canonical_part-index part like index lead)
-
-pub is_some-no_form : (part : List ℕ) → is_array_like part ≡ true → ((canonical : List ℕ) → HasForm part (without_underscores (drop 1 part)) canonical → ⊥) → is_some (canonical_part part) ≡ false
-is_some-no_form part like none = by (canonical_part part) (λ canonical e. none canonical (HasForm-from_canonical part canonical like e))
-  where
-    by : (o : Option Part) → ((canonical : Part) → o ≡ Some canonical → ⊥) → is_some o ≡ false
-    by None h = refl
-    by (Some canonical) h = absurd (h canonical refl)
-
--- ---- all underscores
-
-full_bytes : (bytes : List ℕ) → length bytes + 1 ≡ length (without_underscores bytes) + length (without_underscores bytes) → 35 ∷ bytes ≡ part_of_digits (without_underscores bytes)
-unfolding part_of_digits
-full_bytes bytes full =
-    let digits = without_underscores bytes in
-    let leads = leads_all bytes in
-    let total = length-leads bytes digits leads in
-    let count : leads.count ≡ length digits - 1 = omega arith in
-    ap (λ b. 35 ∷ b) (leads.split ∙ ap (λ n. replicate n 95 ++ digits) count)
-
--- a part with one underscore less than digits is spelled as those digits are
-pub spelled_in_full : (part : List ℕ) → is_array_like part ≡ true → length part ≡ length (without_underscores (drop 1 part)) + length (without_underscores (drop 1 part)) → part ≡ part_of_digits (without_underscores (drop 1 part))
-spelled_in_full [] like full = absurd cc
-spelled_in_full (b ∷ bytes) like full = ap (λ b. b ∷ bytes) (like_parts b bytes like).0 ∙ full_bytes bytes (omega arith)
-
--- and a part that is spelled so has that many
-pub length-form_part : (part : List ℕ) → is_array_like part ≡ true → part ≡ part_of_digits (without_underscores (drop 1 part)) → length part ≡ length (without_underscores (drop 1 part)) + length (without_underscores (drop 1 part))
-unfolding part_of_digits
-length-form_part part like is =
-    let digits = without_underscores (drop 1 part) in
-    let some = ltb-true 0 (length digits) (and_parts (ltb 0 (length digits)) (list_all is_ascii_digit digits) (are_digits-like part like)).0 in
-    omega (arith, ap length is, length-append (replicate (length digits - 1) 95) digits, length-replicate {A = ℕ} (length digits - 1) 95)
+    factor : (i a b : Bool) → ((i && a) || (i && b)) ≡ (i && (b || a))
+    factor true true true = refl
+    factor true true false = refl
+    factor true false true = refl
+    factor true false false = refl
+    factor false a b = refl
 
 -- ---- what stands at the front
 

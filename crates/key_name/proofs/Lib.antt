@@ -7,3 +7,4 @@ pub mod WellFormedLemmas
 pub mod MeasureLemmas
 pub mod ChildLemmas
 pub mod OwnerLemmas
+pub mod NameOfLemmas

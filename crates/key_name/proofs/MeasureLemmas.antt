@@ -6,7 +6,7 @@ use Rattle.std.proofs.lemmas.Bool.{cond_both, cond-true, cond-false, ne_eqb, or_
 use Rattle.std.proofs.lemmas.List.{map-append, take-map, take_more, take-append-drop, length-replicate}
 use Rattle.model_names.specs.declared.namespaces.Namespace.{Namespace}
 use Rattle.model_names.specs.Name.{Part}
-use Rattle.model_names.specs.ArrayPart.{is_array_like, canonical_part, without_underscores}
+use Rattle.model_names.specs.ArrayPart.{is_array_like, canonical_part, digits_of, part_of_digits}
 use Rattle.model_names.specs.RawParts.{raw_parts}
 use Rattle.general_words.specs.Texts.{is_text}
 use Rattle.model_names.specs.Spelling.{escaped, spelled, is_reserved, path_of_parts, word_of}
@@ -15,8 +15,9 @@ use Rattle.model_names.proofs.EscapeLemmas.{IsUnescaped, flat_map-escaped-same}
 use Rattle.model_names.proofs.NameLemmas.{spelled-text}
 use Rattle.model_names.proofs.PartLemmas.{slashed-raw_parts}
 use Rattle.model_names.proofs.RefusesLemmas.{from_map, from_and_then, branch_taken, cond_some}
-use Rattle.key_name.proofs.ArrayLemmas.{HasForm-from_canonical, are_digits-like, array_ordinary, digits_fit, is_array_like-canonical, part_of_digits}
 use Rattle.general_words.proofs.Texts.{other_text, same_text}
+use Rattle.model_names.proofs.ArrayLemmas.{are_digits-like, canonical_part-from, is_array_like-part_of_digits}
+use Rattle.key_name.proofs.ArrayLemmas.{array_ordinary, digits_fit}
 use Rattle.key_name.proofs.WellFormedLemmas.{slashed, length-slashed-append}
 use Rattle.general_words.proofs.Lists.{some_is}
 
@@ -91,18 +92,17 @@ length-unescaped false (b ∷ raw) part h =
     omega (arith, bytes, length-unescaped (b == 92) raw rest.0 rest.1))
 
 length-part_of_digits : (digits : List ℕ) → 0 < length digits → length (part_of_digits digits) ≡ length digits + length digits
-unfolding part_of_digits
 length-part_of_digits digits some = omega (arith, some, length-append (replicate (length digits - 1) 95) digits, length-replicate {A = ℕ} (length digits - 1) 95)
 
 -- the canonical part of an index has no more than twice the bytes of the part that it is made from
 length-canonical : (text part : Part) → is_array_like text ≡ true → canonical_part text ≡ Some part → length (spelled part) ≤ 2 * length text + 1
 length-canonical text part like h =
-    let digits = without_underscores (drop 1 text) in
-    let form = HasForm-from_canonical text part like h in
+    let digits = digits_of text in
+    let form = canonical_part-from text part h in
     let are = are_digits-like text like in
     let some = ltb-true 0 (length digits) (and_parts (ltb 0 (length digits)) _ are).0 in
     let bytes = length-part_of_digits digits some in
-    let ordinary = array_ordinary (part_of_digits digits) (is_array_like-canonical digits are form.index) in
+    let ordinary = array_ordinary (part_of_digits digits) (is_array_like-part_of_digits digits are) in
     let same = ap (λ p. length (spelled p)) form.is in
     omega (arith, same, bytes, digits_fit text like, length-spelled-unescaped (part_of_digits digits) ordinary)
 

@@ -8,13 +8,14 @@ use Rattle.std.proofs.lemmas.List.{append-nil}
 use Rattle.std.specs.Str.{IsUtf8, chars}
 use Rattle.std.proofs.lemmas.Str.{encodes-chars, encode_ascii, encodes-append}
 use Rattle.model_names.specs.Name.{Part}
-use Rattle.model_names.specs.ArrayPart.{is_array_like, canonical_part, without_underscores}
 use Rattle.general_words.specs.Texts.{is_text}
+use Rattle.model_names.specs.ArrayPart.{is_array_like, canonical_part, digits_of, part_of_digits}
 use Rattle.model_names.specs.Spells.{Move, Adds, Stays, GoesUp, meaning, moved, part_of_text, unescaped_from, walked}
 use Rattle.model_names.proofs.RefusesLemmas.{branch_taken, from_map, from_and_then}
 use Rattle.key_name.specs.declared.raw_parts.Raw.{Raw}
 use Rattle.key_name.specs.Raws.{texts}
-use Rattle.key_name.proofs.ArrayLemmas.{HasForm-from_canonical, part_of_digits, unescaped_from-array, is_array_like-unescaped}
+use Rattle.model_names.proofs.ArrayLemmas.{canonical_part-from}
+use Rattle.key_name.proofs.ArrayLemmas.{unescaped_from-array, is_array_like-unescaped}
 use Rattle.model_names.proofs.EscapeLemmas.{IsUnescaped-encode_utf8, read_all, escapes_no_letter}
 use Rattle.general_words.proofs.Texts.{other_text, same_text}
 use Rattle.key_name.proofs.PassLemmas.{drop-item}
@@ -55,10 +56,10 @@ meaning-text raw part empty percent dot dots h =
     (λ h. branch_taken (is_text raw (92 ∷ codes "..")) _ _ _ h (λ t _. absurd (dots (same_text raw (92 ∷ codes "..") t)))
     (λ h. let adds = from_map Adds (option_and_then part_of_text (unescaped_from false raw)) (Adds part) h in adds.1 ∙ ap (λ p. Some p) (adds_is adds.0 part adds.2)))))))
 
-pub part_of_text-array : (raw digits part : List ℕ) → is_array_like raw ≡ true → digits ≡ without_underscores (drop 1 raw) → option_and_then part_of_text (unescaped_from false raw) ≡ Some part → part ≡ part_of_digits digits
+pub part_of_text-array : (raw digits part : List ℕ) → is_array_like raw ≡ true → digits ≡ digits_of raw → option_and_then part_of_text (unescaped_from false raw) ≡ Some part → part ≡ part_of_digits digits
 part_of_text-array raw digits part like is h =
     let canonical = sym (ap (option_and_then part_of_text) (unescaped_from-array raw like) ∙ cond-true (is_array_like raw) (canonical_part raw) (Some raw) like) ∙ h in
-    (HasForm-from_canonical raw part like canonical).is ∙ ap part_of_digits (sym is)
+    (canonical_part-from raw part canonical).is ∙ ap part_of_digits (sym is)
 
 pub part_of_text-plain : (raw part : List ℕ) → is_array_like raw ≡ false → option_and_then part_of_text (unescaped_from false raw) ≡ Some part → unescaped_from false raw ≡ Some part
 part_of_text-plain raw part other h =

@@ -1,8 +1,8 @@
 -- A name with one more part, and why a part can't be that one. (This project's own.)
-use Rattle.std.specs.Prelude.{◌-◌, ◌^◌, min, nat_lt, Bool, false, not, ◌&&◌, ◌==◌, if◌then◌else◌, [], ◌∷◌, ◌++◌, length, Option, Some, None}
+use Rattle.std.specs.Prelude.{◌-◌, ◌^◌, min, nat_lt, Bool, not, ◌&&◌, ◌==◌, if◌then◌else◌, [], ◌∷◌, ◌++◌, length, Option, Some, None}
 use Rattle.std.specs.List.{position}
 use Rattle.std.specs.Option.{option_map, option_or}
-use Rattle.model_names.specs.ArrayPart.{is_array_like, canonical_part}
+use Rattle.model_names.specs.ArrayPart.{is_array_like, is_canonical}
 use Rattle.model_names.specs.Name.{Name, Part}
 use Rattle.model_names.specs.Refuses.{Refusal, BadArray, Nul, TooLong}
 use Rattle.general_words.specs.Texts.{is_text}
@@ -13,14 +13,9 @@ use Rattle.model_names.specs.Spells.{longest_path}
 abbrev pub child_of : Name → Part → Name
 child_of name part = record { namespace = name.namespace; parts = name.parts ++ part ∷ [] }
 
--- a part is one that there is
-abbrev pub is_that : Part → Option Part → Bool
-is_that part None = false
-is_that part (Some other) = is_text part other
-
--- a part looks like an array's, and is not the canonical one of its index
+-- a part looks like an array's, and isn't canonical
 abbrev pub is_misspelled : Part → Bool
-is_misspelled part = is_array_like part && not (is_that part (canonical_part part))
+is_misspelled part = is_array_like part && not (is_canonical part)
 
 -- the length of a path, where it is over the limit. A length beyond the type's end is given as its last value
 abbrev pub too_long_path : Name → Option Refusal

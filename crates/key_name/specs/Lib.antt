@@ -9,4 +9,3 @@ pub mod KeyName
 pub mod Owner
 pub mod Raws
 pub mod Refused
-pub mod Arrays

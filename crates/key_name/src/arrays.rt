@@ -1,10 +1,8 @@
 //! Parts that number the items of an array.
-ghost use Rattle.std.specs.Prelude.{◌≡◌, ◌-◌, ◌&&◌, ◌==◌, ◌∷◌, ◌++◌, IfOk, IfNone, IfSome, OnSome, true, false, nat_lt, nat_le, is_none, is_some, length, drop, replicate, slice_index, string_bytes};
-ghost use Rattle.std.specs.Bool.{Decides};
+ghost use Rattle.std.specs.Prelude.{◌≡◌, ◌&&◌, IfOk, IfNone, IfSome, OnSome, true, false, nat_le, is_none, is_some, string_bytes};
 ghost use Rattle.std.specs.Str.Parse.{digits_value};
-ghost use Rattle.model_names.specs.ArrayPart.{last_index, without_underscores, are_digits, is_array_like, canonical_part};
-ghost use Rattle.key_name.specs.Arrays.{IsIndex};
-ghost use Rattle.key_name.specs.Children.{is_misspelled, is_that};
+ghost use Rattle.model_names.specs.ArrayPart.{last_index, without_underscores, are_digits, is_array_like, digits_of, has_leading_zero, is_index, is_canonical, part_of_digits, canonical_part};
+ghost use Rattle.key_name.specs.Children.{is_misspelled};
 
 use crate::Memory;
 use std::alloc::Global;
@@ -36,7 +34,7 @@ pub fn is_misspelled(part: &str) -> bool
 pub fn array_digits(part: &str) -> Option<&str>
     ensures none { IfNone result (is_array_like part.now ≡ false) }
     ensures like { OnSome result (is_array_like part.now ≡ true) }
-    ensures digits { IfSome result (λ digits. digits.now ≡ without_underscores (drop 1 part.now)) }
+    ensures digits { IfSome result (λ digits. digits.now ≡ digits_of part.now) }
 {
     let Some(behind) = part.strip_prefix('#') else {
         return None;
@@ -51,7 +49,7 @@ pub fn array_digits(part: &str) -> Option<&str>
 
 /// The part of an array that an index's digits stand for: one underscore less than there are digits stands before them.
 pub fn array_part(alloc: Global, digits: &str) -> Result<String, Memory>
-    ensures { IfOk result (λ part. string_bytes part ≡ 35 ∷ (replicate (length digits.now - 1) 95 ++ digits.now)) }
+    ensures { IfOk result (λ part. string_bytes part ≡ part_of_digits digits.now) }
 {
     let mut part = String::from_str(alloc, "#")?;
     for _written in 0..digits.len().saturating_sub(1) {
@@ -64,7 +62,7 @@ pub fn array_part(alloc: Global, digits: &str) -> Result<String, Memory>
 /// Whether the digits of an array's part are an index, with all its underscores before it or with none.
 fn has_canonical_form(part: &str, digits: &str) -> bool
     requires like { is_array_like part.now ≡ true }
-    requires digits { digits.now ≡ without_underscores (drop 1 part.now) }
+    requires digits { digits.now ≡ digits_of part.now }
     ensures { result ≡ is_some (canonical_part part.now) }
 {
     let lead = part.len() - digits.len();
@@ -74,8 +72,8 @@ fn has_canonical_form(part: &str, digits: &str) -> bool
 /// Whether the digits of an array's part are an index, with all its underscores before it.
 fn is_canonical(part: &str, digits: &str) -> bool
     requires like { is_array_like part.now ≡ true }
-    requires digits { digits.now ≡ without_underscores (drop 1 part.now) }
-    ensures { result ≡ is_that part.now (canonical_part part.now) }
+    requires digits { digits.now ≡ digits_of part.now }
+    ensures { result ≡ is_canonical part.now }
 {
     let lead = part.len() - digits.len();
     is_index(digits) && lead == digits.len()
@@ -84,14 +82,14 @@ fn is_canonical(part: &str, digits: &str) -> bool
 /// Whether digits are an index.
 fn is_index(digits: &str) -> bool
     requires { are_digits digits.now ≡ true }
-    ensures { Decides result (IsIndex digits.now) }
+    ensures { result ≡ is_index digits.now }
 {
     !has_leading_zero(digits) && is_within_limit(digits)
 }
 
 /// Whether a zero stands before other digits.
 fn has_leading_zero(digits: &str) -> bool
-    ensures { result ≡ (nat_lt 1 (length digits.now) && (slice_index digits.now 0 == 48)) }
+    ensures { result ≡ has_leading_zero digits.now }
 {
     digits.len() > 1 && digits.as_bytes()[0] == b'0'
 }

@@ -3,6 +3,8 @@ pub mod SpellsLemmas
 pub mod RefusesLemmas
 pub mod BelowOrder
 pub mod EscapeLemmas
+pub mod ArrayLemmas
 pub mod PartLemmas
 pub mod NameLemmas
 pub mod BelowLemmas
+pub mod NameOfLemmas

@@ -19,6 +19,7 @@ use Rattle.model_names.specs.Spells.{Spells, Adds, walked, moved, meaning, unesc
 use Rattle.general_words.specs.Texts.{is_text}
 use Rattle.model_names.specs.Spelling.{spelling, spelled, escaped, is_reserved, word_of, path_of_parts}
 use Rattle.model_names.specs.WellFormed.{IsName, IsPart}
+use Rattle.model_names.proofs.ArrayLemmas.{canonical_part-own}
 use Rattle.model_names.proofs.EscapeLemmas.{flat_map-escaped-letter}
 use Rattle.model_names.proofs.PartLemmas.{IsText, IsText-raw_parts, IsUtf8-byte, IsUtf8-cons, all_append, all_back, text_from_test, utf8_behind_slash, walked_parts}
 use Rattle.model_names.proofs.RefusesLemmas.{slash_begins}
@@ -154,7 +155,7 @@ not_reserved text part other e = true≢false (sym ((bytes_eq-Decides part text)
 part_is_read : (part : Part) → IsPart part → part_of_text part ≡ Some part
 part_is_read part h =
     elim (cases_Bool (is_array_like part)) [
-      | inl like ↦ cond-true (is_array_like part) (canonical_part part) (Some part) like ∙ h.canonical like
+      | inl like ↦ cond-true (is_array_like part) (canonical_part part) (Some part) like ∙ canonical_part-own part like (h.canonical like)
       | inr other ↦ cond-false (is_array_like part) (canonical_part part) (Some part) other
     ]
 

@@ -19,11 +19,12 @@ use Rattle.std.proofs.lemmas.Str.Ascii.{IsAscii-from_all}
 use Rattle.std.proofs.lemmas.Str.Parse.{digit_at}
 use Rattle.std.proofs.Math.Seq.{take-append_seam, drop-append-add}
 use Rattle.model_names.specs.Name.{Part}
-use Rattle.model_names.specs.ArrayPart.{last_index, array_part, is_array_like, canonical_part, index_of, without_underscores}
+use Rattle.model_names.specs.ArrayPart.{is_array_like, digits_of, part_of_digits, canonical_part}
 use Rattle.model_names.specs.RawParts.{raw_parts_from, put_before}
 use Rattle.general_words.specs.Texts.{is_text}
 use Rattle.model_names.specs.Spells.{Move, Adds, Stays, GoesUp, meaning, moved, walked, part_of_text, unescaped_from}
 use Rattle.model_names.specs.WellFormed.{IsPart}
+use Rattle.model_names.proofs.ArrayLemmas.{are_digits-like, canonical_part-from, ascii-part_of_digits, is_canonical-part_of_digits}
 use Rattle.model_names.proofs.EscapeLemmas.{IsUnescaped-encode_utf8, read_all, escapes_no_letter}
 use Rattle.model_names.proofs.RefusesLemmas.{from_map, from_and_then, cond_some, branch_taken}
 use Rattle.model_names.proofs.SpellsLemmas.{is_ascii_text_byte, no_nul-from_test, is_ascii-from_test}
@@ -192,65 +193,20 @@ IsText-unescaped raw part text h =
       no_nul = unescaped_no_nul false raw part h text.no_nul;
     }
 
--- ---- array parts
-
-all_replicate : {A : Type 0} (P : A → Type 0) (n : ℕ) (x : A) → P x → AllByRecursion P (replicate n x)
-all_replicate P zero x p = tt
-all_replicate P (suc n) x p = (p, all_replicate P n x p)
-
-pub without_underscores-leads : (n : ℕ) (digits : List ℕ) → get_or digits 0 0 ≢ 95 → without_underscores (replicate n 95 ++ digits) ≡ digits
-without_underscores-leads zero [] h = refl
-without_underscores-leads zero (d ∷ digits) h = cond-false (d == 95) _ _ (ne_eqb d 95 h)
-without_underscores-leads (suc n) digits h = without_underscores-leads n digits h
-
-pub decimal-first : (n : ℕ) → n ≤ last_index → get_or (decimal n) 0 0 ≢ 95
-decimal-first n within =
-    let small : n < 2 ^ 64 = omega arith in
-    let numeral = (decimal_is_IsNumeral n small).0 in
-    let range = digit_at (decimal n) 0 numeral.1 numeral.0 in
-    λ e. omega (arith, range.1)
-
--- the part of an index is canonical
-canonical_part-array_part : (index : ℕ) → index ≤ last_index → canonical_part (array_part index) ≡ Some (array_part index)
-canonical_part-array_part index within =
-    let digits = decimal index in
-    let small : index < 2 ^ 64 = omega arith in
-    let behind : without_underscores (replicate (length digits - 1) 95 ++ digits) ≡ digits = without_underscores-leads (length digits - 1) digits (decimal-first index within) in
-    let value : digits_value 10 (without_underscores (replicate (length digits - 1) 95 ++ digits)) ≡ index = ap (digits_value 10) behind ∙ (decimal_is_IsNumeral index small).1 in
-    ap (λ n. cond (nat_le n last_index && (pointwise nat_eq (array_part index) (array_part n) || pointwise nat_eq (array_part index) (35 ∷ decimal n))) (Some (array_part n)) None) value
-    ∙ cond-true (nat_le index last_index && (pointwise nat_eq (array_part index) (array_part index) || pointwise nat_eq (array_part index) (35 ∷ digits))) _ _ (and_from _ _ (le-leb index last_index within) (or_left _ _ ((bytes_eq-Decides (array_part index) (array_part index)).1 refl)))
-
-digit_bytes : (n : ℕ) → n ≤ last_index → AllByRecursion (λ b. (0 < b) × (b < 128)) (decimal n)
-digit_bytes n within =
-    let small : n < 2 ^ 64 = omega arith in
-    let numeral = (decimal_is_IsNumeral n small).0 in
-    recursion_from_All (λ b. (0 < b) × (b < 128)) (decimal n) (λ k d lt. let range = in_digits (get_or (decimal n) k 0) (digit_at (decimal n) k numeral.1 lt) in subst (λ (b : ℕ). (0 < b) × (b < 128)) (get_or_default (decimal n) k 0 d lt) range)
-  where
-    in_digits : (b : ℕ) → IsInRange 48 57 b → (0 < b) × (b < 128)
-    in_digits b range = (omega (arith, range.0), omega (arith, range.1))
-
-pub IsPart-array_part : (index : ℕ) → index ≤ last_index → IsPart (array_part index)
-IsPart-array_part index within =
-    let digits = decimal index in
-    let bytes = text_from_ascii (array_part index) ((lit< tt, lit< tt), all_append (λ b. (0 < b) × (b < 128)) (replicate (length digits - 1) 95) digits (all_replicate (λ b. (0 < b) × (b < 128)) (length digits - 1) 95 (lit< tt, lit< tt)) (digit_bytes index within)) in
-    record { utf8 = bytes.utf8; no_nul = bytes.no_nul; canonical = λ _. canonical_part-array_part index within }
-
--- a canonical form is that of an index
-canonical_is : (part canonical : Part) → canonical_part part ≡ Some canonical → (index : ℕ) × (index ≤ last_index) × (array_part index ≡ canonical)
-canonical_is part canonical h =
-    let index = index_of part in
-    let chosen = cond_some (nat_le index last_index && (pointwise nat_eq part (array_part index) || pointwise nat_eq part (35 ∷ decimal index))) (Some (array_part index)) canonical h in
-    let tests = and_parts (nat_le index last_index) _ chosen.0 in
-    (index, leb-true index last_index tests.0, some_is (array_part index) canonical chosen.1)
-
 -- ---- what raw parts add
+
+-- the canonical form of an array-like part is a part
+IsPart-canonical_part : (text part : Part) → is_array_like text ≡ true → canonical_part text ≡ Some part → IsPart part
+IsPart-canonical_part text part like h =
+    let form = canonical_part-from text part h in
+    let digits = are_digits-like text like in
+    let bytes = text_from_ascii (part_of_digits (digits_of text)) (ascii-part_of_digits (digits_of text) digits) in
+    subst IsPart (sym form.is) (record { utf8 = bytes.utf8; no_nul = bytes.no_nul; canonical = λ _. is_canonical-part_of_digits (digits_of text) digits form.index })
 
 IsPart-from_text : (text part : Part) → IsText text → part_of_text text ≡ Some part → IsPart part
 IsPart-from_text text part is h =
     elim (cases_Bool (is_array_like text)) [
-      | inl like ↦
-          let index = canonical_is text part (sym (cond-true (is_array_like text) (canonical_part text) (Some text) like) ∙ h) in
-          subst IsPart index.2 (IsPart-array_part index.0 index.1)
+      | inl like ↦ IsPart-canonical_part text part like (sym (cond-true (is_array_like text) (canonical_part text) (Some text) like) ∙ h)
       | inr other ↦
           let same = some_is text part (sym (cond-false (is_array_like text) (canonical_part text) (Some text) other) ∙ h) in
           subst IsPart same (record { utf8 = is.utf8; no_nul = is.no_nul; canonical = λ like. absurd (true≢false (sym like ∙ other)) })

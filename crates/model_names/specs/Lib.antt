@@ -8,3 +8,5 @@ pub mod Order
 pub mod Below
 pub mod Glob
 pub mod Refuses
+pub mod NameOf
+pub mod Namespaces

@@ -18,3 +18,18 @@ pub enum Namespace {
     /// Values that stand where no other is.
     Default,
 }
+
+impl Namespace {
+    ghost use Rattle.std.specs.Prelude.{◌≡◌};
+    ghost use Rattle.model_names.specs.Namespaces.{has_files};
+
+    /// Whether the namespace's keys are in files.
+    pub fn has_files(self) -> bool
+        ensures { result ≡ has_files self }
+    {
+        match self {
+            Namespace::Spec | Namespace::Dir | Namespace::User | Namespace::System => true,
+            Namespace::Cascading | Namespace::Proc | Namespace::Default => false,
+        }
+    }
+}

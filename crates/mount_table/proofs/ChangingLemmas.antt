@@ -11,11 +11,10 @@ use Rattle.std.proofs.lemmas.Bool.{and_parts, cond-true, cond-false, cases_Bool,
 use Rattle.std.proofs.lemmas.Cmp.{nat_list_cmp_total}
 use Rattle.std.proofs.lemmas.List.Folds.{list_any_more, list_any_at}
 use Rattle.std.proofs.lemmas.Option.{slice_get_within, get_or_from_slice_get}
-use Rattle.std.proofs.lemmas.Slice.Eq.{bytes_eq-Decides}
 use Rattle.general_words.proofs.Texts.{text_cmp-IsAntisymmetric}
 use Rattle.model_names.specs.declared.namespaces.Namespace.{Namespace}
 use Rattle.model_names.specs.declared.namespaces.Namespace.TheVariants.{Cascading, Spec, Proc, Dir, User, System, Default}
-use Rattle.model_names.specs.ArrayPart.{is_array_like, canonical_part}
+use Rattle.model_names.specs.ArrayPart.{is_array_like, is_canonical}
 use Rattle.model_names.specs.Below.{is_at_or_below}
 use Rattle.model_names.specs.Name.{Name, Part}
 use Rattle.model_names.specs.Spelling.{spelling, spelled, path, word_of, path_of_parts}
@@ -28,7 +27,7 @@ use Rattle.model_maps.specs.Entry.{Entry, plain_entry}
 use Rattle.model_maps.specs.KeyMap.{KeyMap}
 use Rattle.kdb_outside.specs.Kind.{kind_word}
 use Rattle.kdb_outside.specs.declared.kinds.Kind.{Kind}
-use Rattle.key_name.specs.Children.{child_of, child_refusal, is_misspelled, is_that}
+use Rattle.key_name.specs.Children.{child_of, child_refusal, is_misspelled}
 use Rattle.key_name.proofs.ChildLemmas.{child_refusal-none}
 use Rattle.key_name.proofs.WellFormedLemmas.{length-slashed-append}
 use Rattle.mount_table.specs.Changing.{added, HasNames}
@@ -93,7 +92,7 @@ is_at_point mounts (entry ∷ entries) all text said ok found =
     ]
 
 pub short_point : (text : Part) (name : Name) → IsPoint text name → length text ≤ longest_point
-short_point text name h = leb-true _ _ (and_parts _ _ h.is).0
+short_point text name h = leb-true _ _ (and_parts _ _ (and_parts _ _ h.is).1).0
 
 -- ---- what is looked at before an entry is added
 
@@ -132,8 +131,8 @@ pub is_part-refusal : (above : Name) (part : Part) → IsPart part → length (p
 is_part-refusal above part is limit = child_refusal-none above part (spelled_well (cases_Bool (is_array_like part))) (position-no_nul part is.no_nul) limit
   where
     spelled_well : (is_array_like part ≡ true) ⊎ (is_array_like part ≡ false) → is_misspelled part ≡ false
-    spelled_well (inl like) = ap₂ (λ a o. a && not (is_that part o)) like (is.canonical like) ∙ ap not ((bytes_eq-Decides part part).1 refl)
-    spelled_well (inr unlike) = ap (λ a. a && not (is_that part (canonical_part part))) unlike
+    spelled_well (inl like) = ap₂ (λ a c. a && not c) like (is.canonical like)
+    spelled_well (inr unlike) = ap (λ a. a && not (is_canonical part)) unlike
 
 -- an entry to which some name belongs has a name
 pub entry-refusal : (text : Part) (name : Name) → IsName name → is_at_or_below (entry_name text) name ≡ true → child_refusal mountpoints text ≡ None
@@ -162,7 +161,7 @@ HasNames-spelling at spells short =
     let text = spelling at in
     let few : length (spelled text) ≤ 2 * longest_point + 1 = omega (arith, length-spelled text) in
     record {
-      entry = child_refusal-none mountpoints text (ap (λ a. a && not (is_that text (canonical_part text))) (not_array at)) (position-no_nul text spells.no_nul) (omega (arith, few, length-append (spelled text) []));
+      entry = child_refusal-none mountpoints text (ap (λ a. a && not (is_canonical text)) (not_array at)) (position-no_nul text spells.no_nul) (omega (arith, few, length-append (spelled text) []));
       path = child_refusal-none (entry_name text) path_word refl refl (omega (arith, few, length-append (spelled text) (47 ∷ path_word)));
       plugin = child_refusal-none (entry_name text) plugin_word refl refl (omega (arith, few, length-append (spelled text) (47 ∷ plugin_word)));
     }

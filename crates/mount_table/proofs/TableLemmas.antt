@@ -3,26 +3,28 @@ use Rattle.std.proofs.Common.{◌≡◌, ℕ, ◌+◌, ◌<◌, ◌≤◌, Bool,
 use Rattle.std.specs.FinMap as map
 use Rattle.std.specs.FinMap.{FinMap, is_sorted}
 use Rattle.std.specs.FinMap.Entries.{put, by_order, below_all}
-use Rattle.std.specs.List.{AllByRecursion}
+use Rattle.std.specs.List.{AllByRecursion, list_all}
 use Rattle.std.specs.List.Sorted.{IsStrictlySortedBy}
 use Rattle.std.specs.Option.{option_copied, option_or}
 use Rattle.std.specs.Ordering.{is_lt}
 use Rattle.std.specs.declared.cmp.Ordering.{Ordering}
 use Rattle.std.specs.declared.cmp.Ordering.TheVariants.{Less, Equal, Greater}
-use Rattle.std.proofs.lemmas.Bool.{cond-true, cond-false, lt-ltb, le-ltb}
+use Rattle.std.proofs.lemmas.Bool.{and_from, and_parts, cond-true, cond-false, lt-ltb, le-ltb}
 use Rattle.std.proofs.lemmas.List.{length-map}
 use Rattle.std.proofs.lemmas.List.Sums.{fold_more}
 use Rattle.general_words.proofs.Maps.{from_sorted-nil}
 use Rattle.model_names.specs.declared.namespaces.Namespace.{Namespace}
 use Rattle.model_names.specs.declared.namespaces.Namespace.TheVariants.{Spec, Dir, User, System}
 use Rattle.model_names.specs.Name.{Name, Part}
+use Rattle.model_names.specs.NameOf.{name_of}
+use Rattle.model_names.specs.Namespaces.{has_files}
 use Rattle.model_names.specs.Order.{name_cmp}
 use Rattle.model_names.proofs.OrderLemmas.{name_cmp_total, name_cmp-IsAntisymmetric}
 use Rattle.model_names.proofs.PartLemmas.{all_append}
 use Rattle.model_names.proofs.RefusesLemmas.{from_map, from_and_then, cond_some}
 use Rattle.general_words.specs.Texts.{text_cmp}
 use Rattle.mount_table.specs.Entries.{Entries}
-use Rattle.mount_table.specs.Points.{has_files, name_in, name_of_text, is_point, point_of, file_of}
+use Rattle.mount_table.specs.Points.{is_point, point_of, file_of}
 use Rattle.mount_table.specs.Reading.{◌>>=◌, kind_said, mount_at, mount_of, next_mount, is_taken, mounts_from}
 use Rattle.mount_table.specs.Table.{root_mounts, own_mount, remains, remaining, by_point, in_order, most_mounts, limited, table_from, ArePoints}
 use Rattle.mount_table.specs.declared.entries.MountEntry.{MountEntry}
@@ -73,42 +75,14 @@ mount_of-next taken text said mount h =
 
 -- ---- namespaces
 
-from_or : {A : Type 0} (o p : Option A) (x : A) → option_or o p ≡ Some x → (o ≡ Some x) ⊎ (p ≡ Some x)
-from_or None p x h = inr h
-from_or (Some y) p x h = inl h
-
-name_in-namespace : (text : List ℕ) (namespace : Namespace) (name : Name) → name_in text namespace ≡ Some name → name.namespace ≡ namespace
-name_in-namespace text namespace name h =
-    let found = cond_some _ _ name h in
-    let parts = from_map (λ parts. record { namespace = namespace; parts = parts }) _ name found.1 in
-    ap (λ n. n.namespace) (sym parts.2)
-
-has_files-name : (text : List ℕ) (name : Name) → name_of_text text ≡ Some name → has_files name.namespace ≡ true
-has_files-name text name h = elim (from_or (name_in text Spec) _ name h) [
-  | inl a ↦ ap has_files (name_in-namespace text Spec name a)
-  | inr g ↦ elim (from_or (name_in text Dir) _ name g) [
-    | inl a ↦ ap has_files (name_in-namespace text Dir name a)
-    | inr g ↦ elim (from_or (name_in text User) _ name g) [
-      | inl a ↦ ap has_files (name_in-namespace text User name a)
-      | inr g ↦ elim (from_or (name_in text System) _ name g) [
-        | inl a ↦ ap has_files (name_in-namespace text System name a)
-        | inr g ↦ absurd (none_is name g)
-      ]
-    ]
-  ]
-]
-  where
-    none_is : (name : Name) → ◌≡◌ {A = Option Name} None (Some name) → ⊥
-    none_is name e = cc
-
 -- what a mountpoint is
 pub record IsPoint (text : List ℕ) (name : Name) : Type 0 where
-  pub named : name_of_text text ≡ Some name
+  pub named : name_of text ≡ Some name
   pub is : is_point text name ≡ true
 
 pub IsPoint-from : (text : List ℕ) (name : Name) → point_of text ≡ Some name → IsPoint text name
 IsPoint-from text name h =
-    let found = from_and_then (λ name. cond (is_point text name) (Some name) None) (name_of_text text) name h in
+    let found = from_and_then (λ name. cond (is_point text name) (Some name) None) (name_of text) name h in
     let test = cond_some (is_point text found.0) (Some found.0) name found.2 in
     let same : found.0 ≡ name = some_is found.0 name test.1 in
     record { named = found.1 ∙ ap (λ n. Some n) same; is = ap (is_point text) (sym same) ∙ test.0 }
@@ -118,7 +92,7 @@ abbrev pub InFiles : Mount → Type 0
 InFiles mount = has_files mount.at.namespace ≡ true
 
 InFiles-next : (taken : List ℕ → Bool) (text : Part) (said : MountEntry) (mount : Mount) → next_mount taken text said ≡ Ok mount → InFiles mount
-InFiles-next taken text said mount h = has_files-name text mount.at (IsPoint-from text mount.at (point_of-mount text said mount (mount_of-next taken text said mount h))).named
+InFiles-next taken text said mount h = (and_parts (has_files mount.at.namespace) _ (IsPoint-from text mount.at (point_of-mount text said mount (mount_of-next taken text said mount h))).is).0
 
 pub all_filter : {X : Type 0} (P : X → Type 0) (test : X → Bool) (xs : List X) → AllByRecursion P xs → AllByRecursion P (filter test xs)
 all_filter P test [] h = tt
@@ -216,9 +190,9 @@ points-keyed : (es : List (Name × Mount)) → AllByRecursion IsKeyed es → ove
 points-keyed [] h = refl
 points-keyed (e ∷ es) h = λ i. h.0.at i ∷ points-keyed es h.1 i
 
-files-keyed : (es : List (Name × Mount)) → AllByRecursion IsKeyed es → AllByRecursion (λ point. has_files point.namespace ≡ true) (over (λ e. e.0) es)
-files-keyed [] h = tt
-files-keyed (e ∷ es) h = (subst (λ point. has_files point.namespace ≡ true) h.0.at h.0.files, files-keyed es h.1)
+files-keyed : (es : List (Name × Mount)) → AllByRecursion IsKeyed es → list_all (λ (point : Name). has_files point.namespace) (over (λ e. e.0) es) ≡ true
+files-keyed [] h = refl
+files-keyed (e ∷ es) h = and_from _ _ (subst (λ point. has_files point.namespace ≡ true) h.0.at h.0.files) (files-keyed es h.1)
 
 -- ---- the table of some entries
 
@@ -264,8 +238,7 @@ module _ (entries : List (Part × MountEntry)) (entries_sorted : T (is_sorted te
         let many : 1 ≤ map.len (by_point all) = length-by_point all (omega arith) in
         let same : map.len (by_point all) ≡ length table = map.len-entries (by_point all) ∙ ap length table_entries in
         record {
-          ascend = ascend table table_sorted;
-          namespaces = files-keyed table keyed;
+          points = record { ascending = ascend table table_sorted; in_files = files-keyed table keyed };
           some = omega arith;
           few = omega arith;
         }

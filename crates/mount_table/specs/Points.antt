@@ -1,41 +1,16 @@
 -- Which texts of entries are mountpoints, and which texts name their files. (This project's own.)
-use Rattle.std.specs.Prelude.{ℕ, nat_le, Bool, false, true, not, ◌&&◌, ◌||◌, ◌==◌, if◌then◌else◌, List, [], ◌∷◌, ◌++◌, length, drop, slice_index, nat_eq, Option, Some, None, is_none, option_and_then, codes}
+use Rattle.std.specs.Prelude.{ℕ, nat_le, Bool, not, ◌&&◌, ◌||◌, ◌==◌, if◌then◌else◌, List, [], ◌∷◌, length, slice_index, nat_eq, Option, Some, None, option_and_then, codes}
 use Rattle.std.specs.Char.{is_ascii_alphanumeric}
 use Rattle.std.specs.List.{starts_with, list_all}
-use Rattle.std.specs.Option.{option_map}
 use Rattle.kdb_outside.specs.FileName.{dot, underscore, hyphen}
-use Rattle.model_names.specs.declared.namespaces.Namespace.{Namespace}
-use Rattle.model_names.specs.declared.namespaces.Namespace.TheVariants.{Cascading, Spec, Proc, Dir, User, System, Default}
+use Rattle.model_names.specs.declared.namespaces.Namespace.TheVariants.{System}
 use Rattle.model_names.specs.Below.{is_at_or_below}
 use Rattle.model_names.specs.Name.{Name}
-use Rattle.model_names.specs.RawParts.{raw_parts}
 use Rattle.general_words.specs.Searches.{first_some}
 use Rattle.general_words.specs.Texts.{is_text}
-use Rattle.model_names.specs.Refuses.{refusal_of}
-use Rattle.model_names.specs.Spelling.{word_of, spelling}
-use Rattle.model_names.specs.Spells.{walked}
-
--- the namespaces whose keys are in files
-abbrev pub has_files : Namespace → Bool
-has_files Cascading = false
-has_files Spec = true
-has_files Proc = false
-has_files Dir = true
-has_files User = true
-has_files System = true
-has_files Default = false
-
--- the name that a text spells in a namespace; none where it has another namespace, or spells no name
-abbrev pub name_in : List ℕ → Namespace → Option Name
-name_in text namespace =
-    let front = word_of namespace ++ 47 ∷ [] in
-    if is_none (refusal_of text) && starts_with nat_eq text front
-    then option_map (λ parts. record { namespace = namespace; parts = parts }) (walked [] (raw_parts (drop (length front) text)))
-    else None
-
--- the name that a text spells in a namespace whose keys are in files
-abbrev pub name_of_text : List ℕ → Option Name
-name_of_text text = first_some (name_in text) (Spec ∷ Dir ∷ User ∷ System ∷ [])
+use Rattle.model_names.specs.NameOf.{name_of}
+use Rattle.model_names.specs.Namespaces.{has_files}
+use Rattle.model_names.specs.Spelling.{spelling}
 
 -- the name whose keys hold the mount table
 abbrev pub own_point : Name
@@ -45,13 +20,15 @@ own_point = record { namespace = System; parts = codes "elektra" ∷ [] }
 abbrev pub longest_point : ℕ
 longest_point = 1024
 
--- a text is the canonical spelling of a name that may be mounted: it is short, and not where the table is
+-- a text is the canonical spelling of a name that may be mounted: its keys are in files, it is short, and not where the
+-- table is
 abbrev pub is_point : List ℕ → Name → Bool
-is_point text name = nat_le (length text) longest_point && (is_text (spelling name) text && not (is_at_or_below own_point name))
+is_point text name =
+    has_files name.namespace && (nat_le (length text) longest_point && (is_text (spelling name) text && not (is_at_or_below own_point name)))
 
 -- the mountpoint that an entry's text is
 abbrev pub point_of : List ℕ → Option Name
-point_of text = option_and_then (λ name. if is_point text name then Some name else None) (name_of_text text)
+point_of text = option_and_then (λ name. if is_point text name then Some name else None) (name_of text)
 
 -- an ASCII letter, a digit, `.`, `_` or `-`
 abbrev pub is_file_byte : ℕ → Bool

@@ -1,10 +1,9 @@
 -- The mount table that some keys make. (After Elektra's page on mounting: the default mounts, and one mount for each entry.)
-use Rattle.std.specs.Prelude.{◌≡◌, ℕ, ◌≤◌, nat_lt, Bool, true, not, if◌then◌else◌, List, [], ◌∷◌, ◌++◌, length, filter, fold, Result, Ok, Err, codes}
+use Rattle.std.specs.Prelude.{ℕ, ◌≤◌, nat_lt, Bool, not, if◌then◌else◌, List, [], ◌∷◌, ◌++◌, length, filter, fold, Result, Ok, Err, codes}
 use Rattle.std.specs.FinMap as map
 use Rattle.std.specs.FinMap.{FinMap}
-use Rattle.std.specs.List.{AllByRecursion}
-use Rattle.std.specs.List.Sorted.{IsStrictlySortedBy}
 use Rattle.kdb_outside.specs.declared.kinds.Kind.TheVariants.{Dump}
+use Rattle.key_name.specs.Owner.{IsPoints}
 use Rattle.model_names.specs.declared.namespaces.Namespace.{Namespace}
 use Rattle.model_names.specs.declared.namespaces.Namespace.TheVariants.{Spec, Dir, User, System}
 use Rattle.model_names.specs.Name.{Name}
@@ -12,7 +11,7 @@ use Rattle.model_names.specs.Order.{name_cmp}
 use Rattle.model_names.specs.Spelling.{spelling}
 use Rattle.model_maps.specs.KeyMap.{KeyMap}
 use Rattle.mount_table.specs.Entries.{Entries, entries_of}
-use Rattle.mount_table.specs.Points.{own_point, has_files}
+use Rattle.mount_table.specs.Points.{own_point}
 use Rattle.mount_table.specs.Reading.{◌>>=◌, mounts_from}
 use Rattle.mount_table.specs.declared.faults.TableFault.{TableFault}
 use Rattle.mount_table.specs.declared.faults.TableFault.TheVariants.{TooMany}
@@ -64,9 +63,8 @@ table_from entries = do
 abbrev pub table_of : KeyMap → Result (List Mount) TableFault
 table_of keys = table_from (entries_of keys)
 
--- mountpoints as a table has them: in their order, each in a namespace whose keys are in files, 1 to 64 of them
-pub record ArePoints (points : List Name) : Type 0 where
-  pub ascend : IsStrictlySortedBy name_cmp points
-  pub namespaces : AllByRecursion (λ point. has_files point.namespace ≡ true) points
-  pub some : 1 ≤ length points
-  pub few : length points ≤ most_mounts
+-- mountpoints as a table has them: points of mounts, 1 to 64 of them
+pub record ArePoints (names : List Name) : Type 0 where
+  pub points : IsPoints names
+  pub some : 1 ≤ length names
+  pub few : length names ≤ most_mounts

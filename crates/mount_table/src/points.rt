@@ -1,7 +1,8 @@
 //! Which texts are mountpoints, and which name files of mounts.
 ghost use Rattle.std.specs.Prelude.{◌≡◌, if◌then◌else◌, IfOk, Some, None};
 ghost use Rattle.model_names.specs.Below.{is_at_or_below};
-ghost use Rattle.mount_table.specs.Points.{is_point, point_of, name_of_text, file_of, own_point, has_files};
+ghost use Rattle.model_names.specs.NameOf.{name_of};
+ghost use Rattle.mount_table.specs.Points.{is_point, point_of, file_of, own_point};
 
 use kdb_outside::FileName;
 use key_meta::Memory;
@@ -16,7 +17,7 @@ const LONGEST_POINT: usize = 1024;
 pub fn point_of(alloc: Global, text: &str) -> Result<Option<KeyName>, Memory>
     ensures { IfOk result (λ found. found ≡ point_of text.now) }
 {
-    let Some(name) = name_of_text(alloc, text)? else {
+    let Some(name) = name_of(alloc, text)? else {
         return Ok(None);
     };
     if is_point(text, &name)? {
@@ -36,33 +37,16 @@ pub fn file_of(alloc: Global, text: &str) -> Result<Option<FileName>, Memory>
     FileName::new(alloc, text)
 }
 
-/// The name that a text spells in a namespace whose keys are in files.
-fn name_of_text(alloc: Global, text: &str) -> Result<Option<KeyName>, Memory>
-    ensures { IfOk result (λ found. found ≡ name_of_text text.now) }
+/// The name that a text spells.
+fn name_of(alloc: Global, text: &str) -> Result<Option<KeyName>, Memory>
+    ensures { IfOk result (λ found. found ≡ name_of text.now) }
 {
     match KeyName::parse(alloc, text) {
-        Ok(name) => Ok(if_in_files(name)),
-        Err(NameFault::Memory) => Err(AllocError),
-        Err(_) => Ok(None),
-    }
-}
-
-fn if_in_files(name: KeyName) -> Option<KeyName>
-    ensures { result ≡ (if has_files name.namespace then Some name else None) }
-{
-    if has_files(name.namespace()) {
-        Some(name)
-    } else {
-        None
-    }
-}
-
-fn has_files(namespace: Namespace) -> bool
-    ensures { result ≡ has_files namespace }
-{
-    match namespace {
-        Namespace::Spec | Namespace::Dir | Namespace::User | Namespace::System => true,
-        Namespace::Cascading | Namespace::Proc | Namespace::Default => false,
+        Ok(name) => Ok(Some(name)),
+        Err(fault) => match fault {
+            NameFault::Memory => Err(AllocError),
+            _ => Ok(None),
+        },
     }
 }
 
@@ -71,7 +55,12 @@ fn is_point(text: &str, name: &KeyName) -> Result<bool, Memory>
     ensures { IfOk result (λ is. is ≡ is_point text.now name.now) }
 {
     let spelling = name.text()?;
-    Ok(text.len() <= LONGEST_POINT && spelling.as_str() == text && !is_own(name))
+    Ok(
+        name.namespace().has_files()
+            && text.len() <= LONGEST_POINT
+            && spelling.as_str() == text
+            && !is_own(name),
+    )
 }
 
 /// Whether a name is where the table's own keys are.

@@ -8,10 +8,10 @@ use Rattle.std.proofs.lemmas.Option.{slice_get_within, get_or_from_slice_get}
 use Rattle.model_names.specs.declared.namespaces.Namespace.{Namespace}
 use Rattle.model_names.specs.Below.{is_at_or_below}
 use Rattle.model_names.specs.Name.{Name, rank}
-use Rattle.key_name.specs.Owner.{owner_of}
+use Rattle.model_names.specs.Namespaces.{file_namespaces, has_files}
+use Rattle.key_name.specs.Owner.{IsPoints, owner_of}
 use Rattle.key_name.proofs.OwnerLemmas.{owner_of-none}
 use Rattle.set_split.specs.Involved.{involved_in, is_involved, is_involved_at, stands_below}
-use Rattle.set_split.specs.Points.{IsPoints, file_namespaces, has_files}
 
 filter-none : {A : Type 0} (p : A → Bool) (xs : List A) → ((x : A) → p x ≡ false) → filter p xs ≡ []
 filter-none p [] none = refl

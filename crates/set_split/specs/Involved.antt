@@ -6,7 +6,7 @@ use Rattle.model_names.specs.declared.namespaces.Namespace.TheVariants.{Cascadin
 use Rattle.model_names.specs.Below.{is_at_or_below}
 use Rattle.model_names.specs.Name.{Name, rank}
 use Rattle.key_name.specs.Owner.{owner_of}
-use Rattle.set_split.specs.Points.{file_namespaces}
+use Rattle.model_names.specs.Namespaces.{file_namespaces}
 
 -- a mount owns a name
 abbrev pub owns : List Name → ℕ → Name → Bool

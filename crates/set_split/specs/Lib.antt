@@ -1,4 +1,3 @@
-pub mod Points
 pub mod Involved
 pub mod Parts
 pub mod Union

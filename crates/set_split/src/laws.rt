@@ -3,7 +3,7 @@ ghost use Rattle.std.specs.Prelude.{◌≡◌, List, [], map};
 ghost use Rattle.model_names.specs.declared.namespaces.Namespace.TheVariants.{Proc, Default};
 ghost use Rattle.model_names.specs.Name.{Name};
 ghost use Rattle.model_maps.specs.KeyMap.{KeyMap};
-ghost use Rattle.set_split.specs.Points.{IsPoints};
+ghost use Rattle.key_name.specs.Owner.{IsPoints};
 ghost use Rattle.set_split.specs.Involved.{involved_in};
 ghost use Rattle.set_split.specs.Parts.{parts_of, in_reach};
 ghost use Rattle.set_split.specs.Union.{IsUnion};

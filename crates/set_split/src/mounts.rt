@@ -4,7 +4,7 @@ ghost use Rattle.std.specs.List.{AllByRecursion, list_any};
 ghost use Rattle.std.specs.List.Sorted.{IsStrictlySortedBy};
 ghost use Rattle.model_names.specs.Order.{name_cmp};
 ghost use Rattle.key_name.specs.Owner.{owner_of};
-ghost use Rattle.set_split.specs.Points.{IsPoints};
+ghost use Rattle.key_name.specs.Owner.{IsPoints};
 ghost use Rattle.set_split.specs.Involved.{involved_in, is_involved_at, roots_of};
 
 use key_meta::{List, Memory};

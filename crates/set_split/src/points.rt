@@ -2,9 +2,10 @@
 ghost use Rattle.std.specs.Prelude.{◌≡◌};
 ghost use Rattle.std.specs.Bool.{Decides};
 ghost use Rattle.std.specs.List.{list_all};
-ghost use Rattle.set_split.specs.Points.{IsPoints, has_files};
+ghost use Rattle.model_names.specs.Namespaces.{has_files};
+ghost use Rattle.key_name.specs.Owner.{IsPoints};
 
-use key_name::{KeyName, Namespace, are_ascending};
+use key_name::{KeyName, are_ascending};
 
 /// Whether names can be the points of mounts: they stand in name order, each of them once, and each in a namespace whose
 /// keys stand in files, which are `spec`, `dir`, `user` and `system`.
@@ -19,18 +20,9 @@ fn are_in_files(points: &[KeyName]) -> bool
     ensures { result ≡ list_all (λ point. has_files point.namespace) points.now }
 {
     for point in points {
-        if !has_files(point.namespace()) {
+        if !point.namespace().has_files() {
             return false;
         }
     }
     true
-}
-
-fn has_files(namespace: Namespace) -> bool
-    ensures { result ≡ has_files namespace }
-{
-    match namespace {
-        Namespace::Spec | Namespace::Dir | Namespace::User | Namespace::System => true,
-        Namespace::Cascading | Namespace::Proc | Namespace::Default => false,
-    }
 }

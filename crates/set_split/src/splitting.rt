@@ -5,7 +5,7 @@ ghost use Rattle.std.specs.List.{list_any};
 ghost use Rattle.std.specs.Option.{option_eq};
 ghost use Rattle.model_maps.specs.KeyMap.{no_keys};
 ghost use Rattle.key_set.specs.EntryView.{entry_of};
-ghost use Rattle.set_split.specs.Points.{IsPoints};
+ghost use Rattle.key_name.specs.Owner.{IsPoints};
 ghost use Rattle.set_split.specs.Involved.{involved_in};
 ghost use Rattle.set_split.specs.Parts.{parts_of, left_aside};
 ghost use Rattle.set_split.specs.Seen.{numbered};

@@ -5,12 +5,7 @@ use Rattle.kdb_tool.specs.RequestView.{IsRead}
 use Rattle.kdb_tool.proofs.asking.refuse_argument.Goals as goal
 
 pub returns-in-Is : goal.returns-in-Is
-returns-in-Is c =
-    let name = c.args.name.now in
-    let named = subst (IsRead (on_name_for c.args.by name) name) c.in-Is.is c.in_ok-_name.ensures in
-    named.passes (Refuses 2 (argument c.args.word.now))
+returns-in-Is c = subst (IsRead (on_name_for c.args.by c.args.name.now)) c.in-Is.is c.in_ok-_name.ensures (λ _. Refuses 2 (argument c.args.word.now))
 
 pub returns-in-IsNone : goal.returns-in-IsNone
-returns-in-IsNone c =
-    let name = c.args.name.now in
-    subst (IsRead (on_name_for c.args.by name) name) c.in-IsNone.is c.in_ok-_name.ensures (Refuses 2 (argument c.args.word.now))
+returns-in-IsNone c = subst (IsRead (on_name_for c.args.by c.args.name.now)) c.in-IsNone.is c.in_ok-_name.ensures (λ _. Refuses 2 (argument c.args.word.now))

@@ -7,7 +7,7 @@ use Rattle.kdb_tool.proofs.WordLemmas.{asks_of_meta, refuses_meta}
 use Rattle.kdb_tool.proofs.words.read_meta.Goals as goal
 
 abbrev taking : List ℕ → List ℕ → Request
-taking name meta = on_name_for Looks name (on_meta meta (Asks (On name (GetMeta meta))))
+taking word meta = on_name_for Looks word (λ name. on_meta meta (Asks (On name (GetMeta meta))))
 
 pub returns-in-Some-new : goal.returns-in-Some-new
 returns-in-Some-new c =
@@ -16,8 +16,8 @@ returns-in-Some-new c =
     let given = rw c.in-Some.is at c.in_ok-arguments.ensures in
     let asked =
     given (on_two taking) ∙ ap (λ words. on_two taking (texts_of words)) (sym c.deref.ensures.value) ∙ c.in-Some-two.ensures taking
-    ∙ asks_of_meta Looks name word (Asks (On name (GetMeta word))) c.in-Some-new.ensures.0 in
-    IfOk-weaker c.ask.result _ _ (λ read seen. subst (IsSeenAs read) (sym asked) (seen (GetMeta word) (ap GetMeta c.in-Some-new.ensures.1))) c.ask.ensures
+    ∙ asks_of_meta Looks name word (λ key. Asks (On key (GetMeta word))) c.in-Some-new.ensures.0 in
+    IfOk-weaker c.ask.result _ _ (λ read seen. subst (IsSeenAs read) (sym (asked ∙ ap (λ meta. on_name_for Looks name (λ key. Asks (On key (GetMeta meta)))) (sym c.in-Some-new.ensures.1))) seen) c.ask.ensures
 
 pub returns : goal.returns
 returns c =
@@ -26,5 +26,5 @@ returns c =
     let given = rw c.in-Some.is at c.in_ok-arguments.ensures in
     let asked =
     given (on_two taking) ∙ ap (λ words. on_two taking (texts_of words)) (sym c.deref.ensures.value) ∙ c.in-Some-two.ensures taking
-    ∙ refuses_meta Looks name word (Asks (On name (GetMeta word))) c.in-None.ensures in
+    ∙ refuses_meta Looks name word (λ key. Asks (On key (GetMeta word))) c.in-None.ensures in
     IfOk-weaker c.refuse_argument.result _ _ (λ read seen. subst (IsSeenAs read) (sym asked) seen) c.refuse_argument.ensures

@@ -7,7 +7,7 @@ use Rattle.kdb_tool.proofs.WordLemmas.{asks_of_meta, refuses_meta}
 use Rattle.kdb_tool.proofs.words.read_meta_and_text.Goals as goal
 
 abbrev taking : List ℕ → List ℕ → List ℕ → Request
-taking name meta text = on_name_for Writes name (on_meta meta (Asks (On name (SetMeta meta text))))
+taking word meta text = on_name_for Writes word (λ name. on_meta meta (Asks (On name (SetMeta meta text))))
 
 pub returns-in-Some-new : goal.returns-in-Some-new
 returns-in-Some-new c =
@@ -17,8 +17,8 @@ returns-in-Some-new c =
     let given = rw c.in-Some.is at c.in_ok-arguments.ensures in
     let asked =
     given (on_three taking) ∙ ap (λ words. on_three taking (texts_of words)) (sym c.deref.ensures.value) ∙ c.in-Some-three.ensures taking
-    ∙ asks_of_meta Writes name word (Asks (On name (SetMeta word text))) c.in-Some-new.ensures.0 in
-    IfOk-weaker c.ask.result _ _ (λ read seen. subst (IsSeenAs read) (sym asked) (seen (SetMeta word text) (ap (λ meta. SetMeta meta text) c.in-Some-new.ensures.1))) c.ask.ensures
+    ∙ asks_of_meta Writes name word (λ key. Asks (On key (SetMeta word text))) c.in-Some-new.ensures.0 in
+    IfOk-weaker c.ask.result _ _ (λ read seen. subst (IsSeenAs read) (sym (asked ∙ ap (λ meta. on_name_for Writes name (λ key. Asks (On key (SetMeta meta text)))) (sym c.in-Some-new.ensures.1))) seen) c.ask.ensures
 
 pub returns : goal.returns
 returns c =
@@ -28,5 +28,5 @@ returns c =
     let given = rw c.in-Some.is at c.in_ok-arguments.ensures in
     let asked =
     given (on_three taking) ∙ ap (λ words. on_three taking (texts_of words)) (sym c.deref.ensures.value) ∙ c.in-Some-three.ensures taking
-    ∙ refuses_meta Writes name word (Asks (On name (SetMeta word text))) c.in-None.ensures in
+    ∙ refuses_meta Writes name word (λ key. Asks (On key (SetMeta word text))) c.in-None.ensures in
     IfOk-weaker c.refuse_argument.result _ _ (λ read seen. subst (IsSeenAs read) (sym asked) seen) c.refuse_argument.ensures

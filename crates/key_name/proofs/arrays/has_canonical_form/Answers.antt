@@ -1,7 +1,6 @@
-use Rattle.std.proofs.Common.{◌-◌, eqb, length, inl, inr, ap, sym, subst, ◌∙◌, arith, List, ℕ}
-use Rattle.std.proofs.lemmas.Bool.{eq-eqb, eqb-true, eqb-false, cases_Bool}
-use Rattle.key_name.specs.Arrays.{IsIndex}
-use Rattle.key_name.proofs.ArrayLemmas.{digits_fit, is_some-canonical_part, is_some-no_form}
+use Rattle.std.proofs.Common.{◌-◌, ◌==◌, ◌&&◌, ◌||◌, length, sym, ap, ap₂, ◌∙◌, arith}
+use Rattle.std.proofs.lemmas.Bool.{eq-eqb, ne_eqb}
+use Rattle.key_name.proofs.ArrayLemmas.{digits_fit, form-lead}
 use Rattle.key_name.proofs.arrays.has_canonical_form.Goals as goal
 
 pub overflow_sub-lead : goal.overflow_sub-lead
@@ -9,25 +8,18 @@ overflow_sub-lead c = omega (arith, digits_fit c.args.part.now c.requires.like, 
 
 pub returns-then-lead-eq1 : goal.returns-then-lead-eq1
 returns-then-lead-eq1 c =
-    let part = c.args.part.now in
-    let fit = digits_fit part c.requires.like in
-    let same = ap length c.requires.digits in
-    let index = subst (λ (digits : List ℕ). IsIndex digits) c.requires.digits (c.is_index.ensures.0 c.if-is_index.true) in
-    eq-eqb (length part - length c.args.digits.now) 1 c.if-lead-eq1.true ∙ sym (is_some-canonical_part part c.requires.like index (inl (omega arith)))
+    let count = length c.args.digits.now in
+    let lead = length c.args.part.now - count in
+    eq-eqb lead 1 c.if-lead-eq1.true ∙ sym (form-lead c.args.part.now c.args.digits.now c.requires.like c.requires.digits ∙ ap₂ (λ i l. i && (l || (lead == count))) (sym c.is_index.ensures ∙ c.if-is_index.true) (eq-eqb lead 1 c.if-lead-eq1.true))
 
 pub returns-else-lead-eq1 : goal.returns-else-lead-eq1
 returns-else-lead-eq1 c =
-    let part = c.args.part.now in
-    let digits = length c.args.digits.now in
-    let fit = digits_fit part c.requires.like in
-    let same = ap length c.requires.digits in
-    let index = subst (λ (digits : List ℕ). IsIndex digits) c.requires.digits (c.is_index.ensures.0 c.if-is_index.true) in
-    elim (cases_Bool (eqb (length part - digits) digits)) [
-      | inl e ↦ let lead = eqb-true (length part - digits) digits e in e ∙ sym (is_some-canonical_part part c.requires.like index (inr (omega arith)))
-      | inr e ↦ let other = eqb-false (length part - digits) digits e in e ∙ sym (is_some-no_form part c.requires.like (λ canonical form. elim form.lead [ inl one ↦ c.if-lead-eq1.false (omega arith) | inr full ↦ other (omega arith) ]))
-    ]
+    let count = length c.args.digits.now in
+    let lead = length c.args.part.now - count in
+    sym (form-lead c.args.part.now c.args.digits.now c.requires.like c.requires.digits ∙ ap₂ (λ i l. i && (l || (lead == count))) (sym c.is_index.ensures ∙ c.if-is_index.true) (ne_eqb lead 1 c.if-lead-eq1.false))
 
 pub returns-else-is_index : goal.returns-else-is_index
 returns-else-is_index c =
-    let no_index = c.if-is_index.false in
-    c.if-is_index.false ∙ sym (is_some-no_form c.args.part.now c.requires.like (λ canonical form. let index = c.is_index.ensures.1 (subst (λ (digits : List ℕ). IsIndex digits) (sym c.requires.digits) form.index) in absurd (cc)))
+    let count = length c.args.digits.now in
+    let lead = length c.args.part.now - count in
+    c.if-is_index.false ∙ sym (form-lead c.args.part.now c.args.digits.now c.requires.like c.requires.digits ∙ ap (λ i. i && ((lead == 1) || (lead == count))) (sym c.is_index.ensures ∙ c.if-is_index.false))

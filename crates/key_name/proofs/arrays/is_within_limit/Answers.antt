@@ -6,7 +6,7 @@ use Rattle.std.specs.Str.Parse.{digits_value}
 use Rattle.std.proofs.lemmas.Bool.{and_parts, leb-true, ltb-true, false_from_ne_true}
 use Rattle.std.proofs.lemmas.Str.Parse.{parse_digits}
 use Rattle.model_names.specs.ArrayPart.{last_index}
-use Rattle.key_name.proofs.ArrayLemmas.{ascii_digits}
+use Rattle.model_names.proofs.ArrayLemmas.{ascii_digits}
 use Rattle.key_name.proofs.arrays.is_within_limit.Goals as goal
 
 pub returns-in-Err : goal.returns-in-Err

@@ -1,6 +1,6 @@
 use Rattle.std.proofs.Common.{◌==◌, ap}
 use Rattle.model_names.specs.Name.{rank}
-use Rattle.set_split.specs.Points.{has_files}
+use Rattle.model_names.specs.Namespaces.{has_files}
 use Rattle.set_split.proofs.NowhereLemmas.{involved-none}
 use Rattle.set_split.proofs.laws.nothing_is_involved_elsewhere.Goals as goal
 

@@ -1,7 +1,7 @@
 -- Each point so far is where keys stand in files.
 use Rattle.std.proofs.Common.{◌≡◌, true, take}
 use Rattle.std.specs.List.{list_all}
-use Rattle.set_split.specs.Points.{has_files}
+use Rattle.model_names.specs.Namespaces.{has_files}
 use Rattle.set_split.proofs.points.are_in_files.Given as goal
 
 abbrev pub invariant-loop-point : goal.invariant-loop-point

@@ -9,7 +9,7 @@ use Rattle.mounted_store.specs.Files.{points_of}
 use Rattle.mounted_store.specs.Getting.{fault_in, got, involved_files, visible_keys, visible_of}
 use Rattle.mounted_store.specs.declared.files.MountedFile.{MountedFile}
 use Rattle.general_words.proofs.Lists.{at_place}
-use Rattle.mounted_store.proofs.PointLemmas.{points-from_table}
+use Rattle.mounted_store.proofs.FirstLemmas.{at_place}
 use Rattle.mounted_store.proofs.SeenLemmas.{points-are}
 use Rattle.mounted_store.proofs.GetLemmas.{err-gets, fault-found, fault-more, files-all, files-same, gets-fault, got-good, none-at, number-at, visible-more}
 use Rattle.mounted_store.proofs.mounted.Mounted.get.Goals as goal
@@ -20,7 +20,7 @@ points-in : (files : List MountedFile) (parent : Name) (points : List Name) → 
 points-in files parent points are = ap (λ ps. involved_in ps parent) are
 
 pub involved-requires : goal.involved-requires
-involved-requires c = points-from_table c.points.result.now c.points.ensures.are_points
+involved-requires c = c.points.ensures.are_points.points
 
 pub returns-in_err-add_visible : goal.returns-in_err-add_visible
 returns-in_err-add_visible c =

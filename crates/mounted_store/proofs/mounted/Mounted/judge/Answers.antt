@@ -19,7 +19,6 @@ use Rattle.mounted_store.specs.declared.verdicts.Verdict.{Verdict}
 use Rattle.mounted_store.specs.declared.writing.Writing.{Writing}
 use Rattle.mounted_store.proofs.ChangeLemmas.{contents-short}
 use Rattle.mounted_store.proofs.JudgeLemmas.{early_by, no_heavy, no_long, verdict-breaks, verdict-early, verdict-late, writable}
-use Rattle.mounted_store.proofs.PointLemmas.{points-from_table}
 use Rattle.mounted_store.proofs.SeenLemmas.{points-are}
 use Rattle.mounted_store.proofs.mounted.Mounted.judge.Goals as goal
 
@@ -32,10 +31,10 @@ late-over : (verdict : Verdict) (long : Option Verdict) (slice all : List Change
 late-over verdict long slice all full texts left told is = told ∙ ap (λ cs. unwrap_or (option_or long (first_some bad_table cs)) (done cs full texts left)) is
 
 pub involved-requires : goal.involved-requires
-involved-requires g c = points-from_table c.points-points.result.now c.points-points.ensures.are_points
+involved-requires g c = c.points-points.ensures.are_points.points
 
 pub split-requires : goal.split-requires
-split-requires g c = points-from_table c.points-points.result.now c.points-points.ensures.are_points
+split-requires g c = c.points-points.ensures.are_points.points
 
 pub returns-in-Some : goal.returns-in-Some
 returns-in-Some g c =
