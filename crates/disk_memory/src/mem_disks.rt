@@ -1,5 +1,6 @@
 //! The disk.
 ghost use Rattle.std.specs.Prelude.{◌≡◌, ◌≤◌, ◌↔◌, ◌⊎◌, ℕ, List, [], ◌∷◌, ◌++◌, map, length, take, drop, true, IsTrue, IsErr, IsSomeAnd, Contains, IfOk, OnOk, OnErr};
+ghost use Rattle.std.specs.Io.{StartsWith};
 ghost use Rattle.kdb_outside.specs.Bytes.{Fills};
 ghost use Rattle.kdb_outside.specs.Calls.{next_count};
 ghost use Rattle.kdb_outside.specs.Faults.{HasRisen, HasCause};
@@ -197,6 +198,8 @@ impl Disk for MemDisk {
 
     ghost faults = { λ disk. disk.faults };
 
+    ghost gives = { λ disk file at bytes. StartsWith (drop at (seen_of disk file)) bytes };
+
     ghost read_is_image = { λ disk _. reads_are_images disk };
 
     ghost counts_now = { λ disk since image _. counts_at_present disk since image };
@@ -227,6 +230,7 @@ impl Disk for MemDisk {
         ensures untouched { OnErr result (buf.new ≡ buf.old) }
 
         ensures within { IfOk result (λ n. n ≤ length buf.old) }
+        ensures given { IfOk result (λ n. StartsWith (drop at (seen_of self.old file.now)) (take n buf.new)) }
         ensures told { IfOk result (λ n. Fills (drop at (seen_of self.old file.now)) buf.old buf.new n) }
         ensures same { seen_of self.new ≡ seen_of self.old }
         ensures images { KeepsImages (left_of self.old) (left_of self.new) }
