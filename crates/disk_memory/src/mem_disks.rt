@@ -8,7 +8,7 @@ ghost use Rattle.kdb_outside.specs.Files.{written, ChangesTo, KeepsOthers, IsTor
 ghost use Rattle.kdb_outside.specs.Images.{IsImage, Only, IsTornWrite, IsTornCut, KeepsImages, KeepsOtherImages, Touches, Elapses};
 ghost use Rattle.disk_memory.specs.declared.changes.Step.{Step};
 ghost use Rattle.disk_memory.specs.declared.changes.Step.TheVariants.{Wrote, Cut, Synced};
-ghost use Rattle.disk_memory.specs.DiskState.{file_of, HaveDistinctNames, bytes_of, begun, IsNextFailing, after_call, after_change, after_failure, seen_of, left_of, synced_of, moment_of, left_since_of};
+ghost use Rattle.disk_memory.specs.DiskState.{file_of, HaveDistinctNames, bytes_of, begun, IsNextFailing, after_call, after_change, after_failure, seen_of, left_of, left_by, synced_of, moment_of, left_since_of};
 ghost use Rattle.disk_memory.specs.DiskLaws.{reads_are_images, counts_at_present, only_at_present};
 
 use crate::changes::{Change, Piece, Step};
@@ -88,6 +88,7 @@ impl MemDisk {
     /// The disk that a crash leaves, where no call fails: one image, which the number chooses. 0 leaves of each file what
     /// its last sync kept, or what it was at first, 1 what a read gives, and any other number something between.
     pub fn crash(self, choice: u64) -> Result<MemDisk, Memory>
+        ensures chosen { IfOk result (λ disk. (file : List ℕ) → seen_of disk file ≡ left_by choice self file) }
         ensures fresh { IfOk result (λ disk. disk ≡ begun disk.initial [] None) }
         ensures image { IfOk result (λ disk. IsImage (left_of self) (seen_of disk)) }
         ensures sure { IfOk result (λ disk. (file : List ℕ) → Only (seen_of disk file) (left_of disk file)) }

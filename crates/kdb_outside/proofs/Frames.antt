@@ -1,7 +1,7 @@
 -- Calls on a disk, one after the other. This project's own.
-use Rattle.std.proofs.Common.{◌≡◌, ℕ, ◌≤◌, List, true, refl, ◌∙◌, arith, inl, inr}
+use Rattle.std.proofs.Common.{ℕ, ◌≤◌, List, refl, ◌∙◌, arith, inl, inr}
 use Rattle.kdb_outside.specs.declared.disks.Disk.{Ghosts}
-use Rattle.kdb_outside.specs.Images.{Image, KeepsImages, Elapses}
+use Rattle.kdb_outside.specs.Images.{Image, KeepsImages, KeepsOtherImages, Elapses}
 use Rattle.kdb_outside.specs.Frames.{GoesOn, OnlyReads}
 
 -- images that were kept twice were kept
@@ -9,6 +9,14 @@ pub KeepsImages-then : (before middle after : List ℕ → List ℕ → Type 0) 
 KeepsImages-then before middle after first second file = record {
   no_more = λ c left. (first file).no_more c ((second file).no_more c left);
   no_fewer = λ c left. (second file).no_fewer c ((first file).no_fewer c left);
+}
+
+-- images of other files that were kept twice were kept
+pub KeepsOtherImages-then : (file : List ℕ) (before middle after : List ℕ → List ℕ → Type 0) → KeepsOtherImages file before middle → KeepsOtherImages file middle after
+    → KeepsOtherImages file before after
+KeepsOtherImages-then file before middle after first second other differ = record {
+  no_more = λ c left. (first other differ).no_more c ((second other differ).no_more c left);
+  no_fewer = λ c left. (second other differ).no_fewer c ((first other differ).no_fewer c left);
 }
 
 -- time that goes by twice, with the images kept in the second part
