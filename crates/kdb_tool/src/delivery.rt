@@ -12,7 +12,7 @@ use kdb_outside::{Failed, Sink};
 
 /// Puts a line on err, where there is one, and ends with the status.
 fn tell<E: Sink>(status: Status, line: &str, err: &mut E) -> Status
-    ensures told { Tells status line.now result (E.held err.old) (E.held err.new) (E.faults err.old) (E.faults err.new) }
+    ensures told { Tells status line.now result (change_of E.Sink err.old err.new) }
     ensures later { E.faults err.old ≤ E.faults err.new }
 {
     if line.is_empty() {

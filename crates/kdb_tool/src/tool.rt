@@ -1,6 +1,7 @@
 //! The top call. The whole answer is made before anything is stored or put out.
 ghost use Rattle.std.specs.Prelude.{◌≡◌, ◌≢◌, ◌≤◌, [], true};
 ghost use Rattle.kdb_outside.specs.Faults.{HasRisen};
+ghost use Rattle.kdb_outside.specs.Frames.{GoesOn};
 ghost use Rattle.kdb_outside.specs.SinkChange.{change_of};
 ghost use Rattle.kdb_tool.specs.Answer.{Answer, KeepsUnnamed};
 ghost use Rattle.kdb_tool.specs.Answers.{Answers};
@@ -61,11 +62,10 @@ pub fn run<S: Source, K: Sink, E: Sink, D: Disk + Send, G: Gate + Sync>(
 
     // Of all other files a crash leaves what it might have left before, whatever fails.
     ensures spared { D.tells disk ≡ true → (answer : Answer) → Answers words.now (D.seen disk) answer → SparesUnnamed answer.stored (D.may_leave disk) (D.may_leave result.1) }
-    ensures tells { D.tells result.1 ≡ D.tells disk }
 
-    // No input is taken, and no count of faults falls.
+    // The disk tells as much as before. No input is taken, and no count of faults falls.
+    ensures goes { GoesOn D.Disk disk result.1 }
     ensures input { input.new ≡ input.old }
-    ensures later_disk { D.faults disk ≤ D.faults result.1 }
     ensures later_out { K.faults out.old ≤ K.faults out.new }
     ensures later_err { E.faults err.old ≤ E.faults err.new }
 {
