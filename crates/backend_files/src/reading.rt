@@ -1,8 +1,8 @@
 //! Reads a whole file, or tells that it is too long to be read.
-ghost use Rattle.std.specs.Prelude.{◌≡◌, ◌≤◌, true, IfOk, Err};
+ghost use Rattle.std.specs.Prelude.{◌≡◌, true, IfOk, Err};
 ghost use Rattle.kdb_outside.specs.Faults.{HasRisen};
-ghost use Rattle.kdb_outside.specs.Images.{KeepsImages, Elapses};
-ghost use Rattle.backend_files.specs.WholeFile.{IsWhole, IsShort};
+ghost use Rattle.kdb_outside.specs.Frames.{OnlyReads};
+ghost use Rattle.backend_files.specs.WholeFile.{IsWhole, IsShort, IsGiven};
 
 use kdb_outside::{Disk, FileName};
 use key_meta::List;
@@ -33,13 +33,9 @@ pub fn read_file<D: Disk>(
 ) -> Result<FileRead, FileFault>
     ensures told { D.tells disk.old ≡ true → IfOk result (IsWhole (D.seen disk.old file.now)) }
     ensures short { IfOk result IsShort }
+    ensures given { IfOk result (IsGiven D.Disk disk.old file.now) }
     ensures cause { result ≡ Err FileFault.DiskFault → HasRisen (D.faults disk.old) (D.faults disk.new) }
-    ensures same { D.tells disk.old ≡ true → D.seen disk.new ≡ D.seen disk.old }
-    ensures images { D.tells disk.old ≡ true → KeepsImages (D.may_leave disk.old) (D.may_leave disk.new) }
-    ensures time { D.tells disk.old ≡ true → Elapses (D.moment disk.old) (D.left_since disk.old) (D.left_since disk.new) (D.may_leave disk.new) }
-    ensures moment { D.moment disk.old ≤ D.moment disk.new }
-    ensures tells { D.tells disk.new ≡ D.tells disk.old }
-    ensures later { D.faults disk.old ≤ D.faults disk.new }
+    ensures reads { OnlyReads D.Disk disk.old disk.new }
 {
     let length = disk.length(file).map_err(|_| FileFault::DiskFault)?;
     if length > LONGEST_FILE {

@@ -1,5 +1,5 @@
 pub mod Named
 pub mod StepLemmas
 pub mod ChangeLemmas
-pub mod TornPlaces
+pub mod ChoiceLemmas
 pub mod CrashLemmas

@@ -6,6 +6,7 @@ use Rattle.std.specs.declared.alloc.Global.{Global}
 use Rattle.kdb_outside.specs.Calls.{next_count}
 use Rattle.kdb_outside.specs.Images.{Image, IsImage}
 use Rattle.disk_memory.specs.declared.changes.Change.{Change}
+use Rattle.disk_memory.specs.Choices.{left_along}
 use Rattle.disk_memory.specs.Steps.{steps_of, after_all, LeavesAfter, synced}
 
 -- a file's name and its bytes
@@ -68,6 +69,10 @@ left_of disk file = LeavesAfter (bytes_of disk.initial file) (bytes_of disk.init
 -- the bytes of each file at its last sync, and at first where there was none
 abbrev pub synced_of : DiskState → List ℕ → List ℕ
 synced_of disk file = synced (bytes_of disk.initial file) (bytes_of disk.initial file) (steps_of file disk.past)
+
+-- what the crash of this number leaves of each file
+abbrev pub left_by : ℕ → DiskState → List ℕ → List ℕ
+left_by number disk file = left_along number file 0 (bytes_of disk.initial file) (bytes_of disk.initial file) disk.past
 
 -- how many changes there were
 abbrev pub moment_of : DiskState → ℕ

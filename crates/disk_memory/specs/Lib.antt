@@ -1,3 +1,4 @@
 pub mod Steps
+pub mod Choices
 pub mod DiskState
 pub mod DiskLaws

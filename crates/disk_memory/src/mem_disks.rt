@@ -1,5 +1,6 @@
 //! The disk.
 ghost use Rattle.std.specs.Prelude.{◌≡◌, ◌≤◌, ◌↔◌, ◌⊎◌, ℕ, List, [], ◌∷◌, ◌++◌, map, length, take, drop, true, IsTrue, IsErr, IsSomeAnd, Contains, IfOk, OnOk, OnErr};
+ghost use Rattle.std.specs.Io.{StartsWith};
 ghost use Rattle.kdb_outside.specs.Bytes.{Fills};
 ghost use Rattle.kdb_outside.specs.Calls.{next_count};
 ghost use Rattle.kdb_outside.specs.Faults.{HasRisen, HasCause};
@@ -7,7 +8,7 @@ ghost use Rattle.kdb_outside.specs.Files.{written, ChangesTo, KeepsOthers, IsTor
 ghost use Rattle.kdb_outside.specs.Images.{IsImage, Only, IsTornWrite, IsTornCut, KeepsImages, KeepsOtherImages, Touches, Elapses};
 ghost use Rattle.disk_memory.specs.declared.changes.Step.{Step};
 ghost use Rattle.disk_memory.specs.declared.changes.Step.TheVariants.{Wrote, Cut, Synced};
-ghost use Rattle.disk_memory.specs.DiskState.{file_of, HaveDistinctNames, bytes_of, begun, IsNextFailing, after_call, after_change, after_failure, seen_of, left_of, synced_of, moment_of, left_since_of};
+ghost use Rattle.disk_memory.specs.DiskState.{file_of, HaveDistinctNames, bytes_of, begun, IsNextFailing, after_call, after_change, after_failure, seen_of, left_of, left_by, synced_of, moment_of, left_since_of};
 ghost use Rattle.disk_memory.specs.DiskLaws.{reads_are_images, counts_at_present, only_at_present};
 
 use crate::changes::{Change, Piece, Step};
@@ -87,6 +88,7 @@ impl MemDisk {
     /// The disk that a crash leaves, where no call fails: one image, which the number chooses. 0 leaves of each file what
     /// its last sync kept, or what it was at first, 1 what a read gives, and any other number something between.
     pub fn crash(self, choice: u64) -> Result<MemDisk, Memory>
+        ensures chosen { IfOk result (λ disk. (file : List ℕ) → seen_of disk file ≡ left_by choice self file) }
         ensures fresh { IfOk result (λ disk. disk ≡ begun disk.initial [] None) }
         ensures image { IfOk result (λ disk. IsImage (left_of self) (seen_of disk)) }
         ensures sure { IfOk result (λ disk. (file : List ℕ) → Only (seen_of disk file) (left_of disk file)) }
@@ -197,6 +199,8 @@ impl Disk for MemDisk {
 
     ghost faults = { λ disk. disk.faults };
 
+    ghost gives = { λ disk file at bytes. StartsWith (drop at (seen_of disk file)) bytes };
+
     ghost read_is_image = { λ disk _. reads_are_images disk };
 
     ghost counts_now = { λ disk since image _. counts_at_present disk since image };
@@ -227,6 +231,7 @@ impl Disk for MemDisk {
         ensures untouched { OnErr result (buf.new ≡ buf.old) }
 
         ensures within { IfOk result (λ n. n ≤ length buf.old) }
+        ensures given { IfOk result (λ n. StartsWith (drop at (seen_of self.old file.now)) (take n buf.new)) }
         ensures told { IfOk result (λ n. Fills (drop at (seen_of self.old file.now)) buf.old buf.new n) }
         ensures same { seen_of self.new ≡ seen_of self.old }
         ensures images { KeepsImages (left_of self.old) (left_of self.new) }

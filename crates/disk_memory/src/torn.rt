@@ -1,8 +1,7 @@
 //! What a crash leaves of a write or a cut, as a number chooses.
-ghost use Rattle.std.specs.Prelude.{◌≡◌, ℕ, ◌+◌, ◌<◌, ◌≤◌, length, take, slice_get, IfOk, OnOk};
-ghost use Rattle.kdb_outside.specs.Images.{IsTornWrite, IsTornCut};
-ghost use Rattle.disk_memory.specs.declared.changes.Step.TheVariants.{Wrote};
-ghost use Rattle.disk_memory.specs.Steps.{after};
+ghost use Rattle.std.specs.Prelude.{◌≡◌, ◌+◌, ◌<◌, ◌≤◌, ◌^◌, ◌++◌, length, drop, replicate, slice_index_or, IfOk};
+ghost use Rattle.kdb_outside.specs.Files.{written};
+ghost use Rattle.disk_memory.specs.Choices.{drawn, way, torn_byte, torn_bytes, kept_of_write, kept_of_cut, left_of_write, cut_by_way};
 
 use crate::places;
 use kdb_outside::Memory;
@@ -10,7 +9,7 @@ use std::alloc::Global;
 
 /// How a crash leaves a step.
 #[derive(Clone, Copy, Debug)]
-enum Way {
+pub(crate) enum Way {
     Out,
     Whole,
     Torn,
@@ -25,7 +24,9 @@ pub(crate) struct Choice {
 
 impl Choice {
     /// A number for a place, which looks random.
-    fn at(&self, place: usize) -> u64 {
+    fn at(&self, place: usize) -> u64
+        ensures { result ≡ drawn self.now place }
+    {
         let place = (place as u64).wrapping_add(self.step.wrapping_mul(1_000_003));
         let mixed = (self.number ^ place.wrapping_mul(0x9E37_79B9_7F4A_7C15)).wrapping_mul(
             0xBF58_476D_1CE4_E5B9,
@@ -34,8 +35,7 @@ impl Choice {
     }
 
     fn way(&self) -> Way
-        ensures out { self.now.number ≡ 0 → result ≡ Way.Out }
-        ensures whole { self.now.number ≡ 1 → result ≡ Way.Whole }
+        ensures { result ≡ way self.now }
     {
         match self.number {
             0 => Way::Out,
@@ -47,11 +47,30 @@ impl Choice {
             },
         }
     }
+
+    /// How many bytes of a torn write are there.
+    fn kept_of_write(&self, at: usize, bytes: &[u8], content: &[u8]) -> usize
+        requires { at ≤ length content.now }
+        ensures { result ≡ kept_of_write self.now at (length bytes.now) (length content.now) }
+    {
+        let end = at + bytes.len();
+        let lengths = end.saturating_sub(content.len()) as u64 + 1;
+        let gone = (self.at(end) % lengths) as usize;
+        bytes.len().saturating_sub(gone)
+    }
+
+    /// How many of the bytes that a torn cut takes off are there.
+    fn kept_of_cut(&self, new_length: usize, content: &[u8]) -> usize
+        ensures { result ≡ kept_of_cut self.now new_length (length content.now) }
+    {
+        let lengths = content.len().saturating_sub(new_length) as u64 + 1;
+        (self.at(new_length) % lengths) as usize
+    }
 }
 
 /// A byte of a torn write: the former one, the written one or any other. One that was written over with itself stays.
 fn torn_byte(number: u64, former: u8, written: u8) -> u8
-    ensures { former ≡ written → result ≡ former }
+    ensures { result ≡ torn_byte number former written }
 {
     if former == written {
         return former;
@@ -63,21 +82,30 @@ fn torn_byte(number: u64, former: u8, written: u8) -> u8
     }
 }
 
-/// Tears a write, place by place.
-fn tear(content: &mut Vec<u8>, choice: Choice, at: usize, bytes: &[u8]) -> Result<(), Memory>
-    requires { at ≤ length content.old.items }
-    ensures { OnOk result (IsTornWrite at bytes.now content.old.items content.new.items) }
+/// Bytes that are torn from a place on over the former ones.
+fn torn_bytes(
+    alloc: Global,
+    choice: Choice,
+    place: usize,
+    former: &[u8],
+    bytes: &[u8],
+) -> Result<Vec<u8>, Memory>
+    requires { place + length bytes.now < 2 ^ 64 }
+    ensures { IfOk result (λ torn. torn.items ≡ torn_bytes choice place former.now bytes.now) }
 {
+    let mut torn = Vec::new(alloc);
     for (i, byte) in bytes.iter().enumerate() {
-        let place = at + i;
-        let number = choice.at(place);
-        if place < content.len() {
-            content[place] = torn_byte(number, content[place], *byte);
-        } else if number % 4 != 0 {
-            content.push(torn_byte(number, 0, *byte))?;
-        }
+        let number = choice.at(place + i);
+        torn.push(torn_byte(number, byte_at(former, i), *byte))?;
     }
-    Ok(())
+    Ok(torn)
+}
+
+/// The byte at a place, and 0 where there is none.
+fn byte_at(bytes: &[u8], place: usize) -> u8
+    ensures { result ≡ slice_index_or bytes.now place 0 }
+{
+    if place < bytes.len() { bytes[place] } else { 0 }
 }
 
 /// What a crash leaves of a write. A content that ends before the write's place stays as it is.
@@ -88,38 +116,45 @@ pub(crate) fn torn_write(
     at: usize,
     bytes: &[u8],
 ) -> Result<Vec<u8>, Memory>
-    ensures torn { IfOk result (λ left. IsTornWrite at bytes.now content.now left.items) }
-    ensures none { choice.number ≡ 0 → IfOk result (λ left. left.items ≡ content.now) }
-    ensures whole { choice.number ≡ 1 → IfOk result (λ left. left.items ≡ after content.now (Wrote at bytes.now)) }
+    ensures { IfOk result (λ left. left.items ≡ left_of_write choice at bytes.now content.now) }
 {
-    let mut left = Vec::from_slice(alloc, content)?;
     if at > content.len() {
-        return Ok(left);
+        return Vec::from_slice(alloc, content);
     }
     match choice.way() {
-        Way::Out => {}
-        Way::Whole => places::write(&mut left, at, bytes)?,
-        Way::Torn => tear(&mut left, choice, at, bytes)?,
+        Way::Out => Vec::from_slice(alloc, content),
+        Way::Whole => overwritten(alloc, content, at, bytes),
+        Way::Torn => {
+            let kept = choice.kept_of_write(at, bytes, content);
+            let piece = torn_bytes(alloc, choice, at, &content[at..], &bytes[..kept])?;
+            overwritten(alloc, content, at, &piece)
+        }
     }
+}
+
+/// A content with a piece written at a place.
+fn overwritten(alloc: Global, content: &[u8], at: usize, piece: &[u8]) -> Result<Vec<u8>, Memory>
+    requires { at ≤ length content.now }
+    ensures { IfOk result (λ left. left.items ≡ written content.now at piece.now) }
+{
+    let mut left = Vec::from_slice(alloc, content)?;
+    places::write(&mut left, at, piece)?;
     Ok(left)
 }
 
-/// Writes any bytes.
-fn scramble(bytes: &mut [u8], choice: Choice) {
-    for (i, byte) in bytes.iter_mut().enumerate() {
-        *byte = torn_byte(choice.at(i), *byte, 0);
-    }
-}
-
-/// Tears a cut: takes off a part of what it would, and writes any bytes over the rest of it.
-fn tear_end(content: &mut Vec<u8>, choice: Choice, new_length: usize)
-    ensures { IsTornCut new_length content.old.items content.new.items }
+/// The end that a torn cut leaves of a content: a part of what it would take off, torn as by a write of zeros.
+fn torn_end(
+    alloc: Global,
+    choice: Choice,
+    content: &[u8],
+    new_length: usize,
+) -> Result<Vec<u8>, Memory>
+    ensures { IfOk result (λ end. end.items ≡ torn_bytes choice new_length (drop new_length content.now) (replicate (kept_of_cut choice new_length (length content.now)) 0)) }
 {
-    if new_length < content.len() {
-        let lengths = (content.len() - new_length) as u64 + 1;
-        content.truncate(new_length + (choice.at(new_length) % lengths) as usize);
-        scramble(&mut content[new_length..], choice);
-    }
+    let kept = choice.kept_of_cut(new_length, content);
+    let zeros = vec![in alloc; 0; kept]?;
+    let cut_off = &content[new_length.min(content.len())..];
+    torn_bytes(alloc, choice, new_length, cut_off, &zeros)
 }
 
 /// What a crash leaves of a cut.
@@ -129,15 +164,23 @@ pub(crate) fn torn_cut(
     content: &[u8],
     new_length: usize,
 ) -> Result<Vec<u8>, Memory>
-    ensures torn { IfOk result (λ left. IsTornCut new_length content.now left.items) }
-    ensures none { choice.number ≡ 0 → IfOk result (λ left. left.items ≡ content.now) }
-    ensures whole { choice.number ≡ 1 → IfOk result (λ left. left.items ≡ take new_length content.now) }
+    ensures { IfOk result (λ left. left.items ≡ cut_by_way (way choice) choice new_length content.now) }
 {
-    let mut left = Vec::from_slice(alloc, content)?;
+    let front = &content[..new_length.min(content.len())];
     match choice.way() {
-        Way::Out => {}
-        Way::Whole => left.truncate(new_length),
-        Way::Torn => tear_end(&mut left, choice, new_length),
+        Way::Out => Vec::from_slice(alloc, content),
+        Way::Whole => Vec::from_slice(alloc, front),
+        Way::Torn => {
+            let end = torn_end(alloc, choice, content, new_length)?;
+            joined(alloc, front, &end)
+        }
     }
-    Ok(left)
+}
+
+fn joined(alloc: Global, front: &[u8], end: &[u8]) -> Result<Vec<u8>, Memory>
+    ensures { IfOk result (λ both. both.items ≡ front.now ++ end.now) }
+{
+    let mut both = Vec::from_slice(alloc, front)?;
+    both.extend_from_slice(end)?;
+    Ok(both)
 }

@@ -207,6 +207,8 @@ impl Disk for RealDisk {
 
     ghost faults = { λ disk. disk.faults };
 
+    ghost gives = { λ _ _ _ _. ⊤ };
+
     ghost read_is_image = { λ _ _ _. tt };
 
     ghost counts_now = { λ _ _ _ _ _ _. tt };

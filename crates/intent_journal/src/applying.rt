@@ -1,6 +1,7 @@
 //! The contents of an entry on their way into its files.
-ghost use Rattle.std.specs.Prelude.{◌≡◌, ◌≢◌, ℕ, ◌≤◌, List, None, true, OnOk};
+ghost use Rattle.std.specs.Prelude.{◌≡◌, ℕ, List, None, true, OnOk};
 ghost use Rattle.kdb_outside.specs.Faults.{HasCause};
+ghost use Rattle.kdb_outside.specs.Frames.{GoesOn};
 ghost use Rattle.kdb_outside.specs.Images.{Only, KeepsImagesOf, KeepsOtherImages};
 ghost use Rattle.journal_codec.specs.Entry.{IsEntry};
 ghost use Rattle.intent_journal.specs.Outcomes.{content_in};
@@ -16,10 +17,8 @@ pub(crate) fn put_file<D: Disk>(disk: &mut D, text: &FileText) -> Result<(), Fai
     ensures others { D.tells disk.old ≡ true → KeepsOtherImages text.now.file (D.may_leave disk.old) (D.may_leave disk.new) }
     ensures time { D.tells disk.old ≡ true → LeavesElseOnly (D.moment disk.old) (D.left_since disk.old) (D.left_since disk.new)
         (KeepsElse text.now.file (D.may_leave disk.old)) }
-    ensures moment { D.moment disk.old ≤ D.moment disk.new }
-    ensures tells { D.tells disk.new ≡ D.tells disk.old }
+    ensures goes { GoesOn D.Disk disk.old disk.new }
     ensures cause { HasCause (D.faults disk.old) (D.faults disk.new) result }
-    ensures later { D.faults disk.old ≤ D.faults disk.new }
 {
     let bytes = text.bytes.as_slice();
     disk.write_at(&text.file, 0, bytes)?;
@@ -35,10 +34,8 @@ pub(crate) fn put_files<D: Disk>(disk: &mut D, entry: &[FileText]) -> Result<(),
         → KeepsImagesOf other (D.may_leave disk.old) (D.may_leave disk.new) }
     ensures time { D.tells disk.old ≡ true → LeavesElseOnly (D.moment disk.old) (D.left_since disk.old) (D.left_since disk.new)
         (KeepsUnnamed entry.now (D.may_leave disk.old)) }
-    ensures moment { D.moment disk.old ≤ D.moment disk.new }
-    ensures tells { D.tells disk.new ≡ D.tells disk.old }
+    ensures goes { GoesOn D.Disk disk.old disk.new }
     ensures cause { HasCause (D.faults disk.old) (D.faults disk.new) result }
-    ensures later { D.faults disk.old ≤ D.faults disk.new }
 {
     for text in entry {
         put_file(disk, text)?;

@@ -1,9 +1,10 @@
 //! The journal, and the steps of an entry through it.
-ghost use Rattle.std.specs.Prelude.{◌≡◌, ◌≢◌, ◌⊎◌, ◌∷◌, ℕ, ◌≤◌, ◌<◌, ◌+◌, ◌++◌, length, slice_get, List, [], Option, Some, None, true, false, Err, IfOk, IsOk, OnOk, OnErr};
-ghost use Rattle.backend_files.specs.WholeFile.{IsWhole, IsShort};
+ghost use Rattle.std.specs.Prelude.{◌≡◌, ◌≢◌, ◌⊎◌, ◌∷◌, ◌<◌, ◌+◌, ◌++◌, length, slice_get, List, [], Option, Some, true, false, Err, IfOk, IsOk, OnOk, OnErr};
+ghost use Rattle.backend_files.specs.WholeFile.{IsWhole, IsShort, IsGiven};
 ghost use Rattle.kdb_outside.specs.Faults.{HasCause, HasRisen};
 ghost use Rattle.kdb_outside.specs.Files.{written};
-ghost use Rattle.kdb_outside.specs.Images.{Image, Only, IsTornWrite, KeepsImages, KeepsOtherImages, Touches, Elapses};
+ghost use Rattle.kdb_outside.specs.Frames.{GoesOn, OnlyReads};
+ghost use Rattle.kdb_outside.specs.Images.{Image, Only, IsTornWrite, KeepsOtherImages, Touches};
 ghost use Rattle.journal_codec.specs.declared.files.FileText.{FileText as Item};
 ghost use Rattle.journal_codec.specs.Entry.{IsEntry, journal_name, length_bytes, spelled};
 ghost use Rattle.intent_journal.specs.Outcomes.{with_entry, HasOnly, IsOutcome, IsEither};
@@ -69,14 +70,10 @@ impl<D: Disk> Journal<D> {
     pub fn read_file(&mut self, alloc: Global, file: &FileName) -> Result<FileRead, FileFault>
         ensures told { D.tells self.old.disk ≡ true → IfOk result (IsWhole (D.seen self.old.disk file.now)) }
         ensures short { IfOk result IsShort }
+        ensures given { IfOk result (IsGiven D.Disk self.old.disk file.now) }
         ensures journal { (self.new.state ≡ self.old.state) × (self.new.entry ≡ self.old.entry) × (self.new.found ≡ self.old.found) }
-        ensures same { D.tells self.old.disk ≡ true → D.seen self.new.disk ≡ D.seen self.old.disk }
-        ensures images { D.tells self.old.disk ≡ true → KeepsImages (D.may_leave self.old.disk) (D.may_leave self.new.disk) }
-        ensures time { D.tells self.old.disk ≡ true → Elapses (D.moment self.old.disk) (D.left_since self.old.disk) (D.left_since self.new.disk) (D.may_leave self.new.disk) }
-        ensures moment { D.moment self.old.disk ≤ D.moment self.new.disk }
-        ensures tells { D.tells self.new.disk ≡ D.tells self.old.disk }
+        ensures reads { OnlyReads D.Disk self.old.disk self.new.disk }
         ensures cause { result ≡ Err FileFault.DiskFault → HasRisen (D.faults self.old.disk) (D.faults self.new.disk) }
-        ensures later { D.faults self.old.disk ≤ D.faults self.new.disk }
     {
         backend_files::read_file(alloc, &mut self.disk, file)
     }
@@ -93,10 +90,8 @@ impl<D: Disk> Journal<D> {
         ensures any_moment { D.tells self.old.disk ≡ true → self.old.found ≡ true → (files : Image) → IsFound (D.may_leave self.old.disk) files self.old.entry
             → LeavesElseOnly (D.moment self.old.disk) (D.left_since self.old.disk) (D.left_since self.new.disk)
             (IsImageOr (D.may_leave self.old.disk) (HasOnly (IsOutcome (with_entry files self.old.entry)))) }
-        ensures moment { D.moment self.old.disk ≤ D.moment self.new.disk }
-        ensures tells { D.tells self.new.disk ≡ D.tells self.old.disk }
+        ensures goes { GoesOn D.Disk self.old.disk self.new.disk }
         ensures cause { HasCause (D.faults self.old.disk) (D.faults self.new.disk) result }
-        ensures later { D.faults self.old.disk ≤ D.faults self.new.disk }
     {
         if !self.found {
             return Ok(());
@@ -121,10 +116,8 @@ impl<D: Disk> Journal<D> {
             → OnErr result (IsDoubtful (D.may_leave self.new.disk) files doubt) }
         ensures any_moment { D.tells self.old.disk ≡ true → (files : Image) (doubt : Option (List Item)) → IsDoubtful (D.may_leave self.old.disk) files doubt
             → LeavesMeanwhile (D.moment self.old.disk) (D.left_since self.old.disk) (D.left_since self.new.disk) (HasOnly (IsEither files doubt)) }
-        ensures moment { D.moment self.old.disk ≤ D.moment self.new.disk }
-        ensures tells { D.tells self.new.disk ≡ D.tells self.old.disk }
+        ensures goes { GoesOn D.Disk self.old.disk self.new.disk }
         ensures cause { HasCause (D.faults self.old.disk) (D.faults self.new.disk) result }
-        ensures later { D.faults self.old.disk ≤ D.faults self.new.disk }
     {
         if self.state == State::Clean {
             return Ok(());
@@ -142,10 +135,8 @@ impl<D: Disk> Journal<D> {
         ensures settled { D.tells self.old.disk ≡ true → (files : Image) → IsSettled (D.may_leave self.old.disk) files → IsSettled (D.may_leave self.new.disk) files }
         ensures any_moment { D.tells self.old.disk ≡ true → (files : Image) → IsSettled (D.may_leave self.old.disk) files
             → LeavesMeanwhile (D.moment self.old.disk) (D.left_since self.old.disk) (D.left_since self.new.disk) (HasOnly (IsOutcome files)) }
-        ensures moment { D.moment self.old.disk ≤ D.moment self.new.disk }
-        ensures tells { D.tells self.new.disk ≡ D.tells self.old.disk }
+        ensures goes { GoesOn D.Disk self.old.disk self.new.disk }
         ensures cause { HasCause (D.faults self.old.disk) (D.faults self.new.disk) result }
-        ensures later { D.faults self.old.disk ≤ D.faults self.new.disk }
     {
         write_through(&mut self.disk, &self.name, 1, encoded)
     }
@@ -164,10 +155,8 @@ impl<D: Disk> Journal<D> {
             → OnErr result (IsDoubtful (D.may_leave self.new.disk) before (Some files)) }
         ensures any_moment { D.tells self.old.disk ≡ true → (before : Image) → IsSettled (D.may_leave self.old.disk) before
             → LeavesMeanwhile (D.moment self.old.disk) (D.left_since self.old.disk) (D.left_since self.new.disk) (HasOnly (IsEither before (Some files))) }
-        ensures moment { D.moment self.old.disk ≤ D.moment self.new.disk }
-        ensures tells { D.tells self.new.disk ≡ D.tells self.old.disk }
+        ensures goes { GoesOn D.Disk self.old.disk self.new.disk }
         ensures cause { HasCause (D.faults self.old.disk) (D.faults self.new.disk) result }
-        ensures later { D.faults self.old.disk ≤ D.faults self.new.disk }
     {
         self.state = State::Doubt;
         write_through(&mut self.disk, &self.name, 0, &[OPEN])?;
@@ -189,10 +178,8 @@ impl<D: Disk> Journal<D> {
         ensures lagging { D.tells self.old.disk ≡ true → (files : Image) → IsLagging (D.may_leave self.old.disk) files self.old.entry → IsLagging (D.may_leave self.new.disk) files self.old.entry }
         ensures any_moment { D.tells self.old.disk ≡ true → (files : Image) → IsLagging (D.may_leave self.old.disk) files self.old.entry
             → LeavesMeanwhile (D.moment self.old.disk) (D.left_since self.old.disk) (D.left_since self.new.disk) (HasOnly (IsOutcome (with_entry files self.old.entry))) }
-        ensures moment { D.moment self.old.disk ≤ D.moment self.new.disk }
-        ensures tells { D.tells self.new.disk ≡ D.tells self.old.disk }
+        ensures goes { GoesOn D.Disk self.old.disk self.new.disk }
         ensures cause { HasCause (D.faults self.old.disk) (D.faults self.new.disk) result }
-        ensures later { D.faults self.old.disk ≤ D.faults self.new.disk }
     {
         let entry = self.entry.as_slice();
         put_file(&mut self.disk, &entry[i])
@@ -212,10 +199,8 @@ impl<D: Disk> Journal<D> {
             → OnErr result (IsDoubtful (D.may_leave self.new.disk) (with_entry files self.old.entry) (Some self.old.entry)) }
         ensures any_moment { D.tells self.old.disk ≡ true → (files : Image) → IsLagging (D.may_leave self.old.disk) files self.old.entry
             → LeavesMeanwhile (D.moment self.old.disk) (D.left_since self.old.disk) (D.left_since self.new.disk) (HasOnly (IsOutcome (with_entry files self.old.entry))) }
-        ensures moment { D.moment self.old.disk ≤ D.moment self.new.disk }
-        ensures tells { D.tells self.new.disk ≡ D.tells self.old.disk }
+        ensures goes { GoesOn D.Disk self.old.disk self.new.disk }
         ensures cause { HasCause (D.faults self.old.disk) (D.faults self.new.disk) result }
-        ensures later { D.faults self.old.disk ≤ D.faults self.new.disk }
     {
         self.shut()
     }
@@ -235,10 +220,8 @@ impl<D: Disk> Journal<D> {
             → OnErr result (IsDoubtful (D.may_leave self.new.disk) (with_entry files self.old.entry) (Some self.old.entry)) }
         ensures any_moment { D.tells self.old.disk ≡ true → (files : Image) → IsLagging (D.may_leave self.old.disk) files self.old.entry
             → LeavesMeanwhile (D.moment self.old.disk) (D.left_since self.old.disk) (D.left_since self.new.disk) (HasOnly (IsOutcome (with_entry files self.old.entry))) }
-        ensures moment { D.moment self.old.disk ≤ D.moment self.new.disk }
-        ensures tells { D.tells self.new.disk ≡ D.tells self.old.disk }
+        ensures goes { GoesOn D.Disk self.old.disk self.new.disk }
         ensures cause { HasCause (D.faults self.old.disk) (D.faults self.new.disk) result }
-        ensures later { D.faults self.old.disk ≤ D.faults self.new.disk }
     {
         put_files(&mut self.disk, self.entry.as_slice())?;
         self.shut()
@@ -254,10 +237,8 @@ impl<D: Disk> Journal<D> {
         ensures images { D.tells self.old.disk ≡ true → Touches journal_name (IsTornWrite 0 (0 ∷ [])) (D.may_leave self.old.disk) (D.may_leave self.new.disk) }
         ensures time { D.tells self.old.disk ≡ true → LeavesElseOnly (D.moment self.old.disk) (D.left_since self.old.disk) (D.left_since self.new.disk)
             (IsStepOf journal_name (IsTornWrite 0 (0 ∷ [])) (D.may_leave self.old.disk)) }
-        ensures moment { D.moment self.old.disk ≤ D.moment self.new.disk }
-        ensures tells { D.tells self.new.disk ≡ D.tells self.old.disk }
+        ensures goes { GoesOn D.Disk self.old.disk self.new.disk }
         ensures cause { HasCause (D.faults self.old.disk) (D.faults self.new.disk) result }
-        ensures later { D.faults self.old.disk ≤ D.faults self.new.disk }
     {
         self.state = State::Doubt;
         self.found = false;

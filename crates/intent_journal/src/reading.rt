@@ -1,10 +1,9 @@
 //! What the journal's file says: whether the gate is open, and on which entry.
 ghost use Rattle.std.specs.Prelude.{◌≡◌, ◌≤◌, ℕ, length, take, drop, Err, IfOk, IfSome, true};
 ghost use Rattle.kdb_outside.specs.Faults.{HasCause, HasRisen};
-ghost use Rattle.kdb_outside.specs.Images.{IsImage, KeepsImages};
+ghost use Rattle.kdb_outside.specs.Frames.{OnlyReads};
 ghost use Rattle.journal_codec.specs.Entry.{IsEntry};
 ghost use Rattle.intent_journal.specs.BadJournals.{longest_body, open_length};
-ghost use Rattle.intent_journal.specs.Moments.{LeavesElseOnly};
 ghost use Rattle.intent_journal.specs.Opening.{TellsBody, TellsEntry};
 
 use crate::JournalFault;
@@ -28,13 +27,8 @@ pub(crate) fn read_entry<D: Disk>(
 ) -> Result<Option<List<FileText>>, JournalFault>
     ensures told { D.tells disk.old ≡ true → TellsEntry (D.seen disk.old journal.now) result }
     ensures entry { IfOk result (λ found. IfSome found IsEntry) }
-    ensures same { D.tells disk.old ≡ true → D.seen disk.new ≡ D.seen disk.old }
-    ensures images { D.tells disk.old ≡ true → KeepsImages (D.may_leave disk.old) (D.may_leave disk.new) }
-    ensures time { D.tells disk.old ≡ true → LeavesElseOnly (D.moment disk.old) (D.left_since disk.old) (D.left_since disk.new) (IsImage (D.may_leave disk.old)) }
-    ensures moment { D.moment disk.old ≤ D.moment disk.new }
-    ensures tells { D.tells disk.new ≡ D.tells disk.old }
+    ensures reads { OnlyReads D.Disk disk.old disk.new }
     ensures cause { result ≡ Err JournalFault.DiskFault → HasRisen (D.faults disk.old) (D.faults disk.new) }
-    ensures later { D.faults disk.old ≤ D.faults disk.new }
 {
     match read_length(disk, journal)? {
         Some(size) => Ok(Some(read_files(alloc, disk, journal, size)?)),
@@ -51,13 +45,8 @@ fn read_files<D: Disk>(
 ) -> Result<List<FileText>, JournalFault>
     ensures told { D.tells disk.old ≡ true → TellsBody size (take size (drop 5 (D.seen disk.old journal.now))) result }
     ensures entry { IfOk result IsEntry }
-    ensures same { D.tells disk.old ≡ true → D.seen disk.new ≡ D.seen disk.old }
-    ensures images { D.tells disk.old ≡ true → KeepsImages (D.may_leave disk.old) (D.may_leave disk.new) }
-    ensures time { D.tells disk.old ≡ true → LeavesElseOnly (D.moment disk.old) (D.left_since disk.old) (D.left_since disk.new) (IsImage (D.may_leave disk.old)) }
-    ensures moment { D.moment disk.old ≤ D.moment disk.new }
-    ensures tells { D.tells disk.new ≡ D.tells disk.old }
+    ensures reads { OnlyReads D.Disk disk.old disk.new }
     ensures cause { result ≡ Err JournalFault.DiskFault → HasRisen (D.faults disk.old) (D.faults disk.new) }
-    ensures later { D.faults disk.old ≤ D.faults disk.new }
 {
     if size > LONGEST_BODY {
         return Err(JournalFault::BadJournal { at: 0 });
@@ -69,13 +58,8 @@ fn read_files<D: Disk>(
 /// The length that stands behind an open gate.
 fn read_length<D: Disk>(disk: &mut D, journal: &FileName) -> Result<Option<u32>, Failed>
     ensures told { D.tells disk.old ≡ true → IfOk result (λ size. size ≡ open_length (D.seen disk.old journal.now)) }
-    ensures same { D.tells disk.old ≡ true → D.seen disk.new ≡ D.seen disk.old }
-    ensures images { D.tells disk.old ≡ true → KeepsImages (D.may_leave disk.old) (D.may_leave disk.new) }
-    ensures time { D.tells disk.old ≡ true → LeavesElseOnly (D.moment disk.old) (D.left_since disk.old) (D.left_since disk.new) (IsImage (D.may_leave disk.old)) }
-    ensures moment { D.moment disk.old ≤ D.moment disk.new }
-    ensures tells { D.tells disk.new ≡ D.tells disk.old }
+    ensures reads { OnlyReads D.Disk disk.old disk.new }
     ensures cause { HasCause (D.faults disk.old) (D.faults disk.new) result }
-    ensures later { D.faults disk.old ≤ D.faults disk.new }
 {
     if disk.length(journal)? < HEAD as u64 {
         return Ok(None);
@@ -104,14 +88,9 @@ fn read_body<D: Disk>(
     size: u32,
 ) -> Result<Vec<u8>, JournalFault>
     ensures told { D.tells disk.old ≡ true → IfOk result (λ there. there.items ≡ take size (drop 5 (D.seen disk.old journal.now))) }
-    ensures same { D.tells disk.old ≡ true → D.seen disk.new ≡ D.seen disk.old }
-    ensures images { D.tells disk.old ≡ true → KeepsImages (D.may_leave disk.old) (D.may_leave disk.new) }
-    ensures time { D.tells disk.old ≡ true → LeavesElseOnly (D.moment disk.old) (D.left_since disk.old) (D.left_since disk.new) (IsImage (D.may_leave disk.old)) }
-    ensures moment { D.moment disk.old ≤ D.moment disk.new }
-    ensures tells { D.tells disk.new ≡ D.tells disk.old }
+    ensures reads { OnlyReads D.Disk disk.old disk.new }
     ensures own { (at : ℕ) → result ≡ Err (JournalFault.BadJournal at) → ⊥ }
     ensures cause { result ≡ Err JournalFault.DiskFault → HasRisen (D.faults disk.old) (D.faults disk.new) }
-    ensures later { D.faults disk.old ≤ D.faults disk.new }
 {
     let mut there = vec![in alloc; 0; size as usize]?;
     let count = disk.read_at(journal, HEAD as u64, &mut there)?;

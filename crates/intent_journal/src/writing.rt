@@ -2,6 +2,7 @@
 ghost use Rattle.std.specs.Prelude.{◌≡◌, ◌≤◌, length, true, OnOk};
 ghost use Rattle.kdb_outside.specs.Faults.{HasCause};
 ghost use Rattle.kdb_outside.specs.Files.{written};
+ghost use Rattle.kdb_outside.specs.Frames.{GoesOn};
 ghost use Rattle.kdb_outside.specs.Images.{Only, IsTornWrite, Touches};
 ghost use Rattle.intent_journal.specs.Moments.{LeavesElseOnly, IsStepOf};
 
@@ -19,10 +20,8 @@ pub(crate) fn write_through<D: Disk>(
     ensures images { D.tells disk.old ≡ true → Touches file.now (IsTornWrite at bytes.now) (D.may_leave disk.old) (D.may_leave disk.new) }
     ensures time { D.tells disk.old ≡ true → LeavesElseOnly (D.moment disk.old) (D.left_since disk.old) (D.left_since disk.new)
         (IsStepOf file.now (IsTornWrite at bytes.now) (D.may_leave disk.old)) }
-    ensures moment { D.moment disk.old ≤ D.moment disk.new }
-    ensures tells { D.tells disk.new ≡ D.tells disk.old }
+    ensures goes { GoesOn D.Disk disk.old disk.new }
     ensures cause { HasCause (D.faults disk.old) (D.faults disk.new) result }
-    ensures later { D.faults disk.old ≤ D.faults disk.new }
 {
     disk.write_at(file, at, bytes)?;
     disk.sync(file)

@@ -8,6 +8,7 @@ use std::test::Fail;
 use std::{env, fs, process};
 
 mod commands;
+mod crashes;
 mod mounted;
 
 const ONE_KEY: &[u8] = b"kdbOpen 2\n$key string 4 1\nsw/a\n1\n$end\n";

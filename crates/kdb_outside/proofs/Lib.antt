@@ -1,3 +1,4 @@
+pub mod Frames
 pub mod Fronts
 pub mod Moments
 pub mod SteadyBytes

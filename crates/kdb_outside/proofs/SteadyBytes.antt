@@ -4,14 +4,14 @@ use Rattle.kdb_outside.specs.Images.{IsTornWrite, IsTornCut, Touches}
 use Rattle.kdb_outside.specs.Crashes.{EachOf, HasByte}
 
 -- the front of a list has the same bytes
-slice_get-take : (xs : List ℕ) (n i : ℕ) → i < n → slice_get (take n xs) i ≡ slice_get xs i
+pub slice_get-take : (xs : List ℕ) (n i : ℕ) → i < n → slice_get (take n xs) i ≡ slice_get xs i
 slice_get-take xs zero i h = absurd (omega arith)
 slice_get-take [] (suc n) i h = refl
 slice_get-take (x ∷ xs) (suc n) zero h = refl
 slice_get-take (x ∷ xs) (suc n) (suc i) h = slice_get-take xs n i (omega arith)
 
 -- what is left behind a front has the bytes from there on
-slice_get-drop : (xs : List ℕ) (n k i : ℕ) → i ≡ n + k → slice_get (drop n xs) k ≡ slice_get xs i
+pub slice_get-drop : (xs : List ℕ) (n k i : ℕ) → i ≡ n + k → slice_get (drop n xs) k ≡ slice_get xs i
 slice_get-drop xs zero k i e = ap (slice_get xs) (omega arith)
 slice_get-drop [] (suc n) k i e = refl
 slice_get-drop (x ∷ xs) (suc n) k zero e = absurd (omega arith)
@@ -23,7 +23,7 @@ same_before now before n i front within =
     sym (slice_get-take now n i within) ∙ ap (λ xs. slice_get xs i) front ∙ slice_get-take before n i within
 
 -- two contents with one back have the same bytes there
-same_behind : (now before : List ℕ) (n i : ℕ) → drop n now ≡ drop n before → n ≤ i → slice_get now i ≡ slice_get before i
+pub same_behind : (now before : List ℕ) (n i : ℕ) → drop n now ≡ drop n before → n ≤ i → slice_get now i ≡ slice_get before i
 same_behind now before n i back behind =
     let there : i ≡ n + (i - n) = omega arith in
     sym (slice_get-drop now n (i - n) i there) ∙ ap (λ xs. slice_get xs (i - n)) back ∙ slice_get-drop before n (i - n) i there

@@ -8,3 +8,5 @@ pub mod Edge
 pub mod Files
 pub mod Images
 pub mod Crashes
+pub mod Frames
+pub mod SinkChange

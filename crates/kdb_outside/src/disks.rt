@@ -31,6 +31,10 @@ pub trait Disk {
     /// How often it has failed. At the type's end the count stands still.
     ghost faults: { Self → ℕ };
 
+    /// The bytes that a read of a file from a place on may give, also where the disk doesn't tell. Nothing else is said of
+    /// them, so whoever hands on what was read hands on what a read gave.
+    ghost gives: { Self → List ℕ → ℕ → List ℕ → Type 0 };
+
     /// What a read gives is an image.
     ghost read_is_image: { (disk : Self) → tells disk ≡ true → IsImage (may_leave disk) (seen disk) };
 
@@ -56,6 +60,7 @@ pub trait Disk {
     /// Reads from the place `at` up to the end of the buffer or of the file, and answers how many bytes.
     fn read_at(&mut self, file: &FileName, at: u64, buf: &mut [u8]) -> Result<usize, Failed>
         ensures within { IfOk result (λ n. n ≤ length buf.old) }
+        ensures given { IfOk result (λ n. gives self.old file.now at (take n buf.new)) }
         ensures told { tells self.old ≡ true → IfOk result (λ n. Fills (drop at (seen self.old file.now)) buf.old buf.new n) }
         ensures same { tells self.old ≡ true → seen self.new ≡ seen self.old }
         ensures images { tells self.old ≡ true → KeepsImages (may_leave self.old) (may_leave self.new) }

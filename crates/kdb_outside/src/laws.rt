@@ -1,6 +1,7 @@
 //! Laws of a run of calls on a disk, for the proofs of the crates above. Each is the contract of an empty function.
 ghost use Rattle.std.specs.Prelude.{◌≡◌, ◌≢◌, ℕ, ◌+◌, ◌<◌, ◌≤◌, List, length, slice_get, Some, true};
 ghost use Rattle.kdb_outside.specs.Images.{Image, IsTornWrite, IsTornCut, KeepsImages, KeepsOtherImages, Touches, Elapses};
+ghost use Rattle.kdb_outside.specs.Frames.{GoesOn, OnlyReads};
 ghost use Rattle.kdb_outside.specs.Crashes.{EveryImage, EverySince, EachOf, HasByte};
 
 use crate::{Disk, FileName};
@@ -37,6 +38,18 @@ pub fn a_run_goes_on_over_a_read<D: Disk, P: ImageProperty>(before: &D, after: &
         → EveryImage (D.may_leave before.now) P.holds → KeepsImages (D.may_leave before.now) (D.may_leave after.now)
         → Elapses (D.moment before.now) (D.left_since before.now) (D.left_since after.now) (D.may_leave after.now)
         → EverySince (D.left_since after.now) since P.holds }
+{}
+
+/// Calls that only read, one after the other, are one such call, and so is no call.
+pub fn reads_are_one_read<D: Disk>(before: &D, between: &D, after: &D)
+    ensures none { OnlyReads D.Disk before.now before.now }
+    ensures two { OnlyReads D.Disk before.now between.now → OnlyReads D.Disk between.now after.now → OnlyReads D.Disk before.now after.now }
+{}
+
+/// Calls that go on, one after the other, are one such call, and a call that only reads goes on.
+pub fn calls_go_on_as_one<D: Disk>(before: &D, between: &D, after: &D)
+    ensures read { OnlyReads D.Disk before.now after.now → GoesOn D.Disk before.now after.now }
+    ensures two { GoesOn D.Disk before.now between.now → GoesOn D.Disk between.now after.now → GoesOn D.Disk before.now after.now }
 {}
 
 /// What a crash leaves of one file has the properties that it had before a call on another file.

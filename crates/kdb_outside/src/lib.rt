@@ -27,8 +27,8 @@ pub use gates::{Gate, OpenGate};
 pub use kinds::Kind;
 pub use laws::{
     ContentProperty, ImageProperty, a_byte_out_of_reach_stays, a_byte_written_again_stays,
-    a_run_begins_now, a_run_goes_on_over_a_call, a_run_goes_on_over_a_read,
-    calls_on_other_files_touch_no_property, images_have_what_contents_have,
+    a_run_begins_now, a_run_goes_on_over_a_call, a_run_goes_on_over_a_read, calls_go_on_as_one,
+    calls_on_other_files_touch_no_property, images_have_what_contents_have, reads_are_one_read,
     weaker_properties_hold_too,
 };
 pub use mem_sinks::MemSink;

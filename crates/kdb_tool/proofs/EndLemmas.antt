@@ -15,7 +15,8 @@ use Rattle.kdb_tool.specs.Untold.{IsStatusOf, AnswersUntold}
 use Rattle.kdb_tool.specs.Work.{Leaves, Stores}
 use Rattle.kdb_tool.specs.Ending.{ending}
 use Rattle.kdb_tool.specs.Lasting.{Lasts, SparesUnnamed}
-use Rattle.kdb_tool.specs.Outcome.{Change, Failed, Gives, Gains, GainsFront, Delivers, Whole, OutFails, ErrFails}
+use Rattle.kdb_outside.specs.SinkChange.{SinkChange as Change}
+use Rattle.kdb_tool.specs.Outcome.{Failed, Gives, Gains, GainsFront, Delivers, Whole, OutFails, ErrFails}
 use Rattle.kdb_tool.specs.Ends.{IsAnswered, EndsAsAnswered, GivesAnswer, EndsByWords, EndsWithoutMemory, EndsInFault, FaultCause, OfDisk, OfOut, OfErr, LeftBy, Unwritten, Left}
 use Rattle.kdb_tool.proofs.AnswersOnce.{Answers-once}
 

@@ -56,10 +56,3 @@ spares-kept texts before middle after kept spares = λ file none.
       no_more = λ c left. (kept file).no_more c (rest.no_more c left);
       no_fewer = λ c left. rest.no_fewer c ((kept file).no_fewer c left);
     }
-
--- where other images are kept twice, they are kept
-pub keeps-others : (file : List ℕ) (before middle after : Leaves) → KeepsOtherImages file before middle → KeepsOtherImages file middle after → KeepsOtherImages file before after
-keeps-others file before middle after one two = λ other apart. record {
-  no_more = λ c left. (one other apart).no_more c ((two other apart).no_more c left);
-  no_fewer = λ c left. (two other apart).no_fewer c ((one other apart).no_fewer c left);
-}

@@ -6,7 +6,8 @@ use Rattle.kdb_tool.specs.Answer.{Answer, warned, LeavesFiles}
 use Rattle.kdb_tool.specs.Request.{Request, Refuses, Bars, Asks}
 use Rattle.kdb_tool.specs.Answers.{Answers}
 use Rattle.kdb_tool.specs.Untold.{IsStatusOf}
-use Rattle.kdb_tool.specs.Outcome.{Change, Failed, Gives, Gains}
+use Rattle.kdb_outside.specs.SinkChange.{SinkChange as Change}
+use Rattle.kdb_tool.specs.Outcome.{Failed, Gives, Gains}
 
 -- a run that ended neither in want of memory nor in a fault
 abbrev pub IsAnswered : ℕ → Type 0

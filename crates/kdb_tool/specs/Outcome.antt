@@ -1,6 +1,8 @@
 -- How a run ends: what out and err have gained, and where a fault came from. (This project's own.)
 use Rattle.std.specs.Prelude.{◌≡◌, ℕ, ◌≤◌, List, ◌++◌, length, take, Option, Some, IfSome}
+use Rattle.kdb_outside.specs.Bytes.{HoldsFront}
 use Rattle.kdb_outside.specs.Faults.{HasRisen}
+use Rattle.kdb_outside.specs.SinkChange.{SinkChange as Change}
 use Rattle.kdb_tool.specs.Lines.{line, write_fault}
 use Rattle.kdb_tool.specs.Answer.{Report}
 
@@ -8,22 +10,9 @@ use Rattle.kdb_tool.specs.Answer.{Report}
 abbrev pub Gains : Option (List ℕ) → Option (List ℕ) → List ℕ → Type 0
 Gains before now bytes = IfSome before (λ held. now ≡ Some (held ++ bytes))
 
--- a sink holds what it held and a front of some bytes
-pub record HoldsFrontOf (held bytes : List ℕ) (now : Option (List ℕ)) : Type 0 where
-  pub count : ℕ
-  pub within : count ≤ length bytes
-  pub is : now ≡ Some (held ++ take count bytes)
-
 -- a sink that tells its bytes has gained a front of these
 abbrev pub GainsFront : Option (List ℕ) → Option (List ℕ) → List ℕ → Type 0
-GainsFront before now bytes = IfSome before (λ held. HoldsFrontOf held bytes now)
-
--- a sink before a call and after it: the bytes that it tells, and its count of faults
-pub record Change : Type 0 where
-  pub held_before : Option (List ℕ)
-  pub held_now : Option (List ℕ)
-  pub faults_before : ℕ
-  pub faults_now : ℕ
+GainsFront before now bytes = IfSome before (λ held. HoldsFront held bytes now)
 
 -- its count of faults has risen
 abbrev pub Failed : Change → Type 0

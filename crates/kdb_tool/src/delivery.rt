@@ -1,7 +1,8 @@
 //! Puts an answer on out and err. A fault of either turns the status into that of a fault.
-ghost use Rattle.std.specs.Prelude.{◌≡◌, ◌≤◌, OnOk, OnErr};
+ghost use Rattle.std.specs.Prelude.{◌≤◌, OnOk, OnErr};
 ghost use Rattle.kdb_outside.specs.Faults.{HasRisen};
-ghost use Rattle.kdb_tool.specs.Outcome.{Change, Delivers, Gains, GainsFront};
+ghost use Rattle.kdb_outside.specs.SinkChange.{change_of};
+ghost use Rattle.kdb_tool.specs.Outcome.{Delivers, Gains, GainsFront};
 ghost use Rattle.kdb_tool.specs.Delivery.{Tells};
 ghost use Rattle.kdb_tool.specs.Ending.{ending, stopped};
 
@@ -11,7 +12,7 @@ use kdb_outside::{Failed, Sink};
 
 /// Puts a line on err, where there is one, and ends with the status.
 fn tell<E: Sink>(status: Status, line: &str, err: &mut E) -> Status
-    ensures told { Tells status line.now result (E.held err.old) (E.held err.new) (E.faults err.old) (E.faults err.new) }
+    ensures told { Tells status line.now result (change_of E.Sink err.old err.new) }
     ensures later { E.faults err.old ≤ E.faults err.new }
 {
     if line.is_empty() {
@@ -44,9 +45,7 @@ fn deliver<K: Sink, E: Sink>(
     out: &mut K,
     err: &mut E,
 ) -> Status
-    ensures delivered { Delivers (record { status = status; out = out_text.now; err = err_text.now }) result
-        (record { held_before = K.held out.old; held_now = K.held out.new; faults_before = K.faults out.old; faults_now = K.faults out.new })
-        (record { held_before = E.held err.old; held_now = E.held err.new; faults_before = E.faults err.old; faults_now = E.faults err.new }) }
+    ensures delivered { Delivers (record { status = status; out = out_text.now; err = err_text.now }) result (change_of K.Sink out.old out.new) (change_of E.Sink err.old err.new) }
     ensures later_out { K.faults out.old ≤ K.faults out.new }
     ensures later_err { E.faults err.old ≤ E.faults err.new }
 {
@@ -58,9 +57,7 @@ fn deliver<K: Sink, E: Sink>(
 
 /// Ends a run with its answer, or with the line that tells why there is none.
 pub fn finish<K: Sink, E: Sink>(answer: &Result<Answer, Stop>, out: &mut K, err: &mut E) -> Status
-    ensures finished { Delivers (ending answer.now) result
-        (record { held_before = K.held out.old; held_now = K.held out.new; faults_before = K.faults out.old; faults_now = K.faults out.new })
-        (record { held_before = E.held err.old; held_now = E.held err.new; faults_before = E.faults err.old; faults_now = E.faults err.new }) }
+    ensures finished { Delivers (ending answer.now) result (change_of K.Sink out.old out.new) (change_of E.Sink err.old err.new) }
     ensures later_out { K.faults out.old ≤ K.faults out.new }
     ensures later_err { E.faults err.old ≤ E.faults err.new }
 {
@@ -78,9 +75,7 @@ pub fn finish<K: Sink, E: Sink>(answer: &Result<Answer, Stop>, out: &mut K, err:
 
 /// Ends a run that has no answer. It takes no memory.
 fn give_up<K: Sink, E: Sink>(stop: Stop, out: &mut K, err: &mut E) -> Status
-    ensures finished { Delivers (stopped stop) result
-        (record { held_before = K.held out.old; held_now = K.held out.new; faults_before = K.faults out.old; faults_now = K.faults out.new })
-        (record { held_before = E.held err.old; held_now = E.held err.new; faults_before = E.faults err.old; faults_now = E.faults err.new }) }
+    ensures finished { Delivers (stopped stop) result (change_of K.Sink out.old out.new) (change_of E.Sink err.old err.new) }
     ensures later_out { K.faults out.old ≤ K.faults out.new }
     ensures later_err { E.faults err.old ≤ E.faults err.new }
 {

@@ -1,7 +1,7 @@
 //! The files of all mounts, each read once.
-ghost use Rattle.std.specs.Prelude.{◌≡◌, ◌≤◌, ◌<◌, ◌+◌, true, ℕ, List, length, Ok, Err, IfOk, OnOk, map as over};
+ghost use Rattle.std.specs.Prelude.{◌≡◌, ◌<◌, ◌+◌, true, length, Ok, Err, IfOk, OnOk, map as over};
 ghost use Rattle.kdb_outside.specs.Faults.{HasRisen};
-ghost use Rattle.kdb_outside.specs.Images.{KeepsImages};
+ghost use Rattle.kdb_outside.specs.Frames.{OnlyReads};
 ghost use Rattle.backend_files.specs.WholeFile.{IsWhole};
 ghost use Rattle.all_formats.specs.Meanings.{Reads, IsBadAt};
 ghost use Rattle.mount_table.specs.Table.{own_mount};
@@ -28,10 +28,7 @@ struct OwnFile {
 pub fn open<D: Disk>(alloc: Global, disk: &mut D) -> Result<Result<Mounted, OpenRefusal>, Stop>
     ensures told { D.tells disk.old ≡ true → IfOk result (Opens Reads IsBadAt (D.seen disk.old)) }
     ensures cause { result ≡ Err Stop.DiskFault → HasRisen (D.faults disk.old) (D.faults disk.new) }
-    ensures same { D.tells disk.old ≡ true → D.seen disk.new ≡ D.seen disk.old }
-    ensures images { D.tells disk.old ≡ true → KeepsImages (D.may_leave disk.old) (D.may_leave disk.new) }
-    ensures tells { D.tells disk.new ≡ D.tells disk.old }
-    ensures later { D.faults disk.old ≤ D.faults disk.new }
+    ensures reads { OnlyReads D.Disk disk.old disk.new }
 {
     let file = own_file(alloc)?;
     let read = read_file(alloc, disk, &file)?;
@@ -56,10 +53,7 @@ fn mount_all<D: Disk>(
     requires whole { D.tells disk.old ≡ true → IsWhole (D.seen disk.old own_mount.file) own.now.read }
     ensures told { D.tells disk.old ≡ true → MakesTable Reads (D.seen disk.old own_mount.file) (Ok table) → IfOk result (IsOpened Reads IsBadAt (D.seen disk.old)) }
     ensures cause { result ≡ Err Stop.DiskFault → HasRisen (D.faults disk.old) (D.faults disk.new) }
-    ensures same { D.tells disk.old ≡ true → D.seen disk.new ≡ D.seen disk.old }
-    ensures images { D.tells disk.old ≡ true → KeepsImages (D.may_leave disk.old) (D.may_leave disk.new) }
-    ensures tells { D.tells disk.new ≡ D.tells disk.old }
-    ensures later { D.faults disk.old ≤ D.faults disk.new }
+    ensures reads { OnlyReads D.Disk disk.old disk.new }
 {
     let count = table.len();
     let mut opening = Opening::new(alloc, table);
@@ -84,10 +78,7 @@ fn add_next<D: Disk>(
     ensures count { OnOk result (length opening.new.files ≡ length opening.old.files + 1) }
     ensures mounts { opening.new.mounts ≡ opening.old.mounts }
     ensures cause { result ≡ Err Stop.DiskFault → HasRisen (D.faults disk.old) (D.faults disk.new) }
-    ensures same { D.tells disk.old ≡ true → D.seen disk.new ≡ D.seen disk.old }
-    ensures images { D.tells disk.old ≡ true → KeepsImages (D.may_leave disk.old) (D.may_leave disk.new) }
-    ensures tells { D.tells disk.new ≡ D.tells disk.old }
-    ensures later { D.faults disk.old ≤ D.faults disk.new }
+    ensures reads { OnlyReads D.Disk disk.old disk.new }
 {
     let Some(mount) = opening.next() else {
         unreachable!()

@@ -1,10 +1,11 @@
 //! Files that are replaced in place, one after the other. A fault may leave one torn, and those behind it as they were.
-ghost use Rattle.std.specs.Prelude.{◌≡◌, ◌≤◌, T, true, false, ℕ, List, OnOk};
+ghost use Rattle.std.specs.Prelude.{◌≡◌, T, true, List, OnOk};
 ghost use Rattle.std.specs.Cmp.Lexicographic.{slice_cmp};
 ghost use Rattle.std.specs.FinMap.{is_sorted};
 ghost use Rattle.std.specs.Ordering.{nat_cmp};
 ghost use Rattle.kdb_outside.specs.Faults.{HasCause};
 ghost use Rattle.kdb_outside.specs.Files.{ChangesTo, KeepsOthers};
+ghost use Rattle.kdb_outside.specs.Frames.{GoesOn};
 ghost use Rattle.kdb_outside.specs.Images.{Only, KeepsOtherImages};
 ghost use Rattle.kdb_tool.specs.Answer.{LeavesFiles, KeepsUnnamed};
 ghost use Rattle.kdb_tool.specs.Lasting.{Lasts, SparesUnnamed};
@@ -19,9 +20,8 @@ pub fn replace_all<D: Disk>(disk: &mut D, texts: &[(FileName, List<u8>)]) -> Res
     ensures others { D.tells disk.old ≡ true → KeepsUnnamed texts.now (D.seen disk.old) (D.seen disk.new) }
     ensures lasting { D.tells disk.old ≡ true → OnOk result (Lasts texts.now (D.may_leave disk.new)) }
     ensures spared { D.tells disk.old ≡ true → SparesUnnamed texts.now (D.may_leave disk.old) (D.may_leave disk.new) }
-    ensures tells { D.tells disk.new ≡ D.tells disk.old }
+    ensures goes { GoesOn D.Disk disk.old disk.new }
     ensures cause { HasCause (D.faults disk.old) (D.faults disk.new) result }
-    ensures later { D.faults disk.old ≤ D.faults disk.new }
 {
     for text in texts {
         replace(disk, &text.0, text.1.as_slice())?;
@@ -35,9 +35,8 @@ fn replace<D: Disk>(disk: &mut D, file: &FileName, bytes: &[u8]) -> Result<(), F
     ensures others { D.tells disk.old ≡ true → KeepsOthers file.now (D.seen disk.old) (D.seen disk.new) }
     ensures lasting { D.tells disk.old ≡ true → OnOk result (Only bytes.now (D.may_leave disk.new file.now)) }
     ensures spared { D.tells disk.old ≡ true → KeepsOtherImages file.now (D.may_leave disk.old) (D.may_leave disk.new) }
-    ensures tells { D.tells disk.new ≡ D.tells disk.old }
+    ensures goes { GoesOn D.Disk disk.old disk.new }
     ensures cause { HasCause (D.faults disk.old) (D.faults disk.new) result }
-    ensures later { D.faults disk.old ≤ D.faults disk.new }
 {
     disk.write_at(file, 0, bytes)?;
     disk.cut(file, bytes.len() as u64)?;

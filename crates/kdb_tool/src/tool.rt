@@ -1,10 +1,12 @@
 //! The top call. The whole answer is made before anything is stored or put out.
-ghost use Rattle.std.specs.Prelude.{◌≡◌, ◌≢◌, ◌≤◌, List, ℕ, [], true};
+ghost use Rattle.std.specs.Prelude.{◌≡◌, ◌≢◌, ◌≤◌, [], true};
 ghost use Rattle.kdb_outside.specs.Faults.{HasRisen};
+ghost use Rattle.kdb_outside.specs.Frames.{GoesOn};
+ghost use Rattle.kdb_outside.specs.SinkChange.{change_of};
 ghost use Rattle.kdb_tool.specs.Answer.{Answer, KeepsUnnamed};
 ghost use Rattle.kdb_tool.specs.Answers.{Answers};
 ghost use Rattle.kdb_tool.specs.Request.{request};
-ghost use Rattle.kdb_tool.specs.Outcome.{Change, GainsFront};
+ghost use Rattle.kdb_tool.specs.Outcome.{GainsFront};
 ghost use Rattle.kdb_tool.specs.Ends.{IsAnswered, EndsAsAnswered, EndsByWords, EndsWithoutMemory, EndsInFault, LeftBy};
 ghost use Rattle.kdb_tool.specs.Lasting.{Lasts, SparesUnnamed};
 
@@ -26,27 +28,19 @@ pub fn run<S: Source, K: Sink, E: Sink, D: Disk + Send, G: Gate + Sync>(
     gate: &G,
 ) -> (Status, D)
     // The status, out, err and the files are those of the answer.
-    ensures answered { D.tells disk ≡ true → EndsAsAnswered words.now (D.seen disk) (D.seen result.1) result.0
-        (record { held_before = K.held out.old; held_now = K.held out.new; faults_before = K.faults out.old; faults_now = K.faults out.new })
-        (record { held_before = E.held err.old; held_now = E.held err.new; faults_before = E.faults err.old; faults_now = E.faults err.new }) }
+    ensures answered { D.tells disk ≡ true → EndsAsAnswered words.now (D.seen disk) (D.seen result.1) result.0 (change_of K.Sink out.old out.new) (change_of E.Sink err.old err.new) }
 
     // Words that ask for nothing decide alone, whatever the disk does.
-    ensures words { EndsByWords (request words.now) result.0
-        (record { held_before = K.held out.old; held_now = K.held out.new; faults_before = K.faults out.old; faults_now = K.faults out.new })
-        (record { held_before = E.held err.old; held_now = E.held err.new; faults_before = E.faults err.old; faults_now = E.faults err.new }) }
+    ensures words { EndsByWords (request words.now) result.0 (change_of K.Sink out.old out.new) (change_of E.Sink err.old err.new) }
 
     // However the run ends, out has gained a front of what the answer puts there.
     ensures prefix { D.tells disk ≡ true → (answer : Answer) → Answers words.now (D.seen disk) answer → GainsFront (K.held out.old) (K.held out.new) answer.report.out }
 
     // Want of memory puts nothing on out and its line on err.
-    ensures memory { EndsWithoutMemory result.0
-        (record { held_before = K.held out.old; held_now = K.held out.new; faults_before = K.faults out.old; faults_now = K.faults out.new })
-        (record { held_before = E.held err.old; held_now = E.held err.new; faults_before = E.faults err.old; faults_now = E.faults err.new }) }
+    ensures memory { EndsWithoutMemory result.0 (change_of K.Sink out.old out.new) (change_of E.Sink err.old err.new) }
 
     // A fault has its cause in this call, and err tells which where err itself didn't fail.
-    ensures fault { EndsInFault (HasRisen (D.faults disk) (D.faults result.1)) result.0
-        (record { held_before = K.held out.old; held_now = K.held out.new; faults_before = K.faults out.old; faults_now = K.faults out.new })
-        (record { held_before = E.held err.old; held_now = E.held err.new; faults_before = E.faults err.old; faults_now = E.faults err.new }) }
+    ensures fault { EndsInFault (HasRisen (D.faults disk) (D.faults result.1)) result.0 (change_of K.Sink out.old out.new) (change_of E.Sink err.old err.new) }
 
     // So without a fault the run ends with the answer's status, or in want of memory.
     ensures complete { (HasRisen (D.faults disk) (D.faults result.1) → ⊥) → (HasRisen (K.faults out.old) (K.faults out.new) → ⊥) → (HasRisen (E.faults err.old) (E.faults err.new) → ⊥) → result.0 ≢ 74 }
@@ -68,11 +62,10 @@ pub fn run<S: Source, K: Sink, E: Sink, D: Disk + Send, G: Gate + Sync>(
 
     // Of all other files a crash leaves what it might have left before, whatever fails.
     ensures spared { D.tells disk ≡ true → (answer : Answer) → Answers words.now (D.seen disk) answer → SparesUnnamed answer.stored (D.may_leave disk) (D.may_leave result.1) }
-    ensures tells { D.tells result.1 ≡ D.tells disk }
 
-    // No input is taken, and no count of faults falls.
+    // The disk tells as much as before. No input is taken, and no count of faults falls.
+    ensures goes { GoesOn D.Disk disk result.1 }
     ensures input { input.new ≡ input.old }
-    ensures later_disk { D.faults disk ≤ D.faults result.1 }
     ensures later_out { K.faults out.old ≤ K.faults out.new }
     ensures later_err { E.faults err.old ≤ E.faults err.new }
 {

@@ -1,7 +1,7 @@
 //! The work that a command line asks for: the files are read, the answer is made whole, and then it is stored.
-ghost use Rattle.std.specs.Prelude.{◌≡◌, ◌≤◌, true, IfOk, Err};
+ghost use Rattle.std.specs.Prelude.{◌≡◌, true, IfOk, Err};
 ghost use Rattle.kdb_outside.specs.Faults.{HasRisen};
-ghost use Rattle.kdb_outside.specs.Images.{KeepsImages};
+ghost use Rattle.kdb_outside.specs.Frames.{GoesOn, OnlyReads};
 ghost use Rattle.kdb_tool.specs.Answer as wanted;
 ghost use Rattle.kdb_tool.specs.AnswerView.{answer_of};
 ghost use Rattle.kdb_tool.specs.Answers.{Answers, AnswersOver};
@@ -33,10 +33,7 @@ fn answer_question<D: Disk>(
     ensures status { IfOk result (λ answer. IsStatusOf (question_of question.entry) answer.report.status) }
     ensures own { IfOk result (λ answer. IsAnswered answer.report.status) }
     ensures cause { result ≡ Err Stop.DiskFault → HasRisen (D.faults disk.old) (D.faults disk.new) }
-    ensures same { D.tells disk.old ≡ true → D.seen disk.new ≡ D.seen disk.old }
-    ensures images { D.tells disk.old ≡ true → KeepsImages (D.may_leave disk.old) (D.may_leave disk.new) }
-    ensures tells { D.tells disk.new ≡ D.tells disk.old }
-    ensures later { D.faults disk.old ≤ D.faults disk.new }
+    ensures reads { OnlyReads D.Disk disk.old disk.new }
 {
     let opened = open(alloc, disk)?;
     let answer = answer_opened(alloc, opened, question)?;
@@ -49,10 +46,7 @@ fn work_out<D: Disk>(alloc: Global, words: &[Text], disk: &mut D) -> Result<Answ
     ensures untold { IfOk result (λ answer. AnswersUntold (request words.now) (answer_of answer)) }
     ensures own { IfOk result (λ answer. IsAnswered answer.report.status) }
     ensures cause { result ≡ Err Stop.DiskFault → HasRisen (D.faults disk.old) (D.faults disk.new) }
-    ensures same { D.tells disk.old ≡ true → D.seen disk.new ≡ D.seen disk.old }
-    ensures images { D.tells disk.old ≡ true → KeepsImages (D.may_leave disk.old) (D.may_leave disk.new) }
-    ensures tells { D.tells disk.new ≡ D.tells disk.old }
-    ensures later { D.faults disk.old ≤ D.faults disk.new }
+    ensures reads { OnlyReads D.Disk disk.old disk.new }
 {
     match read_words(alloc, words)? {
         Request::Refuses(refusal) => Ok(refuse_words(alloc, refusal)?),
@@ -68,8 +62,7 @@ fn store<D: Disk>(answer: Answer, disk: &mut D) -> Result<Answer, Stop>
     ensures lasting { D.tells disk.old ≡ true → IfOk result (λ given. Lasts given.stored (D.may_leave disk.new)) }
     ensures spared { D.tells disk.old ≡ true → SparesUnnamed answer.stored (D.may_leave disk.old) (D.may_leave disk.new) }
     ensures cause { result ≡ Err Stop.DiskFault → HasRisen (D.faults disk.old) (D.faults disk.new) }
-    ensures tells { D.tells disk.new ≡ D.tells disk.old }
-    ensures later { D.faults disk.old ≤ D.faults disk.new }
+    ensures goes { GoesOn D.Disk disk.old disk.new }
 {
     match replace_all(disk, answer.stored.entries()) {
         Ok(()) => Ok(answer),
@@ -86,8 +79,7 @@ pub fn carry_out<D: Disk>(alloc: Global, words: &[Text], disk: &mut D) -> Result
     ensures leaves { D.tells disk.old ≡ true → Leaves words.now result (D.seen disk.old) (D.seen disk.new) }
     ensures lasting { D.tells disk.old ≡ true → IfOk result (λ answer. Lasts answer.stored (D.may_leave disk.new)) }
     ensures spared { D.tells disk.old ≡ true → (answer : wanted.Answer) → Answers words.now (D.seen disk.old) answer → SparesUnnamed answer.stored (D.may_leave disk.old) (D.may_leave disk.new) }
-    ensures tells { D.tells disk.new ≡ D.tells disk.old }
-    ensures later { D.faults disk.old ≤ D.faults disk.new }
+    ensures goes { GoesOn D.Disk disk.old disk.new }
 {
     let answer = work_out(alloc, words, disk)?;
     store(answer, disk)

@@ -1,7 +1,8 @@
 //! The opening of a journal: an open entry is brought into its files before anything else happens.
-ghost use Rattle.std.specs.Prelude.{◌≡◌, ◌≢◌, ◌≤◌, ℕ, List, Option, Some, None, true, false, Err, IfOk, IfErr, IfSome, OnOk};
+ghost use Rattle.std.specs.Prelude.{◌≡◌, ◌≢◌, ℕ, List, Option, Some, None, true, false, Err, IfOk, IfErr, IfSome, OnOk};
 ghost use Rattle.kdb_outside.specs.Faults.{HasRisen};
-ghost use Rattle.kdb_outside.specs.Images.{Image, IsImage, KeepsImages};
+ghost use Rattle.kdb_outside.specs.Frames.{GoesOn, OnlyReads};
+ghost use Rattle.kdb_outside.specs.Images.{Image, KeepsImages};
 ghost use Rattle.journal_codec.specs.declared.files.FileText.{FileText as Item};
 ghost use Rattle.journal_codec.specs.Entry.{IsEntry, journal_name};
 ghost use Rattle.intent_journal.specs.BadJournals.{bad_place, open_entry, opened_files, opened_doubt};
@@ -33,10 +34,8 @@ impl<D: Disk> Journal<D> {
         ensures any_moment { D.tells disk ≡ true → (files : Image) (doubt : Option (List Item)) → IsCalm (D.seen disk) (D.may_leave disk) files doubt
             → LeavesMeanwhile (D.moment disk) (D.left_since disk) (D.left_since (disk_of result)) (HasOnly (IsEither files doubt)) }
         ensures kept { D.tells disk ≡ true → IfErr result (λ refused. refused.fault ≢ JournalFault.DiskFault → KeepsImages (D.may_leave disk) (D.may_leave refused.disk)) }
-        ensures moment { D.moment disk ≤ D.moment (disk_of result) }
-        ensures tells { D.tells (disk_of result) ≡ D.tells disk }
+        ensures goes { GoesOn D.Disk disk (disk_of result) }
         ensures cause { fault_of result ≡ Some JournalFault.DiskFault → HasRisen (D.faults disk) (D.faults (disk_of result)) }
-        ensures later { D.faults disk ≤ D.faults (disk_of result) }
     {
         let mut disk = disk;
         match find(alloc, &mut disk) {
@@ -56,10 +55,8 @@ impl<D: Disk> Journal<D> {
         ensures any_moment { D.tells disk ≡ true → (files : Image) (doubt : Option (List Item)) → IsCalm (D.seen disk) (D.may_leave disk) files doubt
             → LeavesMeanwhile (D.moment disk) (D.left_since disk) (D.left_since (disk_of result)) (HasOnly (IsEither files doubt)) }
         ensures fault { IfErr result (λ refused. refused.fault ≡ JournalFault.DiskFault) }
-        ensures moment { D.moment disk ≤ D.moment (disk_of result) }
-        ensures tells { D.tells (disk_of result) ≡ D.tells disk }
+        ensures goes { GoesOn D.Disk disk (disk_of result) }
         ensures cause { IfErr result (λ refused. HasRisen (D.faults disk) (D.faults refused.disk)) }
-        ensures later { D.faults disk ≤ D.faults (disk_of result) }
     {
         let Found { name, entry } = found;
         match entry {
@@ -91,10 +88,8 @@ impl<D: Disk> Journal<D> {
         ensures any_moment { D.tells disk ≡ true → (files : Image) → IsFound (D.may_leave disk) files entry
             → LeavesElseOnly (D.moment disk) (D.left_since disk) (D.left_since (disk_of result)) (IsImageOr (D.may_leave disk) (HasOnly (IsOutcome (with_entry files entry)))) }
         ensures fault { IfErr result (λ refused. refused.fault ≡ JournalFault.DiskFault) }
-        ensures moment { D.moment disk ≤ D.moment (disk_of result) }
-        ensures tells { D.tells (disk_of result) ≡ D.tells disk }
+        ensures goes { GoesOn D.Disk disk (disk_of result) }
         ensures cause { IfErr result (λ refused. HasRisen (D.faults disk) (D.faults refused.disk)) }
-        ensures later { D.faults disk ≤ D.faults (disk_of result) }
     {
         let mut journal = Journal {
             disk,
@@ -130,13 +125,8 @@ fn find<D: Disk>(alloc: Global, disk: &mut D) -> Result<Found, JournalFault>
     ensures entry { IfOk result (λ found. IfSome found.entry IsEntry) }
     ensures good { D.tells disk.old ≡ true → IfOk result (λ found. (bad_place (D.seen disk.old journal_name) ≡ None) × (found.entry ≡ open_entry (D.seen disk.old journal_name))) }
     ensures bad { D.tells disk.old ≡ true → (at : ℕ) → result ≡ Err (JournalFault.BadJournal at) → bad_place (D.seen disk.old journal_name) ≡ Some at }
-    ensures same { D.tells disk.old ≡ true → D.seen disk.new ≡ D.seen disk.old }
-    ensures images { D.tells disk.old ≡ true → KeepsImages (D.may_leave disk.old) (D.may_leave disk.new) }
-    ensures time { D.tells disk.old ≡ true → LeavesElseOnly (D.moment disk.old) (D.left_since disk.old) (D.left_since disk.new) (IsImage (D.may_leave disk.old)) }
-    ensures moment { D.moment disk.old ≤ D.moment disk.new }
-    ensures tells { D.tells disk.new ≡ D.tells disk.old }
+    ensures reads { OnlyReads D.Disk disk.old disk.new }
     ensures cause { result ≡ Err JournalFault.DiskFault → HasRisen (D.faults disk.old) (D.faults disk.new) }
-    ensures later { D.faults disk.old ≤ D.faults disk.new }
 {
     let name = name_of_journal(alloc)?;
     let entry = read_entry(alloc, disk, &name)?;

@@ -65,6 +65,8 @@ impl Disk for OneFile {
 
     ghost faults = { λ disk. disk.faults };
 
+    ghost gives = { λ _ _ _ _. Unit {0} };
+
     ghost read_is_image = { λ disk told file. tt };
 
     ghost counts_now = { λ disk since image told early now. tt };

@@ -1,23 +1,25 @@
-use Rattle.std.proofs.Common.{◌∙◌}
-use Rattle.backend_files.proofs.MomentLemmas.{KeepsImages-then, Elapses-then}
+use Rattle.std.proofs.Common.{◌≡◌, take, ap, sym, subst, inr, rules, arith, ◌∙◌}
+use Rattle.std.proofs.lemmas.List.{take_at}
+use Rattle.kdb_outside.specs.Frames.{OnlyReads}
+use Rattle.kdb_outside.proofs.Frames.{OnlyReads-then}
 use Rattle.backend_files.proofs.reading.read_file.Goals as goal
 
-pub returns-in_err-count-clause-images : goal.returns-in_err-count-clause-images
-returns-in_err-count-clause-images g c = λ tells.
-    KeepsImages-then (g.D.Disk.may_leave c.args.disk.now) (g.D.Disk.may_leave c.length.new.self) (g.D.Disk.may_leave c.read_at.new.self) (c.length.ensures.images tells) (c.read_at.ensures.images (c.length.ensures.tells ∙ tells))
+pub returns-in_err-count-clause-reads : goal.returns-in_err-count-clause-reads
+returns-in_err-count-clause-reads g c =
+    let first : OnlyReads g.D.Disk c.args.disk.now c.length.new.self = search rules in
+    let second : OnlyReads g.D.Disk c.length.new.self c.read_at.new.self = search rules in
+    OnlyReads-then g.D.Disk c.args.disk.now c.length.new.self c.read_at.new.self first second
 
-pub returns-in_err-count-clause-time : goal.returns-in_err-count-clause-time
-returns-in_err-count-clause-time g c = λ tells.
-    let still = c.length.ensures.tells ∙ tells in
-    Elapses-then (g.D.Disk.moment c.args.disk.now) (g.D.Disk.moment c.length.new.self) (g.D.Disk.left_since c.args.disk.now) (g.D.Disk.left_since c.length.new.self) (g.D.Disk.left_since c.read_at.new.self) (g.D.Disk.may_leave c.length.new.self) (g.D.Disk.may_leave c.read_at.new.self)
-    c.length.ensures.moment (c.read_at.ensures.images still) (c.length.ensures.time tells) (c.read_at.ensures.time still)
+pub returns-clause-given : goal.returns-clause-given
+returns-clause-given g c =
+    let first : OnlyReads g.D.Disk c.args.disk.now c.length.new.self = search rules in
+    let count = c.in_ok-count.count in
+    let given : g.D.Disk.gives c.length.new.self c.args.file.now 0 (take count c.read_at.new.buf) = search rules in
+    let handed_on : c.from_vec-2.result ≡ take count c.read_at.new.buf = c.from_vec-2.ensures ∙ c.truncate.ensures.items ∙ ap (take count) (take_at c.read_at.new.buf _ c.in_ok-bytes.bytes.len (omega (arith, c.deref_mut.ensures.len, c.read_at.auto.buf))) in
+    inr (c.length.new.self, first, subst (g.D.Disk.gives c.length.new.self c.args.file.now 0) (sym handed_on) given)
 
-pub returns-clause-images : goal.returns-clause-images
-returns-clause-images g c = λ tells.
-    KeepsImages-then (g.D.Disk.may_leave c.args.disk.now) (g.D.Disk.may_leave c.length.new.self) (g.D.Disk.may_leave c.read_at.new.self) (c.length.ensures.images tells) (c.read_at.ensures.images (c.length.ensures.tells ∙ tells))
-
-pub returns-clause-time : goal.returns-clause-time
-returns-clause-time g c = λ tells.
-    let still = c.length.ensures.tells ∙ tells in
-    Elapses-then (g.D.Disk.moment c.args.disk.now) (g.D.Disk.moment c.length.new.self) (g.D.Disk.left_since c.args.disk.now) (g.D.Disk.left_since c.length.new.self) (g.D.Disk.left_since c.read_at.new.self) (g.D.Disk.may_leave c.length.new.self) (g.D.Disk.may_leave c.read_at.new.self)
-    c.length.ensures.moment (c.read_at.ensures.images still) (c.length.ensures.time tells) (c.read_at.ensures.time still)
+pub returns-clause-reads : goal.returns-clause-reads
+returns-clause-reads g c =
+    let first : OnlyReads g.D.Disk c.args.disk.now c.length.new.self = search rules in
+    let second : OnlyReads g.D.Disk c.length.new.self c.read_at.new.self = search rules in
+    OnlyReads-then g.D.Disk c.args.disk.now c.length.new.self c.read_at.new.self first second

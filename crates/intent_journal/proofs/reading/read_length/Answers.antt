@@ -1,29 +1,14 @@
-use Rattle.std.proofs.Common.{ℕ, List, ◌∙◌, sym, ap, arith}
+use Rattle.std.proofs.Common.{ℕ, List, ◌∙◌, sym, ap, rules, arith}
 use Rattle.intent_journal.specs.BadJournals.{open_length}
 use Rattle.intent_journal.proofs.Heads.{open_length-short, open_length-front}
-use Rattle.intent_journal.proofs.ReadLemmas.{KeepsImages-then, reads_first, reads_both}
+use Rattle.kdb_outside.specs.Frames.{OnlyReads}
+use Rattle.kdb_outside.proofs.Frames.{OnlyReads-then}
 use Rattle.intent_journal.proofs.reading.read_length.Goals as goal
-
-pub returns-in_err-length-clause-time : goal.returns-in_err-length-clause-time
-returns-in_err-length-clause-time g c tells = reads_first _ _ _ _ _ (c.length.ensures.time tells) (c.length.ensures.images tells)
 
 pub returns-then-branch-clause-told : goal.returns-then-branch-clause-told
 returns-then-branch-clause-told g c tells =
     let n = c.in_ok-length.ensures.told tells in
     sym (open_length-short (g.D.Disk.seen c.args.disk.now c.args.journal.now) (omega arith))
-
-pub returns-then-branch-clause-time : goal.returns-then-branch-clause-time
-returns-then-branch-clause-time g c tells = reads_first _ _ _ _ _ (c.length.ensures.time tells) (c.length.ensures.images tells)
-
-pub returns-in_err-count-clause-images : goal.returns-in_err-count-clause-images
-returns-in_err-count-clause-images g c tells =
-    KeepsImages-then _ _ _ (c.length.ensures.images tells) (c.read_at.ensures.images (c.length.ensures.tells ∙ tells))
-
-pub returns-in_err-count-clause-time : goal.returns-in_err-count-clause-time
-returns-in_err-count-clause-time g c tells =
-    let tells_then = c.length.ensures.tells ∙ tells in
-    reads_both _ _ _ _ _ _ _ (reads_first _ _ _ _ _ (c.length.ensures.time tells) (c.length.ensures.images tells)) (c.length.ensures.images tells) c.length.ensures.moment
-    (reads_first _ _ _ _ _ (c.read_at.ensures.time tells_then) (c.read_at.ensures.images tells_then))
 
 pub returns-clause-told : goal.returns-clause-told
 returns-clause-told g c tells =
@@ -31,12 +16,14 @@ returns-clause-told g c tells =
     c.length_in.ensures ∙ ap open_length fills.front ∙ open_length-front (g.D.Disk.seen c.length.new.self c.args.journal.now) c.in_ok-count.count fills.count
     ∙ ap (λ (seen : List ℕ → List ℕ). open_length (seen c.args.journal.now)) (c.length.ensures.same tells)
 
-pub returns-clause-images : goal.returns-clause-images
-returns-clause-images g c tells =
-    KeepsImages-then _ _ _ (c.length.ensures.images tells) (c.read_at.ensures.images (c.length.ensures.tells ∙ tells))
+pub returns-in_err-count-clause-reads : goal.returns-in_err-count-clause-reads
+returns-in_err-count-clause-reads g c =
+    let first : OnlyReads g.D.Disk c.args.disk.now c.length.new.self = search rules in
+    let second : OnlyReads g.D.Disk c.length.new.self c.read_at.new.self = search rules in
+    OnlyReads-then g.D.Disk c.args.disk.now c.length.new.self c.read_at.new.self first second
 
-pub returns-clause-time : goal.returns-clause-time
-returns-clause-time g c tells =
-    let tells_then = c.length.ensures.tells ∙ tells in
-    reads_both _ _ _ _ _ _ _ (reads_first _ _ _ _ _ (c.length.ensures.time tells) (c.length.ensures.images tells)) (c.length.ensures.images tells) c.length.ensures.moment
-    (reads_first _ _ _ _ _ (c.read_at.ensures.time tells_then) (c.read_at.ensures.images tells_then))
+pub returns-clause-reads : goal.returns-clause-reads
+returns-clause-reads g c =
+    let first : OnlyReads g.D.Disk c.args.disk.now c.length.new.self = search rules in
+    let second : OnlyReads g.D.Disk c.length.new.self c.read_at.new.self = search rules in
+    OnlyReads-then g.D.Disk c.args.disk.now c.length.new.self c.read_at.new.self first second

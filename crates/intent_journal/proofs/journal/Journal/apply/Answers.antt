@@ -19,7 +19,7 @@ invariant_of-self g c =
     let place : text ≡ slice_index_or entry c.args.i text = c.index-entry-i.is ∙ ap (λ files. slice_index_or files c.args.i text) c.as_slice-entry.ensures in
     let within : c.args.i < length entry = subst (λ j. c.args.i < length j.entry) (sym c.self.view_is) c.requires.within in
     let lag = ap (λ j. j.state) c.self.view_is ∙ c.requires.lag in
-    IsSound-lag (g.D.Disk.tells c.self.inside.disk) _ _ _ (g.D.Disk.may_leave c.self.inside.disk) _ _ _ _ _ c.self.invariant lag c.put_file.ensures.tells
+    IsSound-lag (g.D.Disk.tells c.self.inside.disk) _ _ _ (g.D.Disk.may_leave c.self.inside.disk) _ _ _ _ _ c.self.invariant lag c.put_file.ensures.goes.tells
     (λ tells. unnamed_kept entry c.args.i text _ _ within place (c.put_file.ensures.others tells))
 
 pub returns-clause-durable : goal.returns-clause-durable

@@ -19,7 +19,7 @@ invariant_of-self g c =
     let old = g.D.Disk.may_leave c.self.inside.disk in
     let mid = g.D.Disk.may_leave c.put_files.new.disk in
     let lag = ap (λ j. j.state) c.self.view_is ∙ c.requires in
-    IsSound-lag (g.D.Disk.tells c.self.inside.disk) _ _ _ old mid _ _ _ _ c.self.invariant lag c.put_files.ensures.tells (λ tells. subst (λ (files : List FileText). KeepsUnnamedImages files old mid) c.as_slice.ensures (c.put_files.ensures.others tells))
+    IsSound-lag (g.D.Disk.tells c.self.inside.disk) _ _ _ old mid _ _ _ _ c.self.invariant lag c.put_files.ensures.goes.tells (λ tells. subst (λ (files : List FileText). KeepsUnnamedImages files old mid) c.as_slice.ensures (c.put_files.ensures.others tells))
 
 pub returns-in_err-put_files-clause-lagging : goal.returns-in_err-put_files-clause-lagging
 returns-in_err-put_files-clause-lagging g c =
@@ -50,7 +50,7 @@ invariant_of-self-2 g c =
     let old = g.D.Disk.may_leave c.self.inside.disk in
     let mid = g.D.Disk.may_leave c.put_files.new.disk in
     let lag = ap (λ j. j.state) c.self.view_is ∙ c.requires in
-    IsSound-lag (g.D.Disk.tells c.self.inside.disk) _ _ _ old mid _ _ _ _ c.self.invariant lag c.put_files.ensures.tells (λ tells. subst (λ (files : List FileText). KeepsUnnamedImages files old mid) c.as_slice.ensures (c.put_files.ensures.others tells))
+    IsSound-lag (g.D.Disk.tells c.self.inside.disk) _ _ _ old mid _ _ _ _ c.self.invariant lag c.put_files.ensures.goes.tells (λ tells. subst (λ (files : List FileText). KeepsUnnamedImages files old mid) c.as_slice.ensures (c.put_files.ensures.others tells))
 
 pub returns-clause-settled : goal.returns-clause-settled
 returns-clause-settled g c =
@@ -60,7 +60,7 @@ returns-clause-settled g c =
     let lag = ap (λ j. j.state) c.self.view_is ∙ c.requires in
     let unnamed = content_in-journal entry (c.self.invariant.lag_entry lag) in
     rw (← c.self.view_is) (λ tells files state.
-    let tells_then = c.put_files.ensures.tells ∙ tells in
+    let tells_then = c.put_files.ensures.goes.tells ∙ tells in
     let others = subst (λ (files : List FileText). KeepsUnnamedImages files old mid) c.as_slice.ensures (c.put_files.ensures.others tells) in
     let lagging = IsLagging-kept old mid files entry state unnamed (λ other none. (others other none).no_more) in
     let all = subst (λ (files : List FileText). HasAppliedAll mid files) c.as_slice.ensures (c.in_ok-put_files.ensures.durable tells) in
@@ -76,7 +76,7 @@ returns-clause-doubtful g c =
     let lag = ap (λ j. j.state) c.self.view_is ∙ c.requires in
     let unnamed = content_in-journal entry (c.self.invariant.lag_entry lag) in
     rw (← c.self.view_is) (λ tells files state _.
-    let tells_then = c.put_files.ensures.tells ∙ tells in
+    let tells_then = c.put_files.ensures.goes.tells ∙ tells in
     let others = subst (λ (files : List FileText). KeepsUnnamedImages files old mid) c.as_slice.ensures (c.put_files.ensures.others tells) in
     let lagging = IsLagging-kept old mid files entry state unnamed (λ other none. (others other none).no_more) in
     let all = subst (λ (files : List FileText). HasAppliedAll mid files) c.as_slice.ensures (c.in_ok-put_files.ensures.durable tells) in
@@ -91,7 +91,7 @@ returns-clause-any_moment g c =
     let lag = ap (λ j. j.state) c.self.view_is ∙ c.requires in
     let unnamed = content_in-journal entry (c.self.invariant.lag_entry lag) in
     rw (← c.self.view_is) (λ tells files state.
-    let tells_then = c.put_files.ensures.tells ∙ tells in
+    let tells_then = c.put_files.ensures.goes.tells ∙ tells in
     let others = subst (λ (files : List FileText). KeepsUnnamedImages files old mid) c.as_slice.ensures (c.put_files.ensures.others tells) in
     let lagging = IsLagging-kept old mid files entry state unnamed (λ other none. (others other none).no_more) in
     let all = subst (λ (files : List FileText). HasAppliedAll mid files) c.as_slice.ensures (c.in_ok-put_files.ensures.durable tells) in
@@ -99,6 +99,6 @@ returns-clause-any_moment g c =
     c.as_slice.ensures (c.put_files.ensures.time tells) in
     let P = HasOnly (IsOutcome (with_entry files entry)) in
     lagging_meanwhile _ _ _ _ files entry state
-    (else_both _ _ _ _ _ P (applying _ _ _ _ files entry unnamed state time) c.put_files.ensures.moment
+    (else_both _ _ _ _ _ P (applying _ _ _ _ files entry unnamed state time) c.put_files.ensures.goes.moment
     (closing journal_name mid _ _ _ files entry refl lagging all (c.shut.ensures.time tells_then)))
     (λ image left. g.D.Disk.only_now _ image tells left))

@@ -7,25 +7,26 @@ use Rattle.kdb_outside.specs.Images.{Image}
 use Rattle.intent_journal.specs.BadJournals.{opened_files, opened_doubt}
 use Rattle.intent_journal.specs.States.{IsDoubtful}
 use Rattle.intent_journal.proofs.Calm.{calm_kept, calm_reading, calm_then}
+use Rattle.intent_journal.proofs.ReadLemmas.{reads_leave}
 use Rattle.intent_journal.proofs.journal.Journal.open.Goals as goal
 
 pub returns-in-Ok-clause-doubtful : goal.returns-in-Ok-clause-doubtful
 returns-in-Ok-clause-doubtful g c tells files doubt calm =
     let kept = calm_kept (g.D.Disk.seen c.args.disk) (g.D.Disk.seen c.find.new.disk) (g.D.Disk.may_leave c.args.disk) (g.D.Disk.may_leave c.find.new.disk) files doubt
-    (c.find.ensures.same tells) (c.find.ensures.images tells) calm in
-    subst (λ (seen : Image). IfOk c.begin.result (λ j. IsDoubtful (g.D.Disk.may_leave j.disk) (opened_files seen) (opened_doubt seen))) (c.find.ensures.same tells)
-    (c.begin.ensures.doubtful (c.find.ensures.tells ∙ tells) files doubt kept)
+    (c.find.ensures.reads.same tells) (c.find.ensures.reads.images tells) calm in
+    subst (λ (seen : Image). IfOk c.begin.result (λ j. IsDoubtful (g.D.Disk.may_leave j.disk) (opened_files seen) (opened_doubt seen))) (c.find.ensures.reads.same tells)
+    (c.begin.ensures.doubtful (c.find.ensures.reads.tells ∙ tells) files doubt kept)
 
 pub returns-in-Ok-clause-any_moment : goal.returns-in-Ok-clause-any_moment
 returns-in-Ok-clause-any_moment g c tells files doubt calm =
     let kept = calm_kept (g.D.Disk.seen c.args.disk) (g.D.Disk.seen c.find.new.disk) (g.D.Disk.may_leave c.args.disk) (g.D.Disk.may_leave c.find.new.disk) files doubt
-    (c.find.ensures.same tells) (c.find.ensures.images tells) calm in
-    calm_then (g.D.Disk.seen c.args.disk) (g.D.Disk.may_leave c.args.disk) files doubt _ _ _ _ _ calm (c.find.ensures.time tells) c.find.ensures.moment
-    (c.begin.ensures.any_moment (c.find.ensures.tells ∙ tells) files doubt kept) (λ image left. g.D.Disk.only_now _ image tells left)
+    (c.find.ensures.reads.same tells) (c.find.ensures.reads.images tells) calm in
+    calm_then (g.D.Disk.seen c.args.disk) (g.D.Disk.may_leave c.args.disk) files doubt _ _ _ _ _ calm (reads_leave _ _ _ _ _ (c.find.ensures.reads.time tells) (c.find.ensures.reads.images tells)) c.find.ensures.reads.moment
+    (c.begin.ensures.any_moment (c.find.ensures.reads.tells ∙ tells) files doubt kept) (λ image left. g.D.Disk.only_now _ image tells left)
 
 pub returns-in-Err-clause-any_moment : goal.returns-in-Err-clause-any_moment
 returns-in-Err-clause-any_moment g c tells files doubt calm =
-    calm_reading (g.D.Disk.seen c.args.disk) (g.D.Disk.may_leave c.args.disk) files doubt _ _ _ calm (c.find.ensures.time tells) (λ image left. g.D.Disk.only_now _ image tells left)
+    calm_reading (g.D.Disk.seen c.args.disk) (g.D.Disk.may_leave c.args.disk) files doubt _ _ _ calm (reads_leave _ _ _ _ _ (c.find.ensures.reads.time tells) (c.find.ensures.reads.images tells)) (λ image left. g.D.Disk.only_now _ image tells left)
 
 pub returns-in-Ok-clause-calm : goal.returns-in-Ok-clause-calm
 returns-in-Ok-clause-calm g c tells files doubt calm at = fault_of-disk c.begin.result at c.begin.ensures.fault

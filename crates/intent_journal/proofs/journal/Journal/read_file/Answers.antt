@@ -3,4 +3,4 @@ use Rattle.intent_journal.proofs.journal.Journal.read_file.Goals as goal
 
 pub invariant_of-self : goal.invariant_of-self
 invariant_of-self g c =
-    IsSound-read (g.D.Disk.tells c.self.inside.disk) _ _ _ (g.D.Disk.may_leave c.self.inside.disk) _ _ _ _ _ c.self.invariant c.read_file.ensures.tells c.read_file.ensures.same c.read_file.ensures.images
+    IsSound-read (g.D.Disk.tells c.self.inside.disk) _ _ _ (g.D.Disk.may_leave c.self.inside.disk) _ _ _ _ _ c.self.invariant c.read_file.ensures.reads.tells c.read_file.ensures.reads.same c.read_file.ensures.reads.images

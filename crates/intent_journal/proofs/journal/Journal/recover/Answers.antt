@@ -48,7 +48,7 @@ returns-clause-settled g c =
     let first = IsLagging-synced name _ synced (g.D.Disk.seen disk name) files entry c.self.invariant.named state opened (c.in_ok-sync.ensures.synced tells) (c.sync.ensures.others tells) in
     let unnamed = content_in-journal entry (c.self.invariant.found_entry found) in
     let tells_then = c.sync.ensures.tells ∙ tells in
-    let tells_last = c.put_files.ensures.tells ∙ tells_then in
+    let tells_last = c.put_files.ensures.goes.tells ∙ tells_then in
     let put = g.D.Disk.may_leave c.put_files.new.disk in
     let others = subst (λ (texts : List FileText). KeepsUnnamedImages texts synced put) c.as_slice.ensures (c.put_files.ensures.others tells_then) in
     let second = IsLagging-kept synced put files entry first unnamed (λ other none. (others other none).no_more) in
@@ -73,10 +73,10 @@ returns-clause-any_moment g c =
     (subst (λ (texts : List FileText). LeavesElseOnly (g.D.Disk.moment c.sync.new.self) (g.D.Disk.left_since c.sync.new.self) (g.D.Disk.left_since c.put_files.new.disk) (KeepsUnnamed texts synced))
     c.as_slice.ensures (c.put_files.ensures.time tells_then)) in
     let so_far = syncing _ _ _ (g.D.Disk.may_leave disk) synced files entry (c.sync.ensures.time tells) first in
-    let tells_last = c.put_files.ensures.tells ∙ tells_then in
+    let tells_last = c.put_files.ensures.goes.tells ∙ tells_then in
     let put = g.D.Disk.may_leave c.put_files.new.disk in
     let others = subst (λ (texts : List FileText). KeepsUnnamedImages texts synced put) c.as_slice.ensures (c.put_files.ensures.others tells_then) in
     let second = IsLagging-kept synced put files entry first unnamed (λ other none. (others other none).no_more) in
     let all = subst (λ (texts : List FileText). HasAppliedAll put texts) c.as_slice.ensures (c.in_ok-put_files.ensures.durable tells_then) in
     let last = closing journal_name put _ _ _ files entry refl second all (c.shut.ensures.time tells_last) in
-    syncing_then _ _ _ _ _ (g.D.Disk.may_leave disk) P so_far c.sync.ensures.moment (else_both _ _ _ _ _ P putting c.put_files.ensures.moment last))
+    syncing_then _ _ _ _ _ (g.D.Disk.may_leave disk) P so_far c.sync.ensures.moment (else_both _ _ _ _ _ P putting c.put_files.ensures.goes.moment last))
