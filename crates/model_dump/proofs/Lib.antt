@@ -1,7 +1,9 @@
 pub mod SpelledRecords
 pub mod AddsOnce
+pub mod AddsTold
 pub mod Readings
 pub mod Begins
+pub mod Totality
 pub mod MapLemmas
 pub mod MapFronts
 pub mod TextReads
