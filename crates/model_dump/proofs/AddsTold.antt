@@ -1,15 +1,15 @@
 -- Of each record it can be told whether it has a reading behind the records before it.
-use Rattle.std.specs.Prelude.{◌≡◌, ◌⊎◌, ℕ, ◌≤◌, List, ◌∷◌, Option, None, Some}
+use Rattle.std.specs.Prelude.{◌≡◌, ℕ, ◌≤◌, List, ◌∷◌, Option, None, Some}
 use Rattle.std.specs.FinMap as map
 use Rattle.std.proofs.Common.{refl, sym, ap, subst, ◌∙◌, inl, inr}
 use Rattle.model_names.specs.Name.{Name}
 use Rattle.model_names.specs.Spells.{Spells}
 use Rattle.model_names.proofs.SpellsLemmas.{Spells-once}
-use Rattle.model_maps.specs.Entry.{Entry, plain_entry, IsValue, IsMetaName}
+use Rattle.model_maps.specs.Entry.{Entry}
 use Rattle.model_maps.specs.KeyMap.{weight, heaviest_map}
 use Rattle.model_formats.proofs.Telling.{IsTold, told-along, le-told, value-told, meta_name-told, spells-told, option-told, names-told}
 use Rattle.model_dump.specs.Record.{RecordKind, KeyKind, MetaKind, CopyKind, Record}
-use Rattle.model_dump.specs.Adds.{Progress, AddsKey, PutsMeta, AddsMeta, CopiesMeta, AddsBy, Adds, with_meta}
+use Rattle.model_dump.specs.Adds.{Progress, AddsKey, PutsMeta, AddsMeta, CopiesMeta, AddsBy, Adds}
 use Rattle.model_dump.proofs.AddsOnce.{AddsBy-once}
 
 none_or : {A : Type 0} (o : Option A) (x : A) → o ≡ None → o ≡ Some x → ⊥

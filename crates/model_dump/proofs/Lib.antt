@@ -7,5 +7,6 @@ pub mod Totality
 pub mod MapLemmas
 pub mod MapFronts
 pub mod TextReads
-pub mod StorableReads
+pub mod LimitedReads
+pub mod Lawful
 pub mod SmallDumps

@@ -1,5 +1,5 @@
 -- Bytes read as a map or stop somewhere: of each record it can be told whether it stands at the front and has a reading.
-use Rattle.std.specs.Prelude.{◌≡◌, ◌≢◌, ◌⊎◌, ℕ, zero, suc, ◌+◌, ◌-◌, ◌<◌, ◌≤◌, List, [], ◌∷◌, ◌++◌, length}
+use Rattle.std.specs.Prelude.{◌≡◌, ◌≢◌, ◌⊎◌, ℕ, zero, suc, ◌-◌, ◌<◌, ◌≤◌, List, [], ◌∷◌, ◌++◌, length}
 use Rattle.std.specs.List.{flat_map}
 use Rattle.std.specs.Fmt.{decimal}
 use Rattle.std.proofs.Common.{refl, sym, ap, subst, ◌∙◌, arith, append_assoc, append-nil, length-append, inl, inr}
@@ -8,8 +8,8 @@ use Rattle.model_maps.specs.KeyMap.{KeyMap, no_keys}
 use Rattle.model_formats.proofs.Telling.{IsTold, told-along, equal-told, below-told}
 use Rattle.model_dump.specs.Record.{RecordKind, KeyKind, MetaKind, CopyKind, Record, words_of, size_limit, IsSized, sizes_and_texts, spelled_record, header, ending}
 use Rattle.model_dump.specs.Adds.{Progress, start}
-use Rattle.model_dump.specs.Dump.{Leads, Begins, IsDump, Reads, HasNoNext, Stops, AtHeader, Inside, Behind}
-use Rattle.model_dump.proofs.SpelledRecords.{fronts_once, sizes_and_texts-append, spelled_record-once}
+use Rattle.model_dump.specs.Dump.{Begins, Reads, Stops, AtHeader, Inside, Behind}
+use Rattle.model_dump.proofs.SpelledRecords.{fronts_once, spelled_record-once}
 use Rattle.model_dump.proofs.Readings.{GoesOn}
 use Rattle.model_dump.proofs.Begins.{Begins-start, Begins-more}
 

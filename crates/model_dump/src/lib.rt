@@ -17,7 +17,7 @@ pub use examples::{
 };
 pub use laws::{
     a_text_reads_as_its_map, a_text_reads_as_no_other_map, different_maps_have_different_texts,
-    what_reads_has_a_text, what_reads_is_storable,
+    dumps_are_lawful, what_reads_has_a_text, what_reads_is_limited,
 };
 
 /// A record makes one map of the map before it.

@@ -1,6 +1,5 @@
 use Rattle.std.specs.Prelude.{◌⊎◌}
 use Rattle.std.proofs.Common.{inl, inr}
-use Rattle.model_dump.specs.Record.{Record}
 use Rattle.model_dump.specs.Adds.{Progress, Adds}
 use Rattle.model_dump.proofs.AddsTold.{Adds-told}
 use Rattle.model_dump.proofs.a_record_adds_or_does_not.Goals as goal
