@@ -8,7 +8,10 @@ use std::test::Fail;
 use std::{env, fs, process};
 
 mod commands;
+mod many;
 mod mounted;
+mod order;
+mod refusals;
 
 const ONE_KEY: &[u8] = b"kdbOpen 2\n$key string 4 1\nsw/a\n1\n$end\n";
 
