@@ -12,6 +12,7 @@ mod many;
 mod mounted;
 mod order;
 mod refusals;
+mod sizes;
 
 const ONE_KEY: &[u8] = b"kdbOpen 2\n$key string 4 1\nsw/a\n1\n$end\n";
 

@@ -15,9 +15,9 @@ use Rattle.model_dump.proofs.Totality.{Reads-or_else}
 
 reads_or_bad : (bytes : List ℕ) → ((keys : KeyMap) × Reads Adds bytes keys) ⊎ ((line : ℕ) × IsBadAt Adds bytes line)
 reads_or_bad bytes = elim (Reads-or_else Adds Adds-told bytes) as (λ _. ((keys : KeyMap) × Reads Adds bytes keys) ⊎ ((line : ℕ) × IsBadAt Adds bytes line)) [
-    | inl reads ↦ inl reads
-    | inr stops ↦ inr (line_at bytes stops.0, record { place = stops.0; stops = stops.1; is = refl })
-  ]
+  | inl reads ↦ inl reads
+  | inr stops ↦ inr (line_at bytes stops.0, record { place = stops.0; stops = stops.1; is = refl })
+]
 
 one_line : (bytes : List ℕ) (line other : ℕ) → IsBadAt Adds bytes line → IsBadAt Adds bytes other → line ≡ other
 one_line bytes line other bad again = bad.is ∙ (ap (line_at bytes) (Stops-once Adds Adds-once bytes bad.place again.place bad.stops again.stops) ∙ sym again.is)

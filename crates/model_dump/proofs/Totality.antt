@@ -18,9 +18,9 @@ pub front-told : (front bytes : List ℕ) → IsTold ((rest : List ℕ) × (byte
 front-told [] bytes = inl (bytes, refl)
 front-told (b ∷ front) [] = inr (λ found. let e = found.1 in absurd cc)
 front-told (b ∷ front) (c ∷ bytes) = elim (equal-told c b) as (λ _. IsTold ((rest : List ℕ) × (c ∷ bytes ≡ b ∷ front ++ rest))) [
-    | inl same ↦ told-along (λ found. (found.0, λ i. same i ∷ found.1 i)) (λ found. let e = found.1 in (found.0, cc)) (front-told front bytes)
-    | inr other ↦ inr (λ found. let e = found.1 in other cc)
-  ]
+  | inl same ↦ told-along (λ found. (found.0, λ i. same i ∷ found.1 i)) (λ found. let e = found.1 in (found.0, cc)) (front-told front bytes)
+  | inr other ↦ inr (λ found. let e = found.1 in other cc)
+]
 
 -- the bytes begin with a text of this size, and a line feed behind it
 pub record BeginsWithText (size : ℕ) (bytes : List ℕ) : Type 0 where
@@ -63,15 +63,15 @@ pub record HasTexts (m n : ℕ) (bytes : List ℕ) : Type 0 where
 
 texts-told : (m n : ℕ) (bytes : List ℕ) → IsTold (HasTexts m n bytes)
 texts-told m n bytes = elim (text-told m bytes) as (λ _. IsTold (HasTexts m n bytes)) [
-    | inl one ↦ told-along
+  | inl one ↦ told-along
       (λ (two : BeginsWithText n one.rest). record { first = one.text; second = two.text; rest = two.rest; first_sized = one.sized; second_sized = two.sized; whole = one.whole ∙ ap (λ rest. one.text ++ (10 ∷ rest)) two.whole })
       (λ (t : HasTexts m n bytes).
-        let same = fronts_once one.text t.first (10 ∷ one.rest) _ (one.sized ∙ sym t.first_sized) (sym one.whole ∙ t.whole) in
-        let behind : one.rest ≡ t.second ++ (10 ∷ t.rest) = let e = same.1 in cc in
-        record { text = t.second; rest = t.rest; sized = t.second_sized; whole = behind })
+      let same = fronts_once one.text t.first (10 ∷ one.rest) _ (one.sized ∙ sym t.first_sized) (sym one.whole ∙ t.whole) in
+      let behind : one.rest ≡ t.second ++ (10 ∷ t.rest) = let e = same.1 in cc in
+      record { text = t.second; rest = t.rest; sized = t.second_sized; whole = behind })
       (text-told n one.rest)
-    | inr fails ↦ inr (λ (t : HasTexts m n bytes). fails (record { text = t.first; rest = t.second ++ (10 ∷ t.rest); sized = t.first_sized; whole = t.whole }))
-  ]
+  | inr fails ↦ inr (λ (t : HasTexts m n bytes). fails (record { text = t.first; rest = t.second ++ (10 ∷ t.rest); sized = t.first_sized; whole = t.whole }))
+]
 
 -- a record stands at the front
 pub record HasRecord (bytes : List ℕ) : Type 0 where
@@ -98,13 +98,20 @@ line_of-behind kind first second rest = simp append_assoc
 
 of-told : (kind : RecordKind) (bytes : List ℕ) (m n : ℕ) → IsTold (HasRecordOf kind m n bytes)
 of-told kind bytes m n = elim (front-told (line_of kind m n) bytes) as (λ _. IsTold (HasRecordOf kind m n bytes)) [
-    | inl line ↦ told-along
-      (λ (t : HasTexts m n line.0). record { first = t.first; second = t.second; rest = t.rest; first_sized = t.first_sized; second_sized = t.second_sized; whole =
-        line.1 ∙ ap (λ x. line_of kind m n ++ x) t.whole ∙ ap (λ k. line_of kind k n ++ (t.first ++ (10 ∷ (t.second ++ (10 ∷ t.rest))))) (sym t.first_sized) ∙ ap (λ k. line_of kind (length t.first) k ++ (t.first ++ (10 ∷ (t.second ++ (10 ∷ t.rest))))) (sym t.second_sized) ∙ sym (line_of-behind kind t.first t.second t.rest) })
+  | inl line ↦ told-along
+      (λ (t : HasTexts m n line.0). record {
+        first = t.first;
+        second = t.second;
+        rest = t.rest;
+        first_sized = t.first_sized;
+        second_sized = t.second_sized;
+        whole =
+            line.1 ∙ ap (λ x. line_of kind m n ++ x) t.whole ∙ ap (λ k. line_of kind k n ++ (t.first ++ (10 ∷ (t.second ++ (10 ∷ t.rest))))) (sym t.first_sized) ∙ ap (λ k. line_of kind (length t.first) k ++ (t.first ++ (10 ∷ (t.second ++ (10 ∷ t.rest))))) (sym t.second_sized) ∙ sym (line_of-behind kind t.first t.second t.rest);
+      })
       (λ (r : HasRecordOf kind m n bytes). record { first = r.first; second = r.second; rest = r.rest; first_sized = r.first_sized; second_sized = r.second_sized; whole = append_cancel_left (line_of kind m n) line.0 _ (sym line.1 ∙ behind r) })
       (texts-told m n line.0)
-    | inr fails ↦ inr (λ (r : HasRecordOf kind m n bytes). fails (r.first ++ (10 ∷ (r.second ++ (10 ∷ r.rest))), behind r))
-  ]
+  | inr fails ↦ inr (λ (r : HasRecordOf kind m n bytes). fails (r.first ++ (10 ∷ (r.second ++ (10 ∷ r.rest))), behind r))
+]
   where
     behind : (r : HasRecordOf kind m n bytes) → bytes ≡ line_of kind m n ++ (r.first ++ (10 ∷ (r.second ++ (10 ∷ r.rest))))
     behind r = r.whole ∙ line_of-behind kind r.first r.second r.rest
@@ -133,15 +140,15 @@ no_kind bytes key meta copy CopyKind = copy
 
 record-told : (bytes : List ℕ) → IsTold (HasRecord bytes)
 record-told bytes = elim (kind-told KeyKind bytes) as (λ _. IsTold (HasRecord bytes)) [
-    | inl found ↦ inl (of-record KeyKind bytes found)
-    | inr key ↦ elim (kind-told MetaKind bytes) as (λ _. IsTold (HasRecord bytes)) [
-      | inl found ↦ inl (of-record MetaKind bytes found)
-      | inr meta ↦ elim (kind-told CopyKind bytes) as (λ _. IsTold (HasRecord bytes)) [
-        | inl found ↦ inl (of-record CopyKind bytes found)
-        | inr copy ↦ inr (λ r. no_kind bytes key meta copy r.r.kind (to-kind bytes r))
-      ]
+  | inl found ↦ inl (of-record KeyKind bytes found)
+  | inr key ↦ elim (kind-told MetaKind bytes) as (λ _. IsTold (HasRecord bytes)) [
+    | inl found ↦ inl (of-record MetaKind bytes found)
+    | inr meta ↦ elim (kind-told CopyKind bytes) as (λ _. IsTold (HasRecord bytes)) [
+      | inl found ↦ inl (of-record CopyKind bytes found)
+      | inr copy ↦ inr (λ r. no_kind bytes key meta copy r.r.kind (to-kind bytes r))
     ]
   ]
+]
 
 -- a record has a reading or none
 abbrev pub IsDecided : (Progress → Record → Progress → Type 0) → Type 0
@@ -166,63 +173,75 @@ some_record r = words r.kind (sizes_and_texts r.first r.second)
 module _ (Step : Progress → Record → Progress → Type 0) (decided : IsDecided Step) where
   next-told : (progress : Progress) (rest : List ℕ) → IsTold (GoesOn Step progress rest)
   next-told progress rest = elim (record-told rest) as (λ _. IsTold (GoesOn Step progress rest)) [
-      | inl found ↦ told-along
+    | inl found ↦ told-along
         (λ (step : (after : Progress) × Step progress found.r after). record { next = found.r; after = step.0; more = found.rest; sized = found.sized; step = step.1; whole = found.whole })
         (λ (next : GoesOn Step progress rest).
-          let one = spelled_record-once next.next found.r next.more found.rest (sym next.whole ∙ found.whole) next.sized found.sized in
-          (next.after, subst (λ k. Step progress k next.after) one.0 next.step))
+        let one = spelled_record-once next.next found.r next.more found.rest (sym next.whole ∙ found.whole) next.sized found.sized in
+        (next.after, subst (λ k. Step progress k next.after) one.0 next.step))
         (decided progress found.r)
-      | inr fails ↦ inr (λ (next : GoesOn Step progress rest). fails (record { r = next.next; rest = next.more; sized = next.sized; whole = next.whole }))
-    ]
+    | inr fails ↦ inr (λ (next : GoesOn Step progress rest). fails (record { r = next.next; rest = next.more; sized = next.sized; whole = next.whole }))
+  ]
 
   read_on : (bytes : List ℕ) (most : ℕ) (records : List Record) (progress : Progress) (rest : List ℕ) → length rest < most → Begins Step bytes records progress rest → IsRead Step bytes
   read_on bytes zero records progress rest fits begins = absurd (omega arith)
   read_on bytes (suc most) records progress rest fits begins = elim (next-told progress rest) as (λ _. IsRead Step bytes) [
-      | inl next ↦
+    | inl next ↦
         let shorter : length next.more < most = omega (arith, ap length next.whole, length-append (spelled_record next.next) next.more, some_record next.next) in
         read_on bytes most (records ++ next.next ∷ []) next.after next.more shorter
         (Begins-more Step bytes records progress next.after next.next next.more (subst (Begins Step bytes records progress) next.whole begins) next.sized next.step)
-      | inr stops ↦ record { records = records; progress = progress; rest = rest; begins = begins; stops = stops }
-    ]
+    | inr stops ↦ record { records = records; progress = progress; rest = rest; begins = begins; stops = stops }
+  ]
 
   -- behind the last record stands the ending, or something that has no reading
   ended : (bytes : List ℕ) → IsRead Step bytes → ((keys : KeyMap) × Reads Step bytes keys) ⊎ ((place : ℕ) × Stops Step bytes place)
   ended bytes read = elim (front-told ending read.rest) as (λ _. ((keys : KeyMap) × Reads Step bytes keys) ⊎ ((place : ℕ) × Stops Step bytes place)) [
-      | inl end ↦ at_end end.0 end.1
-      | inr fails ↦ inside (λ e. fails ([], e ∙ sym (append-nil ending))) (λ more e. fails (10 ∷ more, e))
-    ]
+    | inl end ↦ at_end end.0 end.1
+    | inr fails ↦ inside (λ e. fails ([], e ∙ sym (append-nil ending))) (λ more e. fails (10 ∷ more, e))
+  ]
     where
       rest_fits : length read.rest ≤ length bytes
       rest_fits = omega (arith, ap length read.begins.whole, length-append header (flat_map spelled_record read.records ++ read.rest), length-append (flat_map spelled_record read.records) read.rest)
 
       inside : (read.rest ≢ ending) → ((more : List ℕ) → read.rest ≢ ending ++ 10 ∷ more) → ((keys : KeyMap) × Reads Step bytes keys) ⊎ ((place : ℕ) × Stops Step bytes place)
-      inside no_end no_line = inr (length bytes - length read.rest, Inside (record {
-        records = read.records; progress = read.progress; rest = read.rest; begins = read.begins;
-        stops = record { no_record = λ r after more sized step whole. read.stops (record { next = r; after = after; more = more; sized = sized; step = step; whole = whole }); no_end = no_end; no_end_line = no_line };
-        at = omega (arith, rest_fits);
-      }))
+      inside no_end no_line = inr (
+        length bytes - length read.rest,
+        Inside (record {
+          records = read.records;
+          progress = read.progress;
+          rest = read.rest;
+          begins = read.begins;
+          stops = record { no_record = λ r after more sized step whole. read.stops (record { next = r; after = after; more = more; sized = sized; step = step; whole = whole }); no_end = no_end; no_end_line = no_line };
+          at = omega (arith, rest_fits);
+        }),
+      )
 
       behind : (more : List ℕ) → read.rest ≡ ending ++ 10 ∷ more → ((keys : KeyMap) × Reads Step bytes keys) ⊎ ((place : ℕ) × Stops Step bytes place)
       behind [] e = inl (read.progress.keys, inr (record { records = read.records; progress = read.progress; rest = read.rest; begins = read.begins; ends = inr e; made = refl }))
-      behind (b ∷ more) e = inr (length bytes - length (b ∷ more), Behind (record {
-        records = read.records; progress = read.progress; more = b ∷ more; begins = subst (Begins Step bytes read.records read.progress) e read.begins;
-        some_more = λ none. absurd cc;
-        at = omega (arith, rest_fits, ap length e, length-append ending (10 ∷ b ∷ more));
-      }))
+      behind (b ∷ more) e = inr (
+        length bytes - length (b ∷ more),
+        Behind (record {
+          records = read.records;
+          progress = read.progress;
+          more = b ∷ more;
+          begins = subst (Begins Step bytes read.records read.progress) e read.begins;
+          some_more = λ none. absurd cc;
+          at = omega (arith, rest_fits, ap length e, length-append ending (10 ∷ b ∷ more));
+        }),
+      )
 
       at_end : (more : List ℕ) → read.rest ≡ ending ++ more → ((keys : KeyMap) × Reads Step bytes keys) ⊎ ((place : ℕ) × Stops Step bytes place)
       at_end [] e = inl (read.progress.keys, inr (record { records = read.records; progress = read.progress; rest = read.rest; begins = read.begins; ends = inl (e ∙ append-nil ending); made = refl }))
       at_end (b ∷ more) e = elim (equal-told b 10) as (λ _. ((keys : KeyMap) × Reads Step bytes keys) ⊎ ((place : ℕ) × Stops Step bytes place)) [
-          | inl feed ↦ behind more (e ∙ ap (λ c. ending ++ c ∷ more) feed)
-          | inr other ↦ inside
+        | inl feed ↦ behind more (e ∙ ap (λ c. ending ++ c ∷ more) feed)
+        | inr other ↦ inside
             (λ none. let longer = ap length (sym e ∙ none) in absurd (omega arith))
             (λ rest line. let same = append_cancel_left ending (b ∷ more) (10 ∷ rest) (sym e ∙ line) in other cc)
-        ]
+      ]
 
   -- bytes read as a map or stop somewhere
   pub Reads-or_else : (bytes : List ℕ) → ((keys : KeyMap) × Reads Step bytes keys) ⊎ ((place : ℕ) × Stops Step bytes place)
   Reads-or_else [] = inl (no_keys, inl (refl, refl))
   Reads-or_else (b ∷ bytes) = elim (front-told header (b ∷ bytes)) as (λ _. ((keys : KeyMap) × Reads Step (b ∷ bytes) keys) ⊎ ((place : ℕ) × Stops Step (b ∷ bytes) place)) [
-      | inl first ↦ ended (b ∷ bytes) (read_on (b ∷ bytes) (suc (length first.0)) [] start first.0 (omega arith) (Begins-start Step (b ∷ bytes) first.0 first.1))
-      | inr fails ↦ inr (0, AtHeader (record { some = λ none. absurd cc; no_header = λ more e. fails (more, e); at = refl }))
-    ]
+    | inl first ↦ ended (b ∷ bytes) (read_on (b ∷ bytes) (suc (length first.0)) [] start first.0 (omega arith) (Begins-start Step (b ∷ bytes) first.0 first.1))
+    | inr fails ↦ inr (0, AtHeader (record { some = λ none. absurd cc; no_header = λ more e. fails (more, e); at = refl }))
+  ]
