@@ -1,52 +1,56 @@
--- The laws of all formats: a kind is one more case.
-use Rattle.std.specs.Prelude.{◌≡◌, ℕ, List, [], true, Some, refl}
+-- The laws of all formats: a kind is one more line of `lawful`, and all else follows for every kind.
+use Rattle.std.specs.Prelude.{◌≡◌, ◌⊎◌, ℕ, List, true, Some}
 use Rattle.std.specs.FinMap as map
-use Rattle.std.proofs.Common.{sym, ap, ◌∙◌, inl}
 use Rattle.model_names.specs.Name.{Name}
 use Rattle.model_maps.specs.Entry.{Entry}
-use Rattle.model_maps.specs.KeyMap.{KeyMap, no_keys}
-use Rattle.model_maps.specs.Limits.{IsLimited}
-use Rattle.model_dump.specs.Adds.{Adds}
-use Rattle.model_dump.specs.Dump as dump
-use Rattle.model_dump.proofs.AddsOnce.{Adds-once}
-use Rattle.model_dump.proofs.TextReads as dump_texts
-use Rattle.model_dump.proofs.StorableReads as dump_storable
-use Rattle.model_dump.proofs.Readings as dump_readings
+use Rattle.model_maps.specs.KeyMap.{KeyMap}
+use Rattle.model_formats.specs.Format.{IsLawful}
+use Rattle.model_formats.specs.Holding.{EachHas, LacksFirst, IsKeywise}
+use Rattle.model_formats.proofs.HoldingLemmas.{EachHas-or_lacks, EachHas-lacks_nowhere, EachHas-keywise, LacksFirst-once, LacksFirst-key}
+use Rattle.model_dump.proofs.Lawful.{dump-lawful}
 use Rattle.kdb_outside.specs.declared.kinds.Kind.{Kind}
 use Rattle.kdb_outside.specs.declared.kinds.Kind.TheVariants.{Dump}
-use Rattle.storage_api.specs.Formats.{IsKeywise}
-use Rattle.all_formats.specs.Meanings.{Reads, IsBadAt, text, IsStorable, BreaksAt, is_keywise}
+use Rattle.all_formats.specs.Meanings.{format, Reads, IsBadAt, Holds, IsStorable, BreaksAt, is_keywise}
 
-pub text-reads : (kind : Kind) (keys : KeyMap) → IsLimited keys → IsStorable kind keys → Reads kind (text kind keys) keys
-text-reads Dump keys limited storable = dump_texts.text-reads keys limited
+-- each format is lawful
+pub lawful : (kind : Kind) → IsLawful (format kind)
+lawful Dump = dump-lawful
+
+pub Reads-or_bad : (kind : Kind) (bytes : List ℕ) → ((keys : KeyMap) × Reads kind bytes keys) ⊎ ((line : ℕ) × IsBadAt kind bytes line)
+Reads-or_bad kind bytes = (lawful kind).reads_or_bad bytes
 
 pub Reads-once : (kind : Kind) (bytes : List ℕ) (keys other : KeyMap) → Reads kind bytes keys → Reads kind bytes other → keys ≡ other
-Reads-once Dump bytes keys other reads again = dump_readings.Reads-once Adds Adds-once bytes keys other reads again
-
-pub Reads-storable : (kind : Kind) (bytes : List ℕ) (keys : KeyMap) → Reads kind bytes keys → IsStorable kind keys
-Reads-storable Dump bytes keys reads = tt
-
-pub Reads-limited : (kind : Kind) (bytes : List ℕ) (keys : KeyMap) → Reads kind bytes keys → IsLimited keys
-Reads-limited Dump bytes keys reads = dump_storable.Reads-storable bytes keys reads
-
-pub empty-Reads : (kind : Kind) → Reads kind [] no_keys
-empty-Reads Dump = inl (refl, refl)
+Reads-once kind bytes keys other reads again = (lawful kind).one_reading bytes keys other reads again
 
 pub Reads-not_bad : (kind : Kind) (bytes : List ℕ) (keys : KeyMap) (line : ℕ) → Reads kind bytes keys → IsBadAt kind bytes line → ⊥
-Reads-not_bad Dump bytes keys line reads bad = dump_readings.Reads-or-stops Adds Adds-once bytes keys bad.place reads bad.stops
+Reads-not_bad kind bytes keys line reads bad = (lawful kind).read_is_not_bad bytes keys line reads bad
 
 pub IsBadAt-once : (kind : Kind) (bytes : List ℕ) (line other : ℕ) → IsBadAt kind bytes line → IsBadAt kind bytes other → line ≡ other
-IsBadAt-once Dump bytes line other bad again =
-    bad.is ∙ (ap (dump.line_at bytes) (dump_readings.Stops-once Adds Adds-once bytes bad.place again.place bad.stops again.stops) ∙ sym again.is)
+IsBadAt-once kind bytes line other bad again = (lawful kind).one_line bytes line other bad again
+
+pub held-storable : (kind : Kind) (keys : KeyMap) → EachHas (Holds kind keys) keys → IsStorable kind keys
+held-storable kind keys held = held
+
+pub storable-held : (kind : Kind) (keys : KeyMap) → IsStorable kind keys → EachHas (Holds kind keys) keys
+storable-held kind keys storable = storable
+
+pub storable-or_breaks : (kind : Kind) (keys : KeyMap) → IsStorable kind keys ⊎ ((name : Name) × BreaksAt kind keys name)
+storable-or_breaks kind keys = EachHas-or_lacks (Holds kind keys) ((lawful kind).holds_or_not keys) keys
+
+pub BreaksAt-first : (kind : Kind) (keys : KeyMap) (name : Name) → BreaksAt kind keys name → LacksFirst (Holds kind keys) keys name
+BreaksAt-first kind keys name breaks = breaks
 
 pub storable-breaks_nowhere : (kind : Kind) (keys : KeyMap) (name : Name) → IsStorable kind keys → BreaksAt kind keys name → ⊥
-storable-breaks_nowhere Dump keys name storable breaks = breaks
+storable-breaks_nowhere kind keys name storable breaks = EachHas-lacks_nowhere (Holds kind keys) keys name storable breaks
 
 pub BreaksAt-once : (kind : Kind) (keys : KeyMap) (name other : Name) → BreaksAt kind keys name → BreaksAt kind keys other → name ≡ other
-BreaksAt-once Dump keys name other breaks again = absurd breaks
+BreaksAt-once kind keys name other breaks again = LacksFirst-once (Holds kind keys) keys name other breaks again
 
 pub BreaksAt-key : (kind : Kind) (keys : KeyMap) (name : Name) → BreaksAt kind keys name → (entry : Entry) × (map.get keys name ≡ Some entry)
-BreaksAt-key Dump keys name breaks = absurd breaks
+BreaksAt-key kind keys name breaks = LacksFirst-key (Holds kind keys) keys name breaks
+
+pub held-alone : (kind : Kind) (keys other : KeyMap) (name : Name) (entry : Entry) → is_keywise kind ≡ true → Holds kind keys name entry → Holds kind other name entry
+held-alone kind keys other name entry keywise held = (lawful kind).held_alone keys other name entry keywise held
 
 pub by-keys : (kind : Kind) (keys : KeyMap) → is_keywise kind ≡ true → IsKeywise (IsStorable kind) keys
-by-keys Dump keys keywise = record { each = λ has name entry found. tt; all = λ each. tt }
+by-keys kind keys keywise = EachHas-keywise (Holds kind) (λ keys other name entry held. held-alone kind keys other name entry keywise held) keys

@@ -2,8 +2,8 @@
 ghost use Rattle.std.specs.Prelude.{◌≡◌, MatchResult};
 ghost use Rattle.model_maps.specs.Limits.{IsLimited};
 ghost use Rattle.storage_api.specs.Formats.{RefusesToRead, RefusesToWrite};
-ghost use Rattle.all_formats.specs.Meanings.{Reads, IsBadAt, text, IsStorable, BreaksAt, is_keywise};
-ghost use Rattle.all_formats.specs.Laws.{text-reads, Reads-once, Reads-storable, Reads-limited, empty-Reads, Reads-not_bad, IsBadAt-once, storable-breaks_nowhere, BreaksAt-once, BreaksAt-key, by-keys};
+ghost use Rattle.all_formats.specs.Meanings.{Reads, IsBadAt, text, Holds, IsStorable, BreaksAt, is_keywise};
+ghost use Rattle.all_formats.specs.Laws.{lawful, Reads-or_bad, Reads-once, Reads-not_bad, IsBadAt-once, held-storable, storable-held, storable-or_breaks, BreaksAt-first, storable-breaks_nowhere, BreaksAt-once, BreaksAt-key, held-alone, by-keys};
 
 use kdb_outside::Kind;
 use key_set::KeySet;
@@ -21,31 +21,45 @@ impl Formats for AllFormats {
 
     ghost text = { text };
 
+    ghost holds = { Holds };
+
     ghost is_storable = { IsStorable };
 
     ghost breaks_at = { BreaksAt };
 
     ghost is_keywise = { is_keywise };
 
-    ghost text_reads = { text-reads };
+    ghost text_reads = { λ kind. (lawful kind).text_reads };
 
     ghost one_reading = { Reads-once };
 
-    ghost read_is_storable = { Reads-storable };
+    ghost read_is_storable = { λ kind. (lawful kind).read_is_storable };
 
-    ghost read_is_limited = { Reads-limited };
+    ghost read_is_limited = { λ kind. (lawful kind).read_is_limited };
 
-    ghost empty_reads = { empty-Reads };
+    ghost empty_reads = { λ kind. (lawful kind).empty_reads };
+
+    ghost reads_or_bad = { Reads-or_bad };
 
     ghost read_is_not_bad = { Reads-not_bad };
 
     ghost one_line = { IsBadAt-once };
+
+    ghost held_is_storable = { held-storable };
+
+    ghost storable_is_held = { storable-held };
+
+    ghost storable_or_breaks = { storable-or_breaks };
+
+    ghost breaks_first = { BreaksAt-first };
 
     ghost storable_breaks_nowhere = { storable-breaks_nowhere };
 
     ghost one_break = { BreaksAt-once };
 
     ghost breaks_at_a_key = { BreaksAt-key };
+
+    ghost held_alone = { held-alone };
 
     ghost by_keys = { by-keys };
 

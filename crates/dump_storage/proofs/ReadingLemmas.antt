@@ -4,12 +4,12 @@ use Rattle.std.proofs.lemmas.List.{nil_from_length}
 use Rattle.model_maps.specs.KeyMap.{KeyMap}
 use Rattle.model_dump.specs.Record.{Record, ending}
 use Rattle.model_dump.specs.Adds.{Progress, Adds}
-use Rattle.model_dump.specs.Dump.{Begins, Reads, Inside, Behind, line_at}
+use Rattle.model_dump.specs.Dump.{Begins, Reads, Inside, Behind, IsBadAt, line_at}
 use Rattle.model_dump.proofs.Begins.{Begins-more, length_rest-le}
 use Rattle.model_dump.proofs.SpelledRecords.{spelled_record-once}
 use Rattle.dump_storage.specs.Pieces.{BeginsWith}
 use Rattle.dump_storage.specs.ProgressView.{AddsNothing}
-use Rattle.dump_storage.specs.Reading.{ReadsRecord, ReadsNoRecord, HasRead, HasReadAll, EndsBefore, HasNoEnding, StopsAtLine}
+use Rattle.dump_storage.specs.Reading.{ReadsRecord, ReadsNoRecord, HasRead, HasReadAll, EndsBefore, HasNoEnding}
 
 -- a record at the front that has no reading goes nowhere
 pub ReadsNoRecord-front : (before : Progress) (bytes : List ℕ) (r : Record) (rest : List ℕ) → BeginsWith bytes r rest → AddsNothing before r → ReadsNoRecord before bytes
@@ -42,8 +42,8 @@ module _ (bytes rest : List ℕ) (keys : KeyMap) (read : HasReadAll bytes keys r
   place_at more part = omega (arith, length_rest-le Adds bytes read.read.records read.progress rest read.read.begins)
 
   -- reading stops where something stands behind the ending
-  pub StopsAtLine-behind : (more : List ℕ) (number : ℕ) → EndsBefore rest more → 1 ≤ length more → number ≡ line_at bytes (length bytes - length more) → StopsAtLine bytes number
-  StopsAtLine-behind more number ends some is =
+  pub IsBadAt-behind : (more : List ℕ) (number : ℕ) → EndsBefore rest more → 1 ≤ length more → number ≡ line_at bytes (length bytes - length more) → IsBadAt Adds bytes number
+  IsBadAt-behind more number ends some is =
       let line = ending_line rest more ends some in
       record {
         place = length bytes - length more;
@@ -59,8 +59,8 @@ module _ (bytes rest : List ℕ) (keys : KeyMap) (read : HasReadAll bytes keys r
       }
 
   -- reading stops where neither a record nor the ending stands
-  pub StopsAtLine-inside : (number : ℕ) → HasNoEnding rest → number ≡ line_at bytes (length bytes - length rest) → StopsAtLine bytes number
-  StopsAtLine-inside number none is = record {
+  pub IsBadAt-inside : (number : ℕ) → HasNoEnding rest → number ≡ line_at bytes (length bytes - length rest) → IsBadAt Adds bytes number
+  IsBadAt-inside number none is = record {
     place = length bytes - length rest;
     stops = Inside (record {
       records = read.read.records;

@@ -3,21 +3,8 @@ use Rattle.std.specs.Prelude.{◌≡◌, ◌≢◌, ◌⊎◌, ℕ, List, [], �
 use Rattle.model_maps.specs.KeyMap.{KeyMap}
 use Rattle.model_dump.specs.Record.{Record, ending}
 use Rattle.model_dump.specs.Adds.{Progress, Adds}
-use Rattle.model_dump.specs.Dump.{Begins, Stops, line_at}
+use Rattle.model_dump.specs.Dump.{Begins}
 use Rattle.dump_storage.specs.Pieces.{BeginsWith}
-use Rattle.storage_api.specs.declared.refusals.ReadRefusal.{ReadRefusal}
-use Rattle.storage_api.specs.declared.refusals.ReadRefusal.TheVariants as refusals
-
--- bytes stop at a place of this line
-pub record StopsAtLine (bytes : List ℕ) (number : ℕ) : Type 0 where
-  pub place : ℕ
-  pub stops : Stops Adds bytes place
-  pub is : number ≡ line_at bytes place
-
--- a bad file has no reading from its line on; want of memory says nothing
-abbrev pub IsRefusal : List ℕ → ReadRefusal → Type 0
-IsRefusal bytes (refusals.BadFile line) = StopsAtLine bytes line
-IsRefusal bytes refusals.Memory = Unit {0}
 
 -- the bytes begin with a record that has a reading
 pub record ReadsRecord (before : Progress) (bytes : List ℕ) (after : Progress) (rest : List ℕ) : Type 0 where

@@ -3,9 +3,10 @@
 ghost use Rattle.std.specs.Prelude.{◌≡◌, ◌≤◌, ◌-◌, ◌++◌, length, IfOk, OnOk, MatchOption, MatchResult};
 ghost use Rattle.model_dump.specs.Record.{header};
 ghost use Rattle.model_dump.specs.Adds.{Adds};
-ghost use Rattle.model_dump.specs.Dump.{Reads, line_at};
+ghost use Rattle.model_dump.specs.Dump.{Reads, IsBadAt, line_at};
 ghost use Rattle.dump_storage.specs.ProgressView.{IsSound, progress_of};
-ghost use Rattle.dump_storage.specs.Reading.{ReadsRecord, ReadsNoRecord, HasReadAll, EndsBefore, HasNoEnding, IsRefusal};
+ghost use Rattle.dump_storage.specs.Reading.{ReadsRecord, ReadsNoRecord, HasReadAll, EndsBefore, HasNoEnding};
+ghost use Rattle.storage_api.specs.Formats.{RefusesToRead};
 
 use crate::pieces::behind;
 use crate::progress::Progress;
@@ -18,7 +19,7 @@ use storage_api::ReadRefusal;
 /// The keys of a dump. No bytes are read as no keys. A bad file's line counts from 1; with it begins the first thing
 /// that has no reading.
 pub fn read(alloc: Global, bytes: &[u8]) -> Result<KeySet, ReadRefusal>
-    ensures { MatchResult result (λ keys. Reads Adds bytes.now keys) (λ refusal. IsRefusal bytes.now refusal) }
+    ensures { MatchResult result (λ keys. Reads Adds bytes.now keys) (RefusesToRead (IsBadAt Adds bytes.now)) }
 {
     if bytes.is_empty() {
         return Ok(KeySet::new(alloc));

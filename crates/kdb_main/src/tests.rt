@@ -9,7 +9,11 @@ use std::{env, fs, process};
 
 mod commands;
 mod crashes;
+mod many;
 mod mounted;
+mod order;
+mod refusals;
+mod sizes;
 
 const ONE_KEY: &[u8] = b"kdbOpen 2\n$key string 4 1\nsw/a\n1\n$end\n";
 

@@ -30,7 +30,8 @@ copy_once before source_text name a b p q =
     let texts = found_once p.text q.text (ap (λ (entry : Entry). map.get entry.meta name) (sym entries) ∙ p.has) q.has in
     puts_once before name q.text a b (subst (λ text. PutsMeta before name text a) texts p.puts) q.puts
 
-AddsBy-once : (kind : RecordKind) (before : Progress) (first second : List ℕ) (a b : Progress) → AddsBy kind before first second a → AddsBy kind before first second b → a ≡ b
+-- what a record of a kind does, it does one way
+pub AddsBy-once : (kind : RecordKind) (before : Progress) (first second : List ℕ) (a b : Progress) → AddsBy kind before first second a → AddsBy kind before first second b → a ≡ b
 AddsBy-once KeyKind = key_once
 AddsBy-once MetaKind = λ before name text a b p q. puts_once before name text a b p.puts q.puts
 AddsBy-once CopyKind = copy_once

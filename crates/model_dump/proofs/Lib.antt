@@ -1,8 +1,11 @@
 pub mod SpelledRecords
 pub mod AddsOnce
+pub mod AddsTold
 pub mod Readings
 pub mod Begins
+pub mod Totality
 pub mod MapLemmas
 pub mod TextReads
-pub mod StorableReads
+pub mod LimitedReads
+pub mod Lawful
 pub mod SmallDumps

@@ -68,3 +68,9 @@ pub data Stops (Step : Progress → Record → Progress → Type 0) (bytes : Lis
 -- the line at a place, from 1
 abbrev pub line_at : List ℕ → ℕ → ℕ
 line_at bytes place = 1 + count_by (λ b. b == 10) (take place bytes)
+
+-- bytes are bad at the line of the place at which they stop
+pub record IsBadAt (Step : Progress → Record → Progress → Type 0) (bytes : List ℕ) (line : ℕ) : Type 0 where
+  pub place : ℕ
+  pub stops : Stops Step bytes place
+  pub is : line ≡ line_at bytes place

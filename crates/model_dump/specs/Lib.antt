@@ -6,4 +6,4 @@ pub mod Record
 pub mod Adds
 pub mod Dump
 pub mod Text
-pub mod Storable
+pub mod DumpFormat

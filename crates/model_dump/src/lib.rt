@@ -5,7 +5,7 @@
 mod examples;
 mod laws;
 
-ghost use Rattle.std.specs.Prelude.{◌≡◌, List, ℕ};
+ghost use Rattle.std.specs.Prelude.{◌≡◌, ◌⊎◌, List, ℕ};
 ghost use Rattle.model_maps.specs.KeyMap.{KeyMap};
 ghost use Rattle.model_dump.specs.Record.{Record};
 ghost use Rattle.model_dump.specs.Adds.{Progress, Adds};
@@ -17,7 +17,7 @@ pub use examples::{
 };
 pub use laws::{
     a_text_reads_as_its_map, a_text_reads_as_no_other_map, different_maps_have_different_texts,
-    what_reads_has_a_text, what_reads_is_storable,
+    dumps_are_lawful, what_reads_has_a_text, what_reads_is_limited,
 };
 
 /// A record makes one map of the map before it.
@@ -38,4 +38,14 @@ pub fn what_reads_stops_nowhere()
 /// Bytes stop at one place at most.
 pub fn bytes_stop_at_one_place()
     ensures { (bytes : List ℕ) (p q : ℕ) → Stops Adds bytes p → Stops Adds bytes q → p ≡ q }
+{}
+
+/// Bytes read as a map or stop somewhere.
+pub fn bytes_read_or_stop()
+    ensures { (bytes : List ℕ) → ((keys : KeyMap) × Reads Adds bytes keys) ⊎ ((place : ℕ) × Stops Adds bytes place) }
+{}
+
+/// A record has a reading behind the records before it, or it has none.
+pub fn a_record_adds_or_does_not()
+    ensures { (before : Progress) (r : Record) → ((after : Progress) × Adds before r after) ⊎ ((after : Progress) → Adds before r after → ⊥) }
 {}

@@ -28,18 +28,18 @@ fn disk_with(
 
 /// What a command line prints and how it ends.
 #[derive(Clone, Copy)]
-struct Told<'t> {
-    status: u8,
-    out: &'t str,
-    err: &'t str,
+pub(super) struct Told<'t> {
+    pub(super) status: u8,
+    pub(super) out: &'t str,
+    pub(super) err: &'t str,
 }
 
-fn ending<'t>(status: u8, out: &'t str, err: &'t str) -> Told<'t> {
+pub(super) fn ending<'t>(status: u8, out: &'t str, err: &'t str) -> Told<'t> {
     Told { status, out, err }
 }
 
 /// Runs words over a disk, compares what they print, and gives the disk back.
-fn run_over(
+pub(super) fn run_over(
     rt: &impl Abort,
     alloc: Global,
     words: &[&str],
@@ -608,7 +608,7 @@ fn uses_the_good_files_beside_a_bad_one(rt: HostRuntime) -> Result<(), Fail> {
 }
 
 /// A file with one key `a` of a value of 65,536 bytes, and keys with that value as metadata.
-fn heavy_file(alloc: Global, copies: u64) -> Result<Vec<u8>, Fail> {
+pub(super) fn heavy_file(alloc: Global, copies: u64) -> Result<Vec<u8>, Fail> {
     let value = vec![in alloc; b'v'; 65536]?;
     let mut bytes = b"kdbOpen 2\n$key string 1 1\na\n1\n$meta 1 65536\nm\n".to_vec(alloc)?;
     bytes.extend_from_slice(&value)?;
