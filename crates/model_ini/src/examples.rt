@@ -1,0 +1,70 @@
+//! A few lines, worked: the definitions at concrete bytes.
+ghost use Rattle.std.specs.Prelude.{◌≡◌, ℕ, List, [], ◌∷◌, ◌++◌, codes};
+ghost use Rattle.model_ini.specs.Line.{Skipped, Pair, Unreadable, meaning};
+ghost use Rattle.model_ini.specs.Text.{line_of};
+
+/// Empty lines and comments are skipped, behind blanks and before a carriage return too.
+pub fn some_lines_are_skipped()
+    ensures empty { meaning [] ≡ Skipped }
+    ensures blanks { meaning (codes " \t ") ≡ Skipped }
+    ensures carriage_return { meaning (codes "\r") ≡ Skipped }
+    ensures hash { meaning (codes "  # a = b") ≡ Skipped }
+    ensures semicolon { meaning (codes ";a = b\r") ≡ Skipped }
+{}
+
+/// Every other line is cut at its first equals sign that no backslash covers.
+pub fn entries_are_cut_at_the_first_equals_sign()
+    ensures plain { meaning (codes "c = y") ≡ Pair (codes "c") (codes "y") }
+    ensures tight { meaning (codes "a=b=c") ≡ Pair (codes "a") (codes "b=c") }
+    ensures covered { meaning (codes "a\\=b = =x") ≡ Pair (codes "a=b") (codes "=x") }
+    ensures no_value { meaning (codes "a =") ≡ Pair (codes "a") [] }
+    ensures no_name { meaning (codes "= x") ≡ Pair [] (codes "x") }
+    ensures mark_in_value { meaning (codes "a = #[;") ≡ Pair (codes "a") (codes "#[;") }
+{}
+
+/// Blanks and tabs around both sides are dropped, unless they are written by an escape; so is one carriage return at the end.
+pub fn blanks_at_the_ends_are_dropped()
+    ensures both { meaning (codes "\t a b \t=\tc d \t\r") ≡ Pair (codes "a b") (codes "c d") }
+    ensures escaped { meaning (codes "c = \\sy") ≡ Pair (codes "c") (codes " y") }
+    ensures two_returns { meaning (codes "a = b\r\r") ≡ Pair (codes "a") (codes "b\r") }
+{}
+
+/// Each escape, on either side.
+pub fn escapes_stand_for_their_bytes()
+    ensures value { meaning (codes "a = \\\\\\n\\r\\t\\s\\=\\#\\;\\[") ≡ Pair (codes "a") (92 ∷ 10 ∷ 13 ∷ 9 ∷ 32 ∷ 61 ∷ 35 ∷ 59 ∷ 91 ∷ []) }
+    ensures name { meaning (codes "\\\\\\n\\r\\t\\s\\=\\#\\;\\[ = a") ≡ Pair (92 ∷ 10 ∷ 13 ∷ 9 ∷ 32 ∷ 61 ∷ 35 ∷ 59 ∷ 91 ∷ []) (codes "a") }
+    ensures mark { meaning (codes "\\#a = b") ≡ Pair (codes "#a") (codes "b") }
+{}
+
+/// Two backslashes are an escape of their own, so the byte behind them stands as it is.
+pub fn backslashes_pair_from_the_left()
+    ensures equals { meaning (codes "a\\\\= b") ≡ Pair (codes "a\\") (codes "b") }
+    ensures covered { meaning (codes "a\\\\\\== b") ≡ Pair (codes "a\\=") (codes "b") }
+{}
+
+/// A section, a line without an equals sign and a backslash that begins no escape have no reading.
+pub fn lines_without_reading()
+    ensures section { meaning (codes "[main]") ≡ Unreadable }
+    ensures section_behind_blanks { meaning (codes " [a = b") ≡ Unreadable }
+    ensures no_equals { meaning (codes "main") ≡ Unreadable }
+    ensures equals_covered { meaning (codes "a\\=b") ≡ Unreadable }
+    ensures no_escape { meaning (codes "a = \\x") ≡ Unreadable }
+    ensures no_escape_in_name { meaning (codes "\\a = x") ≡ Unreadable }
+    ensures last { meaning (codes "a = x\\") ≡ Unreadable }
+    ensures blank { meaning (codes "a = x\\ ") ≡ Unreadable }
+{}
+
+/// A key's line has its name and value with their escapes: blanks at the ends alone, equals signs and first marks in the name
+/// alone.
+pub fn keys_have_their_lines()
+    ensures equals { line_of (codes "a=b") (codes "=x") ≡ codes "a\\=b = =x" }
+    ensures blank { line_of (codes "c") (codes " y") ≡ codes "c = \\sy" }
+    ensures backslash { line_of (codes "d") (codes "p\\q") ≡ codes "d = p\\\\q" }
+    ensures blanks { line_of (codes " a b ") (codes " c d ") ≡ codes "\\sa b\\s = \\sc d\\s" }
+    ensures one_blank { line_of (codes " ") (codes " ") ≡ codes "\\s = \\s" }
+    ensures controls { line_of (codes "a\n\r\t") (codes "\n\r\t") ≡ codes "a\\n\\r\\t = \\n\\r\\t" }
+    ensures hash { line_of (codes "#a#") (codes "#a") ≡ codes "\\#a# = #a" }
+    ensures semicolon { line_of (codes ";a") (codes ";a") ≡ codes "\\;a = ;a" }
+    ensures bracket { line_of (codes "[a]") (codes "[a]") ≡ codes "\\[a] = [a]" }
+    ensures empty { line_of (codes "a") [] ≡ codes "a = " }
+{}
