@@ -1,7 +1,13 @@
 //! A few lines, worked: the definitions at concrete bytes.
 ghost use Rattle.std.specs.Prelude.{◌≡◌, ℕ, List, [], ◌∷◌, ◌++◌, codes};
+ghost use Rattle.std.specs.FinMap as map;
+ghost use Rattle.model_names.specs.declared.namespaces.Namespace.TheVariants.{Cascading};
+ghost use Rattle.model_names.specs.Name.{Name};
+ghost use Rattle.model_maps.specs.Entry.{plain_entry};
+ghost use Rattle.model_maps.specs.KeyMap.{no_keys};
 ghost use Rattle.model_ini.specs.Line.{Skipped, Pair, Unreadable, meaning};
-ghost use Rattle.model_ini.specs.Text.{line_of};
+ghost use Rattle.model_ini.specs.Ini.{Reads, IsBadAt};
+ghost use Rattle.model_ini.specs.Text.{line_of, text};
 
 /// Empty lines and comments are skipped, behind blanks and before a carriage return too.
 pub fn some_lines_are_skipped()
@@ -67,4 +73,26 @@ pub fn keys_have_their_lines()
     ensures semicolon { line_of (codes ";a") (codes ";a") ≡ codes "\\;a = ;a" }
     ensures bracket { line_of (codes "[a]") (codes "[a]") ≡ codes "\\[a] = [a]" }
     ensures empty { line_of (codes "a") [] ≡ codes "a = " }
+{}
+
+/// The text of no keys, and of three keys in name order, whichever came first.
+pub fn maps_have_their_texts()
+    ensures no_keys { text no_keys ≡ [] }
+    ensures three_keys { text (map.insert (map.insert (map.insert no_keys (record { namespace = Cascading; parts = codes "d" ∷ [] }) (plain_entry (codes "p\\q"))) (record { namespace = Cascading; parts = codes "c" ∷ [] }) (plain_entry (codes " y"))) (record { namespace = Cascading; parts = codes "a=b" ∷ [] }) (plain_entry (codes "=x"))) ≡ codes "a\\=b = =x\nc = \\sy\nd = p\\\\q\n" }
+{}
+
+/// A file with a comment, an empty line, a carriage return and no line feed at its end.
+pub fn small_files_read()
+    ensures no_keys { Reads (codes "# a = 1\n\n") no_keys }
+    ensures one_key { Reads (codes "# b = 2\n\n /a= 1\r") (map.insert no_keys (record { namespace = Cascading; parts = codes "a" ∷ [] }) (plain_entry (codes "1"))) }
+{}
+
+/// A file is bad at its first line without a reading: a section, a line without an equals sign behind lines that are skipped, the
+/// mountpoint's own name, a name twice in two spellings, and bytes that aren't UTF-8, in a comment too.
+pub fn files_are_bad_at_their_first_bad_line()
+    ensures section { IsBadAt (codes "[main]") 1 }
+    ensures no_equals { IsBadAt (codes "# a\n\nb\nc") 3 }
+    ensures mountpoint { IsBadAt (codes "= x\n") 1 }
+    ensures name_twice { IsBadAt (codes "a = 1\n./a = 1\n") 2 }
+    ensures not_utf8 { IsBadAt (35 ∷ 255 ∷ 10 ∷ []) 1 }
 {}

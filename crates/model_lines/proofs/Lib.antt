@@ -1,6 +1,8 @@
+pub mod MapFacts
 pub mod AllLemmas
 pub mod LineLemmas
 pub mod Leading
+pub mod EachKey
 pub mod FirstKey
 pub mod Telling
-pub mod MapFacts
+pub mod Utf8Lemmas
