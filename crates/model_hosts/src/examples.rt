@@ -1,0 +1,65 @@
+//! A few lines, worked: the definitions at concrete bytes.
+ghost use Rattle.std.specs.Prelude.{◌≡◌, ℕ, List, [], ◌∷◌, ◌++◌, Some, None, codes};
+ghost use Rattle.std.specs.FinMap as map;
+ghost use Rattle.model_maps.specs.Entry.{plain_entry};
+ghost use Rattle.model_hosts.specs.Line.{Skipped, Comment, Gives, Unreadable, meaning};
+ghost use Rattle.model_hosts.specs.Comments.{comment_name, comments};
+ghost use Rattle.model_hosts.specs.Keys.{family, host_name, alias_name};
+ghost use Rattle.model_hosts.specs.Hosts.{with_own};
+ghost use Rattle.model_hosts.specs.Text.{grouped, lines_of, host_line};
+
+/// A line without words and without `#` is skipped; one with a `#` alone waits, with what stands behind the `#` as it is.
+pub fn some_lines_are_skipped_or_wait()
+    ensures empty { meaning [] ≡ Skipped }
+    ensures blanks { meaning (codes " \t\r") ≡ Skipped }
+    ensures carriage_return { meaning (codes "\r") ≡ Skipped }
+    ensures comment { meaning (codes "# The loopback") ≡ Comment (codes " The loopback") }
+    ensures behind_blanks { meaning (codes " \t#a # b \r") ≡ Comment (codes "a # b ") }
+    ensures nothing { meaning (codes "#") ≡ Comment [] }
+{}
+
+/// The first word is the address, the second the host, and the others are aliases, each as it stands; behind the first `#` is
+/// the entry's own comment.
+pub fn entries_have_their_words()
+    ensures tab { meaning (codes "127.0.0.1\tlocalhost") ≡ Gives (codes "127.0.0.1") (codes "localhost") [] None }
+    ensures blanks { meaning (codes " ::1     ip6-localhost ip6-loopback \r") ≡ Gives (codes "::1") (codes "ip6-localhost") (codes "ip6-loopback" ∷ []) None }
+    ensures own { meaning (codes "127.0.1.1\tbox.example\tbox   # this machine") ≡ Gives (codes "127.0.1.1") (codes "box.example") (codes "box" ∷ []) (Some (codes " this machine")) }
+    ensures hash_within { meaning (codes "1 a#b c") ≡ Gives (codes "1") (codes "a") [] (Some (codes "b c")) }
+    ensures no_escapes { meaning (codes "1 a\\/b % ..") ≡ Gives (codes "1") (codes "a\\/b") (codes "%" ∷ codes ".." ∷ []) None }
+{}
+
+/// One word alone, and a carriage return anywhere but once at the end, have no reading.
+pub fn lines_without_reading()
+    ensures one_word { meaning (codes "localhost") ≡ Unreadable }
+    ensures one_word_and_comment { meaning (codes "localhost # a b") ≡ Unreadable }
+    ensures return_within { meaning (codes "1 a\rb") ≡ Unreadable }
+    ensures return_in_comment { meaning (codes "# a\rb") ≡ Unreadable }
+    ensures two_returns { meaning (codes "1 a\r\r") ≡ Unreadable }
+{}
+
+/// An address with a `:` is of the family `ipv6`, and any other of `ipv4`.
+pub fn a_family_goes_by_its_colon()
+    ensures six { family (codes "::1") ≡ codes "ipv6" }
+    ensures four { family (codes "127.0.0.1") ≡ codes "ipv4" }
+    ensures any { family (codes "a") ≡ codes "ipv4" }
+{}
+
+/// The entry's own comment stands behind those that waited.
+pub fn own_comments_come_last()
+    ensures own { with_own (codes "a" ∷ codes "b" ∷ []) (Some (codes "c")) ≡ codes "a" ∷ codes "b" ∷ codes "c" ∷ [] }
+    ensures none { with_own (codes "a" ∷ []) None ≡ codes "a" ∷ [] }
+{}
+
+/// Comments are the items `comment/#0`, `comment/#1` and on; an index of two digits has an underscore.
+pub fn comments_are_numbered_items()
+    ensures first { comment_name 0 ≡ codes "comment/#0" }
+    ensures eleventh { comment_name 10 ≡ codes "comment/#_10" }
+    ensures two { comments (codes "a" ∷ codes "b" ∷ []) ≡ map.insert (map.insert map.empty (codes "comment/#1") (codes "b")) (codes "comment/#0") (codes "a") }
+{}
+
+/// Each host is followed by its aliases, which stand on its line behind it.
+pub fn groups_have_their_lines()
+    ensures groups { grouped ((host_name (codes "ipv4") (codes "a"), plain_entry (codes "1")) ∷ (alias_name (codes "ipv4") (codes "a") (codes "b"), plain_entry []) ∷ (alias_name (codes "ipv4") (codes "a") (codes "c"), plain_entry []) ∷ (host_name (codes "ipv6") (codes "d"), plain_entry (codes "::2")) ∷ []) ≡ ([], record { host = codes "a"; entry = plain_entry (codes "1"); aliases = codes "b" ∷ codes "c" ∷ [] } ∷ record { host = codes "d"; entry = plain_entry (codes "::2"); aliases = [] } ∷ []) }
+    ensures line { host_line (codes "::1") (codes "ip6-localhost") (codes "ip6-loopback" ∷ codes "x" ∷ []) ≡ codes "::1\tip6-localhost ip6-loopback x" }
+    ensures no_alias { host_line (codes "127.0.0.1") (codes "localhost") [] ≡ codes "127.0.0.1\tlocalhost" }
+{}
