@@ -78,7 +78,7 @@ texts_from-has index (text ∷ texts) meta has =
 
 -- ---- how many there are
 
-comments_from-none : (index : ℕ) (texts : List (List ℕ)) (i : ℕ) → i < index → index + length texts ≤ last_index + 1 → finite.get (comments_from index texts) (comment_name i) ≡ None
+pub comments_from-none : (index : ℕ) (texts : List (List ℕ)) (i : ℕ) → i < index → index + length texts ≤ last_index + 1 → finite.get (comments_from index texts) (comment_name i) ≡ None
 comments_from-none index [] i below few = finite.get-empty text_cmp (comment_name i)
 comments_from-none index (text ∷ texts) i below few =
     let low : i ≤ last_index = omega arith in
@@ -114,7 +114,7 @@ texts_of-all P meta each = from (length (finite.entries meta)) 0
         by rest None e = tt
         by rest (Some t) e = (each (comment_name index) t e, rest)
 
-comment_name-IsMetaName : (index : ℕ) → index ≤ last_index → IsMetaName (comment_name index)
+pub comment_name-IsMetaName : (index : ℕ) → index ≤ last_index → IsMetaName (comment_name index)
 comment_name-IsMetaName index within =
     let part = IsPart-array_part index within in
     let prefix = text_from_test (codes "comment/") refl in

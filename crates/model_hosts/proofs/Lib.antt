@@ -6,3 +6,4 @@ pub mod GroupLines
 pub mod TextReads
 pub mod HostsLemmas
 pub mod Lawful
+pub mod SmallFiles

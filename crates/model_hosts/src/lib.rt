@@ -10,7 +10,8 @@ ghost use Rattle.model_hosts.specs.Text.{hosts};
 
 pub use examples::{
     a_family_goes_by_its_colon, comments_are_numbered_items, entries_have_their_words,
-    groups_have_their_lines, lines_without_reading, own_comments_come_last,
+    files_are_bad_at_their_first_bad_line, groups_have_their_lines, hosts_do_not_go_by_keys,
+    lines_without_reading, maps_have_their_texts, own_comments_come_last, small_files_read,
     some_lines_are_skipped_or_wait,
 };
 pub use laws::{
