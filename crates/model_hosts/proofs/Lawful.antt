@@ -1,12 +1,11 @@
 -- The laws of the format.
 use Rattle.std.specs.Prelude.{◌≡◌, ◌⊎◌, ℕ, List, []}
-use Rattle.std.proofs.Common.{refl, ap, inl, inr}
+use Rattle.std.proofs.Common.{refl, sym, ap, inl, inr}
+use Rattle.std.proofs.lemmas.Bool.{true≢false}
 use Rattle.model_maps.specs.KeyMap.{KeyMap}
 use Rattle.model_lines.specs.Format.{IsLawful}
 use Rattle.model_lines.specs.Lines.{lines}
-use Rattle.model_lines.proofs.FirstKey.{EachHas-or_lacks, EachHas-lacks_nowhere, LacksFirst-once, LacksFirst-breaks_at_a_key}
 use Rattle.model_lines.proofs.Leading.{Leads-once, Leads-stops_nowhere, StopsAt-once, Leads-or_stops}
-use Rattle.model_hosts.specs.Keys.{IsHostsKey}
 use Rattle.model_hosts.specs.Hosts.{Progress, start, Step, Reads, IsBadAt}
 use Rattle.model_hosts.specs.Text.{hosts}
 use Rattle.model_hosts.proofs.HostsLemmas.{Step-once, Step-told, hosts_key-told, Reads-storable, Reads-limited}
@@ -33,8 +32,6 @@ hosts-lawful = record {
   reads_or_bad = reads_or_bad;
   read_is_not_bad = λ bytes keys line reads bad. Leads-stops_nowhere Step Step-once start (lines bytes) (record { keys = keys; waiting = reads.waiting }) line reads.leads bad;
   one_line = λ bytes line other p q. StopsAt-once Step Step-once start (lines bytes) line other p q;
-  storable_or_breaks = λ keys. EachHas-or_lacks (IsHostsKey keys) (hosts_key-told keys) keys;
-  storable_breaks_nowhere = λ keys name each lacks. EachHas-lacks_nowhere (IsHostsKey keys) keys name each lacks;
-  one_break = λ keys name other p q. LacksFirst-once (IsHostsKey keys) keys name other p q;
-  breaks_at_a_key = λ keys name lacks. LacksFirst-breaks_at_a_key (IsHostsKey keys) keys name lacks;
+  holds_or_not = hosts_key-told;
+  held_alone = λ _ _ name entry keywise held. absurd (true≢false (sym keywise));
 }

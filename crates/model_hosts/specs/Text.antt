@@ -1,5 +1,5 @@
 -- The one text of a map as a hosts file. (After Elektra's hosts plugin; the layout is this project's own.)
-use Rattle.std.specs.Prelude.{ℕ, ◌==◌, if◌then◌else◌, List, [], ◌∷◌, ◌++◌, length, map}
+use Rattle.std.specs.Prelude.{ℕ, false, ◌==◌, if◌then◌else◌, List, [], ◌∷◌, ◌++◌, length, map}
 use Rattle.std.specs.FinMap as finite
 use Rattle.std.specs.List.{flat_map}
 use Rattle.model_names.specs.Name.{Part, Name}
@@ -8,7 +8,7 @@ use Rattle.model_maps.specs.KeyMap.{KeyMap}
 use Rattle.model_lines.specs.Format.{Format}
 use Rattle.model_lines.specs.Lines.{ended}
 use Rattle.model_hosts.specs.Comments.{texts_of}
-use Rattle.model_hosts.specs.Keys.{IsStorable, BreaksAt}
+use Rattle.model_hosts.specs.Keys.{IsHostsKey}
 use Rattle.model_hosts.specs.Hosts.{Reads, IsBadAt}
 
 -- a host with its entry and its aliases
@@ -42,6 +42,6 @@ lines_of group = map (λ text. 35 ∷ text) (texts_of group.entry.meta) ++ host_
 abbrev pub text : KeyMap → List ℕ
 text keys = ended (flat_map lines_of (grouped (finite.entries keys)).1)
 
--- the format
+-- the format, which doesn't go by keys
 abbrev pub hosts : Format
-hosts = record { Reads = Reads; IsBadAt = IsBadAt; text = text; IsStorable = IsStorable; BreaksAt = BreaksAt }
+hosts = record { Reads = Reads; IsBadAt = IsBadAt; text = text; Holds = IsHostsKey; is_keywise = false }

@@ -1,5 +1,5 @@
 -- The one text of a map in simpleini. (After Elektra's simpleini plugin; the escapes are this project's own.)
-use Rattle.std.specs.Prelude.{ℕ, ◌||◌, ◌==◌, if◌then◌else◌, List, [], ◌∷◌, ◌++◌, map, codes}
+use Rattle.std.specs.Prelude.{ℕ, true, ◌||◌, ◌==◌, if◌then◌else◌, List, [], ◌∷◌, ◌++◌, map, codes}
 use Rattle.std.specs.FinMap as finite
 use Rattle.std.specs.List.{flat_map}
 use Rattle.model_maps.specs.KeyMap.{KeyMap}
@@ -9,7 +9,7 @@ use Rattle.model_lines.specs.Format.{Format}
 use Rattle.model_ini.specs.declared.signs.Sign.{Sign}
 use Rattle.model_ini.specs.declared.signs.Sign.TheVariants.{Plain, Covered}
 use Rattle.model_ini.specs.Signs.{spelled_sign}
-use Rattle.model_ini.specs.Ini.{Reads, IsBadAt, IsStorable, BreaksAt}
+use Rattle.model_ini.specs.Ini.{Reads, IsBadAt, IsIniKey}
 
 -- how a byte is written, wherever it stands: a backslash, a line feed, a carriage return and a tab by their escapes
 abbrev pub value_sign : ℕ → Sign
@@ -57,6 +57,6 @@ line_of name value = flat_map spelled_sign (name_signs name) ++ (codes " = " ++ 
 abbrev pub text : KeyMap → List ℕ
 text keys = ended (map (λ key. line_of (relative_text key.0) key.1.value) (finite.entries keys))
 
--- the format
+-- the format, which goes by keys
 abbrev pub ini : Format
-ini = record { Reads = Reads; IsBadAt = IsBadAt; text = text; IsStorable = IsStorable; BreaksAt = BreaksAt }
+ini = record { Reads = Reads; IsBadAt = IsBadAt; text = text; Holds = λ _ name entry. IsIniKey name entry; is_keywise = true }
