@@ -1,6 +1,6 @@
 -- For worked files: an entry with comments and an alias that stands twice.
 use Rattle.std.specs.Prelude.{◌≡◌, ℕ, ◌+◌, ◌≤◌, List, [], ◌∷◌, codes, length, Option, None, Some, true, false}
-use Rattle.std.proofs.Common.{refl, sym, subst, ◌∙◌, arith, lit≤, lit<}
+use Rattle.std.proofs.Common.{refl, sym, ap, subst, ◌∙◌, arith, lit≤, lit<, inl, inr}
 use Rattle.std.specs.FinMap as finite
 use Rattle.std.specs.List.{list_all}
 use Rattle.std.specs.Str.{IsUtf8, is_utf8}
@@ -18,10 +18,11 @@ use Rattle.model_names.proofs.SpellsLemmas.{is_ascii_text_byte, Spells-from_test
 use Rattle.model_maps.specs.Entry.{Entry, plain_entry, text_cmp, meta_bytes}
 use Rattle.model_maps.specs.KeyMap.{KeyMap, no_keys, weight, heaviest_map}
 use Rattle.model_maps.proofs.Sums.{sum_by-insert, sum_by-empty}
+use Rattle.model_lines.proofs.EachKey.{found_nowhere, found_in_grown}
 use Rattle.model_lines.proofs.MapFacts.{insert-insert, get-insert_same, weight-insert, weight-no_keys, weight_of_key-plain, IsValue-from_ascii}
 use Rattle.model_hosts.specs.Line.{Meaning, Comment, Gives, meaning}
 use Rattle.model_hosts.specs.Comments.{comment_name, comments, comments_from}
-use Rattle.model_hosts.specs.Keys.{host_name, alias_name}
+use Rattle.model_hosts.specs.Keys.{host_name, alias_name, IsHostKey, IsAliasKey, IsHostsKey}
 use Rattle.model_hosts.specs.Hosts.{Progress, start, host_entry, AddsHost, Does, Step, Reads}
 use Rattle.model_hosts.proofs.CommentLemmas.{comments_from-none, comment_name-IsMetaName}
 
@@ -146,3 +147,18 @@ entry_reads = record {
     ),
   );
 }
+
+-- ---- an alias alone
+
+two_parts : (name : Name) (entry : Entry) → IsHostKey name entry → length name.parts ≡ 2
+two_parts name entry key = ap (λ (n : Name). length n.parts) key.is_host
+
+no_host : IsAliasKey (finite.insert no_keys alias_b (plain_entry [])) alias_b (plain_entry []) → ⊥
+no_host key =
+    let parts : ◌≡◌ {A = ℕ} 2 3 = found_in_grown no_keys alias_b (plain_entry []) (λ n e. length n.parts ≡ 3) refl (λ q e found. absurd (found_nowhere q e found)) (host_name key.of_family key.host) key.host_entry key.found in
+    absurd cc
+
+-- is neither a host's key nor an alias's
+pub alias_b_alone : IsHostsKey (finite.insert no_keys alias_b (plain_entry [])) alias_b (plain_entry []) → ⊥
+alias_b_alone (inl host) = let parts : ◌≡◌ {A = ℕ} 3 2 = two_parts alias_b (plain_entry []) host in absurd cc
+alias_b_alone (inr alias) = no_host alias

@@ -5,7 +5,7 @@ ghost use Rattle.model_maps.specs.Entry.{plain_entry};
 ghost use Rattle.model_maps.specs.KeyMap.{KeyMap, no_keys};
 ghost use Rattle.model_hosts.specs.Line.{Skipped, Comment, Gives, Unreadable, meaning};
 ghost use Rattle.model_hosts.specs.Comments.{comment_name, comments};
-ghost use Rattle.model_hosts.specs.Keys.{family, host_name, alias_name, IsStorable};
+ghost use Rattle.model_hosts.specs.Keys.{family, host_name, alias_name, IsStorable, BreaksAt};
 ghost use Rattle.model_hosts.specs.Hosts.{with_own, host_entry, Reads, IsBadAt};
 ghost use Rattle.model_hosts.specs.Text.{grouped, host_line, text};
 
@@ -94,4 +94,10 @@ pub fn files_are_bad_at_their_first_bad_line()
 pub fn hosts_do_not_go_by_keys()
     ensures both { IsStorable (map.insert (map.insert no_keys (host_name (codes "ipv4") (codes "a")) (host_entry (codes "1") (codes " c" ∷ codes " d" ∷ []))) (alias_name (codes "ipv4") (codes "a") (codes "b")) (plain_entry [])) }
     ensures alone { IsStorable (map.insert no_keys (alias_name (codes "ipv4") (codes "a") (codes "b")) (plain_entry [])) → ⊥ }
+{}
+
+/// A map breaks at an alias without its host, and at a host whose family isn't that of its address.
+pub fn maps_break_at_their_first_breaking_key()
+    ensures no_host { BreaksAt (map.insert no_keys (alias_name (codes "ipv4") (codes "a") (codes "b")) (plain_entry [])) (alias_name (codes "ipv4") (codes "a") (codes "b")) }
+    ensures other_family { BreaksAt (map.insert no_keys (host_name (codes "ipv6") (codes "a")) (plain_entry (codes "1"))) (host_name (codes "ipv6") (codes "a")) }
 {}

@@ -11,8 +11,8 @@ ghost use Rattle.model_hosts.specs.Text.{hosts};
 pub use examples::{
     a_family_goes_by_its_colon, comments_are_numbered_items, entries_have_their_words,
     files_are_bad_at_their_first_bad_line, groups_have_their_lines, hosts_do_not_go_by_keys,
-    lines_without_reading, maps_have_their_texts, own_comments_come_last, small_files_read,
-    some_lines_are_skipped_or_wait,
+    lines_without_reading, maps_break_at_their_first_breaking_key, maps_have_their_texts,
+    own_comments_come_last, small_files_read, some_lines_are_skipped_or_wait,
 };
 pub use laws::{
     a_map_can_be_stored_or_has_one_first_breaking_key, a_text_reads_as_its_map,

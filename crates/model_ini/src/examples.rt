@@ -3,10 +3,10 @@ ghost use Rattle.std.specs.Prelude.{◌≡◌, ℕ, List, [], ◌∷◌, ◌++�
 ghost use Rattle.std.specs.FinMap as map;
 ghost use Rattle.model_names.specs.declared.namespaces.Namespace.TheVariants.{Cascading};
 ghost use Rattle.model_names.specs.Name.{Name};
-ghost use Rattle.model_maps.specs.Entry.{plain_entry};
+ghost use Rattle.model_maps.specs.Entry.{Entry, plain_entry};
 ghost use Rattle.model_maps.specs.KeyMap.{no_keys};
 ghost use Rattle.model_ini.specs.Line.{Skipped, Pair, Unreadable, meaning};
-ghost use Rattle.model_ini.specs.Ini.{Reads, IsBadAt};
+ghost use Rattle.model_ini.specs.Ini.{Reads, IsBadAt, BreaksAt};
 ghost use Rattle.model_ini.specs.Text.{line_of, text};
 
 /// Empty lines and comments are skipped, behind blanks and before a carriage return too.
@@ -95,4 +95,10 @@ pub fn files_are_bad_at_their_first_bad_line()
     ensures mountpoint { IsBadAt (codes "= x\n") 1 }
     ensures name_twice { IsBadAt (codes "a = 1\n./a = 1\n") 2 }
     ensures not_utf8 { IsBadAt (35 ∷ 255 ∷ 10 ∷ []) 1 }
+{}
+
+/// A map breaks at the first key in name order with metadata, whichever came first, and at the mountpoint's own key.
+pub fn maps_break_at_their_first_breaking_key()
+    ensures metadata { BreaksAt (map.insert (map.insert (map.insert no_keys (record { namespace = Cascading; parts = codes "d" ∷ [] }) (record { value = []; meta = map.insert map.empty (codes "m") [] })) (record { namespace = Cascading; parts = codes "c" ∷ [] }) (record { value = codes " y"; meta = map.insert map.empty (codes "m") (codes "x") })) (record { namespace = Cascading; parts = codes "a" ∷ [] }) (plain_entry (codes "1"))) (record { namespace = Cascading; parts = codes "c" ∷ [] }) }
+    ensures mountpoint { BreaksAt (map.insert no_keys (record { namespace = Cascading; parts = [] }) (plain_entry (codes "x"))) (record { namespace = Cascading; parts = [] }) }
 {}

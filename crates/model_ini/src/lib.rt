@@ -13,7 +13,8 @@ pub use examples::{
     backslashes_pair_from_the_left, blanks_at_the_ends_are_dropped,
     entries_are_cut_at_the_first_equals_sign, escapes_stand_for_their_bytes,
     files_are_bad_at_their_first_bad_line, keys_have_their_lines, lines_without_reading,
-    maps_have_their_texts, small_files_read, some_lines_are_skipped,
+    maps_break_at_their_first_breaking_key, maps_have_their_texts, small_files_read,
+    some_lines_are_skipped,
 };
 pub use laws::{
     a_map_can_be_stored_or_has_one_first_breaking_key, a_text_reads_as_its_map,
