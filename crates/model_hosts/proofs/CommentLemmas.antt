@@ -1,0 +1,140 @@
+-- Texts that became metadata are read back from it.
+use Rattle.std.specs.Prelude.{◌≡◌, ◌≢◌, ℕ, zero, suc, ◌+◌, ◌-◌, ◌^◌, ◌<◌, ◌≤◌, false, List, [], ◌∷◌, length, drop, replicate, Option, None, Some, codes, is_some}
+use Rattle.std.proofs.Common.{cond, refl, sym, ap, subst, ◌∙◌, arith, inl, inr, length-append}
+use Rattle.std.specs.FinMap as finite
+use Rattle.std.specs.FinMap.{IsAntisymmetric, slice_cmp-IsAntisymmetric, nat_cmp-IsAntisymmetric}
+use Rattle.std.specs.Fmt.{decimal}
+use Rattle.std.specs.List.{AllByRecursion}
+use Rattle.std.specs.Ordering.{is_eq, eq_by_cmp}
+use Rattle.std.specs.Str.Parse.{digits_value}
+use Rattle.std.specs.declared.cmp.Ordering.{Ordering}
+use Rattle.std.specs.declared.cmp.Ordering.TheVariants.{Less, Equal, Greater}
+use Rattle.std.proofs.lemmas.Cmp.{nat_list_cmp_total}
+use Rattle.std.proofs.lemmas.Fmt.{decimal_is_IsNumeral, length-decimal-le}
+use Rattle.std.proofs.lemmas.List.{length-replicate}
+use Rattle.std.proofs.lemmas.Str.{IsUtf8-append}
+use Rattle.model_names.specs.ArrayPart.{last_index, array_part, index_of}
+use Rattle.model_names.proofs.PartLemmas.{without_underscores-leads, decimal-first, IsPart-array_part, text_from_test}
+use Rattle.model_maps.specs.Entry.{Meta, text_cmp, IsValue, IsMetaName}
+use Rattle.model_maps.specs.Limits.{IsLimitedMeta}
+use Rattle.model_lines.proofs.MapFacts.{found_in_insert, get-insert_same}
+use Rattle.model_hosts.specs.Comments.{comment_name, comments_from, comments, texts_from, texts_of}
+
+text_cmp-IsAntisymmetric : IsAntisymmetric text_cmp
+text_cmp-IsAntisymmetric = slice_cmp-IsAntisymmetric nat_cmp-IsAntisymmetric
+
+-- ---- the names of comments
+
+index_of-array_part : (index : ℕ) → index ≤ last_index → index_of (array_part index) ≡ index
+index_of-array_part index within =
+    let small : index < 2 ^ 64 = omega arith in
+    ap (digits_value 10) (without_underscores-leads (length (decimal index) - 1) (decimal index) (decimal-first index within)) ∙ (decimal_is_IsNumeral index small).1
+
+-- different comments have different names
+pub comment_name-once : (i j : ℕ) → i ≤ last_index → j ≤ last_index → comment_name i ≡ comment_name j → i ≡ j
+comment_name-once i j p q e =
+    let parts : array_part i ≡ array_part j = ap (drop 8) e in
+    sym (index_of-array_part i p) ∙ ap index_of parts ∙ index_of-array_part j q
+
+not_tied : (r : Ordering) → (r ≡ Equal → ⊥) → is_eq r ≡ false
+not_tied Less h = refl
+not_tied Equal h = absurd (h refl)
+not_tied Greater h = refl
+
+names_apart : (i j : ℕ) → i ≤ last_index → j ≤ last_index → i ≢ j → eq_by_cmp text_cmp (comment_name i) (comment_name j) ≡ false
+names_apart i j p q apart = not_tied (text_cmp (comment_name i) (comment_name j)) (λ e. apart (comment_name-once i j p q (text_cmp-IsAntisymmetric (comment_name i) (comment_name j) e)))
+
+-- a comment that is inserted leaves those of other indexes as they are
+get-other : (meta : Meta) (i j : ℕ) (text : List ℕ) → i ≤ last_index → j ≤ last_index → j ≢ i → finite.get (finite.insert meta (comment_name i) text) (comment_name j) ≡ finite.get meta (comment_name j)
+get-other meta i j text p q apart =
+    finite.get-insert nat_list_cmp_total meta (comment_name i) text (comment_name j) ∙ ap (λ t. cond t (Some text) (finite.get meta (comment_name j))) (names_apart j i q p apart)
+
+-- ---- texts that are there
+
+-- metadata has texts as the items from an index on
+abbrev HasFrom : ℕ → List (List ℕ) → Meta → Type 0
+HasFrom index [] meta = Unit {0}
+HasFrom index (text ∷ texts) meta = (finite.get meta (comment_name index) ≡ Some text) × HasFrom (index + 1) texts meta
+
+HasFrom-insert : (index : ℕ) (texts : List (List ℕ)) (meta : Meta) (i : ℕ) (text : List ℕ) → i < index → index + length texts ≤ last_index + 1 → HasFrom index texts meta → HasFrom index texts (finite.insert meta (comment_name i) text)
+HasFrom-insert index [] meta i text below few has = tt
+HasFrom-insert index (t ∷ texts) meta i text below few has =
+    let low : i ≤ last_index = omega arith in
+    let high : index ≤ last_index = omega arith in
+    (get-other meta i index text low high (λ (e : index ≡ i). absurd (omega arith)) ∙ has.0, HasFrom-insert (index + 1) texts meta i text (omega arith) (omega arith) has.1)
+
+HasFrom-comments : (index : ℕ) (texts : List (List ℕ)) → index + length texts ≤ last_index + 1 → HasFrom index texts (comments_from index texts)
+HasFrom-comments index [] few = tt
+HasFrom-comments index (text ∷ texts) few = (
+  get-insert_same nat_list_cmp_total (comments_from (index + 1) texts) (comment_name index) text,
+  HasFrom-insert (index + 1) texts (comments_from (index + 1) texts) index text (omega arith) (omega arith) (HasFrom-comments (index + 1) texts (omega arith)),
+)
+
+texts_from-has : (index : ℕ) (texts : List (List ℕ)) (meta : Meta) → HasFrom index texts meta → texts_from (length texts) index meta ≡ texts
+texts_from-has index [] meta has = refl
+texts_from-has index (text ∷ texts) meta has =
+    ap (λ (o : Option (List ℕ)). elim o [ None ↦ [] | Some t ↦ t ∷ texts_from (length texts) (index + 1) meta ]) has.0
+    ∙ ap (λ rest. text ∷ rest) (texts_from-has (index + 1) texts meta has.1)
+
+-- ---- how many there are
+
+pub comments_from-none : (index : ℕ) (texts : List (List ℕ)) (i : ℕ) → i < index → index + length texts ≤ last_index + 1 → finite.get (comments_from index texts) (comment_name i) ≡ None
+comments_from-none index [] i below few = finite.get-empty text_cmp (comment_name i)
+comments_from-none index (text ∷ texts) i below few =
+    let low : i ≤ last_index = omega arith in
+    let high : index ≤ last_index = omega arith in
+    get-other (comments_from (index + 1) texts) index i text high low (λ (e : i ≡ index). absurd (omega arith)) ∙ comments_from-none (index + 1) texts i (omega arith) (omega arith)
+
+length-comments : (index : ℕ) (texts : List (List ℕ)) → index + length texts ≤ last_index + 1 → finite.len (comments_from index texts) ≡ length texts
+length-comments index [] few = finite.len-empty text_cmp (List ℕ)
+length-comments index (text ∷ texts) few =
+    let rest = comments_from (index + 1) texts in
+    let new : is_some (finite.get rest (comment_name index)) ≡ false = ap is_some (comments_from-none (index + 1) texts index (omega arith) (omega arith)) in
+    let shorter = length-comments (index + 1) texts (omega arith) in
+    finite.len-insert nat_list_cmp_total rest (comment_name index) text ∙ ap (λ t. cond t (finite.len rest) (finite.len rest + 1)) new ∙ (omega (arith, shorter))
+
+-- texts that became metadata are read back
+pub texts_of-comments : (texts : List (List ℕ)) → length texts ≤ last_index → texts_of (comments texts) ≡ texts
+texts_of-comments texts few =
+    let room : 0 + length texts ≤ last_index + 1 = omega arith in
+    ap (λ most. texts_from most 0 (comments texts)) (sym (finite.len-entries (comments texts)) ∙ length-comments 0 texts room)
+    ∙ texts_from-has 0 texts (comments texts) (HasFrom-comments 0 texts room)
+
+-- ---- what holds of the texts
+
+-- of the texts of metadata holds what holds of each of its texts
+pub texts_of-all : (P : List ℕ → Type 0) (meta : Meta) → ((name text : List ℕ) → finite.get meta name ≡ Some text → P text) → AllByRecursion P (texts_of meta)
+texts_of-all P meta each = from (length (finite.entries meta)) 0
+  where
+    from : (most index : ℕ) → AllByRecursion P (texts_from most index meta)
+    from zero index = tt
+    from (suc most) index = by (from most (index + 1)) (finite.get meta (comment_name index)) refl
+      where
+        by : AllByRecursion P (texts_from most (index + 1) meta) → (o : Option (List ℕ)) → finite.get meta (comment_name index) ≡ o → AllByRecursion P (elim o [ None ↦ [] | Some t ↦ t ∷ texts_from most (index + 1) meta ])
+        by rest None e = tt
+        by rest (Some t) e = (each (comment_name index) t e, rest)
+
+pub comment_name-IsMetaName : (index : ℕ) → index ≤ last_index → IsMetaName (comment_name index)
+comment_name-IsMetaName index within =
+    let part = IsPart-array_part index within in
+    let prefix = text_from_test (codes "comment/") refl in
+    let digits = decimal index in
+    let size : length digits ≤ 20 = length-decimal-le 20 index (omega arith) (omega arith) (omega arith) in
+    let long = length-append (replicate (length digits - 1) 95) digits in
+    let some = length-replicate {A = ℕ} (length digits - 1) 95 in
+    record {
+      utf8 = IsUtf8-append (codes "comment/") (array_part index) prefix.utf8 part.utf8;
+      some = omega arith;
+      limit = omega (arith, long, some, size);
+    }
+
+-- the texts of comments are within their limits where each is a value
+pub comments-limited : (index : ℕ) (texts : List (List ℕ)) → index + length texts ≤ last_index + 1 → AllByRecursion IsValue texts → (name text : List ℕ) → finite.get (comments_from index texts) name ≡ Some text → IsLimitedMeta name text
+comments-limited index [] few values name text found = let none : ◌≡◌ {A = Option (List ℕ)} None (Some text) = sym (finite.get-empty text_cmp name) ∙ found in absurd cc
+comments-limited index (t ∷ texts) few values name text found =
+    let within : index ≤ last_index = omega arith in
+    let rest = comments-limited (index + 1) texts (omega arith) values.1 name text in
+    elim (found_in_insert nat_list_cmp_total text_cmp-IsAntisymmetric (comments_from (index + 1) texts) (comment_name index) t name text found) as (λ _. IsLimitedMeta name text) [
+      | inl here ↦ record { is_name = subst IsMetaName (sym here.0) (comment_name-IsMetaName index within); is_value = subst IsValue here.1 values.0 }
+      | inr there ↦ rest there
+    ]

@@ -1,0 +1,9 @@
+pub mod SignLemmas
+pub mod Trimming
+pub mod WrittenSigns
+pub mod WrittenLines
+pub mod WrittenUtf8
+pub mod IniLemmas
+pub mod TextReads
+pub mod Lawful
+pub mod SmallFiles

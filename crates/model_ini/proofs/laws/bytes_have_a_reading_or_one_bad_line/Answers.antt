@@ -1,0 +1,11 @@
+use Rattle.model_ini.proofs.Lawful.{ini-lawful}
+use Rattle.model_ini.proofs.laws.bytes_have_a_reading_or_one_bad_line.Goals as goal
+
+pub returns-clause-some : goal.returns-clause-some
+returns-clause-some c = ini-lawful.reads_or_bad
+
+pub returns-clause-not_both : goal.returns-clause-not_both
+returns-clause-not_both c = ini-lawful.read_is_not_bad
+
+pub returns-clause-one_line : goal.returns-clause-one_line
+returns-clause-one_line c = ini-lawful.one_line

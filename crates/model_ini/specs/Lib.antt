@@ -1,0 +1,4 @@
+pub mod Signs
+pub mod Line
+pub mod Ini
+pub mod Text
