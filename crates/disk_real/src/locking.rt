@@ -48,8 +48,18 @@ pub(crate) fn has_lock(rt: HostRuntime, folder: &str) -> io::Result<bool> {
     Ok(found_at(rt, path.as_str())?.is_some())
 }
 
-/// Whether a folder holds nothing but the file that is locked.
+/// Whether a folder holds nothing but the file that is locked. A call that a signal interrupts is made again.
 pub(crate) fn is_fresh(rt: HostRuntime, folder: &str) -> io::Result<bool> {
+    for _ in 0..u64::MAX {
+        match holds_lock_alone(rt, folder) {
+            Err(error) if error.kind() == ErrorKind::Interrupted => {}
+            answer => return answer,
+        }
+    }
+    Err(io::Error::from(ErrorKind::Interrupted))
+}
+
+fn holds_lock_alone(rt: HostRuntime, folder: &str) -> io::Result<bool> {
     for entry in fs::read_dir(&rt, folder)? {
         if entry?.file_name() != LOCK {
             return Ok(false);

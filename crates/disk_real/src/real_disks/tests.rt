@@ -19,6 +19,11 @@ fn place(rt: HostRuntime, name: &str) -> Result<String, Fail> {
     Ok(format!(in rt.alloc(); "{folder}/disk-{name}-{number}")?)
 }
 
+/// The path of something in a folder.
+fn within(rt: HostRuntime, folder: &str, name: &str) -> Result<String, Fail> {
+    Ok(format!(in rt.alloc(); "{folder}/{name}")?)
+}
+
 fn file_name(rt: HostRuntime, text: &str) -> Result<FileName, Fail> {
     Ok(FileName::new(rt.alloc(), text)?.ok_or("it is a name")?)
 }
@@ -178,26 +183,22 @@ fn refuses(disk: &mut RealDisk, file: &FileName) -> bool {
 #[test]
 fn takes_regular_files_and_links_to_them_alone(rt: HostRuntime) -> Result<(), Fail> {
     let folder = place(rt, "kinds")?;
-    let [device, below, link, lock] = ["device", "below", "link", ".lock"];
-    let mut paths = Vec::new(rt.alloc());
-    for name in [device, below, link, lock] {
-        paths.push(format!(in rt.alloc(); "{folder}/{name}")?)?;
-    }
     let mut disk = RealDisk::new(rt, folder.as_str())?;
     let user = file_name(rt, "user.ecf")?;
     assert_eq!(rt; disk.write_at(&user, 0, b"ab"), Ok(()));
-    symlink(&rt, "/dev/zero", paths[0].as_str())?;
-    fs::create_dir(&rt, paths[1].as_str())?;
-    symlink(&rt, "user.ecf", paths[2].as_str())?;
-    for name in [device, below] {
+    symlink(&rt, "/dev/zero", within(rt, &folder, "device")?.as_str())?;
+    fs::create_dir(&rt, within(rt, &folder, "below")?.as_str())?;
+    symlink(&rt, "user.ecf", within(rt, &folder, "link")?.as_str())?;
+    for name in ["device", "below"] {
         assert!(rt; refuses(&mut disk, &file_name(rt, name)?));
     }
-    let link = file_name(rt, link)?;
+    let link = file_name(rt, "link")?;
     assert_eq!(rt; disk.write_at(&link, 2, b"c"), Ok(()));
     assert_eq!(rt; disk.length(&user), Ok(3));
     drop(disk);
-    fs::remove_file(&rt, paths[3].as_str())?;
-    symlink(&rt, "/dev/null", paths[3].as_str())?;
+    let lock = within(rt, &folder, ".lock")?;
+    fs::remove_file(&rt, lock.as_str())?;
+    symlink(&rt, "/dev/null", lock.as_str())?;
     let mut other = RealDisk::new(rt, folder.as_str())?;
     assert!(rt; refuses(&mut other, &user));
     fs::remove_dir_all(&rt, folder.as_str())?;
