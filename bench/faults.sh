@@ -74,13 +74,13 @@ state() {
 }
 
 # calls: the program's own calls in a trace, as `name number`: the number counts the calls of that name from the start. Its
-# first one opens the root. Calls for memory and the end of the program are left out.
+# first one opens the root. The calls of the allocator and the end of the program are left out.
 calls() {
   awk '
     match($0, /^[a-z0-9_]+\(/) {
       name = substr($0, 1, RLENGTH - 1); number[name]++
       if ($0 ~ /^openat\(AT_FDCWD, "\/", /) own = 1
-      if (own && name !~ /^(exit_group|exit|brk|mmap|munmap|mremap|madvise|mprotect)$/) print name, number[name]
+      if (own && name !~ /^(exit_group|exit|brk|mmap|munmap|mremap|madvise|mprotect|getrandom)$/) print name, number[name]
     }' "$1"
 }
 
@@ -143,8 +143,9 @@ for case in get set rm mv mount first; do
       how="error=$fault"
       [ $fault = KILL ] && how="signal=KILL"
       fresh $case
-      timeout 60 strace -qq -o /dev/null -e trace="$name" -e inject="$name:$how:when=$number" \
-        "$kdb" "${words[@]}" >"$work/got" 2>"$work/said"
+      # The braces keep the shell from telling each kill.
+      { timeout 60 strace -qq -o /dev/null -e trace="$name" -e inject="$name:$how:when=$number" \
+        "$kdb" "${words[@]}" >"$work/got" 2>"$work/said"; } 2>/dev/null
       status=$?
       files=$(state)
       line=$(head -c 200 "$work/said" | tr '\n' ' ')
