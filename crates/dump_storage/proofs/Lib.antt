@@ -7,3 +7,4 @@ pub mod StepLemmas
 pub mod ReadingLemmas
 pub mod WritingLemmas
 pub mod EarlierLemmas
+pub mod SoFarLemmas
