@@ -2,6 +2,8 @@
 #![tactic(auto)]
 
 mod files;
+mod locking;
+mod opening;
 mod real_disks;
 
 pub use real_disks::RealDisk;

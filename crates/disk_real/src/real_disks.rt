@@ -4,32 +4,39 @@ ghost use Rattle.kdb_outside.specs.Faults.{HasCause};
 ghost use Rattle.kdb_outside.specs.Edge.{CountsFault};
 
 use crate::files::{fill, write_whole};
+use crate::locking::{Asked, TEN_SECONDS, has_lock, is_fresh, lock};
+use crate::opening::{make_folder, metadata_of, open_regular};
 use kdb_outside::{Disk, Failed, FileName, Memory};
 use std::fs::{File, OpenOptions};
+use std::io;
 use std::io::ErrorKind;
 use std::marker::Model;
-use std::{fs, io};
 
-/// The file that is locked while a disk uses the folder. No file of a store has this name.
-const LOCK: &str = ".lock";
-
-/// A refusal for want of the right to write.
-fn is_denied(kind: ErrorKind) -> bool {
-    matches!(
-        kind,
-        ErrorKind::PermissionDenied | ErrorKind::ReadOnlyFilesystem
-    )
+/// What the first call found where it took no lock.
+#[derive(Clone, Copy)]
+enum Unlocked {
+    /// There was no such call.
+    Nothing,
+    /// No folder.
+    NoFolder,
+    /// A folder that has no lock, and where none may be made.
+    NoLock,
 }
 
 /// The files of a folder by their names, seen as the folder's path and how often a call has failed. A file that isn't there
-/// is an empty one. The first write makes the folder. From the first call on at which the folder is there, the disk holds
-/// the folder's lock as long as it lives; while another one holds it, calls fail. Who may not write in a folder that has no
-/// lock reads without one, and changes nothing.
+/// is an empty one, and what is there has to be a regular file, or a link to one.
+///
+/// A disk that finds its folder at the first call holds the folder's lock from then on, as long as it lives. While another
+/// one holds it, the call waits, for ten seconds at most, and then fails. Who may not make a lock in a folder that has none
+/// reads without one, changes nothing, and fails once the folder has a lock. Where there is no folder all files stay empty
+/// until the first write, which makes it and takes its lock; it fails where another one has made files in it.
 #[derive(Drop)]
 pub struct RealDisk {
     rt: HostRuntime,
     folder: String,
+    tries: u64,
     lock: Option<File>,
+    unlocked: Unlocked,
     faults: u64,
 }
 
@@ -47,10 +54,19 @@ impl RealDisk {
     pub fn new(rt: HostRuntime, folder: &str) -> Result<RealDisk, Memory>
         ensures { IfOk result (λ disk. disk ≡ record { inner = folder.now; faults = 0 }) }
     {
+        RealDisk::trying(rt, folder, TEN_SECONDS)
+    }
+
+    /// A disk over a folder that tries so often to take a lock that is held.
+    fn trying(rt: HostRuntime, folder: &str, tries: u64) -> Result<RealDisk, Memory>
+        ensures { IfOk result (λ disk. disk ≡ record { inner = folder.now; faults = 0 }) }
+    {
         Ok(RealDisk {
             rt,
             folder: String::from_str(rt.alloc(), folder)?,
+            tries,
             lock: None,
+            unlocked: Unlocked::Nothing,
             faults: 0,
         })
     }
@@ -59,49 +75,76 @@ impl RealDisk {
     fn open(&self, name: &str, how: &OpenOptions) -> io::Result<Option<File>> {
         let folder = self.folder.as_str();
         let path = format!(in self.rt.alloc(); "{folder}/{name}")?;
-        match how.open(&self.rt, path.as_str()) {
-            Ok(opened) => Ok(Some(opened)),
-            Err(error) if error.kind() == ErrorKind::NotFound => Ok(None),
-            Err(error) => Err(error),
-        }
+        open_regular(self.rt, path.as_str(), how)
     }
 
-    /// Opens the file that is locked, which is made where it isn't there. Who may not make it opens it for reading alone,
-    /// which is enough to lock it. None where it isn't there and can't be made.
-    fn open_lock(&self) -> io::Result<Option<File>> {
-        let mut how = OpenOptions::new();
-        how.write(true).create(true);
-        match self.open(LOCK, &how) {
-            Err(error) if is_denied(error.kind()) => {
-                let mut how = OpenOptions::new();
-                how.read(true);
-                self.open(LOCK, &how)
-            }
-            opened => opened,
-        }
-    }
-
-    /// Takes the folder's lock, if the folder is there and the lock isn't taken yet. In a folder where nothing may be made
-    /// and no lock is, reads go on without one.
+    /// Takes the folder's lock at the first call, if the folder is there.
     fn take_lock(&mut self) -> io::Result<()>
         ensures { self.new ≡ self.old }
     {
         if self.lock.is_some() {
             return Ok(());
         }
-        if let Some(file) = self.open_lock()? {
-            file.try_lock()?;
-            self.lock = Some(file);
+        match self.unlocked {
+            Unlocked::NoFolder => return Ok(()),
+            Unlocked::NoLock => return self.look_again(),
+            Unlocked::Nothing => {}
+        }
+        match lock(self.rt, self.folder.as_str(), self.tries)? {
+            Asked::Locked(file) => self.lock = Some(file),
+            Asked::NoFolder => self.unlocked = Unlocked::NoFolder,
+            Asked::NoLock => self.unlocked = Unlocked::NoLock,
         }
         Ok(())
     }
 
-    /// Opens a file that is there, once the folder is locked.
+    /// Takes the folder's lock, and makes the folder where it isn't there.
+    fn take_lock_to_write(&mut self) -> io::Result<()>
+        ensures { self.new ≡ self.old }
+    {
+        if self.lock.is_some() {
+            return Ok(());
+        }
+        make_folder(self.rt, self.folder.as_str())?;
+        match lock(self.rt, self.folder.as_str(), self.tries)? {
+            Asked::Locked(file) if self.stands_still()? => {
+                self.lock = Some(file);
+                Ok(())
+            }
+            _ => Err(io::Error::from(ErrorKind::PermissionDenied)),
+        }
+    }
+
+    /// Whether what the calls so far found is still so, now that the folder is locked.
+    fn stands_still(&self) -> io::Result<bool> {
+        match self.unlocked {
+            Unlocked::Nothing => Ok(true),
+            Unlocked::NoFolder => is_fresh(self.rt, self.folder.as_str()),
+            Unlocked::NoLock => Ok(false),
+        }
+    }
+
+    /// Who reads without a lock has read files at rest as long as the folder has none: whoever changes a file makes it
+    /// before.
+    fn look_again(&self) -> io::Result<()> {
+        match self.unlocked {
+            Unlocked::NoLock if has_lock(self.rt, self.folder.as_str())? => {
+                Err(io::Error::from(ErrorKind::ResourceBusy))
+            }
+            _ => Ok(()),
+        }
+    }
+
+    /// Opens a file that is there, once the folder is locked. None where it isn't, or where the folder wasn't at the first
+    /// call.
     fn open_locked(&mut self, file: &FileName, how: &OpenOptions) -> io::Result<Option<File>>
         ensures { self.new ≡ self.old }
     {
         self.take_lock()?;
-        self.open(file.text(), how)
+        match self.unlocked {
+            Unlocked::NoFolder if self.lock.is_none() => Ok(None),
+            _ => self.open(file.text(), how),
+        }
     }
 
     /// Opens a file to change it, which needs the lock. None where it isn't there.
@@ -119,10 +162,12 @@ impl RealDisk {
     {
         let mut how = OpenOptions::new();
         how.read(true);
-        match self.open_locked(file, &how)? {
-            Some(opened) => Ok(opened.metadata()?.len()),
-            None => Ok(0),
-        }
+        let length = match self.open_locked(file, &how)? {
+            Some(opened) => metadata_of(&opened)?.len(),
+            None => 0,
+        };
+        self.look_again()?;
+        Ok(length)
     }
 
     fn read(&mut self, file: &FileName, at: u64, buf: &mut [u8]) -> io::Result<usize>
@@ -131,20 +176,20 @@ impl RealDisk {
     {
         let mut how = OpenOptions::new();
         how.read(true);
-        match self.open_locked(file, &how)? {
-            Some(opened) => fill(&opened, at, buf),
-            None => Ok(0),
-        }
+        let count = match self.open_locked(file, &how)? {
+            Some(opened) => fill(&opened, at, buf)?,
+            None => 0,
+        };
+        self.look_again()?;
+        Ok(count)
     }
 
     fn write(&mut self, file: &FileName, at: u64, piece: &[u8]) -> io::Result<()>
         ensures { self.new ≡ self.old }
     {
-        if self.lock.is_none() {
-            fs::create_dir_all(&self.rt, self.folder.as_str())?;
-        }
+        self.take_lock_to_write()?;
         let mut how = OpenOptions::new();
-        how.write(true).create(true);
+        how.read(true).write(true).create(true);
         match self.open_to_change(file, &how)? {
             Some(opened) => write_whole(&opened, at, piece),
             None => Err(io::Error::from(ErrorKind::NotFound)),
@@ -155,7 +200,7 @@ impl RealDisk {
         ensures { self.new ≡ self.old }
     {
         let mut how = OpenOptions::new();
-        how.write(true);
+        how.read(true).write(true);
         match self.open_to_change(file, &how)? {
             Some(opened) => opened.set_len(to),
             None if to == 0 => Ok(()),

@@ -6,3 +6,4 @@ pub mod StepLemmas
 pub mod ReadingLemmas
 pub mod WritingLemmas
 pub mod EarlierLemmas
+pub mod SoFarLemmas

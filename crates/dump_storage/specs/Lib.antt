@@ -4,3 +4,4 @@ pub mod Texts
 pub mod ProgressView
 pub mod Reading
 pub mod EarlierView
+pub mod SoFarView

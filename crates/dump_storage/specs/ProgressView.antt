@@ -9,12 +9,11 @@ use Rattle.model_dump.specs.Record.{Record}
 use Rattle.model_dump.specs.Adds.{Progress, Adds}
 use Rattle.dump_storage.specs.declared.progress.Present as code_present
 use Rattle.dump_storage.specs.declared.progress.Progress as code
-use Rattle.key_set.specs.EntryView.{entry_of}
 
 -- the keys before the present one, and it
 abbrev pub with_present : KeyMap → Option code_present.Present → KeyMap
 with_present keys None = keys
-with_present keys (Some present) = map.insert keys present.name (entry_of present.entry)
+with_present keys (Some present) = map.insert keys present.name present.entry
 
 -- all keys so far, and the name of the present one
 abbrev pub progress_of : code.Progress → Progress
@@ -49,7 +48,7 @@ Steps before r after false = (after ≡ before) × AddsNothing (progress_of befo
 pub record PutsInto (before : code_present.Present) (weighed : ℕ) (name text : List ℕ) (after : code_present.Present) (heavier : ℕ) : Type 0 where
   pub is_new : map.get before.entry.meta name ≡ None
   pub same_name : after.name ≡ before.name
-  pub added : entry_of after.entry ≡ with_meta (entry_of before.entry) name text
+  pub added : after.entry ≡ with_meta before.entry name text
   pub weighs : heavier ≡ weighed + length name + length text
   pub light : heavier ≤ heaviest_map
 

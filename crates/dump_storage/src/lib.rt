@@ -2,6 +2,7 @@
 #![tactic(auto)]
 
 mod earlier;
+mod entry_so_far;
 mod pieces;
 mod progress;
 mod reading;

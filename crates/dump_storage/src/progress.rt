@@ -8,11 +8,12 @@ ghost use Rattle.dump_storage.specs.ProgressView.{IsSound, Steps, PutsInto, Cann
 ghost use Rattle.dump_storage.specs.declared.records.Kind.TheVariants as kinds;
 
 use crate::earlier::Earlier;
+use crate::entry_so_far::EntrySoFar;
 use crate::records::{Kind, Record};
 use crate::texts::{meta_name_of, name_of, value_of};
-use key_meta::{Memory, Meta, Text};
+use key_meta::{Memory, Text};
 use key_name::KeyName;
-use key_set::{Entry, KeySet};
+use key_set::KeySet;
 use std::alloc::Global;
 
 /// The most that a map may weigh.
@@ -34,7 +35,7 @@ pub struct Progress {
 #[derive(Drop)]
 struct Present {
     name: KeyName,
-    entry: Entry,
+    entry: EntrySoFar,
 }
 
 impl Progress {
@@ -92,12 +93,9 @@ impl Progress {
             return Ok(false);
         };
         let value = Text::new(alloc, value)?;
-        let meta = Meta::new(alloc);
+        let entry = EntrySoFar::new(alloc, value);
         self.pass_present()?;
-        self.present = Some(Present {
-            name,
-            entry: Entry { value, meta },
-        });
+        self.present = Some(Present { name, entry });
         self.weight = weight;
         Ok(true)
     }
@@ -176,7 +174,8 @@ impl Progress {
         ensures weight { OnOk result (self.new.weight ≡ self.old.weight) }
     {
         if let Some(present) = self.present.take() {
-            self.keys.add(present.name, present.entry)?;
+            let entry = present.entry.into_entry()?;
+            self.keys.add(present.name, entry)?;
         }
         Ok(())
     }
@@ -192,13 +191,12 @@ impl Present {
             ((self.new ≡ self.old) × CannotPut self.old weight name.now text.now)
             (λ heavier. PutsInto self.old weight name.now text.now self.new heavier)) }
     {
-        if self.entry.meta.get(name).is_some() {
-            return Ok(None);
-        }
         let Some(weight) = heavier(weight, name.len(), text.len()) else {
             return Ok(None);
         };
-        self.entry.meta.set(name, text)?;
+        if !self.entry.put_new(name, text)? {
+            return Ok(None);
+        }
         Ok(Some(weight))
     }
 }

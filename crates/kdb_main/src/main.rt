@@ -1,6 +1,9 @@
 //! The program `kdb`: the tool over the files of the folder `.kdb`, and the real input and output.
 #![tactic(auto)]
 
+mod streams;
+
+use crate::streams::taken_streams;
 use disk_real::RealDisk;
 use kdb_outside::{OpenGate, ReaderSource, Sink, WriterSink};
 use kdb_tool::run;
@@ -23,9 +26,21 @@ fn words(rt: HostRuntime) -> io::Result<Vec<Text>> {
 
 fn main(rt: HostRuntime) -> ExitCode {
     let mut err = WriterSink::new(rt.stderr());
+    match taken_streams(rt) {
+        Ok(taken) => {
+            let status = run_words(rt, &mut err);
+            drop(taken);
+            status
+        }
+        Err(error) => refuse_to_start(error, &mut err),
+    }
+}
+
+/// Runs the tool with the words of the command line.
+fn run_words<E: Sink>(rt: HostRuntime, err: &mut E) -> ExitCode {
     match words(rt) {
-        Ok(words) => run_in(rt, FOLDER, &words, &mut err),
-        Err(error) => refuse_words(error, &mut err),
+        Ok(words) => run_in(rt, FOLDER, &words, err),
+        Err(error) => refuse_words(error, err),
     }
 }
 
@@ -46,6 +61,14 @@ fn run_in<E: Sink>(rt: HostRuntime, folder: &str, words: &[Text], err: &mut E) -
         &OpenGate,
     );
     ExitCode::from(status.code())
+}
+
+/// Nothing can be opened, not even what takes the place of a closed stream, or memory is wanting.
+fn refuse_to_start<E: Sink>(error: io::Error, err: &mut E) -> ExitCode {
+    match error.kind() {
+        ErrorKind::OutOfMemory => end(70, "kdb: C01110 out of memory\n", err),
+        _ => end(74, "kdb: C01100 disk-fault\n", err),
+    }
 }
 
 /// The words can't be had: one of them is no text, or memory is wanting.

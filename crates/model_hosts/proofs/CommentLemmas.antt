@@ -15,7 +15,8 @@ use Rattle.std.proofs.lemmas.List.{length-replicate}
 use Rattle.std.proofs.lemmas.Str.{IsUtf8-append}
 use Rattle.model_names.specs.ArrayPart.{last_index, array_part, index_of}
 use Rattle.model_names.proofs.PartLemmas.{without_underscores-leads, decimal-first, IsPart-array_part, text_from_test}
-use Rattle.model_maps.specs.Entry.{Meta, text_cmp, IsValue, IsMetaName}
+use Rattle.general_words.specs.Texts.{text_cmp}
+use Rattle.model_maps.specs.Entry.{Meta, IsValue, IsMetaName}
 use Rattle.model_maps.specs.Limits.{IsLimitedMeta}
 use Rattle.model_lines.proofs.MapFacts.{found_in_insert, get-insert_same}
 use Rattle.model_hosts.specs.Comments.{comment_name, comments_from, comments, texts_from, texts_of}

@@ -11,7 +11,8 @@ use Rattle.model_names.specs.Name.{Part, Name, rank}
 use Rattle.model_names.specs.Order.{name_cmp}
 use Rattle.model_names.specs.WellFormed.{IsName}
 use Rattle.model_names.proofs.OrderLemmas.{name_cmp_total, same_rank}
-use Rattle.model_maps.specs.Entry.{Entry, plain_entry, text_cmp, IsValue}
+use Rattle.general_words.specs.Texts.{text_cmp}
+use Rattle.model_maps.specs.Entry.{Entry, plain_entry, IsValue}
 use Rattle.model_maps.specs.KeyMap.{KeyMap, no_keys, weight, heaviest_map}
 use Rattle.model_maps.specs.Limits.{IsLimitedKey, IsLimited}
 use Rattle.model_lines.specs.Lines.{lines}

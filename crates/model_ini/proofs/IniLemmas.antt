@@ -6,7 +6,8 @@ use Rattle.model_names.specs.Name.{Part, Name}
 use Rattle.model_names.specs.Spells.{Spells}
 use Rattle.model_names.proofs.NameLemmas.{spelled_is_name, slash_is_cascading}
 use Rattle.model_names.proofs.SpellsLemmas.{Spells-once}
-use Rattle.model_maps.specs.Entry.{Entry, plain_entry, text_cmp, IsValue}
+use Rattle.general_words.specs.Texts.{text_cmp}
+use Rattle.model_maps.specs.Entry.{Entry, plain_entry, IsValue}
 use Rattle.model_maps.specs.KeyMap.{KeyMap, no_keys, weight, heaviest_map}
 use Rattle.model_maps.specs.Limits.{IsLimitedKey, IsLimited}
 use Rattle.model_lines.specs.Lines.{lines}

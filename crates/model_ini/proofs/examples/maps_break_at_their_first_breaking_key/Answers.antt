@@ -6,7 +6,8 @@ use Rattle.model_names.specs.declared.namespaces.Namespace.TheVariants.{Cascadin
 use Rattle.model_names.specs.Name.{Name}
 use Rattle.model_names.specs.Order.{name_cmp}
 use Rattle.model_names.proofs.OrderLemmas.{name_cmp_total}
-use Rattle.model_maps.specs.Entry.{Entry, Meta, plain_entry, text_cmp}
+use Rattle.general_words.specs.Texts.{text_cmp}
+use Rattle.model_maps.specs.Entry.{Entry, Meta, plain_entry}
 use Rattle.model_maps.specs.KeyMap.{KeyMap, no_keys}
 use Rattle.model_lines.proofs.MapFacts.{entries-empty, get-insert_same}
 use Rattle.model_ini.proofs.examples.maps_break_at_their_first_breaking_key.Goals as goal

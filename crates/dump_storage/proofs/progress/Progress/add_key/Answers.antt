@@ -1,7 +1,7 @@
 -- A key has a reading where its name is new and it isn't too heavy.
-use Rattle.std.proofs.Common.{◌≡◌, ℕ, List, length, refl, ap, ap₂, ◌∙◌, arith, false}
+use Rattle.std.proofs.Common.{length, refl, ap, ◌∙◌, arith, false}
 use Rattle.std.specs.FinMap as map
-use Rattle.model_maps.specs.Entry.{Meta, Entry, plain_entry}
+use Rattle.model_maps.specs.Entry.{plain_entry}
 use Rattle.dump_storage.specs.ProgressView.{progress_of}
 use Rattle.dump_storage.proofs.ProgressLemmas.{AddsNothing-no_name}
 use Rattle.dump_storage.proofs.StepLemmas.{key_heavy, key_step, key_sound, none-by_test}
@@ -21,8 +21,8 @@ returns-clause-sound c =
     let name = c.in-Some.name in
     let spells = rw c.in-Some.is at c.in_ok-name.ensures in
     let is_new = none-by_test (map.get (progress_of c.args.self.now).keys name) false c.if-has.ensures refl in
-    let plain : ◌≡◌ {A = Entry} (record { value = c.in_ok-value.value; meta = c.new-meta.result }) (plain_entry c.args.value.now) = ap₂ (λ (value : List ℕ) (meta : Meta). record { value = value; meta = meta }) (c.in_ok-value.ensures ∙ c.in-Some-value_of.ensures.0) c.new-meta.ensures in
-    key_sound c.args.self.now c.requires c.args.text.now c.args.value.now name spells is_new c.pass_present.new.self.keys (record { value = c.in_ok-value.value; meta = c.new-meta.result }) c.in-Some-heavier.weight c.in_ok-pass_present.ensures.keys plain
+    let plain = c.new-entry.ensures ∙ ap plain_entry (c.in_ok-value.ensures ∙ c.in-Some-value_of.ensures.0) in
+    key_sound c.args.self.now c.requires c.args.text.now c.args.value.now name spells is_new c.pass_present.new.self.keys c.new-entry.result c.in-Some-heavier.weight c.in_ok-pass_present.ensures.keys plain
     (omega (arith, c.in-Some-heavier.ensures.0, c.path_bytes-own.ensures.bytes, ap length c.in-Some-value_of.ensures.0)) c.in-Some-heavier.ensures.1
 
 pub returns-clause-step : goal.returns-clause-step
@@ -30,6 +30,6 @@ returns-clause-step c =
     let name = c.in-Some.name in
     let spells = rw c.in-Some.is at c.in_ok-name.ensures in
     let is_new = none-by_test (map.get (progress_of c.args.self.now).keys name) false c.if-has.ensures refl in
-    let plain : ◌≡◌ {A = Entry} (record { value = c.in_ok-value.value; meta = c.new-meta.result }) (plain_entry c.args.value.now) = ap₂ (λ (value : List ℕ) (meta : Meta). record { value = value; meta = meta }) (c.in_ok-value.ensures ∙ c.in-Some-value_of.ensures.0) c.new-meta.ensures in
-    key_step c.args.self.now c.requires c.args.text.now c.args.value.now name spells is_new c.pass_present.new.self.keys (record { value = c.in_ok-value.value; meta = c.new-meta.result }) c.in-Some-heavier.weight c.in_ok-pass_present.ensures.keys plain
+    let plain = c.new-entry.ensures ∙ ap plain_entry (c.in_ok-value.ensures ∙ c.in-Some-value_of.ensures.0) in
+    key_step c.args.self.now c.requires c.args.text.now c.args.value.now name spells is_new c.pass_present.new.self.keys c.new-entry.result c.in-Some-heavier.weight c.in_ok-pass_present.ensures.keys plain
     (omega (arith, c.in-Some-heavier.ensures.0, c.path_bytes-own.ensures.bytes, ap length c.in-Some-value_of.ensures.0)) c.in-Some-heavier.ensures.1 c.in-Some-value_of.ensures.1

@@ -1,0 +1,213 @@
+#!/usr/bin/env bash
+# Runs the real program with each of its calls of the system failing in turn, with ENOSPC, EIO and EINTR, and with a kill at
+# each; then over file systems that are nearly full. Prints a table, and ends with 1 where something that must hold doesn't:
+#
+#   - EINTR changes nothing: status, out, err and files are those of a run without it;
+#   - every other failure is status 74 with its line on err and nothing on out; only a failing close tells nothing, since
+#     what was written is synced after it by a call that tells;
+#   - each file that a run stores is synced behind its last change, and then its folder; a folder that is made is synced in
+#     the one above before anything is put into it.
+#
+# Files are old, new, mixed (some old and some new) or torn. Until the tool stands on the journal they are written in place,
+# so mixed and torn are shown and let through; with the word `whole` behind it the script ends with 1 at those too.
+# Wants build/kdb (first-use.sh makes it) and strace of Debian's packages; the full file systems want the right to mount.
+# It takes some minutes. Not part of the gate.
+set -u
+cd "$(dirname "$0")/.."
+kdb=${KDB:-$PWD/build/kdb}
+whole=${1:-}
+[ -x "$kdb" ] || { echo "run ./first-use.sh first" >&2; exit 1; }
+command -v strace >/dev/null || { echo "install strace first (apt-get install strace)" >&2; exit 1; }
+work=$(mktemp -d)
+trap 'umount "$work"/full 2>/dev/null; rm -rf "$work"' EXIT
+wrong=0
+
+# complain WORDS: what must hold doesn't
+complain() {
+  wrong=$((wrong + 1))
+  printf 'MUST NOT BE: %s\n' "$*"
+}
+
+# fresh CASE: a folder to run in, with three files, or with none for the first set of all
+fresh() {
+  rm -rf "$work/run"
+  mkdir "$work/run"
+  cd "$work/run" || exit 1
+  [ "$1" = first ] && return
+  mkdir .kdb
+  cp "$work"/old/* .kdb/
+  : >.kdb/.lock
+  chmod 666 .kdb/.lock
+}
+
+# words_of CASE: the words of the command line, one a line
+words_of() {
+  case $1 in
+    get) printf '%s\n' get user:/sw/a ;;
+    set | first) printf '%s\n' set user:/sw/a "another value, which is longer" ;;
+    rm) printf '%s\n' rm user:/sw/a ;;
+    mv) printf '%s\n' mv user:/sw/a user:/sw/app/b ;;
+    mount) printf '%s\n' mount other.ecf user:/sw/other ;;
+  esac
+}
+
+# state: whether the files are old, new, mixed or torn, beside those in old/ and new/. A file that isn't there is an empty one.
+state() {
+  local olds=0 news=0 file
+  for file in user.ecf app.ecf elektra.ecf; do
+    local now=.kdb/$file old=$work/before/$file new=$work/after/$file
+    [ -e "$now" ] || now=/dev/null
+    [ -e "$old" ] || old=/dev/null
+    [ -e "$new" ] || new=/dev/null
+    if cmp -s "$old" "$new"; then
+      cmp -s "$now" "$old" || { echo torn; return; }
+    elif cmp -s "$now" "$old"; then
+      olds=$((olds + 1))
+    elif cmp -s "$now" "$new"; then
+      news=$((news + 1))
+    else
+      echo torn
+      return
+    fi
+  done
+  if [ $((olds + news)) = 0 ]; then echo same; elif [ $news = 0 ]; then echo old; elif [ $olds = 0 ]; then echo new; else echo mixed; fi
+}
+
+# calls: the program's own calls in a trace, as `name number`: the number counts the calls of that name from the start. Its
+# first one opens the root. The calls of the allocator and the end of the program are left out.
+calls() {
+  awk '
+    match($0, /^[a-z0-9_]+\(/) {
+      name = substr($0, 1, RLENGTH - 1); number[name]++
+      if ($0 ~ /^openat\(AT_FDCWD, "\/", /) own = 1
+      if (own && name !~ /^(exit_group|exit|brk|mmap|munmap|mremap|madvise|mprotect|getrandom)$/) print name, number[name]
+    }' "$1"
+}
+
+# synced TRACE: complains of a change that isn't synced, in a trace with the paths of descriptors
+synced() {
+  local trace=$1 case=$2 said
+  said=$(awk '
+    function path(line) { match(line, /<[^>]*>/); return substr(line, RSTART + 1, RLENGTH - 2) }
+    /^(pwrite64|ftruncate)\(/ { changed[path($0)] = NR }
+    /^mkdir\(/ && / = 0/ { made = NR }
+    /^openat\(.*\.lock".*O_CREAT/ && made && !(above > made) { print "a folder was made and not synced above before its lock" }
+    /^fsync\(/ && / = 0/ {
+      it = path($0)
+      if (it in changed) delete changed[it]
+      else if (it ~ /\/\.kdb$/) folder = NR
+      else above = NR
+      last = it
+    }
+    END {
+      for (it in changed) print it " was changed and not synced behind it"
+      if (last != "" && last !~ /\/\.kdb$/) print "the folder was not synced last"
+    }' "$trace")
+  [ -z "$said" ] || complain "$case: $said"
+}
+
+# The files that each case begins with.
+mkdir "$work/old" "$work/empty" "$work/make"
+cd "$work/make" || exit 1
+"$kdb" mount app.ecf user:/sw/app
+"$kdb" set user:/sw/a 1 >/dev/null
+"$kdb" set user:/sw/app/host here >/dev/null
+cp .kdb/*.ecf "$work/old/"
+
+printf '%-6s %-7s %5s   %s\n' case fault calls 'what came of them: status, files, how many (line)'
+for case in get set rm mv mount first; do
+  mapfile -t words < <(words_of $case)
+  before=$work/old
+  [ $case = first ] && before=$work/empty
+  rm -f "$work/before"
+  ln -s "$before" "$work/before"
+
+  # A run with no fault: what it prints, what it leaves, and the calls that it makes.
+  fresh $case
+  "$kdb" "${words[@]}" >"$work/out" 2>"$work/err"
+  wanted=$?
+  [ $wanted = 0 ] || complain "$case: ends with $wanted where nothing fails"
+  rm -rf "$work/after"
+  mkdir "$work/after"
+  cp .kdb/*.ecf "$work/after/" 2>/dev/null
+  fresh $case
+  strace -qq -o "$work/trace" "$kdb" "${words[@]}" >/dev/null 2>&1
+  calls "$work/trace" >"$work/calls"
+  fresh $case
+  strace -qq -y -o "$work/paths" "$kdb" "${words[@]}" >/dev/null 2>&1
+  synced "$work/paths" $case
+
+  for fault in EINTR ENOSPC EIO KILL; do
+    : >"$work/rows"
+    while read -r name number <&3; do
+      how="error=$fault"
+      [ $fault = KILL ] && how="signal=KILL"
+      fresh $case
+      # The braces keep the shell from telling each kill.
+      { timeout 60 strace -qq -o /dev/null -e trace="$name" -e inject="$name:$how:when=$number" \
+        "$kdb" "${words[@]}" >"$work/got" 2>"$work/said"; } 2>/dev/null
+      status=$?
+      files=$(state)
+      line=$(head -c 200 "$work/said" | tr '\n' ' ')
+      at="$case, $fault at $name $number"
+      case $fault in
+        KILL)
+          [ $status = 137 ] || complain "$at: status $status"
+          cmp -s -n "$(stat -c %s "$work/got")" "$work/got" "$work/out" || complain "$at: out has $(cat "$work/got")"
+          ;;
+        *)
+          if [ $fault = EINTR ] || [ "$name" = close ]; then
+            [ $status = $wanted ] || complain "$at: status $status, $line"
+            cmp -s "$work/got" "$work/out" || complain "$at: out has $(cat "$work/got")"
+            cmp -s "$work/said" "$work/err" || complain "$at: err has $line"
+            [ "$files" = new ] || [ "$files" = same ] || complain "$at: files are $files"
+          else
+            [ $status = 74 ] || complain "$at: status $status, $line"
+            [ -s "$work/got" ] && complain "$at: out has $(cat "$work/got")"
+            case $line in
+              'kdb: C01100 disk-fault ' | 'kdb: C01100 write-fault ') ;;
+              *) complain "$at: err has $line" ;;
+            esac
+          fi
+          ;;
+      esac
+      if [ "$whole" = whole ]; then
+        case $files in mixed | torn) complain "$at: files are $files" ;; esac
+      fi
+      echo "$status $files ($line)" >>"$work/rows"
+    done 3<"$work/calls"
+    printf '%-6s %-7s %5s   %s\n' $case $fault "$(wc -l <"$work/rows")" \
+      "$(sort "$work/rows" | uniq -c | awk '{ n = $1; $1 = ""; sub(/^ /, ""); sub(/ \)$/, ")"); sub(/ \(\)$/, ""); printf "%s%s x%d", (NR > 1 ? "; " : ""), $0, n }')"
+  done
+done
+
+# A file system of a few pages, of which so many are left.
+mkdir "$work/full"
+if mount -t tmpfs -o size=32k none "$work/full" 2>/dev/null; then
+  long=$(head -c 20000 /dev/zero | tr '\0' v)
+  for left in 0 1 2 3; do
+    umount "$work/full"
+    mount -t tmpfs -o size=32k none "$work/full"
+    cd "$work/full" || exit 1
+    mkdir .kdb
+    cp "$work/old/user.ecf" .kdb/
+    cp .kdb/user.ecf "$work/before.ecf"
+    # The page of user.ecf counts, and one page each for what is left.
+    head -c $(((7 - left) * 4096)) /dev/zero >filler
+    "$kdb" set user:/sw/a "$long" >"$work/got" 2>"$work/said"
+    status=$?
+    files=torn
+    cmp -s .kdb/user.ecf "$work/before.ecf" && files=old
+    printf 'full, %s pages left: %s %s (%s)\n' $left $status $files "$(tr '\n' ' ' <"$work/said" | sed 's/ $//')"
+    [ $status = 74 ] || complain "a full file system with $left pages left: status $status"
+    [ -s "$work/got" ] && complain "a full file system with $left pages left: out has $(cat "$work/got")"
+    [ "$(cat "$work/said")" = 'kdb: C01100 disk-fault' ] || complain "a full file system with $left pages left: err has $(cat "$work/said")"
+    [ "$whole" = whole ] && [ $files = torn ] && complain "a full file system with $left pages left: files are torn"
+    cd "$work" || exit 1
+  done
+  umount "$work/full"
+else
+  echo 'full: not run, since no file system can be mounted here'
+fi
+
+if [ $wrong = 0 ]; then echo 'all that must hold held'; else echo "$wrong times something didn't hold"; exit 1; fi
