@@ -47,6 +47,10 @@ module _ {E V : Type 0} where
   abbrev pub held : TableId → ℕ → List E → List E → V → Held E V
   held place number seen own value = record { place = place; number = number; seen = seen; own = own; value = value }
 
+  -- the turn, with another value
+  abbrev pub with_value : Held E V → V → Held E V
+  with_value turn value = record turn { value = value }
+
   -- what a turn is stored as
   abbrev pub held_code : Coded E → Coded V → Coded (Held E V)
   held_code entries values =

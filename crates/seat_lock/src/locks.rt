@@ -36,6 +36,7 @@ impl<V: Storied> Model for Lock<V> {
 }
 
 /// There was no memory. The value comes back.
+#[derive(Drop)]
 pub struct NoLock<V> {
     pub value: V,
 }

@@ -26,8 +26,16 @@ impl<V: Storied> Model for Turn<V> {
 }
 
 impl<V: Storied> Turn<V> {
+    ghost use Rattle.std.specs.Prelude.{◌≡◌};
+    ghost use Rattle.std.specs.Borrow.{Lends, sem};
+    ghost use Rattle.seat_lock.specs.Known.{with_value};
+    ghost use Rattle.seat_lock.specs.contracts.turns.Turn.{the_row};
+
     /// The value under the lock, for as long as the turn.
-    pub fn value(&mut self) -> &mut V {
+    pub fn value(&mut self) -> &mut V
+        ensures* writes_back { sem 𝓛 (Lends (the_row V.row V.Entry.row V.Storied) V.row self.entry result (with_value self.old)) }
+        ensures value { result.now ≡ self.old.value }
+    {
         &mut self.value
     }
 }
