@@ -1,0 +1,6 @@
+pub mod Story
+pub mod Known
+pub mod Views
+pub mod Rule
+pub mod Steps
+pub mod Boards
