@@ -1,0 +1,3 @@
+pub mod NumberOnce
+pub mod RangeOnce
+pub mod RulesOnce

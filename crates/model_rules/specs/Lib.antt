@@ -1,0 +1,4 @@
+pub mod Number
+pub mod Range
+pub mod Types
+pub mod Rules

@@ -1,0 +1,2 @@
+pub mod BuiltRegexes
+pub mod HandedPatterns
