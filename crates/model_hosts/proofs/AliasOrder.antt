@@ -16,7 +16,7 @@ use Rattle.model_names.proofs.OrderLemmas.{name_cmp_total}
 use Rattle.model_maps.specs.Entry.{Entry}
 use Rattle.model_maps.specs.KeyMap.{KeyMap}
 use Rattle.model_lines.proofs.AllLemmas.{all-append, all-weaker}
-use Rattle.model_lines.proofs.FirstKey.{EachHas-from_entries}
+use Rattle.model_formats.proofs.HoldingLemmas.{EachHas-entries}
 use Rattle.model_lines.proofs.SortedKeys.{below, before_all, below_each, sorted-behind}
 use Rattle.model_hosts.specs.Keys.{host_name, alias_name}
 
@@ -83,7 +83,7 @@ module _ (whole : KeyMap) (front : List (Name × Entry)) (f h : Part) (host_entr
   unfolding host alias
   alias_follows entry found =
       let all = subst (λ es. AllByRecursion (λ (key : Name × Entry). Place (host_name f h) (alias_name x y a) key.0) es) (sym cut) places in
-      elim (EachHas-from_entries (λ n _. Place (host_name f h) (alias_name x y a) n) whole all (host_name x y) entry found) [
+      elim (EachHas-entries (λ n _. Place (host_name f h) (alias_name x y a) n) whole all (host_name x y) entry found) [
         | inl before ↦ host_between x y a f h before host_before
         | inr other ↦ elim other [
           | inl same ↦ let parts : x ∷ y ∷ [] ≡ f ∷ h ∷ [] = ap (λ (n : Name). n.parts) same in (cc, cc)
@@ -101,7 +101,7 @@ alias_not_first whole x y a alias_entry rest cut entry found =
     let P : Name × Entry → Type 0 = λ key. (length key.0.parts ≢ 2) ⊎ (name_cmp (alias_name x y a) key.0 ≡ Less) in
     let sorted : T (is_sorted name_cmp (alias ∷ rest)) = subst (λ es. T (is_sorted name_cmp es)) cut (finite.entries_sorted whole) in
     let places : AllByRecursion P (alias ∷ rest) = (inl (λ e. absurd cc), all-weaker (λ (key : Name × Entry). name_cmp (alias_name x y a) key.0 ≡ Less) P (λ key e. inr e) rest (below_each (alias_name x y a) rest (sorted-behind [] alias rest sorted))) in
-    elim (EachHas-from_entries (λ n e. P (n, e)) whole (subst (λ es. AllByRecursion P es) (sym cut) places) (host_name x y) entry found) [
+    elim (EachHas-entries (λ n e. P (n, e)) whole (subst (λ es. AllByRecursion P es) (sym cut) places) (host_name x y) entry found) [
       | inl no_host ↦ absurd (no_host refl)
       | inr behind ↦ absurd (alias_not_before x y a behind)
     ]

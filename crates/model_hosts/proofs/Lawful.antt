@@ -3,7 +3,7 @@ use Rattle.std.specs.Prelude.{◌≡◌, ◌⊎◌, ℕ, List, []}
 use Rattle.std.proofs.Common.{refl, sym, ap, inl, inr}
 use Rattle.std.proofs.lemmas.Bool.{true≢false}
 use Rattle.model_maps.specs.KeyMap.{KeyMap}
-use Rattle.model_lines.specs.Format.{IsLawful}
+use Rattle.model_formats.specs.Format.{IsLawful}
 use Rattle.model_lines.specs.Lines.{lines}
 use Rattle.model_lines.proofs.Leading.{Leads-once, Leads-stops_nowhere, StopsAt-once, Leads-or_stops}
 use Rattle.model_hosts.specs.Hosts.{Progress, start, Step, Reads, IsBadAt}

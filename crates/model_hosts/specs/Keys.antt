@@ -8,7 +8,7 @@ use Rattle.model_names.specs.ArrayPart.{last_index}
 use Rattle.model_names.specs.Name.{Part, Name}
 use Rattle.model_maps.specs.Entry.{Entry, plain_entry}
 use Rattle.model_maps.specs.KeyMap.{KeyMap}
-use Rattle.model_lines.specs.Keys.{EachHas, LacksFirst}
+use Rattle.model_formats.specs.Holding.{EachHas, LacksFirst}
 use Rattle.model_hosts.specs.Comments.{comments, texts_of}
 
 -- the family of an address: `ipv6` where it has a `:`, and else `ipv4`

@@ -5,7 +5,7 @@ use Rattle.std.specs.List.{flat_map}
 use Rattle.model_names.specs.Name.{Part, Name}
 use Rattle.model_maps.specs.Entry.{Entry}
 use Rattle.model_maps.specs.KeyMap.{KeyMap}
-use Rattle.model_lines.specs.Format.{Format}
+use Rattle.model_formats.specs.Format.{Format}
 use Rattle.model_lines.specs.Lines.{ended}
 use Rattle.model_hosts.specs.Comments.{texts_of}
 use Rattle.model_hosts.specs.Keys.{IsHostsKey}

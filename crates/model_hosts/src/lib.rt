@@ -5,7 +5,7 @@
 mod examples;
 mod laws;
 
-ghost use Rattle.model_lines.specs.Format.{IsLawful};
+ghost use Rattle.model_formats.specs.Format.{IsLawful};
 ghost use Rattle.model_hosts.specs.Text.{hosts};
 
 pub use examples::{

@@ -1,7 +1,7 @@
 -- The laws of the format, and that it goes by keys.
 use Rattle.std.proofs.Common.{refl}
 use Rattle.model_maps.specs.KeyMap.{no_keys}
-use Rattle.model_lines.specs.Format.{IsLawful}
+use Rattle.model_formats.specs.Format.{IsLawful}
 use Rattle.model_lines.specs.Lines.{lines}
 use Rattle.model_lines.proofs.Leading.{Leads-once, Leads-stops_nowhere, StopsAt-once, Leads-or_stops}
 use Rattle.model_ini.specs.Ini.{Step}

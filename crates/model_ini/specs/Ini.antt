@@ -9,7 +9,7 @@ use Rattle.model_maps.specs.Entry.{Entry, plain_entry, IsValue}
 use Rattle.model_maps.specs.KeyMap.{KeyMap, no_keys, weight, heaviest_map}
 use Rattle.model_lines.specs.Lines.{lines}
 use Rattle.model_lines.specs.Reading.{Leads, StopsAt}
-use Rattle.model_lines.specs.Keys.{EachHas, LacksFirst}
+use Rattle.model_formats.specs.Holding.{EachHas, LacksFirst}
 use Rattle.model_ini.specs.Line.{Meaning, Skipped, Pair, Unreadable, meaning}
 
 -- the relative name with a slash before it spells a name that is new and isn't the mountpoint; the map doesn't get too heavy

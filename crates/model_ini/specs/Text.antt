@@ -5,7 +5,7 @@ use Rattle.std.specs.List.{flat_map}
 use Rattle.model_maps.specs.KeyMap.{KeyMap}
 use Rattle.model_dump.specs.Text.{relative_text}
 use Rattle.model_lines.specs.Lines.{ended}
-use Rattle.model_lines.specs.Format.{Format}
+use Rattle.model_formats.specs.Format.{Format}
 use Rattle.model_ini.specs.declared.signs.Sign.{Sign}
 use Rattle.model_ini.specs.declared.signs.Sign.TheVariants.{Plain, Covered}
 use Rattle.model_ini.specs.Signs.{spelled_sign}

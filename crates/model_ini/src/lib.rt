@@ -6,7 +6,7 @@ mod examples;
 mod laws;
 mod signs;
 
-ghost use Rattle.model_lines.specs.Format.{IsLawful};
+ghost use Rattle.model_formats.specs.Format.{IsLawful};
 ghost use Rattle.model_ini.specs.Text.{ini};
 
 pub use examples::{

@@ -7,7 +7,7 @@ use Rattle.model_names.specs.Order.{name_cmp}
 use Rattle.model_names.proofs.OrderLemmas.{name_cmp_total, name_cmp-IsAntisymmetric}
 use Rattle.model_maps.specs.Entry.{Entry}
 use Rattle.model_maps.specs.KeyMap.{KeyMap, no_keys}
-use Rattle.model_lines.specs.Keys.{EachHas}
+use Rattle.model_formats.specs.Holding.{EachHas}
 use Rattle.model_lines.proofs.MapFacts.{found_in_insert, get-insert_same}
 
 pub found_nowhere : (name : Name) (entry : Entry) → finite.get no_keys name ≡ Some entry → ⊥

@@ -9,29 +9,13 @@ use Rattle.std.specs.List.{AllByRecursion}
 use Rattle.std.specs.Ordering.{is_eq, is_lt, eq_by_cmp, ordering_reverse}
 use Rattle.std.specs.declared.cmp.Ordering.{Ordering}
 use Rattle.std.specs.declared.cmp.Ordering.TheVariants.{Less, Equal, Greater}
+use Rattle.general_words.proofs.Tests.{first, second}
+use Rattle.general_words.proofs.Orders.{less, tied}
 use Rattle.model_names.specs.Name.{Name}
 use Rattle.model_names.specs.Order.{name_cmp}
 use Rattle.model_names.proofs.OrderLemmas.{name_cmp_total, name_cmp-IsAntisymmetric}
 use Rattle.model_maps.specs.Entry.{Entry}
 use Rattle.model_maps.specs.KeyMap.{KeyMap}
-
-pub first : (a b : Bool) → T (a && b) → T a
-first true b h = tt
-first false b h = absurd h
-
-pub second : (a b : Bool) → T (a && b) → T b
-second true b h = h
-second false b h = absurd h
-
-pub less : (r : Ordering) → T (is_lt r) → r ≡ Less
-less Less h = refl
-less Equal h = absurd h
-less Greater h = absurd h
-
-pub tied_by : (r : Ordering) → is_eq r ≡ true → r ≡ Equal
-tied_by Less e = absurd cc
-tied_by Equal e = refl
-tied_by Greater e = absurd cc
 
 -- what is below all of a list is below what stands in it
 pub below : (x : Name) (front : List (Name × Entry)) (key : Name × Entry) (rest : List (Name × Entry)) → T (below_all name_cmp x (front ++ key ∷ rest)) → name_cmp x key.0 ≡ Less
@@ -61,7 +45,7 @@ has_found Has (key ∷ keys) name entry each found = by (λ later. has_found Has
   where
     by : (find name_cmp name keys ≡ Some entry → Has name entry) → (t : Bool) → eq_by_cmp name_cmp name key.0 ≡ t → cond t (Some key.1) (find name_cmp name keys) ≡ Some entry → Has name entry
     by more true e here =
-        let same = name_cmp-IsAntisymmetric name key.0 (tied_by (name_cmp name key.0) e) in
+        let same = name_cmp-IsAntisymmetric name key.0 (tied (name_cmp name key.0) e) in
         subst (λ n. Has n entry) (sym same) (subst (Has key.0) (same_some key.1 entry here) each.0)
     by more false e later = more later
 

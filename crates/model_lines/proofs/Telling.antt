@@ -1,4 +1,5 @@
 -- What can be told: each condition that the line of a file or a key of a map must meet holds or doesn't.
+pub use Rattle.model_formats.proofs.Telling.{IsTold, le-told, utf8-told, value-told}
 use Rattle.std.specs.Prelude.{◌≡◌, ◌⊎◌, ℕ, ◌<◌, ◌≤◌, Bool, true, false, List, [], ◌∷◌, length, Option, Some, None, nat_eq}
 use Rattle.std.proofs.Common.{refl, sym, ap, ◌∙◌, arith, inl, inr}
 use Rattle.std.specs.FinMap as finite
@@ -8,7 +9,7 @@ use Rattle.std.specs.Cmp.Lexicographic.{pointwise}
 use Rattle.std.proofs.lemmas.Bool.{cases_Bool, cases_lt, true≢false}
 use Rattle.std.proofs.lemmas.Slice.Eq.{bytes_eq-Decides}
 use Rattle.std.proofs.lemmas.Str.{IsUtf8-from_is_utf8, is_utf8-from_IsUtf8}
-use Rattle.model_names.specs.ArrayPart.{is_array_like, canonical_part}
+use Rattle.model_names.specs.ArrayPart.{is_array_like, is_canonical}
 use Rattle.model_names.specs.Name.{Part, Name}
 use Rattle.model_names.specs.Refuses.{Refusal, refusal_of}
 use Rattle.model_names.specs.Spelling.{path}
@@ -16,10 +17,6 @@ use Rattle.model_names.specs.Spells.{Spells, longest_path}
 use Rattle.model_names.specs.WellFormed.{IsPart, IsName}
 use Rattle.model_names.proofs.RefusesLemmas.{refusal_of-spelled, Spells-from_no_refusal}
 use Rattle.model_maps.specs.Entry.{Meta, IsValue, longest_value}
-
--- a fact holds or doesn't
-abbrev pub IsTold : Type 0 → Type 0
-IsTold P = P ⊎ (P → ⊥)
 
 -- some value has a property, or none does
 abbrev pub IsFound : {A : Type 0} → (A → Type 0) → Type 0
@@ -35,9 +32,6 @@ either-told (inl p) q = inl (inl p)
 either-told (inr no_p) (inl q) = inl (inr q)
 either-told (inr no_p) (inr no_q) = inr (λ h. elim h [ inl p ↦ no_p p | inr q ↦ no_q q ])
 
-pub le-told : (a b : ℕ) → IsTold (a ≤ b)
-le-told a b = elim (cases_lt b a) [ inl above ↦ inr (λ h. absurd (omega arith)) | inr within ↦ inl within ]
-
 pub true-told : (b : Bool) → IsTold (b ≡ true)
 true-told true = inl refl
 true-told false = inr (λ e. true≢false (sym e))
@@ -50,13 +44,6 @@ pub bytes-told : (a b : List ℕ) → IsTold (a ≡ b)
 bytes-told a b =
     let decides = bytes_eq-Decides a b in
     elim (cases_Bool (pointwise nat_eq a b)) [ inl same ↦ inl (decides.0 same) | inr other ↦ inr (λ e. true≢false (sym (decides.1 e) ∙ other)) ]
-
-same_some : {A : Type 0} (x y : A) → ◌≡◌ {A = Option A} (Some x) (Some y) → x ≡ y
-same_some x y e = cc
-
-pub some-told : {A : Type 0} → ((x y : A) → IsTold (x ≡ y)) → (o : Option A) (x : A) → IsTold (o ≡ Some x)
-some-told told None x = inr (λ e. absurd cc)
-some-told told (Some y) x = elim (told y x) [ inl same ↦ inl (ap (λ z. Some z) same) | inr other ↦ inr (λ e. other (same_some y x e)) ]
 
 pub lists-told : {A : Type 0} → ((x y : A) → IsTold (x ≡ y)) → (xs ys : List A) → IsTold (xs ≡ ys)
 lists-told told [] [] = inl refl
@@ -71,20 +58,6 @@ lists-told told (x ∷ xs) (y ∷ ys) =
 pub all-told : {A : Type 0} (P : A → Type 0) → ((x : A) → IsTold (P x)) → (xs : List A) → IsTold (AllByRecursion P xs)
 all-told P told [] = inl tt
 all-told P told (x ∷ xs) = both-told (told x) (all-told P told xs)
-
-pub utf8-told : (bytes : List ℕ) → IsTold (IsUtf8 bytes)
-utf8-told bytes =
-    elim (cases_Bool (is_utf8 bytes)) [
-      | inl yes_utf8 ↦ inl (IsUtf8-from_is_utf8 bytes yes_utf8)
-      | inr no_utf8 ↦ inr (λ h. true≢false (sym (is_utf8-from_IsUtf8 bytes h) ∙ no_utf8))
-    ]
-
-pub value-told : (text : List ℕ) → IsTold (IsValue text)
-value-told text =
-    elim (both-told (utf8-told text) (le-told (length text) longest_value)) [
-      | inl h ↦ inl (record { utf8 = h.0; limit = h.1 })
-      | inr bad ↦ inr (λ v. bad (v.utf8, v.limit))
-    ]
 
 -- some name is spelled by a text, or none is
 pub spelled-told : (text : List ℕ) → IsFound (Spells text)
@@ -105,10 +78,10 @@ part-told part =
       | inr bad ↦ inr (λ p. bad (p.utf8, (p.no_nul, p.canonical)))
     ]
   where
-    canonical-told : IsTold (is_array_like part ≡ true → canonical_part part ≡ Some part)
+    canonical-told : IsTold (is_array_like part ≡ true → is_canonical part ≡ true)
     canonical-told =
         elim (true-told (is_array_like part)) [
-          | inl like ↦ elim (some-told bytes-told (canonical_part part) part) [ inl same ↦ inl (λ _. same) | inr other ↦ inr (λ h. other (h like)) ]
+          | inl like ↦ elim (true-told (is_canonical part)) [ inl canonical ↦ inl (λ _. canonical) | inr other ↦ inr (λ h. other (h like)) ]
           | inr unlike ↦ inl (λ like. absurd (unlike like))
         ]
 
