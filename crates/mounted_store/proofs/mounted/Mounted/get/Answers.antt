@@ -9,7 +9,6 @@ use Rattle.mounted_store.specs.Files.{points_of}
 use Rattle.mounted_store.specs.Getting.{fault_in, got, involved_files, visible_keys, visible_of}
 use Rattle.mounted_store.specs.declared.files.MountedFile.{MountedFile}
 use Rattle.general_words.proofs.Lists.{at_place}
-use Rattle.mounted_store.proofs.FirstLemmas.{at_place}
 use Rattle.mounted_store.proofs.SeenLemmas.{points-are}
 use Rattle.mounted_store.proofs.GetLemmas.{err-gets, fault-found, fault-more, files-all, files-same, gets-fault, got-good, none-at, number-at, visible-more}
 use Rattle.mounted_store.proofs.mounted.Mounted.get.Goals as goal
