@@ -1,3 +1,4 @@
+pub mod FileNameLemmas
 pub mod Fronts
 pub mod Moments
 pub mod SteadyBytes
