@@ -1,45 +1,18 @@
 -- The tests of a name say what a file's name is, and that names ascend.
-use Rattle.std.proofs.Common.{◌≡◌, ℕ, ◌<◌, ◌≤◌, true, false, not, eqb, leb, List, [], ◌∷◌, length, slice_index, slice_index_or, IsAscii, IsUtf8, Option, Some, None, Result, Ok, Err, IfOk, SomeIff, refl, sym, ap, subst, ◌∙◌, arith, inl, inr}
-use Rattle.std.specs.List.{list_all, AllByRecursion}
+use Rattle.std.proofs.Common.{◌≡◌, ℕ, ◌<◌, ◌≤◌, true, false, not, eqb, leb, List, [], ◌∷◌, length, slice_index, IsAscii, IsUtf8, Option, Some, None, Result, Ok, Err, IfOk, SomeIff, refl, sym, ap, subst, ◌∙◌, arith, inl, inr}
+use Rattle.std.specs.List.{AllByRecursion}
 use Rattle.std.specs.List.Sorted.{IsStrictlySortedBy}
 use Rattle.std.specs.Ordering.{nat_cmp, is_lt}
 use Rattle.std.specs.declared.cmp.Ordering.{Ordering}
 use Rattle.std.specs.declared.cmp.Ordering.TheVariants.{Less, Equal, Greater}
 use Rattle.std.specs.Cmp.Lexicographic.{slice_cmp, nat_list_cmp_total}
-use Rattle.std.proofs.lemmas.Bool.{true≢false, cases_lt, eqb-false, ne_eqb, leb-true, le-leb, and_parts, and_from, not-true, not_from_false}
+use Rattle.std.proofs.lemmas.Bool.{true≢false, cases_lt, and_parts, and_from, not-true, not_from_false}
 use Rattle.std.proofs.lemmas.List.{get_or_past}
 use Rattle.std.proofs.lemmas.Str.{IsUtf8-from_ascii}
-use Rattle.std.proofs.lemmas.List.Sums.{AllPass-from_list_all, list_all-from_AllPass}
-use Rattle.kdb_outside.specs.FileName.{IsNameByte, IsFileName, dot}
+use Rattle.kdb_outside.specs.FileName.{IsNameByte, IsFileName, is_file_name}
+use Rattle.kdb_outside.proofs.FileNameLemmas.{is_file_name-Decides}
 use Rattle.journal_codec.specs.Entry.{begins_with_journal}
-use Rattle.journal_codec.specs.Reading.{is_name_byte, is_file_name, is_next_name}
-
-name_byte_is : (b : ℕ) → is_name_byte b ≡ true → IsNameByte b
-name_byte_is b e = grind arith
-
-name_byte_from : (b : ℕ) → IsNameByte b → is_name_byte b ≡ true
-name_byte_from b h = grind arith
-
--- the test of a file's name
-pub file_name_is : (name : List ℕ) → is_file_name name ≡ true → IsFileName name
-file_name_is name e =
-    let some = and_parts (leb 1 (length name)) _ e in
-    let short = and_parts (leb (length name) 100) _ some.1 in
-    let plain = and_parts (list_all is_name_byte name) _ short.1 in
-    let passes = AllPass-from_list_all is_name_byte name plain.0 in
-    record {
-      not_empty = leb-true 1 (length name) some.0;
-      not_long = leb-true (length name) 100 short.0;
-      plain = λ k d lt. name_byte_is (slice_index_or name k d) (passes k d lt);
-      not_hidden = λ is. eqb-false (slice_index name 0) dot (not-true _ plain.1) is;
-    }
-
-pub file_name_from : (name : List ℕ) → IsFileName name → is_file_name name ≡ true
-file_name_from name h =
-    let passes = list_all-from_AllPass is_name_byte name (λ k d lt. name_byte_from (slice_index_or name k d) (h.plain k d lt)) in
-    let open_name = not_from_false (eqb (slice_index name 0) dot) (ne_eqb (slice_index name 0) dot h.not_hidden) in
-    and_from _ _ (le-leb 1 (length name) h.not_empty)
-    (and_from _ _ (le-leb (length name) 100 h.not_long) (and_from _ _ passes open_name))
+use Rattle.journal_codec.specs.Reading.{is_next_name}
 
 is_less : (o : Ordering) → is_lt o ≡ true → o ≡ Less
 is_less Less e = refl
@@ -57,14 +30,14 @@ next_name_is previous name e =
     let named = and_parts (is_file_name name) _ e in
     let own = and_parts (not (begins_with_journal name)) _ named.1 in
     record {
-      is_name = file_name_is name named.0;
+      is_name = (is_file_name-Decides name).0 named.0;
       not_journal = not-true (begins_with_journal name) own.0;
       above = is_less (slice_cmp nat_cmp previous name) own.1;
     }
 
 pub next_name_from : (previous name : List ℕ) → IsNext previous name → is_next_name previous name ≡ true
 next_name_from previous name h =
-    and_from _ _ (file_name_from name h.is_name)
+    and_from _ _ ((is_file_name-Decides name).1 h.is_name)
     (and_from _ _ (not_from_false (begins_with_journal name) h.not_journal) (ap is_lt h.above))
 
 -- a name is refused where it is the journal's, not above the one before it, or no text at all

@@ -1,11 +1,9 @@
 -- Reading the body of an entry from left to right, up to the first field that is missing, cut or against a rule.
 -- This project's own.
-use Rattle.std.specs.Prelude.{ℕ, zero, suc, ◌-◌, Bool, ◌&&◌, not, List, [], ◌∷◌, length, take, drop, slice_index, Result, Ok, Err, nat_le, ◌==◌, ◌||◌, if◌then◌else◌}
-use Rattle.std.specs.Char.{is_ascii_alphanumeric}
-use Rattle.std.specs.List.{list_all}
+use Rattle.std.specs.Prelude.{ℕ, zero, suc, ◌-◌, Bool, ◌&&◌, not, List, [], ◌∷◌, length, take, drop, Result, Ok, Err, nat_le, ◌==◌, if◌then◌else◌}
 use Rattle.std.specs.Ordering.{nat_cmp, is_lt}
 use Rattle.std.specs.Cmp.Lexicographic.{slice_cmp}
-use Rattle.kdb_outside.specs.FileName.{dot, underscore, hyphen}
+use Rattle.kdb_outside.specs.FileName.{is_file_name}
 use Rattle.journal_codec.specs.declared.files.FileText.{FileText}
 use Rattle.journal_codec.specs.Entry.{number_of, most_files, longest_content, begins_with_journal}
 
@@ -50,14 +48,6 @@ unfoldable pub count_at : List ℕ → Field ℕ
 count_at body = do
   count ← byte_at body
   checked (is_count count.0) body count
-
--- an ASCII letter, a digit, `.`, `_` or `-`
-abbrev pub is_name_byte : ℕ → Bool
-is_name_byte b = is_ascii_alphanumeric b || ((b == dot) || ((b == underscore) || (b == hyphen)))
-
--- 1 to 100 such bytes, and no `.` first
-abbrev pub is_file_name : List ℕ → Bool
-is_file_name name = nat_le 1 (length name) && (nat_le (length name) 100 && (list_all is_name_byte name && not (slice_index name 0 == dot)))
 
 -- a file's name that isn't the journal's, and is above the name before it
 abbrev pub is_next_name : List ℕ → List ℕ → Bool

@@ -1,4 +1,5 @@
 pub mod Frames
+pub mod FileNameLemmas
 pub mod Fronts
 pub mod Moments
 pub mod SteadyBytes

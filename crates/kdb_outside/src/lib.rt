@@ -33,7 +33,7 @@ pub use laws::{
 };
 pub use mem_sinks::MemSink;
 pub use mem_sources::{MemSource, SureSource};
-pub use names::FileName;
+pub use names::{FileName, the_test_of_file_names_decides};
 pub use readers::ReaderSource;
 pub use sinks::Sink;
 pub use sources::Source;

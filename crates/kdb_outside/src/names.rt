@@ -1,9 +1,10 @@
 //! Names of files in a store's folder.
 ghost use Rattle.std.specs.Prelude.{◌≡◌, ◌↔◌, ℕ, List, nat_eq, string_bytes, IsTrue, IfOk, OnErr, SomeIff, Some, refl};
+ghost use Rattle.std.specs.Bool.{Decides};
 ghost use Rattle.std.specs.Ordering.{nat_cmp};
 ghost use Rattle.std.specs.Cmp.{partial_equiv_from_equiv};
 ghost use Rattle.std.specs.Cmp.Lexicographic.{pointwise, slice_cmp, nat_list_eq_equiv, nat_list_cmp_total, texts_ties, texts_po};
-ghost use Rattle.kdb_outside.specs.FileName.{IsNameByte, IsFileName};
+ghost use Rattle.kdb_outside.specs.FileName.{IsNameByte, IsFileName, is_file_name};
 
 use crate::Memory;
 use std::alloc::Global;
@@ -91,6 +92,11 @@ impl Ord for FileName {
         self.text.cmp(&other.text)
     }
 }
+
+/// The test of files' names tells just the texts that are such names.
+pub fn the_test_of_file_names_decides()
+    ensures { (bytes : List ℕ) → Decides (is_file_name bytes) (IsFileName bytes) }
+{}
 
 fn is_file_name(bytes: &[u8]) -> bool
     ensures { IsTrue result ↔ IsFileName bytes.now }

@@ -1,6 +1,7 @@
 pub mod OrderLemmas
 pub mod SpellsLemmas
 pub mod RefusesLemmas
+pub mod RawCutLemmas
 pub mod BelowOrder
 pub mod EscapeLemmas
 pub mod ArrayLemmas

@@ -10,3 +10,4 @@ pub mod Glob
 pub mod Refuses
 pub mod NameOf
 pub mod Namespaces
+pub mod RawCuts

@@ -1,8 +1,9 @@
 //! The laws of names that everything above stands on.
-ghost use Rattle.std.specs.Prelude.{◌≡◌, ◌≤◌, List, ℕ, None, Some, true};
+ghost use Rattle.std.specs.Prelude.{◌≡◌, ◌≤◌, ◌∷◌, List, ℕ, None, Some, true};
 ghost use Rattle.std.specs.Bool.{Decides};
 ghost use Rattle.std.specs.Cmp.{IsTotalOrder};
 ghost use Rattle.std.specs.FinMap.{IsAntisymmetric};
+ghost use Rattle.std.specs.List.{flat_map};
 ghost use Rattle.std.specs.Str.{IsUtf8};
 ghost use Rattle.model_names.specs.declared.namespaces.Namespace.TheVariants.{Cascading};
 ghost use Rattle.model_names.specs.ArrayPart.{IsArrayPart, array_part, last_index};
@@ -10,6 +11,8 @@ ghost use Rattle.model_names.specs.Below.{IsBelowOrSame, is_at_or_below};
 ghost use Rattle.model_names.specs.Name.{Name};
 ghost use Rattle.model_names.specs.NameOf.{name_of};
 ghost use Rattle.model_names.specs.Order.{name_cmp};
+ghost use Rattle.model_names.specs.RawCuts.{AreCut};
+ghost use Rattle.model_names.specs.RawParts.{raw_parts};
 ghost use Rattle.model_names.specs.Refuses.{Refusal, begins_with_slash, refusal_of};
 ghost use Rattle.model_names.specs.Spelling.{spelling};
 ghost use Rattle.model_names.specs.Spells.{Spells};
@@ -35,6 +38,13 @@ pub fn the_name_of_a_text_is_the_one_it_spells()
     ensures spelled { (text : List ℕ) (name : Name) → Spells text name → name_of text ≡ Some name }
     ensures given { (text : List ℕ) (name : Name) → name_of text ≡ Some name → Spells text name }
     ensures refused { (text : List ℕ) (refusal : Refusal) → refusal_of text ≡ Some refusal → name_of text ≡ None }
+{}
+
+/// The raw parts of a text, each behind a slash, are the text behind its first slash. None of them has a bare slash, and
+/// each slash between two of them is bare.
+pub fn raw_parts_are_cut_at_bare_slashes()
+    ensures joined { (bytes : List ℕ) → flat_map (λ raw. 47 ∷ raw) (raw_parts bytes) ≡ 47 ∷ bytes }
+    ensures cut { (bytes : List ℕ) → AreCut (raw_parts bytes) }
 {}
 
 /// The canonical spelling of a well-formed name spells it.

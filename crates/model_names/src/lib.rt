@@ -15,7 +15,8 @@ pub use laws::{
     a_canonical_spelling_spells_its_name, a_slash_in_front_means_cascading,
     a_spelled_text_has_no_refusal, a_text_without_refusal_spells_a_name,
     an_array_part_is_that_of_an_index, one_name_ties_with_itself_alone, one_spelling_one_name,
-    one_text_spells_one_name, order_is_total, the_name_of_a_text_is_the_one_it_spells,
-    the_test_of_names_at_or_below_decides, what_a_text_spells_is_well_formed,
+    one_text_spells_one_name, order_is_total, raw_parts_are_cut_at_bare_slashes,
+    the_name_of_a_text_is_the_one_it_spells, the_test_of_names_at_or_below_decides,
+    what_a_text_spells_is_well_formed,
 };
 pub use namespaces::Namespace;

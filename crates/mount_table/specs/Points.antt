@@ -1,8 +1,7 @@
 -- Which texts of entries are mountpoints, and which texts name their files. (This project's own.)
-use Rattle.std.specs.Prelude.{ℕ, nat_le, Bool, not, ◌&&◌, ◌||◌, ◌==◌, if◌then◌else◌, List, [], ◌∷◌, length, slice_index, nat_eq, Option, Some, None, option_and_then, codes}
-use Rattle.std.specs.Char.{is_ascii_alphanumeric}
-use Rattle.std.specs.List.{starts_with, list_all}
-use Rattle.kdb_outside.specs.FileName.{dot, underscore, hyphen}
+use Rattle.std.specs.Prelude.{ℕ, nat_le, Bool, not, ◌&&◌, if◌then◌else◌, List, [], ◌∷◌, length, nat_eq, Option, Some, None, option_and_then, codes}
+use Rattle.std.specs.List.{starts_with}
+use Rattle.kdb_outside.specs.FileName.{is_file_name}
 use Rattle.model_names.specs.declared.namespaces.Namespace.TheVariants.{System}
 use Rattle.model_names.specs.Below.{is_at_or_below}
 use Rattle.model_names.specs.Name.{Name}
@@ -29,14 +28,6 @@ is_point text name =
 -- the mountpoint that an entry's text is
 abbrev pub point_of : List ℕ → Option Name
 point_of text = option_and_then (λ name. if is_point text name then Some name else None) (name_of text)
-
--- an ASCII letter, a digit, `.`, `_` or `-`
-abbrev pub is_file_byte : ℕ → Bool
-is_file_byte b = is_ascii_alphanumeric b || ((b == dot) || ((b == underscore) || (b == hyphen)))
-
--- 1 to 100 such bytes, and no `.` first
-abbrev pub is_file_name : List ℕ → Bool
-is_file_name bytes = nat_le 1 (length bytes) && (nat_le (length bytes) 100 && (list_all is_file_byte bytes && not (slice_index bytes 0 == dot)))
 
 -- the file that a text names; a name that begins with `journal` is no mount's
 abbrev pub file_of : List ℕ → Option (List ℕ)
