@@ -1,12 +1,12 @@
 -- What the number of a crash chooses counts among what a crash may leave. This project's own.
-use Rattle.std.proofs.Common.{◌≡◌, ◌⊎◌, inl, inr, ℕ, zero, suc, ◌+◌, ◌-◌, ◌*◌, ◌%◌, ◌<◌, ◌≤◌, min, max, Bool, true, false, cond, List, [], ◌∷◌, ◌++◌, length, take, drop, replicate, None, Some, slice_get, slice_index_or, nat_le, bytes_eq, refl, sym, ap, ◌∙◌, subst, arith, length-take, length-drop, length-append, append-nil}
-use Rattle.std.proofs.lemmas.List.{take_at, take_all, take-take, drop-drop, length-replicate}
+use Rattle.std.proofs.Common.{◌≡◌, ◌⊎◌, inl, inr, ℕ, zero, suc, ◌+◌, ◌-◌, ◌%◌, ◌<◌, ◌≤◌, Bool, true, false, cond, List, [], ◌∷◌, ◌++◌, length, take, drop, replicate, None, Some, slice_get, slice_index_or, get_or, nat_le, bytes_eq, refl, sym, ap, ◌∙◌, arith, length-take, length-append, append-nil}
+use Rattle.std.proofs.lemmas.List.{take_at, take_more, take-take, drop-drop, length-replicate}
 use Rattle.std.proofs.lemmas.Bool.{cond-true, leb-true, le-leb}
 use Rattle.std.proofs.lemmas.Bool.Decides.{leb_tells, nat_tests}
 use Rattle.kdb_outside.specs.Files.{written}
 use Rattle.kdb_outside.specs.Images.{IsTornWrite, IsTornCut}
 use Rattle.kdb_outside.proofs.SteadyBytes.{slice_get-take, slice_get-drop, same_behind}
-use Rattle.kdb_outside.proofs.TornLemmas.{length-written, slice_get-written, IsTornWrite-whole, IsTornWrite-none, IsTornCut-whole, IsTornCut-none}
+use Rattle.kdb_outside.proofs.TornLemmas.{slice_get-written, IsTornWrite-whole, IsTornWrite-none, IsTornCut-whole, IsTornCut-none}
 use Rattle.disk_memory.specs.declared.changes.Change.{Change}
 use Rattle.disk_memory.specs.declared.changes.Step.{Step}
 use Rattle.disk_memory.specs.declared.changes.Step.TheVariants.{Wrote, Cut, Synced}
@@ -211,6 +211,17 @@ torn_bytes-push choice place next former (first ∷ bytes) byte is =
     ap (λ torn. torn_byte (drawn choice place) (slice_index_or former 0 0) first ∷ torn)
     (torn_bytes-push choice (place + 1) next (drop 1 former) bytes byte (omega arith)
     ∙ ap (λ x. torn_bytes choice (place + 1) (drop 1 former) bytes ++ torn_byte (drawn choice next) x byte ∷ []) (later_byte former (length bytes)))
+
+-- the bytes so far, and one more
+pub torn_bytes-more : (choice : Choice) (place : ℕ) (former bytes so_far next : List ℕ) (i value : ℕ) → i < length bytes → next ≡ so_far ++ value ∷ [] → so_far ≡ torn_bytes choice place former (take i bytes)
+    → value ≡ torn_byte (drawn choice (place + i)) (slice_index_or former i 0) (get_or bytes i 0) → next ≡ torn_bytes choice place former (take (i + 1) bytes)
+torn_bytes-more choice place former bytes so_far next i value within pushed torn is =
+    let count : length (take i bytes) ≡ i = omega (arith, length-take i bytes) in
+    let byte = get_or bytes i 0 in
+    pushed ∙ ap (λ l. l ++ value ∷ []) torn
+    ∙ ap (λ v. torn_bytes choice place former (take i bytes) ++ v ∷ []) (is ∙ ap (λ k. torn_byte (drawn choice (place + i)) (slice_index_or former k 0) byte) (sym count))
+    ∙ sym (torn_bytes-push choice place (place + i) former (take i bytes) byte (omega (arith, count)))
+    ∙ ap (torn_bytes choice place former) (sym (take_more bytes i 0 within))
 
 -- what is left of a write that begins within the content
 pub left_of_write-within : (choice : Choice) (at : ℕ) (bytes content : List ℕ) (w : Way) → at ≤ length content → w ≡ way choice → write_by_way w choice at bytes content ≡ left_of_write choice at bytes content

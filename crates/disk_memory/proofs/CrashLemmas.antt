@@ -1,5 +1,5 @@
 -- How far a crash has gone along the changes of a disk in memory. This project's own.
-use Rattle.std.proofs.Common.{◌≡◌, ℕ, ◌+◌, Bool, true, false, cond, List, [], ◌∷◌, ◌++◌, length, bytes_eq, refl, sym, ap, ◌∙◌, arith}
+use Rattle.std.proofs.Common.{◌≡◌, ℕ, List, [], ◌∷◌, ◌++◌, length, sym, ap, ◌∙◌, arith}
 use Rattle.std.proofs.lemmas.Bool.{cond-true, cond-false}
 use Rattle.kdb_outside.specs.Files.{ChangesTo}
 use Rattle.disk_memory.specs.declared.changes.Change.{Change}

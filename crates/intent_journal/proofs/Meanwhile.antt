@@ -2,6 +2,7 @@
 use Rattle.std.proofs.Common.{ℕ, ◌≤◌, List, inl, inr, Result, Ok, Err, OnOk, OnErr, subst, sym, arith}
 use Rattle.kdb_outside.specs.declared.faults.Failed.{Failed}
 use Rattle.kdb_outside.specs.Images.{Image, IsImage, Only, KeepsImages, KeepsOtherImages, Touches, Elapses}
+use Rattle.kdb_outside.proofs.Frames.{KeepsOtherImages-then}
 use Rattle.intent_journal.specs.Moments.{LeavesElseOnly, LeavesMeanwhile, IsStepOf, KeepsElse}
 
 -- one call on a disk
@@ -49,13 +50,6 @@ pub step_of : (file : List ℕ) (Step : List ℕ → List ℕ → Type 0) (old n
 step_of file Step old new touches image is = record {
   this = touches.this (image file) (is file);
   others = λ other ne. (touches.others other ne).no_more (image other) (is other);
-}
-
--- what a crash leaves of the other files, call by call
-pub KeepsOtherImages-then : (file : List ℕ) (old mid new : List ℕ → List ℕ → Type 0) → KeepsOtherImages file old mid → KeepsOtherImages file mid new → KeepsOtherImages file old new
-KeepsOtherImages-then file old mid new first second other ne = record {
-  no_more = λ c now. (first other ne).no_more c ((second other ne).no_more c now);
-  no_fewer = λ c was. (second other ne).no_fewer c ((first other ne).no_fewer c was);
 }
 
 -- an image behind calls on one file

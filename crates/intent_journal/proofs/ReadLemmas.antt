@@ -1,5 +1,5 @@
 -- What reads leave alone.
-use Rattle.std.proofs.Common.{ℕ, ◌≤◌, List}
+use Rattle.std.proofs.Common.{ℕ, List}
 use Rattle.kdb_outside.specs.Images.{Image, IsImage, KeepsImages, Elapses}
 use Rattle.intent_journal.specs.Moments.{LeavesElseOnly}
 use Rattle.intent_journal.proofs.Meanwhile.{else_first}

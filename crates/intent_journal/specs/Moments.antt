@@ -1,5 +1,6 @@
 -- What a crash might have left while a call went on. This project's own.
 use Rattle.std.specs.Prelude.{◌≡◌, ◌≢◌, ◌⊎◌, ℕ, ◌≤◌, List, None}
+use Rattle.kdb_outside.specs.declared.disks.Disk.{Ghosts}
 use Rattle.kdb_outside.specs.Images.{Image, IsImage}
 use Rattle.kdb_outside.specs.Crashes.{EverySince}
 use Rattle.journal_codec.specs.declared.files.FileText.{FileText}
@@ -13,6 +14,13 @@ LeavesElseOnly before past since Property = (moment : ℕ) (image : Image) → m
 pub record LeavesMeanwhile (before : ℕ) (past since : ℕ → Image → Type 0) (Property : Image → Type 0) : Type 0 where
   pub each : EverySince since before Property
   pub earlier : LeavesElseOnly before past since Property
+
+-- both of them, for a call that found a disk and left it
+abbrev pub AddsOnly : {D : Type 0} → Ghosts D → D → D → (Image → Type 0) → Type 0
+AddsOnly g old new Property = LeavesElseOnly (g.moment old) (g.left_since old) (g.left_since new) Property
+
+abbrev pub LeavesOnly : {D : Type 0} → Ghosts D → D → D → (Image → Type 0) → Type 0
+LeavesOnly g old new Property = LeavesMeanwhile (g.moment old) (g.left_since old) (g.left_since new) Property
 
 -- an image that a crash might have left before, or one with this property
 abbrev pub IsImageOr : (List ℕ → List ℕ → Type 0) → (Image → Type 0) → Image → Type 0

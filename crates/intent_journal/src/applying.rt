@@ -6,7 +6,7 @@ ghost use Rattle.kdb_outside.specs.Images.{Only, KeepsImagesOf, KeepsOtherImages
 ghost use Rattle.journal_codec.specs.Entry.{IsEntry};
 ghost use Rattle.intent_journal.specs.Outcomes.{content_in};
 ghost use Rattle.intent_journal.specs.States.{HasAppliedAll};
-ghost use Rattle.intent_journal.specs.Moments.{LeavesElseOnly, KeepsElse, KeepsUnnamed};
+ghost use Rattle.intent_journal.specs.Moments.{AddsOnly, KeepsElse, KeepsUnnamed};
 
 use journal_codec::FileText;
 use kdb_outside::{Disk, Failed};
@@ -15,8 +15,7 @@ use kdb_outside::{Disk, Failed};
 pub(crate) fn put_file<D: Disk>(disk: &mut D, text: &FileText) -> Result<(), Failed>
     ensures durable { D.tells disk.old ≡ true → OnOk result (Only text.now.bytes (D.may_leave disk.new text.now.file)) }
     ensures others { D.tells disk.old ≡ true → KeepsOtherImages text.now.file (D.may_leave disk.old) (D.may_leave disk.new) }
-    ensures time { D.tells disk.old ≡ true → LeavesElseOnly (D.moment disk.old) (D.left_since disk.old) (D.left_since disk.new)
-        (KeepsElse text.now.file (D.may_leave disk.old)) }
+    ensures time { D.tells disk.old ≡ true → AddsOnly D.Disk disk.old disk.new (KeepsElse text.now.file (D.may_leave disk.old)) }
     ensures goes { GoesOn D.Disk disk.old disk.new }
     ensures cause { HasCause (D.faults disk.old) (D.faults disk.new) result }
 {
@@ -32,8 +31,7 @@ pub(crate) fn put_files<D: Disk>(disk: &mut D, entry: &[FileText]) -> Result<(),
     ensures durable { D.tells disk.old ≡ true → OnOk result (HasAppliedAll (D.may_leave disk.new) entry.now) }
     ensures others { D.tells disk.old ≡ true → (other : List ℕ) → content_in entry.now other ≡ None
         → KeepsImagesOf other (D.may_leave disk.old) (D.may_leave disk.new) }
-    ensures time { D.tells disk.old ≡ true → LeavesElseOnly (D.moment disk.old) (D.left_since disk.old) (D.left_since disk.new)
-        (KeepsUnnamed entry.now (D.may_leave disk.old)) }
+    ensures time { D.tells disk.old ≡ true → AddsOnly D.Disk disk.old disk.new (KeepsUnnamed entry.now (D.may_leave disk.old)) }
     ensures goes { GoesOn D.Disk disk.old disk.new }
     ensures cause { HasCause (D.faults disk.old) (D.faults disk.new) result }
 {

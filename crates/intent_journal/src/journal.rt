@@ -9,7 +9,7 @@ ghost use Rattle.journal_codec.specs.declared.files.FileText.{FileText as Item};
 ghost use Rattle.journal_codec.specs.Entry.{IsEntry, journal_name, length_bytes, spelled};
 ghost use Rattle.intent_journal.specs.Outcomes.{with_entry, HasOnly, IsOutcome, IsEither};
 ghost use Rattle.intent_journal.specs.States.{IsSettled, IsDoubtful, IsLagging, HasBody, IsFound, HasApplied, HasAppliedAll};
-ghost use Rattle.intent_journal.specs.Moments.{LeavesElseOnly, LeavesMeanwhile, IsImageOr, IsStepOf};
+ghost use Rattle.intent_journal.specs.Moments.{AddsOnly, LeavesOnly, IsImageOr, IsStepOf};
 
 mod opening;
 
@@ -88,8 +88,7 @@ impl<D: Disk> Journal<D> {
         ensures settled { D.tells self.old.disk ≡ true → self.old.found ≡ true → (files : Image) → IsFound (D.may_leave self.old.disk) files self.old.entry
             → OnOk result (IsSettled (D.may_leave self.new.disk) (with_entry files self.old.entry)) }
         ensures any_moment { D.tells self.old.disk ≡ true → self.old.found ≡ true → (files : Image) → IsFound (D.may_leave self.old.disk) files self.old.entry
-            → LeavesElseOnly (D.moment self.old.disk) (D.left_since self.old.disk) (D.left_since self.new.disk)
-            (IsImageOr (D.may_leave self.old.disk) (HasOnly (IsOutcome (with_entry files self.old.entry)))) }
+            → AddsOnly D.Disk self.old.disk self.new.disk (IsImageOr (D.may_leave self.old.disk) (HasOnly (IsOutcome (with_entry files self.old.entry)))) }
         ensures goes { GoesOn D.Disk self.old.disk self.new.disk }
         ensures cause { HasCause (D.faults self.old.disk) (D.faults self.new.disk) result }
     {
@@ -115,7 +114,7 @@ impl<D: Disk> Journal<D> {
         ensures doubtful { D.tells self.old.disk ≡ true → (files : Image) (doubt : Option (List Item)) → IsDoubtful (D.may_leave self.old.disk) files doubt
             → OnErr result (IsDoubtful (D.may_leave self.new.disk) files doubt) }
         ensures any_moment { D.tells self.old.disk ≡ true → (files : Image) (doubt : Option (List Item)) → IsDoubtful (D.may_leave self.old.disk) files doubt
-            → LeavesMeanwhile (D.moment self.old.disk) (D.left_since self.old.disk) (D.left_since self.new.disk) (HasOnly (IsEither files doubt)) }
+            → LeavesOnly D.Disk self.old.disk self.new.disk (HasOnly (IsEither files doubt)) }
         ensures goes { GoesOn D.Disk self.old.disk self.new.disk }
         ensures cause { HasCause (D.faults self.old.disk) (D.faults self.new.disk) result }
     {
@@ -134,7 +133,7 @@ impl<D: Disk> Journal<D> {
             → OnOk result (HasBody (D.may_leave self.new.disk) entry) }
         ensures settled { D.tells self.old.disk ≡ true → (files : Image) → IsSettled (D.may_leave self.old.disk) files → IsSettled (D.may_leave self.new.disk) files }
         ensures any_moment { D.tells self.old.disk ≡ true → (files : Image) → IsSettled (D.may_leave self.old.disk) files
-            → LeavesMeanwhile (D.moment self.old.disk) (D.left_since self.old.disk) (D.left_since self.new.disk) (HasOnly (IsOutcome files)) }
+            → LeavesOnly D.Disk self.old.disk self.new.disk (HasOnly (IsOutcome files)) }
         ensures goes { GoesOn D.Disk self.old.disk self.new.disk }
         ensures cause { HasCause (D.faults self.old.disk) (D.faults self.new.disk) result }
     {
@@ -154,7 +153,7 @@ impl<D: Disk> Journal<D> {
         ensures doubtful { D.tells self.old.disk ≡ true → (before : Image) → IsSettled (D.may_leave self.old.disk) before
             → OnErr result (IsDoubtful (D.may_leave self.new.disk) before (Some files)) }
         ensures any_moment { D.tells self.old.disk ≡ true → (before : Image) → IsSettled (D.may_leave self.old.disk) before
-            → LeavesMeanwhile (D.moment self.old.disk) (D.left_since self.old.disk) (D.left_since self.new.disk) (HasOnly (IsEither before (Some files))) }
+            → LeavesOnly D.Disk self.old.disk self.new.disk (HasOnly (IsEither before (Some files))) }
         ensures goes { GoesOn D.Disk self.old.disk self.new.disk }
         ensures cause { HasCause (D.faults self.old.disk) (D.faults self.new.disk) result }
     {
@@ -177,7 +176,7 @@ impl<D: Disk> Journal<D> {
         ensures applied { D.tells self.old.disk ≡ true → HasApplied (D.may_leave self.old.disk) self.old.entry i → OnOk result (HasApplied (D.may_leave self.new.disk) self.old.entry (i + 1)) }
         ensures lagging { D.tells self.old.disk ≡ true → (files : Image) → IsLagging (D.may_leave self.old.disk) files self.old.entry → IsLagging (D.may_leave self.new.disk) files self.old.entry }
         ensures any_moment { D.tells self.old.disk ≡ true → (files : Image) → IsLagging (D.may_leave self.old.disk) files self.old.entry
-            → LeavesMeanwhile (D.moment self.old.disk) (D.left_since self.old.disk) (D.left_since self.new.disk) (HasOnly (IsOutcome (with_entry files self.old.entry))) }
+            → LeavesOnly D.Disk self.old.disk self.new.disk (HasOnly (IsOutcome (with_entry files self.old.entry))) }
         ensures goes { GoesOn D.Disk self.old.disk self.new.disk }
         ensures cause { HasCause (D.faults self.old.disk) (D.faults self.new.disk) result }
     {
@@ -198,7 +197,7 @@ impl<D: Disk> Journal<D> {
         ensures doubtful { D.tells self.old.disk ≡ true → (files : Image) → IsLagging (D.may_leave self.old.disk) files self.old.entry
             → OnErr result (IsDoubtful (D.may_leave self.new.disk) (with_entry files self.old.entry) (Some self.old.entry)) }
         ensures any_moment { D.tells self.old.disk ≡ true → (files : Image) → IsLagging (D.may_leave self.old.disk) files self.old.entry
-            → LeavesMeanwhile (D.moment self.old.disk) (D.left_since self.old.disk) (D.left_since self.new.disk) (HasOnly (IsOutcome (with_entry files self.old.entry))) }
+            → LeavesOnly D.Disk self.old.disk self.new.disk (HasOnly (IsOutcome (with_entry files self.old.entry))) }
         ensures goes { GoesOn D.Disk self.old.disk self.new.disk }
         ensures cause { HasCause (D.faults self.old.disk) (D.faults self.new.disk) result }
     {
@@ -219,7 +218,7 @@ impl<D: Disk> Journal<D> {
         ensures doubtful { D.tells self.old.disk ≡ true → (files : Image) → IsLagging (D.may_leave self.old.disk) files self.old.entry → self.new.state ≡ State.Doubt
             → OnErr result (IsDoubtful (D.may_leave self.new.disk) (with_entry files self.old.entry) (Some self.old.entry)) }
         ensures any_moment { D.tells self.old.disk ≡ true → (files : Image) → IsLagging (D.may_leave self.old.disk) files self.old.entry
-            → LeavesMeanwhile (D.moment self.old.disk) (D.left_since self.old.disk) (D.left_since self.new.disk) (HasOnly (IsOutcome (with_entry files self.old.entry))) }
+            → LeavesOnly D.Disk self.old.disk self.new.disk (HasOnly (IsOutcome (with_entry files self.old.entry))) }
         ensures goes { GoesOn D.Disk self.old.disk self.new.disk }
         ensures cause { HasCause (D.faults self.old.disk) (D.faults self.new.disk) result }
     {
@@ -235,8 +234,7 @@ impl<D: Disk> Journal<D> {
         ensures found { self.new.found ≡ false }
         ensures durable { D.tells self.old.disk ≡ true → OnOk result (Only (written (D.seen self.old.disk journal_name) 0 (0 ∷ [])) (D.may_leave self.new.disk journal_name)) }
         ensures images { D.tells self.old.disk ≡ true → Touches journal_name (IsTornWrite 0 (0 ∷ [])) (D.may_leave self.old.disk) (D.may_leave self.new.disk) }
-        ensures time { D.tells self.old.disk ≡ true → LeavesElseOnly (D.moment self.old.disk) (D.left_since self.old.disk) (D.left_since self.new.disk)
-            (IsStepOf journal_name (IsTornWrite 0 (0 ∷ [])) (D.may_leave self.old.disk)) }
+        ensures time { D.tells self.old.disk ≡ true → AddsOnly D.Disk self.old.disk self.new.disk (IsStepOf journal_name (IsTornWrite 0 (0 ∷ [])) (D.may_leave self.old.disk)) }
         ensures goes { GoesOn D.Disk self.old.disk self.new.disk }
         ensures cause { HasCause (D.faults self.old.disk) (D.faults self.new.disk) result }
     {

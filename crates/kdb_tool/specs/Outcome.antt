@@ -1,5 +1,5 @@
 -- How a run ends: what out and err have gained, and where a fault came from. (This project's own.)
-use Rattle.std.specs.Prelude.{◌≡◌, ℕ, ◌≤◌, List, ◌++◌, length, take, Option, Some, IfSome}
+use Rattle.std.specs.Prelude.{◌≡◌, ℕ, List, ◌++◌, Option, Some, IfSome}
 use Rattle.kdb_outside.specs.Bytes.{HoldsFront}
 use Rattle.kdb_outside.specs.Faults.{HasRisen}
 use Rattle.kdb_outside.specs.SinkChange.{SinkChange as Change}

@@ -9,7 +9,7 @@ ghost use Rattle.intent_journal.specs.BadJournals.{bad_place, open_entry, opened
 ghost use Rattle.intent_journal.specs.JournalBytes.{IsOpen};
 ghost use Rattle.intent_journal.specs.Outcomes.{with_entry, HasOnly, IsOutcome, IsEither};
 ghost use Rattle.intent_journal.specs.States.{IsSettled, IsDoubtful, IsFound, IsCalm};
-ghost use Rattle.intent_journal.specs.Moments.{LeavesElseOnly, LeavesMeanwhile, IsImageOr};
+ghost use Rattle.intent_journal.specs.Moments.{AddsOnly, LeavesOnly, IsImageOr};
 ghost use Rattle.intent_journal.specs.Opened.{disk_of, fault_of};
 
 use super::Journal;
@@ -32,7 +32,7 @@ impl<D: Disk> Journal<D> {
         ensures doubtful { D.tells disk ≡ true → (files : Image) (doubt : Option (List Item)) → IsCalm (D.seen disk) (D.may_leave disk) files doubt
             → IfOk result (λ journal. IsDoubtful (D.may_leave journal.disk) (opened_files (D.seen disk)) (opened_doubt (D.seen disk))) }
         ensures any_moment { D.tells disk ≡ true → (files : Image) (doubt : Option (List Item)) → IsCalm (D.seen disk) (D.may_leave disk) files doubt
-            → LeavesMeanwhile (D.moment disk) (D.left_since disk) (D.left_since (disk_of result)) (HasOnly (IsEither files doubt)) }
+            → LeavesOnly D.Disk disk (disk_of result) (HasOnly (IsEither files doubt)) }
         ensures kept { D.tells disk ≡ true → IfErr result (λ refused. refused.fault ≢ JournalFault.DiskFault → KeepsImages (D.may_leave disk) (D.may_leave refused.disk)) }
         ensures goes { GoesOn D.Disk disk (disk_of result) }
         ensures cause { fault_of result ≡ Some JournalFault.DiskFault → HasRisen (D.faults disk) (D.faults (disk_of result)) }
@@ -53,7 +53,7 @@ impl<D: Disk> Journal<D> {
         ensures doubtful { D.tells disk ≡ true → (files : Image) (doubt : Option (List Item)) → IsCalm (D.seen disk) (D.may_leave disk) files doubt
             → IfOk result (λ journal. IsDoubtful (D.may_leave journal.disk) (opened_files (D.seen disk)) (opened_doubt (D.seen disk))) }
         ensures any_moment { D.tells disk ≡ true → (files : Image) (doubt : Option (List Item)) → IsCalm (D.seen disk) (D.may_leave disk) files doubt
-            → LeavesMeanwhile (D.moment disk) (D.left_since disk) (D.left_since (disk_of result)) (HasOnly (IsEither files doubt)) }
+            → LeavesOnly D.Disk disk (disk_of result) (HasOnly (IsEither files doubt)) }
         ensures fault { IfErr result (λ refused. refused.fault ≡ JournalFault.DiskFault) }
         ensures goes { GoesOn D.Disk disk (disk_of result) }
         ensures cause { IfErr result (λ refused. HasRisen (D.faults disk) (D.faults refused.disk)) }
@@ -86,7 +86,7 @@ impl<D: Disk> Journal<D> {
         ensures settled { D.tells disk ≡ true → (files : Image) → IsFound (D.may_leave disk) files entry
             → IfOk result (λ journal. IsSettled (D.may_leave journal.disk) (with_entry files entry)) }
         ensures any_moment { D.tells disk ≡ true → (files : Image) → IsFound (D.may_leave disk) files entry
-            → LeavesElseOnly (D.moment disk) (D.left_since disk) (D.left_since (disk_of result)) (IsImageOr (D.may_leave disk) (HasOnly (IsOutcome (with_entry files entry)))) }
+            → AddsOnly D.Disk disk (disk_of result) (IsImageOr (D.may_leave disk) (HasOnly (IsOutcome (with_entry files entry)))) }
         ensures fault { IfErr result (λ refused. refused.fault ≡ JournalFault.DiskFault) }
         ensures goes { GoesOn D.Disk disk (disk_of result) }
         ensures cause { IfErr result (λ refused. HasRisen (D.faults disk) (D.faults refused.disk)) }

@@ -53,25 +53,23 @@ fn a_crash_tears_bytes_lengths_and_cuts(rt: HostRuntime) -> Result<(), Fail> {
         name(alloc, "b.ecf")?,
         name(alloc, "c.ecf")?,
     ];
-    let rows: [(&[u8], &[u8], &[u8]); 10] = [
-        (b"abcd", b"abcd", b"abcdefgh"),
-        (b"a12XYZ", b"a12XYZ", b"ab"),
-        (b"a12XYZ", b"a\x8c2\xcf\x00\xc4", b"ab"),
-        (b"a12XYZ", b"a\xd5\xddX", b"ab\x00\x00"),
-        (b"a12XYZ", b"abcd", b"ab"),
-        (b"ab2X\xfa\x9f", b"a12\xac\x00", b"ab"),
-        (b"a1cX\x00\x00", b"ab\x15d\x00\x00", b"abcdefgh"),
-        (b"abcd", b"abcd", b"ab"),
-        (b"a1I4Y\xff", b"ab2d", b"ab"),
-        (b"a12XYZ", b"abcd", b"ab"),
+    let rows: [(u64, &[u8], &[u8], &[u8]); 10] = [
+        (0, b"abcd", b"abcd", b"abcdefgh"),
+        (1, b"a12XYZ", b"a12XYZ", b"ab"),
+        (2, b"a12XYZ", b"a\x8c2\xcf\x00\xc4", b"ab"),
+        (3, b"a12XYZ", b"a\xd5\xddX", b"ab\x00\x00"),
+        (4, b"a12XYZ", b"abcd", b"ab"),
+        (5, b"ab2X\xfa\x9f", b"a12\xac\x00", b"ab"),
+        (6, b"a1cX\x00\x00", b"ab\x15d\x00\x00", b"abcdefgh"),
+        (7, b"abcd", b"abcd", b"ab"),
+        (8, b"a1I4Y\xff", b"ab2d", b"ab"),
+        (9, b"a12XYZ", b"abcd", b"ab"),
     ];
-    let mut choice = 0;
-    for (first, second, third) in rows {
+    for (choice, first, second, third) in rows {
         let disk = written_disk(alloc, &files)?.crash(choice)?;
         assert_eq!(rt; disk.bytes(&files[0]), first, "{choice}");
         assert_eq!(rt; disk.bytes(&files[1]), second, "{choice}");
         assert_eq!(rt; disk.bytes(&files[2]), third, "{choice}");
-        choice += 1;
     }
     Ok(())
 }

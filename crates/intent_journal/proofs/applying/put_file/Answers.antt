@@ -1,6 +1,7 @@
 use Rattle.std.proofs.Common.{◌∙◌, arith}
+use Rattle.kdb_outside.proofs.Frames.{KeepsOtherImages-then}
 use Rattle.intent_journal.specs.Moments.{KeepsElse}
-use Rattle.intent_journal.proofs.Meanwhile.{else_first, else_then, else_kept, KeepsOtherImages-then}
+use Rattle.intent_journal.proofs.Meanwhile.{else_first, else_then, else_kept}
 use Rattle.intent_journal.proofs.applying.put_file.Goals as goal
 
 pub returns-in_err-write_at-clause-time : goal.returns-in_err-write_at-clause-time
