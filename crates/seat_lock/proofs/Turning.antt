@@ -16,7 +16,7 @@ use Rattle.seat_lock.specs.Boards.{CanGain, IsShut}
 use Rattle.seat_lock.specs.Story.{made_by, HasNoMaker}
 use Rattle.seat_lock.proofs.Sums.{total-set, total-append, total-cut, total-one, total-two, total-none, total-below}
 use Rattle.seat_lock.proofs.Prefixes.{prefix-self, prefix-none, prefix-more, longer-begins, longer-whole}
-use Rattle.seat_lock.proofs.Entries.{made-append, owns-append, owns-take, owns-drop, owns-gained, owns-others, times-gained, length-gained, made-by-nobody, made-by-none, owns-numbers}
+use Rattle.seat_lock.proofs.Entries.{made-append, within-log, owns-append, owns-take, owns-drop, owns-gained, owns-others, times-gained, length-gained, made-by-nobody, made-by-none, owns-numbers}
 use Rattle.seat_lock.proofs.Numbers.{length-numbers, times-single, times-below, times-above}
 use Rattle.seat_lock.proofs.Keeping.{mod-next, words-turn, words-drawn, ticket-here, ticket-there, out-later, out-next, each-set, each-snoc, numbers-stay, tickets-stay, slot-stays, calm, taken, closing}
 
@@ -78,7 +78,7 @@ module _ {E V : Type 0} (maker : E → ℕ) (stands : V → List E → Type 0) (
   words-same : (s : Board) (k : Rule s) → slice_set s.words 0 (slice_index s.words 0) ≡ k.turn % 2 ^ 64 ∷ k.drawn % 2 ^ 64 ∷ []
   words-same s k = words-turn s.words _ _ (λ n. n) k.words
 
-  pub compares : (id : ℕ) (me : Me (Option V) (View E)) (slots : ℕ) → Allows Rule slots id me 0 (λ n. n) (Compares (step slots 0 0 0 none) me)
+  pub compares : (id : ℕ) (me : Me (Option V) (View E)) (slots : ℕ) → Allows Rule slots id me 0 (λ n. n) (Compares maker (step slots 0 0 0 none) me)
   compares id me slots s k deep at below =
       let v = me.0 in
       let w = compared v in
@@ -97,7 +97,7 @@ module _ {E V : Type 0} (maker : E → ℕ) (stands : V → List E → Type 0) (
               holder = (λ holds. let held = fits.holder holds in
                   (held.0, longer-whole v.seen v.beside k.log held.1 fits.beside));
             },
-        (refl, both.first, both.second),
+        (refl, both.first, both.second, within-log maker w.seen k.log v.mine both.whole fits.own),
       )
 
   -- the seat's turn has come: it takes the value

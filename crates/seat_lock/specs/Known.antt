@@ -17,9 +17,11 @@ pub record Place (E : Type 0) : Type 0 where
   pub start : List E
 
 module _ {E : Type 0} where
+  -- the same, by its parts
   abbrev pub known : TableId → ℕ → List E → List E → Known E
   known place number seen own = record { place = place; number = number; seen = seen; own = own }
 
+  -- a lock by its parts
   abbrev pub placed : TableId → ℕ → List E → Place E
   placed place seats start = record { place = place; seats = seats; start = start }
 
@@ -44,6 +46,7 @@ pub record Held (E V : Type 0) : Type 0 where
   pub value : V
 
 module _ {E V : Type 0} where
+  -- the same, by its parts
   abbrev pub held : TableId → ℕ → List E → List E → V → Held E V
   held place number seen own value = record { place = place; number = number; seen = seen; own = own; value = value }
 

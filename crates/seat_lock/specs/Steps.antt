@@ -4,16 +4,16 @@ use mathlib.Core.List.{IsPrefix}
 use Rattle.atomic_table.specs.Table.{Me, Step}
 use Rattle.seat_lock.specs.declared.views.View.{View}
 use Rattle.seat_lock.specs.Views.{with_ticket, holding, compared, ended, spent}
-use Rattle.seat_lock.specs.Rule.{Owns}
+use Rattle.seat_lock.specs.Rule.{Owns, IsWithin}
 
 module _ {E V : Type 0} where
   -- a ticket was drawn, and the word found is its number
   abbrev pub Draws : Step (Option V) → Me (Option V) (View E) → ℕ → Me (Option V) (View E) → Type 0
   Draws step me found after = (ticket : ℕ) × (found ≡ ticket % 2 ^ 64) × (after ≡ (with_ticket (Some ticket) me.0, me.1))
 
-  -- what was seen and what was beside it begin one list, of which the longer is kept
-  abbrev pub Compares : Step (Option V) → Me (Option V) (View E) → ℕ → Me (Option V) (View E) → Type 0
-  Compares step me found after = (after ≡ (compared me.0, me.1)) × IsPrefix me.0.seen after.0.seen × IsPrefix me.0.beside after.0.seen
+  -- what was seen and what was beside it begin one list, of which the longer is kept. It has no entries of the seat's numbers but those that they made
+  abbrev pub Compares : (E → ℕ) → Step (Option V) → Me (Option V) (View E) → ℕ → Me (Option V) (View E) → Type 0
+  Compares maker step me found after = (after ≡ (compared me.0, me.1)) × IsPrefix me.0.seen after.0.seen × IsPrefix me.0.beside after.0.seen × IsWithin maker after.0.seen me.0.mine
 
   -- the seat is new, and knows nothing
   abbrev pub Comes : Step (Option V) → Me (Option V) (View E) → ℕ → Me (Option V) (View E) → Type 0

@@ -1,7 +1,11 @@
 -- Lists of entries, each with its maker's number: what a seat and a lock promise about the list for which the shared value stands.
-use Rattle.std.specs.Prelude.{◌≡◌, ◌⊎◌, ℕ, ◌+◌, ◌<◌, ◌==◌, List, [], ◌∷◌, length, filter, slice_get, Some, All}
+use Rattle.std.specs.Prelude.{◌≡◌, ◌⊎◌, ℕ, ◌+◌, ◌<◌, ◌==◌, cond, nat_lt, List, [], ◌∷◌, length, filter, slice_get, Some, All}
 use mathlib.Core.List.{IsPrefix}
 use Rattle.seat_lock.specs.Known.{Known, Place, known}
+
+-- the longer of two lists, the first of two that are as long
+abbrev pub longer : {E : Type 0} → List E → List E → List E
+longer xs ys = cond (nat_lt (length xs) (length ys)) ys xs
 
 module _ {E : Type 0} (maker : E → ℕ) where
   -- the entries that one maker made, in their order

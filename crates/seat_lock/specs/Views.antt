@@ -1,23 +1,20 @@
 -- What a seat knows, and how it changes.
-use Rattle.std.specs.Prelude.{ℕ, zero, suc, true, false, cond, List, [], ◌∷◌, ◌++◌, take, drop, length, nat_lt, Option, None}
+use Rattle.std.specs.Prelude.{ℕ, zero, suc, true, false, List, [], ◌∷◌, ◌++◌, take, drop, Option, None}
 use Rattle.seat_lock.specs.declared.views.View.{View}
-use Rattle.seat_lock.specs.Story.{made_by}
+use Rattle.seat_lock.specs.Story.{made_by, longer}
 
 module _ {E : Type 0} where
   -- a seat outside of a turn
   abbrev pub idle : List E → List (ℕ × List E) → View E
   idle seen mine = record { ticket = None; holds = false; seen = seen; beside = []; mine = mine }
 
+  -- a seat with this ticket, or with none
   abbrev pub with_ticket : Option ℕ → View E → View E
   with_ticket ticket v = record { ticket = ticket; holds = v.holds; seen = v.seen; beside = v.beside; mine = v.mine }
 
   -- a seat that found this list, and has the value
   abbrev pub holding : List E → View E → View E
   holding log v = record { ticket = v.ticket; holds = true; seen = log; beside = v.beside; mine = v.mine }
-
-  -- the longer of two lists, the first of two that are as long
-  abbrev pub longer : List E → List E → List E
-  longer xs ys = cond (nat_lt (length xs) (length ys)) ys xs
 
   -- a seat that has compared what it saw with what another saw
   abbrev pub compared : View E → View E
@@ -53,6 +50,7 @@ module _ {E : Type 0} where
   seen_of [] = []
   seen_of (v ∷ vs) = v.seen
 
+  -- the entries that the first number made
   abbrev pub first_own : List (ℕ × List E) → List E
   first_own [] = []
   first_own (m ∷ ms) = m.1

@@ -52,12 +52,14 @@ impl<V: Storied> Play<Option<V>, View<V::Entry>> for End<V> {
 }
 
 /// What two seats saw is compared.
-pub struct Compare {}
+pub struct Compare<V> {
+    of: PhantomData<V>,
+}
 
-impl<V, E> Play<Option<V>, View<E>> for Compare {
+impl<V: Storied> Play<Option<V>, View<V::Entry>> for Compare<V> {
     ghost use Rattle.seat_lock.specs.Steps.{Compares};
 
-    ghost then = { Compares };
+    ghost then = { Compares V.maker };
 }
 
 /// A seat comes that has no number.

@@ -2,8 +2,7 @@
 ghost use Rattle.std.specs.Prelude.{◌≡◌, ◌⊎◌, ◌<◌, ◌≤◌, ℕ, [], ◌∷◌, ◌++◌, length, All, IfOk, IfErr};
 ghost use mathlib.Core.List.{IsPrefix};
 ghost use Rattle.seat_lock.specs.Known.{known};
-ghost use Rattle.seat_lock.specs.Story.{made_by, HasNoMaker, IsOneTurn, AreNew, IsClosed};
-ghost use Rattle.seat_lock.specs.Views.{longer};
+ghost use Rattle.seat_lock.specs.Story.{made_by, longer, HasNoMaker, IsOneTurn, AreNew, IsClosed};
 
 use crate::board::{Board, Sitter};
 use crate::openings::{deal_all, gather, make, shut};
@@ -114,6 +113,7 @@ impl<V: Storied> Lock<V> {
         requires { (seat.old.place ≡ self.now.place) × (other.old.place ≡ self.now.place) }
         ensures met { seat.new ≡ known seat.old.place seat.old.number (longer seat.old.seen other.old.seen) seat.old.own }
         ensures seen { IsPrefix seat.old.seen seat.new.seen × IsPrefix other.old.seen seat.new.seen }
+        ensures own { IsPrefix (made_by V.maker seat.old.number seat.new.seen) seat.old.own }
         ensures other { other.new ≡ other.old }
     {
         let mut them: Sitter<V> = mem::replace(&mut other.badge, Badge::blank()).into_seat();

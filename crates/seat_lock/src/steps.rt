@@ -3,6 +3,7 @@ ghost use Rattle.std.specs.Prelude.{◌≡◌, ◌%◌, ◌^◌, ◌<◌, ℕ, f
 ghost use mathlib.Core.List.{IsPrefix};
 ghost use Rattle.seat_lock.specs.Views.{with_ticket, ended, compared, left, dealt, joined};
 ghost use Rattle.seat_lock.specs.Boards.{IsBoard, IsOutside, IsWaiting, HasEntered, CanGain};
+ghost use Rattle.seat_lock.specs.Rule.{IsWithin};
 ghost use Rattle.seat_lock.specs.Steps.{Enters};
 
 use crate::board::{Board, Compare, Deal, Draw, End, Gather, Look, Note, Sitter};
@@ -105,8 +106,9 @@ pub fn absorb<V: Storied>(board: &Board<V>, seat: &mut Sitter<V>, other: Sitter<
     requires outside { IsOutside seat.old.me × IsOutside other.me }
     ensures board { seat.new.table_id ≡ seat.old.table_id }
     ensures joined { seat.new.me ≡ (compared (joined seat.old.me.0 other.me.0), []) }
+    ensures within { IsWithin V.maker seat.new.me.0.seen (seat.old.me.0.mine ++ other.me.0.mine) }
     ensures seen { IsPrefix seat.old.me.0.seen seat.new.me.0.seen × IsPrefix other.me.0.seen seat.new.me.0.seen }
 {
     board.shared.join_seat::<Gather>(seat, other);
-    board.shared.load::<Compare>(seat, 0);
+    board.shared.load::<Compare<V>>(seat, 0);
 }
