@@ -3,7 +3,7 @@ use Rattle.std.proofs.Common.{◌≡◌, ℕ, zero, suc, ◌+◌, ◌<◌, cond,
 use Rattle.std.proofs.lemmas.List.Elements.{filter-append}
 use mathlib.Core.List.{IsPrefix}
 use Rattle.seat_lock.specs.Story.{made_by, HasNoMaker}
-use Rattle.seat_lock.specs.Views.{gained, numbers_from}
+use Rattle.seat_lock.specs.Views.{with_gains, numbers_from}
 use Rattle.seat_lock.specs.Rule.{one_if, times, Owns, IsWithin}
 
 module _ {E : Type 0} (maker : E → ℕ) where
@@ -33,7 +33,7 @@ module _ {E : Type 0} (maker : E → ℕ) where
   owns-drop log (suc count) (x ∷ xs) a = owns-drop log count xs a.1
 
   -- who adds entries has them too
-  pub owns-gained : (log added : List E) (xs : List (ℕ × List E)) → Owns maker log xs → Owns maker (log ++ added) (gained maker added xs)
+  pub owns-gained : (log added : List E) (xs : List (ℕ × List E)) → Owns maker log xs → Owns maker (log ++ added) (with_gains maker added xs)
   owns-gained log added [] a = tt
   owns-gained log added (x ∷ xs) a = (made-append x.0 log added ∙ ap (λ l. l ++ made_by maker x.0 added) a.0, owns-gained log added xs a.1)
 
@@ -48,11 +48,11 @@ module _ {E : Type 0} (maker : E → ℕ) where
     owns-others log added xs (λ number some. none number (omega arith)) a.1,
   )
 
-  pub times-gained : (number : ℕ) (added : List E) (xs : List (ℕ × List E)) → times number (gained maker added xs) ≡ times number xs
+  pub times-gained : (number : ℕ) (added : List E) (xs : List (ℕ × List E)) → times number (with_gains maker added xs) ≡ times number xs
   times-gained number added [] = refl
   times-gained number added (x ∷ xs) = ap (λ k. one_if (x.0 == number) + k) (times-gained number added xs)
 
-  pub length-gained : (added : List E) (xs : List (ℕ × List E)) → length (gained maker added xs) ≡ length xs
+  pub length-gained : (added : List E) (xs : List (ℕ × List E)) → length (with_gains maker added xs) ≡ length xs
   length-gained added [] = refl
   length-gained added (x ∷ xs) = ap suc (length-gained added xs)
 
