@@ -1,13 +1,22 @@
 -- The entries of one maker, and of the numbers of a view.
 use Rattle.std.proofs.Common.{◌≡◌, ℕ, zero, suc, ◌+◌, ◌<◌, cond, ◌==◌, List, [], ◌∷◌, ◌++◌, take, drop, length, append-nil, sym, refl, ap, ◌∙◌, subst, eq-eqb, ne_eqb, arith}
 use Rattle.std.proofs.lemmas.List.Elements.{filter-append}
+use mathlib.Core.List.{IsPrefix}
 use Rattle.seat_lock.specs.Story.{made_by, HasNoMaker}
-use Rattle.seat_lock.specs.Views.{gained, numbers_from}
-use Rattle.seat_lock.specs.Rule.{one_if, times, Owns}
+use Rattle.seat_lock.specs.Views.{with_gains, numbers_from}
+use Rattle.seat_lock.specs.Rule.{one_if, times, Owns, IsWithin}
 
 module _ {E : Type 0} (maker : E → ℕ) where
   pub made-append : (number : ℕ) (xs ys : List E) → made_by maker number (xs ++ ys) ≡ made_by maker number xs ++ made_by maker number ys
   made-append number xs ys = filter-append (λ entry. maker entry == number) xs ys
+
+  pub made-prefix : (number : ℕ) (xs ys : List E) → IsPrefix xs ys → IsPrefix (made_by maker number xs) (made_by maker number ys)
+  made-prefix number xs ys p = (made_by maker number p.0, sym (made-append number xs p.0) ∙ ap (made_by maker number) p.1)
+
+  -- a beginning of the list has no entries of a number but the first of those that it made
+  pub within-log : (seen log : List E) (xs : List (ℕ × List E)) → IsPrefix seen log → Owns maker log xs → IsWithin maker seen xs
+  within-log seen log [] p a = tt
+  within-log seen log (x ∷ xs) p a = (subst (IsPrefix (made_by maker x.0 seen)) a.0 (made-prefix x.0 seen log p), within-log seen log xs p a.1)
 
   pub owns-append : (log : List E) (xs ys : List (ℕ × List E)) → Owns maker log xs → Owns maker log ys → Owns maker log (xs ++ ys)
   owns-append log [] ys a b = b
@@ -24,7 +33,7 @@ module _ {E : Type 0} (maker : E → ℕ) where
   owns-drop log (suc count) (x ∷ xs) a = owns-drop log count xs a.1
 
   -- who adds entries has them too
-  pub owns-gained : (log added : List E) (xs : List (ℕ × List E)) → Owns maker log xs → Owns maker (log ++ added) (gained maker added xs)
+  pub owns-gained : (log added : List E) (xs : List (ℕ × List E)) → Owns maker log xs → Owns maker (log ++ added) (with_gains maker added xs)
   owns-gained log added [] a = tt
   owns-gained log added (x ∷ xs) a = (made-append x.0 log added ∙ ap (λ l. l ++ made_by maker x.0 added) a.0, owns-gained log added xs a.1)
 
@@ -39,11 +48,11 @@ module _ {E : Type 0} (maker : E → ℕ) where
     owns-others log added xs (λ number some. none number (omega arith)) a.1,
   )
 
-  pub times-gained : (number : ℕ) (added : List E) (xs : List (ℕ × List E)) → times number (gained maker added xs) ≡ times number xs
+  pub times-gained : (number : ℕ) (added : List E) (xs : List (ℕ × List E)) → times number (with_gains maker added xs) ≡ times number xs
   times-gained number added [] = refl
   times-gained number added (x ∷ xs) = ap (λ k. one_if (x.0 == number) + k) (times-gained number added xs)
 
-  pub length-gained : (added : List E) (xs : List (ℕ × List E)) → length (gained maker added xs) ≡ length xs
+  pub length-gained : (added : List E) (xs : List (ℕ × List E)) → length (with_gains maker added xs) ≡ length xs
   length-gained added [] = refl
   length-gained added (x ∷ xs) = ap suc (length-gained added xs)
 

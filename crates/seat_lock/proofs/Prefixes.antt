@@ -1,7 +1,7 @@
 -- Lists that begin others.
 use Rattle.std.proofs.Common.{◌≡◌, ◌≤◌, Bool, true, false, cond, nat_lt, get_or, drop, List, [], ◌∷◌, ◌++◌, length, sym, refl, ap, ◌∙◌, append_assoc, append-nil, arith, length-append, ltb-true, ltb-false, le-ltb}
 use mathlib.Core.List.{IsPrefix}
-use Rattle.seat_lock.specs.Views.{longer}
+use Rattle.seat_lock.specs.Story.{longer}
 
 module _ {E : Type 0} where
   pub prefix-self : (xs : List E) → IsPrefix xs xs

@@ -9,14 +9,14 @@ use lib.ListN.{get_elem?}
 use Rattle.atomic_table.specs.Table.{State, Me, step, Act, keeps, takes, gives, rest, put_back, Valid, carried_after, stepped, Allows, Splits, Joins, Enters as Arrivals, opening}
 use Rattle.atomic_table.proofs.Lists.{at_set, one_turn}
 use Rattle.seat_lock.specs.declared.views.View.{View}
-use Rattle.seat_lock.specs.Views.{with_ticket, holding, compared, joined, spent, left, dealt, ended, first_view}
+use Rattle.seat_lock.specs.Views.{with_ticket, holder_view, compared_view, joint_view, empty_view, rest_view, dealt_view, ended_view, first_view}
 use Rattle.seat_lock.specs.Rule.{total, one_if, tickets, tickets_at, times, IsOut, HasTickets, Fits, Kept}
 use Rattle.seat_lock.specs.Steps.{Draws, Looks, Ends, Compares, Comes, Enters}
 use Rattle.seat_lock.specs.Boards.{CanGain, IsShut}
 use Rattle.seat_lock.specs.Story.{made_by, HasNoMaker}
 use Rattle.seat_lock.proofs.Sums.{total-set, total-append, total-cut, total-one, total-two, total-none, total-below}
 use Rattle.seat_lock.proofs.Prefixes.{prefix-self, prefix-none, prefix-more, longer-begins, longer-whole}
-use Rattle.seat_lock.proofs.Entries.{made-append, owns-append, owns-take, owns-drop, owns-gained, owns-others, times-gained, length-gained, made-by-nobody, made-by-none, owns-numbers}
+use Rattle.seat_lock.proofs.Entries.{made-append, within-log, owns-append, owns-take, owns-drop, owns-gained, owns-others, times-gained, length-gained, made-by-nobody, made-by-none, owns-numbers}
 use Rattle.seat_lock.proofs.Numbers.{length-numbers, times-single, times-below, times-above}
 use Rattle.seat_lock.proofs.Keeping.{mod-next, words-turn, words-drawn, ticket-here, ticket-there, out-later, out-next, each-set, each-snoc, numbers-stay, tickets-stay, slot-stays, calm, taken, closing}
 
@@ -78,10 +78,10 @@ module _ {E V : Type 0} (maker : E → ℕ) (stands : V → List E → Type 0) (
   words-same : (s : Board) (k : Rule s) → slice_set s.words 0 (slice_index s.words 0) ≡ k.turn % 2 ^ 64 ∷ k.drawn % 2 ^ 64 ∷ []
   words-same s k = words-turn s.words _ _ (λ n. n) k.words
 
-  pub compares : (id : ℕ) (me : Me (Option V) (View E)) (slots : ℕ) → Allows Rule slots id me 0 (λ n. n) (Compares (step slots 0 0 0 none) me)
+  pub compares : (id : ℕ) (me : Me (Option V) (View E)) (slots : ℕ) → Allows Rule slots id me 0 (λ n. n) (Compares maker (step slots 0 0 0 none) me)
   compares id me slots s k deep at below =
       let v = me.0 in
-      let w = compared v in
+      let w = compared_view v in
       let fits = k.each id v at in
       let both = longer-begins v.seen v.beside k.log fits.seen fits.beside in (
         w,
@@ -97,7 +97,7 @@ module _ {E V : Type 0} (maker : E → ℕ) (stands : V → List E → Type 0) (
               holder = (λ holds. let held = fits.holder holds in
                   (held.0, longer-whole v.seen v.beside k.log held.1 fits.beside));
             },
-        (refl, both.first, both.second),
+        (refl, both.first, both.second, within-log maker w.seen k.log v.mine both.whole fits.own),
       )
 
   -- the seat's turn has come: it takes the value
@@ -105,7 +105,7 @@ module _ {E V : Type 0} (maker : E → ℕ) (stands : V → List E → Type 0) (
       → (w : View E) × (a : Act (Option V)) × Valid s.homes me.1 a × Rule (stepped s 0 (slice_index s.words 0) id me.1 w a) × Enters maker stands me (w, carried_after me.1 a)
   takes-turn id me ticket mine free s k at same =
       let v = me.0 in
-      let w = holding k.log v in
+      let w = holder_view k.log v in
       let fits = k.each id v at in
       let turn : v.ticket ≡ Some k.turn = mine ∙ ap (λ t. Some t) (sym same) in
       let home = taken maker stands start seats s k id v at free turn in (
@@ -173,7 +173,7 @@ module _ {E V : Type 0} (maker : E → ℕ) (stands : V → List E → Type 0) (
   -- what is left when the owner of a turn ends it: the others have no ticket of that turn, and none holds the value
   module _ (added : List E) (id : ℕ) (v : View E) (holds : v.holds ≡ true) (gains : CanGain maker added v.mine) (s : Board) (k : Rule s) (at : get_elem? s.views id ≡ some v) where
     abbrev after : View E
-    after = ended maker added v
+    after = ended_view maker added v
 
     mine_is : (v.ticket ≡ Some k.turn) × (v.seen ≡ k.log)
     mine_is = (k.each id v at).holder holds
@@ -185,7 +185,7 @@ module _ {E V : Type 0} (maker : E → ℕ) (stands : V → List E → Type 0) (
 
     tickets-next : HasTickets (k.turn + 1) k.drawn (set s.views id after)
     tickets-next = record {
-      out = (let left = one_out in let was = k.tickets_out.out in omega arith);
+      out = (let less = one_out in let was = k.tickets_out.out in omega arith);
       apart = (λ t. let moved = total-set (λ (u : View E). tickets_at t u.ticket) s.views id v after at in let most = k.tickets_out.apart t in omega arith);
     }
 
@@ -196,10 +196,10 @@ module _ {E V : Type 0} (maker : E → ℕ) (stands : V → List E → Type 0) (
         let most = k.tickets_out.apart k.turn in omega arith
 
     other-free : (j : ℕ) (u : View E) → j ≢ id → get_elem? s.views j ≡ some u → u.holds ≡ true → ⊥
-    other-free j u other e holding =
+    other-free j u other e has =
         let two = total-two (λ (x : View E). tickets_at k.turn x.ticket) s.views j id u v other e at in
         let mine : tickets_at k.turn v.ticket ≡ 1 = ap (tickets_at k.turn) mine_is.0 ∙ ticket-here k.turn in
-        let theirs : tickets_at k.turn u.ticket ≡ 1 = ap (tickets_at k.turn) ((k.each j u e).holder holding).0 ∙ ticket-here k.turn in
+        let theirs : tickets_at k.turn u.ticket ≡ 1 = ap (tickets_at k.turn) ((k.each j u e).holder has).0 ∙ ticket-here k.turn in
         let most = k.tickets_out.apart k.turn in absurd (omega arith)
 
     gains-nothing : (number : ℕ) → total (λ (u : View E). times number u.mine) s.views ≡ 0 → made_by maker number added ≡ []
@@ -268,14 +268,14 @@ module _ {E V : Type 0} (maker : E → ℕ) (stands : V → List E → Type 0) (
       → CanGain maker (more value) me.0.mine → Allows Rule slots id me 0 (λ n. (n + 1) % 2 ^ 64) (Ends maker more (step slots 0 1 0 none) me)
   unfolding hand_or
   ends more id me slots value holds hand story gains s k deep at below = (
-    ended maker (more value) me.0,
+    ended_view maker (more value) me.0,
     gives,
     tt,
     ended-keeps (more value) id me.0 holds gains s k at value story _ _ (words-turn s.words _ _ (λ n. (n + 1) % 2 ^ 64) k.words ∙ ap (λ n. n ∷ k.drawn % 2 ^ 64 ∷ []) (mod-next k.turn))
         (ap (λ c. put_back s.homes c) hand ∙ ap (λ hs. slice_set hs 0 (some (Some value))) (out-now (more value) id me.0 holds gains s k at).0),
     (λ other given.
         let same : value ≡ other = ap (hand_or value) (sym hand ∙ given) in
-        λ i. (ended maker (more (same i)) me.0, ap rest hand i)),
+        λ i. (ended_view maker (more (same i)) me.0, ap rest hand i)),
   )
 
   -- the same where the value was put into the slot just before
@@ -289,10 +289,10 @@ module _ {E V : Type 0} (maker : E → ℕ) (stands : V → List E → Type 0) (
   total-last f views w = let sum = total-append f views (w ∷ []) in omega arith
 
   -- a seat outside of a turn gives its first numbers to a new one
-  pub cuts : (count id : ℕ) (v : View E) → v.ticket ≡ None → v.holds ≡ false → Splits Rule id v (left count v) (dealt count v)
+  pub cuts : (count id : ℕ) (v : View E) → v.ticket ≡ None → v.holds ≡ false → Splits Rule id v (rest_view count v) (dealt_view count v)
   cuts count id v without free s k at =
-      let l = left count v in
-      let r = dealt count v in
+      let l = rest_view count v in
+      let r = dealt_view count v in
       let fits = k.each id v at in
       let cut = ap length (take-append-drop count v.mine) in
       let lengths = length-append (take count v.mine) (drop count v.mine) in record {
@@ -332,9 +332,9 @@ module _ {E V : Type 0} (maker : E → ℕ) (stands : V → List E → Type 0) (
       }
 
   -- a seat takes in another that is outside of a turn
-  pub joins : (id : ℕ) (v : View E) (other : ℕ) (w : View E) → w.ticket ≡ None → w.holds ≡ false → Joins Rule id v other w (joined v w) spent
+  pub joins : (id : ℕ) (v : View E) (other : ℕ) (w : View E) → w.ticket ≡ None → w.holds ≡ false → Joins Rule id v other w (joint_view v w) empty_view
   joins id v other w without free s k at differs there =
-      let both = joined v w in
+      let both = joint_view v w in
       let middle = set s.views id both in
       let fits = k.each id v at in
       let was_there : get_elem? s.views other ≡ some w = ⊎_elim (λ (t : (other ≡ id) × (both ≡ w)). absurd (differs t.0)) (λ (t : (other ≢ id) × (get_elem? s.views other ≡ some w)). t.1) (at_set s.views id other both w there) in
@@ -346,19 +346,19 @@ module _ {E V : Type 0} (maker : E → ℕ) (stands : V → List E → Type 0) (
         few = k.few;
         words = k.words;
         numbers = record {
-          count = (let one = total-set (λ (u : View E). length u.mine) s.views id v both at in let two = total-set (λ (u : View E). length u.mine) middle other w spent there in let was = k.numbers.count in omega arith);
-          single = (λ n. let one = total-set (λ (u : View E). times n u.mine) s.views id v both at in let two = total-set (λ (u : View E). times n u.mine) middle other w spent there in
+          count = (let one = total-set (λ (u : View E). length u.mine) s.views id v both at in let two = total-set (λ (u : View E). length u.mine) middle other w empty_view there in let was = k.numbers.count in omega arith);
+          single = (λ n. let one = total-set (λ (u : View E). times n u.mine) s.views id v both at in let two = total-set (λ (u : View E). times n u.mine) middle other w empty_view there in
               let parts = total-append (λ (m : ℕ × List E). one_if (m.0 == n)) v.mine w.mine in let was = k.numbers.single n in omega arith);
-          known = (λ n out. let one = total-set (λ (u : View E). times n u.mine) s.views id v both at in let two = total-set (λ (u : View E). times n u.mine) middle other w spent there in
+          known = (λ n out. let one = total-set (λ (u : View E). times n u.mine) s.views id v both at in let two = total-set (λ (u : View E). times n u.mine) middle other w empty_view there in
               let parts = total-append (λ (m : ℕ × List E). one_if (m.0 == n)) v.mine w.mine in let was = k.numbers.known n out in omega arith);
         };
         tickets_out = record {
-          out = (let one = total-set (λ (u : View E). tickets u.ticket) s.views id v both at in let two = total-set (λ (u : View E). tickets u.ticket) middle other w spent there in
+          out = (let one = total-set (λ (u : View E). tickets u.ticket) s.views id v both at in let two = total-set (λ (u : View E). tickets u.ticket) middle other w empty_view there in
               let none_there : tickets w.ticket ≡ 0 = ap tickets without in let was = k.tickets_out.out in omega arith);
-          apart = (λ t. let one = total-set (λ (u : View E). tickets_at t u.ticket) s.views id v both at in let two = total-set (λ (u : View E). tickets_at t u.ticket) middle other w spent there in
+          apart = (λ t. let one = total-set (λ (u : View E). tickets_at t u.ticket) s.views id v both at in let two = total-set (λ (u : View E). tickets_at t u.ticket) middle other w empty_view there in
               let none_there : tickets_at t w.ticket ≡ 0 = ap (tickets_at t) without in let was = k.tickets_out.apart t in omega arith);
         };
-        each = each-set (Fits maker k.turn k.drawn k.log) middle other spent
+        each = each-set (Fits maker k.turn k.drawn k.log) middle other empty_view
             record { ticket = tt; few = (omega arith); seen = prefix-none k.log; beside = prefix-none k.log; own = tt; holder = (λ held. absurd (true≢false (sym held))) }
             (λ j u apart_from e. each-set (Fits maker k.turn k.drawn k.log) s.views id both
             record {
@@ -372,8 +372,8 @@ module _ {E V : Type 0} (maker : E → ℕ) (stands : V → List E → Type 0) (
             (λ i x elsewhere d. k.each i x d) j u e);
         first = k.first;
         others = k.others;
-        slot = slot-stays maker stands start seats k.log s s.words (set middle other spent)
-            (let one = total-set (λ (u : View E). one_if u.holds) s.views id v both at in let two = total-set (λ (u : View E). one_if u.holds) middle other w spent there in
+        slot = slot-stays maker stands start seats k.log s s.words (set middle other empty_view)
+            (let one = total-set (λ (u : View E). one_if u.holds) s.views id v both at in let two = total-set (λ (u : View E). one_if u.holds) middle other w empty_view there in
             let none_there : one_if w.holds ≡ 0 = ap one_if free in omega arith)
             k.slot;
       }
@@ -381,7 +381,7 @@ module _ {E V : Type 0} (maker : E → ℕ) (stands : V → List E → Type 0) (
   -- a new seat that knows and has nothing
   pub comes : (first : View E) (slots : ℕ) → Arrivals Rule slots 0 (λ found after. Comes {V = V} (step slots 0 0 0 none) (first, []) found (after, []))
   comes first slots s k deep below = (
-    spent,
+    empty_view,
     record {
       turn = k.turn;
       drawn = k.drawn;
@@ -389,20 +389,20 @@ module _ {E V : Type 0} (maker : E → ℕ) (stands : V → List E → Type 0) (
       few = k.few;
       words = k.words;
       numbers = record {
-        count = (let last = total-last (λ (u : View E). length u.mine) s.views spent in let was = k.numbers.count in omega arith);
-        single = (λ n. let last = total-last (λ (u : View E). times n u.mine) s.views spent in let was = k.numbers.single n in omega arith);
-        known = (λ n out. let last = total-last (λ (u : View E). times n u.mine) s.views spent in let was = k.numbers.known n out in omega arith);
+        count = (let last = total-last (λ (u : View E). length u.mine) s.views empty_view in let was = k.numbers.count in omega arith);
+        single = (λ n. let last = total-last (λ (u : View E). times n u.mine) s.views empty_view in let was = k.numbers.single n in omega arith);
+        known = (λ n out. let last = total-last (λ (u : View E). times n u.mine) s.views empty_view in let was = k.numbers.known n out in omega arith);
       };
       tickets_out = record {
-        out = (let last = total-last (λ (u : View E). tickets u.ticket) s.views spent in let was = k.tickets_out.out in omega arith);
-        apart = (λ t. let last = total-last (λ (u : View E). tickets_at t u.ticket) s.views spent in let was = k.tickets_out.apart t in omega arith);
+        out = (let last = total-last (λ (u : View E). tickets u.ticket) s.views empty_view in let was = k.tickets_out.out in omega arith);
+        apart = (λ t. let last = total-last (λ (u : View E). tickets_at t u.ticket) s.views empty_view in let was = k.tickets_out.apart t in omega arith);
       };
-      each = each-snoc (Fits maker k.turn k.drawn k.log) s.views spent
+      each = each-snoc (Fits maker k.turn k.drawn k.log) s.views empty_view
           record { ticket = tt; few = (omega arith); seen = prefix-none k.log; beside = prefix-none k.log; own = tt; holder = (λ held. absurd (true≢false (sym held))) }
           k.each;
       first = k.first;
       others = k.others;
-      slot = slot-stays maker stands start seats k.log s s.words (s.views ++ spent ∷ []) (let last = total-last (λ (u : View E). one_if u.holds) s.views spent in omega arith) k.slot;
+      slot = slot-stays maker stands start seats k.log s s.words (s.views ++ empty_view ∷ []) (let last = total-last (λ (u : View E). one_if u.holds) s.views empty_view in omega arith) k.slot;
     },
     refl,
   )

@@ -6,7 +6,7 @@ use Rattle.atomic_table.specs.Seated.{TableId}
 use Rattle.seat_lock.specs.declared.views.View.{View}
 use Rattle.seat_lock.specs.Known.{Known}
 use Rattle.seat_lock.specs.Story.{made_by}
-use Rattle.seat_lock.specs.Views.{idle, seen_of, own_of, first_own}
+use Rattle.seat_lock.specs.Views.{idle_view, seen_of, own_of, first_own}
 use Rattle.seat_lock.specs.Rule.{times, Owns}
 
 -- a table has a word for the turn, one for the tickets, and a slot
@@ -30,7 +30,7 @@ module _ {E : Type 0} where
 
   -- a seat outside of a turn with one number, as its badge has it
   pub record IsSeated (number front : ℕ) (views : List (View E)) : Type 0 where
-    pub views_are : views ≡ idle (seen_of views) ((number, own_of views) ∷ []) ∷ []
+    pub views_are : views ≡ idle_view (seen_of views) ((number, own_of views) ∷ []) ∷ []
     pub front_is : front ≡ length (seen_of views)
 
   -- only numbers of this view add something

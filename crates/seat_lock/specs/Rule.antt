@@ -53,6 +53,11 @@ module _ {E : Type 0} (maker : E → ℕ) where
   Owns log [] = Unit {0}
   Owns log (m ∷ ms) = (made_by maker m.0 log ≡ m.1) × Owns log ms
 
+  -- of each number the list has no entries but the first of those that it made
+  abbrev pub IsWithin : List E → List (ℕ × List E) → Type 0
+  IsWithin log [] = Unit {0}
+  IsWithin log (m ∷ ms) = IsPrefix (made_by maker m.0 log) m.1 × IsWithin log ms
+
   -- what the rule says of one view. A view with a ticket has a number, and who holds the value has the ticket of the turn and has seen the whole list
   pub record Fits (turn drawn : ℕ) (log : List E) (v : View E) : Type 0 where
     pub ticket : IsOut turn drawn v.ticket

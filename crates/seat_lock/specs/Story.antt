@@ -1,7 +1,11 @@
 -- Lists of entries, each with its maker's number: what a seat and a lock promise about the list for which the shared value stands.
-use Rattle.std.specs.Prelude.{◌≡◌, ◌⊎◌, ℕ, ◌+◌, ◌<◌, ◌==◌, List, [], ◌∷◌, length, filter, slice_get, Some, All}
+use Rattle.std.specs.Prelude.{◌≡◌, ◌⊎◌, ℕ, ◌+◌, ◌<◌, ◌==◌, cond, nat_lt, List, [], ◌∷◌, length, filter, slice_get, Some, All}
 use mathlib.Core.List.{IsPrefix}
-use Rattle.seat_lock.specs.Known.{Known, Place, known}
+use Rattle.seat_lock.specs.Known.{Known, Place, knowledge}
+
+-- the longer of two lists, the first of two that are as long
+abbrev pub longer : {E : Type 0} → List E → List E → List E
+longer xs ys = cond (nat_lt (length xs) (length ys)) ys xs
 
 module _ {E : Type 0} (maker : E → ℕ) where
   -- the entries that one maker made, in their order
@@ -28,4 +32,4 @@ pub record IsClosed {E V : Type 0} (maker : E → ℕ) (stands : V → List E �
 -- The seats of a new lock: numbered from 1, each has seen the entries with which the lock began, and made none
 pub record AreNew {E : Type 0} (lock : Place E) (seats : List (Known E)) : Type 0 where
   pub count : length seats ≡ lock.seats
-  pub each : (k : ℕ) → k < lock.seats → slice_get seats k ≡ Some (known lock.place (k + 1) lock.start [])
+  pub each : (k : ℕ) → k < lock.seats → slice_get seats k ≡ Some (knowledge lock.place (k + 1) lock.start [])

@@ -1,43 +1,40 @@
 -- What a seat knows, and how it changes.
-use Rattle.std.specs.Prelude.{ℕ, zero, suc, true, false, cond, List, [], ◌∷◌, ◌++◌, take, drop, length, nat_lt, Option, None}
+use Rattle.std.specs.Prelude.{ℕ, zero, suc, true, false, List, [], ◌∷◌, ◌++◌, take, drop, Option, None}
 use Rattle.seat_lock.specs.declared.views.View.{View}
-use Rattle.seat_lock.specs.Story.{made_by}
+use Rattle.seat_lock.specs.Story.{made_by, longer}
 
 module _ {E : Type 0} where
   -- a seat outside of a turn
-  abbrev pub idle : List E → List (ℕ × List E) → View E
-  idle seen mine = record { ticket = None; holds = false; seen = seen; beside = []; mine = mine }
+  abbrev pub idle_view : List E → List (ℕ × List E) → View E
+  idle_view seen mine = record { ticket = None; holds = false; seen = seen; beside = []; mine = mine }
 
+  -- a seat with this ticket, or with none
   abbrev pub with_ticket : Option ℕ → View E → View E
   with_ticket ticket v = record { ticket = ticket; holds = v.holds; seen = v.seen; beside = v.beside; mine = v.mine }
 
   -- a seat that found this list, and has the value
-  abbrev pub holding : List E → View E → View E
-  holding log v = record { ticket = v.ticket; holds = true; seen = log; beside = v.beside; mine = v.mine }
-
-  -- the longer of two lists, the first of two that are as long
-  abbrev pub longer : List E → List E → List E
-  longer xs ys = cond (nat_lt (length xs) (length ys)) ys xs
+  abbrev pub holder_view : List E → View E → View E
+  holder_view log v = record { ticket = v.ticket; holds = true; seen = log; beside = v.beside; mine = v.mine }
 
   -- a seat that has compared what it saw with what another saw
-  abbrev pub compared : View E → View E
-  compared v = record { ticket = v.ticket; holds = v.holds; seen = longer v.seen v.beside; beside = []; mine = v.mine }
+  abbrev pub compared_view : View E → View E
+  compared_view v = record { ticket = v.ticket; holds = v.holds; seen = longer v.seen v.beside; beside = []; mine = v.mine }
 
   -- a new seat gets the first numbers of a view, and has seen as much
-  abbrev pub dealt : ℕ → View E → View E
-  dealt count v = idle v.seen (take count v.mine)
+  abbrev pub dealt_view : ℕ → View E → View E
+  dealt_view count v = idle_view v.seen (take count v.mine)
 
   -- what is left of a view then
-  abbrev pub left : ℕ → View E → View E
-  left count v = record { ticket = v.ticket; holds = v.holds; seen = v.seen; beside = v.beside; mine = drop count v.mine }
+  abbrev pub rest_view : ℕ → View E → View E
+  rest_view count v = record { ticket = v.ticket; holds = v.holds; seen = v.seen; beside = v.beside; mine = drop count v.mine }
 
   -- a seat with the numbers of another, which keeps what that one saw until it compares them
-  abbrev pub joined : View E → View E → View E
-  joined v w = record { ticket = v.ticket; holds = v.holds; seen = v.seen; beside = w.seen; mine = v.mine ++ w.mine }
+  abbrev pub joint_view : View E → View E → View E
+  joint_view v w = record { ticket = v.ticket; holds = v.holds; seen = v.seen; beside = w.seen; mine = v.mine ++ w.mine }
 
   -- a seat that knows and has nothing
-  abbrev pub spent : View E
-  spent = idle [] []
+  abbrev pub empty_view : View E
+  empty_view = idle_view [] []
 
   -- count numbers from low + 1 on, which have made nothing
   abbrev pub numbers_from : ℕ → ℕ → List (ℕ × List E)
@@ -46,13 +43,14 @@ module _ {E : Type 0} where
 
   -- what is known when a lock is made
   abbrev pub first_view : List E → ℕ → View E
-  first_view start seats = idle start (numbers_from 0 seats)
+  first_view start seats = idle_view start (numbers_from 0 seats)
 
   -- what the first view of a list has seen
   abbrev pub seen_of : List (View E) → List E
   seen_of [] = []
   seen_of (v ∷ vs) = v.seen
 
+  -- the entries that the first number made
   abbrev pub first_own : List (ℕ × List E) → List E
   first_own [] = []
   first_own (m ∷ ms) = m.1
@@ -64,10 +62,10 @@ module _ {E : Type 0} where
 
 module _ {E : Type 0} (maker : E → ℕ) where
   -- each number with its entries among the added ones, too
-  abbrev pub gained : List E → List (ℕ × List E) → List (ℕ × List E)
-  gained added [] = []
-  gained added (m ∷ ms) = (m.0, m.1 ++ made_by maker m.0 added) ∷ gained added ms
+  abbrev pub with_gains : List E → List (ℕ × List E) → List (ℕ × List E)
+  with_gains added [] = []
+  with_gains added (m ∷ ms) = (m.0, m.1 ++ made_by maker m.0 added) ∷ with_gains added ms
 
   -- a seat at the end of its turn, in which these entries were added
-  abbrev pub ended : List E → View E → View E
-  ended added v = record { ticket = None; holds = false; seen = v.seen ++ added; beside = v.beside; mine = gained added v.mine }
+  abbrev pub ended_view : List E → View E → View E
+  ended_view added v = record { ticket = None; holds = false; seen = v.seen ++ added; beside = v.beside; mine = with_gains added v.mine }

@@ -52,12 +52,14 @@ impl<V: Storied> Play<Option<V>, View<V::Entry>> for End<V> {
 }
 
 /// What two seats saw is compared.
-pub struct Compare {}
+pub struct Compare<V> {
+    of: PhantomData<V>,
+}
 
-impl<V, E> Play<Option<V>, View<E>> for Compare {
+impl<V: Storied> Play<Option<V>, View<V::Entry>> for Compare<V> {
     ghost use Rattle.seat_lock.specs.Steps.{Compares};
 
-    ghost then = { Compares };
+    ghost then = { Compares V.maker };
 }
 
 /// A seat comes that has no number.
@@ -73,33 +75,33 @@ impl<V, E> Play<Option<V>, View<E>> for Come {
 pub struct Deal {}
 
 impl<E> Split<View<E>> for Deal {
-    ghost use Rattle.seat_lock.specs.Views.{left, dealt};
+    ghost use Rattle.seat_lock.specs.Views.{rest_view, dealt_view};
 
-    ghost left = { left 1 };
+    ghost left = { rest_view 1 };
 
-    ghost right = { dealt 1 };
+    ghost right = { dealt_view 1 };
 }
 
 /// A new seat gets no number, and has seen as much.
 pub struct Note {}
 
 impl<E> Split<View<E>> for Note {
-    ghost use Rattle.seat_lock.specs.Views.{left, dealt};
+    ghost use Rattle.seat_lock.specs.Views.{rest_view, dealt_view};
 
-    ghost left = { left 0 };
+    ghost left = { rest_view 0 };
 
-    ghost right = { dealt 0 };
+    ghost right = { dealt_view 0 };
 }
 
 /// A seat gets all that another has.
 pub struct Gather {}
 
 impl<E> Join<View<E>> for Gather {
-    ghost use Rattle.seat_lock.specs.Views.{joined, spent};
+    ghost use Rattle.seat_lock.specs.Views.{joint_view, empty_view};
 
-    ghost both = { joined };
+    ghost both = { joint_view };
 
-    ghost spent = { spent };
+    ghost spent = { empty_view };
 }
 
 /// Two words, the turn and the count of tickets drawn, and one slot for the value.

@@ -15,4 +15,3 @@ pub use locks::{Lock, NewLock, NoLock};
 pub use seats::Seat;
 pub use story::Storied;
 pub use turns::Turn;
-pub use views::View;

@@ -1,9 +1,8 @@
 //! The lock.
 ghost use Rattle.std.specs.Prelude.{◌≡◌, ◌⊎◌, ◌<◌, ◌≤◌, ℕ, [], ◌∷◌, ◌++◌, length, All, IfOk, IfErr};
 ghost use mathlib.Core.List.{IsPrefix};
-ghost use Rattle.seat_lock.specs.Known.{known};
-ghost use Rattle.seat_lock.specs.Story.{made_by, HasNoMaker, IsOneTurn, AreNew, IsClosed};
-ghost use Rattle.seat_lock.specs.Views.{longer};
+ghost use Rattle.seat_lock.specs.Known.{knowledge};
+ghost use Rattle.seat_lock.specs.Story.{made_by, longer, HasNoMaker, IsOneTurn, AreNew, IsClosed};
 
 use crate::board::{Board, Sitter};
 use crate::openings::{deal_all, gather, make, shut};
@@ -23,14 +22,14 @@ pub struct Lock<V: Storied> {
 }
 
 impl<V: Storied> Model for Lock<V> {
-    ghost use Rattle.seat_lock.specs.Known.{Place, placed, place_code};
+    ghost use Rattle.seat_lock.specs.Known.{Place, lock_of, place_code};
     ghost use Rattle.seat_lock.specs.Boards.{IsBoard};
 
     ghost Value = { Place V.Entry };
 
     ghost coded = { place_code V.Entry.code };
 
-    ghost view = { λ l. placed l.board.shared.table_id l.board.shared.key.1 (V.first l.board.shared.key.0.value) };
+    ghost view = { λ l. lock_of l.board.shared.table_id l.board.shared.key.1 (V.first l.board.shared.key.0.value) };
 
     ghost invariant = { λ l. IsBoard l.board.shared.table_id };
 }
@@ -93,7 +92,7 @@ impl<V: Storied> Lock<V> {
         requires place { turn.place ≡ self.now.place }
         requires story { V.stands turn.value (turn.seen ++ V.more turn.value) }
         requires one { IsOneTurn V.maker turn.number (V.more turn.value) }
-        ensures { result ≡ known turn.place turn.number (turn.seen ++ V.more turn.value) (turn.own ++ V.more turn.value) }
+        ensures { result ≡ knowledge turn.place turn.number (turn.seen ++ V.more turn.value) (turn.own ++ V.more turn.value) }
     {
         let Turn {
             mut seat,
@@ -112,8 +111,9 @@ impl<V: Storied> Lock<V> {
     /// Lets a seat see all that another has seen. It waits for nobody.
     pub fn meet(&self, seat: &mut Seat<V::Entry>, other: &mut Seat<V::Entry>)
         requires { (seat.old.place ≡ self.now.place) × (other.old.place ≡ self.now.place) }
-        ensures met { seat.new ≡ known seat.old.place seat.old.number (longer seat.old.seen other.old.seen) seat.old.own }
+        ensures met { seat.new ≡ knowledge seat.old.place seat.old.number (longer seat.old.seen other.old.seen) seat.old.own }
         ensures seen { IsPrefix seat.old.seen seat.new.seen × IsPrefix other.old.seen seat.new.seen }
+        ensures own { IsPrefix (made_by V.maker seat.old.number seat.new.seen) seat.old.own }
         ensures other { other.new ≡ other.old }
     {
         let mut them: Sitter<V> = mem::replace(&mut other.badge, Badge::blank()).into_seat();

@@ -1,6 +1,6 @@
 //! How a table is made, and how it ends.
 ghost use Rattle.std.specs.Prelude.{◌≡◌, ◌+◌, ◌<◌, ◌≤◌, ℕ, [], ◌∷◌, length, vec_capacity, slice_get, Some, All, IfOk, IfErr};
-ghost use Rattle.seat_lock.specs.Known.{known};
+ghost use Rattle.seat_lock.specs.Known.{knowledge};
 ghost use Rattle.seat_lock.specs.Views.{first_view};
 ghost use Rattle.seat_lock.specs.Story.{HasNoMaker};
 ghost use Rattle.seat_lock.specs.Boards.{IsBoard, IsOutside, HasAll, IsShut};
@@ -56,7 +56,7 @@ pub fn deal_all<V: Storied>(
     requires front { front ≡ length first.me.0.seen }
     requires room { (seats.items ≡ []) × (count ≤ vec_capacity seats) }
     ensures count { length result.items ≡ count }
-    ensures each { (k : ℕ) → k < count → slice_get result.items k ≡ Some (known board.now.shared.table_id (k + 1) first.me.0.seen []) }
+    ensures each { (k : ℕ) → k < count → slice_get result.items k ≡ Some (knowledge board.now.shared.table_id (k + 1) first.me.0.seen []) }
 {
     for before in 0..count {
         let seat = deal(board, &mut first);

@@ -15,7 +15,7 @@ pub struct Seat<E> {
 }
 
 impl<E> Model for Seat<E> {
-    ghost use Rattle.seat_lock.specs.Known.{Known, known, known_code};
+    ghost use Rattle.seat_lock.specs.Known.{Known, knowledge, known_code};
     ghost use Rattle.seat_lock.specs.Views.{seen_of, own_of};
     ghost use Rattle.seat_lock.specs.Boards.{IsSeated};
 
@@ -23,7 +23,7 @@ impl<E> Model for Seat<E> {
 
     ghost coded = { known_code E.code };
 
-    ghost view = { λ s. known s.badge.table_id s.number (seen_of s.badge.views) (own_of s.badge.views) };
+    ghost view = { λ s. knowledge s.badge.table_id s.number (seen_of s.badge.views) (own_of s.badge.views) };
 
     ghost invariant = { λ s. IsSeated s.number s.front s.badge.views };
 }

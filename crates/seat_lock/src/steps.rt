@@ -1,8 +1,9 @@
 //! The steps on the table, one function each.
 ghost use Rattle.std.specs.Prelude.{◌≡◌, ◌%◌, ◌^◌, ◌<◌, ℕ, false, true, [], ◌∷◌, ◌++◌, length, Some, None, MatchBool};
 ghost use mathlib.Core.List.{IsPrefix};
-ghost use Rattle.seat_lock.specs.Views.{with_ticket, ended, compared, left, dealt, joined};
+ghost use Rattle.seat_lock.specs.Views.{with_ticket, ended_view, compared_view, rest_view, dealt_view, joint_view};
 ghost use Rattle.seat_lock.specs.Boards.{IsBoard, IsOutside, IsWaiting, HasEntered, CanGain};
+ghost use Rattle.seat_lock.specs.Rule.{IsWithin};
 ghost use Rattle.seat_lock.specs.Steps.{Enters};
 
 use crate::board::{Board, Compare, Deal, Draw, End, Gather, Look, Note, Sitter};
@@ -69,7 +70,7 @@ pub fn end<V: Storied>(board: &Board<V>, seat: &mut Sitter<V>, value: V)
     requires story { V.stands value (seat.old.me.0.seen ++ V.more value) }
     requires gains { CanGain V.maker (V.more value) seat.old.me.0.mine }
     ensures board { seat.new.table_id ≡ seat.old.table_id }
-    ensures ended { seat.new.me ≡ (ended V.maker (V.more value) seat.old.me.0, []) }
+    ensures ended { seat.new.me ≡ (ended_view V.maker (V.more value) seat.old.me.0, []) }
 {
     let empty = board.shared.exchange(seat, 0, Some(value));
     let None = empty else { unreachable!() };
@@ -81,8 +82,8 @@ pub fn deal<V: Storied>(board: &Board<V>, seat: &mut Sitter<V>) -> Sitter<V>
     requires board { IsBoard board.now.shared.table_id × (seat.old.table_id ≡ board.now.shared.table_id) }
     requires outside { IsOutside seat.old.me }
     ensures board { (seat.new.table_id ≡ seat.old.table_id) × (result.table_id ≡ seat.old.table_id) }
-    ensures old { seat.new.me ≡ (left 1 seat.old.me.0, []) }
-    ensures new { result.me ≡ (dealt 1 seat.old.me.0, []) }
+    ensures old { seat.new.me ≡ (rest_view 1 seat.old.me.0, []) }
+    ensures new { result.me ≡ (dealt_view 1 seat.old.me.0, []) }
 {
     board.shared.split_seat::<Deal>(seat)
 }
@@ -92,8 +93,8 @@ pub fn note<V: Storied>(board: &Board<V>, seat: &mut Sitter<V>) -> Sitter<V>
     requires board { IsBoard board.now.shared.table_id × (seat.old.table_id ≡ board.now.shared.table_id) }
     requires outside { IsOutside seat.old.me }
     ensures board { (seat.new.table_id ≡ seat.old.table_id) × (result.table_id ≡ seat.old.table_id) }
-    ensures old { seat.new.me ≡ (left 0 seat.old.me.0, []) }
-    ensures new { result.me ≡ (dealt 0 seat.old.me.0, []) }
+    ensures old { seat.new.me ≡ (rest_view 0 seat.old.me.0, []) }
+    ensures new { result.me ≡ (dealt_view 0 seat.old.me.0, []) }
 {
     board.shared.split_seat::<Note>(seat)
 }
@@ -104,9 +105,10 @@ pub fn absorb<V: Storied>(board: &Board<V>, seat: &mut Sitter<V>, other: Sitter<
     requires other { other.table_id ≡ board.now.shared.table_id }
     requires outside { IsOutside seat.old.me × IsOutside other.me }
     ensures board { seat.new.table_id ≡ seat.old.table_id }
-    ensures joined { seat.new.me ≡ (compared (joined seat.old.me.0 other.me.0), []) }
+    ensures joined { seat.new.me ≡ (compared_view (joint_view seat.old.me.0 other.me.0), []) }
+    ensures within { IsWithin V.maker seat.new.me.0.seen (seat.old.me.0.mine ++ other.me.0.mine) }
     ensures seen { IsPrefix seat.old.me.0.seen seat.new.me.0.seen × IsPrefix other.me.0.seen seat.new.me.0.seen }
 {
     board.shared.join_seat::<Gather>(seat, other);
-    board.shared.load::<Compare>(seat, 0);
+    board.shared.load::<Compare<V>>(seat, 0);
 }

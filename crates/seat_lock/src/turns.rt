@@ -12,7 +12,7 @@ pub struct Turn<V: Storied> {
 }
 
 impl<V: Storied> Model for Turn<V> {
-    ghost use Rattle.seat_lock.specs.Known.{Held, held, held_code};
+    ghost use Rattle.seat_lock.specs.Known.{Held, turn_of, held_code};
     ghost use Rattle.seat_lock.specs.Views.{first_own};
     ghost use Rattle.seat_lock.specs.Boards.{IsInTurn};
 
@@ -20,7 +20,7 @@ impl<V: Storied> Model for Turn<V> {
 
     ghost coded = { held_code V.Entry.code V.code };
 
-    ghost view = { λ t. held t.seat.table_id t.number t.seat.me.0.seen (first_own t.seat.me.0.mine) t.value };
+    ghost view = { λ t. turn_of t.seat.table_id t.number t.seat.me.0.seen (first_own t.seat.me.0.mine) t.value };
 
     ghost invariant = { λ t. IsInTurn t.number t.seat.me };
 }

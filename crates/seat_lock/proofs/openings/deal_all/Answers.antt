@@ -1,5 +1,5 @@
 use Rattle.std.proofs.Common.{rules, ◌∙◌, ◌+◌, []}
-use Rattle.seat_lock.specs.Known.{known}
+use Rattle.seat_lock.specs.Known.{knowledge}
 use Rattle.seat_lock.proofs.Dealing.{deals-left, deals-new, seated-new, known-new, gets-next, length-next}
 use Rattle.seat_lock.proofs.openings.deal_all.Goals as goal
 
@@ -16,7 +16,7 @@ loop-before-preserved g c =
       search rules,
       length-next _ _ _ _ pushed.items was.3,
       search rules,
-      gets-next (λ k. known c.args.board.now.shared.table_id (k + 1) c.args.first.me.0.seen []) _ _ _ _ pushed.items was.3
+      gets-next (λ k. knowledge c.args.board.now.shared.table_id (k + 1) c.args.first.me.0.seen []) _ _ _ _ pushed.items was.3
           (known-new _ _ c.args.first.me.0.seen [] _ c.into_badge.result.views (search rules)
           (deals-new c.args.first.me.0.seen c.loop-before.before c.args.count c.loop-before.first.me c.deal-seat.result.me c.into_badge.result.views (search rules) was.1 dealt.new (search rules)))
           was.5,
