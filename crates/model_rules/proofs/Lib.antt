@@ -1,3 +1,4 @@
 pub mod NumberOnce
 pub mod RangeOnce
 pub mod RulesOnce
+pub mod SmallTexts

@@ -3,11 +3,16 @@
 #![tactic(auto)]
 
 mod breaches;
+mod examples;
 mod intervals;
 mod kinds;
 mod laws;
 
 pub use breaches::Broken;
+pub use examples::{
+    numbers_have_their_values, ranges_have_their_intervals, texts_that_are_no_numbers,
+    texts_that_are_no_ranges, types_have_their_rows,
+};
 pub use intervals::Interval;
 pub use kinds::Kind;
 pub use laws::{
