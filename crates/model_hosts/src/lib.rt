@@ -20,7 +20,8 @@ pub use laws::{
     different_maps_have_different_texts, no_bytes_read_as_no_keys, what_reads_is_storable,
 };
 
-/// The laws of a format, as one: each stands by itself below.
+/// The laws of a format as one record. That a map can be stored or breaks at one key follows from it; this and the others stand by
+/// themselves too.
 pub fn hosts_is_lawful()
     ensures { IsLawful hosts }
 {}

@@ -24,7 +24,8 @@ pub use laws::{
 };
 pub use signs::Sign;
 
-/// The laws of a format, as one: each stands by itself below.
+/// The laws of a format as one record. That a map can be stored or breaks at one key follows from it; this and the others stand by
+/// themselves too.
 pub fn simpleini_is_lawful()
     ensures { IsLawful ini }
 {}
