@@ -9,7 +9,7 @@ use Rattle.std.specs.Ordering.{eq_by_cmp}
 use Rattle.std.specs.declared.cmp.Ordering.{Ordering}
 use Rattle.std.specs.declared.cmp.Ordering.TheVariants.{Equal}
 use Rattle.std.proofs.lemmas.List.Sums.{sum_by-cons}
-use Rattle.model_maps.proofs.Sums.{sum_by-insert, sum_by-empty}
+use Rattle.general_words.proofs.Maps.{sum_by-insert, sum_by-empty}
 use Rattle.sorted_map.proofs.SeenLemmas.{seen, find-seen}
 use Rattle.key_list.specs.ListView.{HasNoneTwice}
 use Rattle.key_list.proofs.FoundLemmas.{IsFirst, find-set, find-remove, find-without}
