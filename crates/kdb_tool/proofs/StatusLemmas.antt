@@ -17,7 +17,7 @@ use Rattle.mounted_store.specs.declared.verdicts.Verdict.{Verdict}
 use Rattle.mounted_store.specs.declared.verdicts.Verdict.TheVariants.{ValueTooLong, FileTooLarge, NotStorable, BadTable, DatabaseFull, Same, Stores}
 use Rattle.kdb_tool.specs.Answer.{Answer, warned}
 use Rattle.kdb_tool.specs.Lines.{no_name, not_found}
-use Rattle.kdb_tool.specs.Request.{Action, Get, Set, Remove, Names, GetMeta, SetMeta, MetaNames, Bring, MountFile, Unmount, Question, Mounts, FileOf, On, SpellsAction, SpellsQuestion}
+use Rattle.kdb_tool.specs.Request.{Action, Get, Set, Remove, Names, GetMeta, SetMeta, MetaNames, Bring, MountFile, Unmount, Question, Mounts, FileOf, On}
 use Rattle.kdb_tool.specs.declared.extents.Extent.{Extent}
 use Rattle.kdb_tool.specs.declared.ways.Way.{Way}
 use Rattle.kdb_tool.specs.Commands.{Step, Tells, Sets, parent_of, step_of, got as got_report, sources, others, text_got, meta_got, meta_listed, with_brought, brought_over, first_too_long, staying, mounted}
@@ -175,21 +175,3 @@ pub own_status : (question : Question Name) (status : ℕ) → IsStatusOf questi
 own_status Mounts status is = of_two status is
 own_status (FileOf name) status is = of_three status is
 own_status (On name action) status is = own_action action status is
-
-by_action : (by : Action (List ℕ)) (action : Action Name) (status : ℕ) → SpellsAction by action → IsStatusOfAction action status → IsStatusOfAction by status
-by_action Get action status spelled is = subst (λ (a : Action Name). IsStatusOfAction a status) spelled is
-by_action (Set value) action status spelled is = subst (λ (a : Action Name). IsStatusOfAction a status) spelled is
-by_action (Remove extent) action status spelled is = subst (λ (a : Action Name). IsStatusOfAction a status) spelled is
-by_action Names action status spelled is = subst (λ (a : Action Name). IsStatusOfAction a status) spelled is
-by_action (GetMeta meta) action status spelled is = subst (λ (a : Action Name). IsStatusOfAction a status) spelled is
-by_action (SetMeta meta text) action status spelled is = subst (λ (a : Action Name). IsStatusOfAction a status) spelled is
-by_action MetaNames action status spelled is = subst (λ (a : Action Name). IsStatusOfAction a status) spelled is
-by_action (Bring way extent text) action status spelled is = subst (λ (a : Action Name). IsStatusOfAction a status) spelled.is is
-by_action (MountFile file kind) action status spelled is = subst (λ (a : Action Name). IsStatusOfAction a status) spelled is
-by_action Unmount action status spelled is = subst (λ (a : Action Name). IsStatusOfAction a status) spelled is
-
--- a question about the keys that texts spell has the statuses of the question about the texts
-pub by_status : (by : Question (List ℕ)) (question : Question Name) (status : ℕ) → SpellsQuestion by question → IsStatusOf question status → IsStatusOf by status
-by_status Mounts question status spelled is = subst (λ (q : Question Name). IsStatusOf q status) spelled is
-by_status (FileOf text) question status spelled is = subst (λ (q : Question Name). IsStatusOf q status) spelled.is is
-by_status (On text by) question status spelled is = by_action by spelled.action status spelled.action_spelled (subst (λ (q : Question Name). IsStatusOf q status) spelled.is is)

@@ -9,9 +9,8 @@ use Rattle.general_words.specs.Searches.{first_some}
 use Rattle.model_names.specs.Refuses.{TooLong}
 use Rattle.model_names.specs.Spelling.{path, spelling}
 use Rattle.model_names.specs.Spells.{longest_path}
-use Rattle.model_maps.specs.Entry.{Entry, plain_entry}
+use Rattle.model_maps.specs.Entry.{Entry, plain_entry, with_meta}
 use Rattle.model_maps.specs.KeyMap.{KeyMap, no_keys, at_or_below, not_below}
-use Rattle.model_dump.specs.Adds.{with_meta}
 use Rattle.mount_table.specs.Changing as table
 use Rattle.mount_table.specs.Points.{own_point}
 use Rattle.mount_table.specs.declared.faults.TableFault.{TableFault}

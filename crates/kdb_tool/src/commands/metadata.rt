@@ -4,8 +4,7 @@ ghost use Rattle.std.specs.FinMap as map;
 ghost use Rattle.std.specs.List.{flat_map};
 ghost use Rattle.std.specs.Option.{option_map};
 ghost use Rattle.key_set.specs.EntryView.{entry_of};
-ghost use Rattle.model_maps.specs.Entry.{plain_entry};
-ghost use Rattle.model_dump.specs.Adds.{with_meta};
+ghost use Rattle.model_maps.specs.Entry.{plain_entry, with_meta};
 ghost use Rattle.kdb_tool.specs.AnswerView.{report_of, seen_step};
 ghost use Rattle.kdb_tool.specs.Commands.{Tells, text_got, meta_got, with_text, meta_set_in, meta_listed};
 
