@@ -153,11 +153,6 @@ Leaves-stored words answer (Err stops.Memory) before after answers is stores = a
 Leaves-stored words answer (Err stops.DiskFault) before after answers is stores = λ other other_answers.
     subst (λ (a : Answer). KeepsUnnamed a.stored before after) (Answers-once words before (answer_of answer) other answers other_answers) stores
 
--- where there is no answer, nothing was written
-pub Leaves-same : (words : List (List ℕ)) (stop : Stop) (before after : List ℕ → List ℕ) → after ≡ before → Leaves words (Err stop) before after
-Leaves-same words stops.Memory before after same = same
-Leaves-same words stops.DiskFault before after same = λ answer answers. same_files before after same answer.stored
-
 -- what an answer stored lasts, whichever way the answer is told
 pub lasting : (r : Result code.Answer Stop) (words : List (List ℕ)) (files : List ℕ → List ℕ) (leaves : List ℕ → List ℕ → Type 0) (status : ℕ) (out err : Change) → IfOk r (λ answer. Answers words files (answer_of answer)) → IfOk r (λ answer. Lasts answer.stored leaves) → Delivers (ending r) status out err
     → IsAnswered status → (answer : Answer) → Answers words files answer → Lasts answer.stored leaves

@@ -8,7 +8,8 @@ use Rattle.kdb_outside.specs.Images.{Only, KeepsImages, KeepsOtherImages}
 use Rattle.general_words.specs.Texts.{is_text}
 use Rattle.kdb_tool.specs.Answer.{Texts, is_stored}
 use Rattle.kdb_tool.specs.Lasting.{Lasts, SparesUnnamed}
-use Rattle.kdb_tool.proofs.StoringLemmas.{order, first, second, apart, other_file}
+use Rattle.general_words.proofs.Tests.{first, second}
+use Rattle.kdb_tool.proofs.StoringLemmas.{order, apart, other_file}
 
 -- what a crash may leave of each file
 abbrev pub Leaves : Type 1

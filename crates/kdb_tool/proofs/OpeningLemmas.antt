@@ -10,7 +10,7 @@ use Rattle.mounted_store.specs.Files.{AreStates}
 use Rattle.mounted_store.specs.Opening.{IsOpened, MakesTable}
 use Rattle.mounted_store.specs.Weighed.{weighed}
 use Rattle.mounted_store.specs.declared.files.MountedFile.{MountedFile}
-use Rattle.kdb_tool.proofs.AnswerLemmas.{points-of-mounts}
+use Rattle.mounted_store.proofs.PointLemmas.{points-of_mounts}
 
 -- no file has a state to mean
 pub states-none : (bytes_of : List ℕ → List ℕ) (points : List Name) → AreStates Reads IsBadAt bytes_of points []
@@ -20,7 +20,7 @@ states-none bytes_of points = λ i file found. absurd (none-some file found)
 pub is-opened : (bytes_of : List ℕ → List ℕ) (table : List Mount) (unweighed files : List MountedFile) → MakesTable Reads (bytes_of own_mount.file) (Ok table) → over (λ (file : MountedFile). file.mount) unweighed ≡ table
     → AreStates Reads IsBadAt bytes_of (over (λ (mount : Mount). mount.at) table) unweighed → files ≡ weighed unweighed → IsOpened Reads IsBadAt bytes_of files
 is-opened bytes_of table unweighed files makes mounts states is =
-    let points = ap (over (λ (mount : Mount). mount.at)) (sym mounts) ∙ points-of-mounts unweighed in
+    let points = ap (over (λ (mount : Mount). mount.at)) (sym mounts) ∙ points-of_mounts unweighed in
     record {
       unweighed = unweighed;
       table = subst (λ t. MakesTable Reads (bytes_of own_mount.file) (Ok t)) (sym mounts) makes;

@@ -1,5 +1,5 @@
 -- Files that are replaced one after the other.
-use Rattle.std.proofs.Common.{◌≡◌, ◌≢◌, ℕ, ◌+◌, ◌<◌, ◌&&◌, Bool, true, false, T, List, [], ◌∷◌, drop, get_or, length, zero, suc, refl, sym, ap, ◌∙◌, subst}
+use Rattle.std.proofs.Common.{◌≡◌, ◌≢◌, ℕ, ◌+◌, ◌<◌, true, false, T, List, [], ◌∷◌, drop, get_or, length, zero, suc, refl, sym, ap, ◌∙◌, subst}
 use Rattle.std.proofs.lemmas.Bool.{or_parts, or_from}
 use Rattle.std.proofs.lemmas.List.{drop_more}
 use Rattle.std.specs.declared.cmp.Ordering.{Ordering}
@@ -11,18 +11,11 @@ use Rattle.std.specs.FinMap.Entries.{below_all}
 use Rattle.kdb_outside.specs.Files.{ChangesTo, KeepsOthers}
 use Rattle.general_words.specs.Texts.{is_text}
 use Rattle.kdb_tool.specs.Answer.{Texts, is_stored, KeepsUnnamed, LeavesFiles}
+use Rattle.general_words.proofs.Tests.{first, second}
 
 -- the order of file names
 abbrev pub order : List ℕ → List ℕ → Ordering
 order = slice_cmp nat_cmp
-
-pub first : (a b : Bool) → T (a && b) → T a
-first true b p = tt
-first false b p = p
-
-pub second : (a b : Bool) → T (a && b) → T b
-second true b p = p
-second false b p = absurd p
 
 -- a name behind another is not the same text
 pub apart : (a b : List ℕ) → T (is_lt (order a b)) → is_text b a ≡ false

@@ -7,21 +7,13 @@ use Rattle.std.specs.FinMap.Entries.{where_key, find_tied, find-append}
 use Rattle.std.specs.List.{position, position_or_len}
 use Rattle.std.specs.Ordering.{eq_by_cmp, is_eq}
 use Rattle.std.specs.declared.cmp.Ordering.{Ordering}
-use Rattle.std.specs.declared.cmp.Ordering.TheVariants.{Less, Equal, Greater}
 use Rattle.std.proofs.lemmas.Bool.Decides.{nat_tests}
 use Rattle.std.proofs.lemmas.List.Quantifiers.{position-Some}
 use Rattle.std.proofs.lemmas.List.Sums.{fails_before_first}
 use Rattle.key_list.specs.ListView.{HasNoneTwice}
-
-equal : (r : Ordering) → is_eq r ≡ true → r ≡ Equal
-equal Less e = absurd cc
-equal Equal e = refl
-equal Greater e = absurd cc
-
--- a test that is repeated: the inner branch is never reached
-shadowed : {A : Type 0} (b : Bool) (x y z : A) → cond b x z ≡ cond b x (cond b y z)
-shadowed true x y z = refl
-shadowed false x y z = refl
+use Rattle.general_words.proofs.Entries.{find_nowhere}
+use Rattle.general_words.proofs.Orders.{tied}
+use Rattle.general_words.proofs.Tests.{shadowed}
 
 swapped : {A : Type 0} (a b : Bool) (x y z : A) → (a ≡ true → b ≡ false) → cond a x (cond b y z) ≡ cond b y (cond a x z)
 swapped true true x y z apart = absurd (cc (apart refl))
@@ -41,13 +33,9 @@ both_fail : {A : Type 0} (b : Bool) (x : A) (o : Option A) → b ≡ false → o
 both_fail true x o e none = absurd cc
 both_fail false x o e none = none
 
-none_left : {A : Type 0} (b : Bool) (o : Option A) → o ≡ None → cond b None o ≡ None
-none_left true o none = refl
-none_left false o none = none
-
 -- a key that ties with x ties with no key that does not
 apart : {K : Type 0} {R : K → K → Ordering} → IsTotalOrder R → (q k x : K) → eq_by_cmp R k x ≡ false → eq_by_cmp R q x ≡ true → eq_by_cmp R q k ≡ false
-apart o q k x differ is = (eq_by_cmp_equiv o).symm q k ∙ ap is_eq (alike_right o q x k (equal _ is)) ∙ differ
+apart o q k x differ is = (eq_by_cmp_equiv o).symm q k ∙ ap is_eq (alike_right o q x k (tied _ is)) ∙ differ
 
 module _ {K X : Type 0} (R : K → K → Ordering) where
   -- the first entry of a key stands at this place
@@ -72,10 +60,6 @@ module _ {K X : Type 0} (R : K → K → Ordering) where
   find-first q (e ∷ es) zero d first = ap (λ b. cond b (Some e.1) (find R q es)) first
   find-first q (e ∷ es) (suc i) d first = ap (λ b. cond b (Some e.1) (find R q es)) first.0 ∙ find-first q es i d first.1
 
-  find_nowhere : (q : K) (es : List (K × X)) → ((k : ℕ) (d : K × X) → k < length es → eq_by_cmp R q (get_or es k d).0 ≡ false) → find R q es ≡ None
-  find_nowhere q [] h = refl
-  find_nowhere q (e ∷ es) h = ap (λ b. cond b (Some e.1) (find R q es)) (h 0 e (omega arith)) ∙ find_nowhere q es (λ k d lt. h (suc k) d (omega arith))
-
   past_all : (p : K × X → Bool) (es : List (K × X)) → position p es ≡ None → length es ≤ position_or_len p es
   past_all p es none = grind (arith, nat_tests)
 
@@ -83,7 +67,7 @@ module _ {K X : Type 0} (R : K → K → Ordering) where
   find-missing q es none =
       let p = λ (e : K × X). eq_by_cmp R q e.0 in
       let all = past_all p es none in
-      find_nowhere q es (λ k d lt. fails_before_first p es k d (omega arith))
+      find_nowhere R q es (λ k d lt. fails_before_first p es k d (omega arith))
 
   -- what is not found stays so, whatever is taken away or written over
   none-set : (q : K) (es : List (K × X)) (i : ℕ) (d : K × X) (v : X) → find R q es ≡ None → find R q (set es i ((get_or es i d).0, v)) ≡ None
@@ -130,8 +114,8 @@ module _ {K X : Type 0} (R : K → K → Ordering) where
     pub find-set : (q k : K) (v : X) (es : List (K × X)) (i : ℕ) (d : K × X) → IsFirst k es i → find R q (set es i ((get_or es i d).0, v)) ≡ cond (eq_by_cmp R q k) (Some v) (find R q es)
     find-set q k v [] i d first = absurd (cc first)
     find-set q k v (e ∷ es) zero d first =
-        shadowed (eq_by_cmp R q e.0) (Some v) (Some e.1) (find R q es)
-        ∙ ap (λ r. cond (is_eq r) (Some v) (find R q (e ∷ es))) (sym (alike_right o k e.0 q (equal _ first)))
+        sym (shadowed (eq_by_cmp R q e.0) (Some v) (Some e.1) (find R q es))
+        ∙ ap (λ r. cond (is_eq r) (Some v) (find R q (e ∷ es))) (sym (alike_right o k e.0 q (tied _ first)))
     find-set q k v (e ∷ es) (suc i) d first =
         ap (cond (eq_by_cmp R q e.0) (Some e.1)) (find-set q k v es i d first.1)
         ∙ swapped (eq_by_cmp R q e.0) (eq_by_cmp R q k) (Some e.1) (Some v) (find R q es) (apart o q k e.0 first.0)
@@ -140,7 +124,7 @@ module _ {K X : Type 0} (R : K → K → Ordering) where
     gone : (q : K) (e : K × X) (es : List (K × X)) → find R e.0 es ≡ None → find R q es ≡ cond (eq_by_cmp R q e.0) None (find R q (e ∷ es))
     gone q e es none =
         elim (eq_by_cmp R q e.0) as (λ b. eq_by_cmp R q e.0 ≡ b → find R q es ≡ cond b None (cond b (Some e.1) (find R q es))) [
-          | true ↦ λ is. sym (find_tied R o q e.0 (equal _ is) es) ∙ none
+          | true ↦ λ is. sym (find_tied R o q e.0 (tied _ is) es) ∙ none
           | false ↦ λ is. refl
         ] refl
 
@@ -148,7 +132,7 @@ module _ {K X : Type 0} (R : K → K → Ordering) where
     find-remove q k [] i once first = absurd (cc first)
     find-remove q k (e ∷ es) zero once first =
         gone q e es once.0
-        ∙ ap (λ r. cond (is_eq r) None (find R q (e ∷ es))) (sym (alike_right o k e.0 q (equal _ first)))
+        ∙ ap (λ r. cond (is_eq r) None (find R q (e ∷ es))) (sym (alike_right o k e.0 q (tied _ first)))
     find-remove q k (e ∷ es) (suc i) once first =
         ap (cond (eq_by_cmp R q e.0) (Some e.1)) (find-remove q k es i once.1 first.1)
         ∙ swapped (eq_by_cmp R q e.0) (eq_by_cmp R q k) (Some e.1) None (find R q es) (apart o q k e.0 first.0)
@@ -157,7 +141,7 @@ module _ {K X : Type 0} (R : K → K → Ordering) where
     pub find-without : (q k : K) (es : List (K × X)) → find R k es ≡ None → find R q es ≡ cond (eq_by_cmp R q k) None (find R q es)
     find-without q k es none =
         elim (eq_by_cmp R q k) as (λ b. eq_by_cmp R q k ≡ b → find R q es ≡ cond b None (find R q es)) [
-          | true ↦ λ is. sym (find_tied R o q k (equal _ is) es) ∙ none
+          | true ↦ λ is. sym (find_tied R o q k (tied _ is) es) ∙ none
           | false ↦ λ is. refl
         ] refl
 

@@ -1,5 +1,5 @@
 -- The same of keys and the key map that they make.
-use Rattle.std.proofs.Common.{◌≡◌, ℕ, ◌<◌, Bool, List, [], ◌∷◌, ◌++◌, length, sum_by, get_or, set, Some, None, sym, ap, subst, ◌∙◌}
+use Rattle.std.proofs.Common.{◌≡◌, ℕ, ◌<◌, Bool, [], ◌∷◌, ◌++◌, length, sum_by, get_or, set, Some, None, sym, ap, subst, ◌∙◌}
 use Rattle.std.specs.Prelude.{remove}
 use Rattle.std.specs.FinMap as map
 use Rattle.std.specs.FinMap.{find}
@@ -13,12 +13,10 @@ use Rattle.model_names.proofs.OrderLemmas.{name_cmp_total, name_cmp-IsAntisymmet
 use Rattle.model_maps.specs.KeyMap.{weight, weight_of_key}
 use Rattle.key_set.specs.declared.entries.Entry as code
 use Rattle.key_set.specs.EntryView.{entry_of}
+use Rattle.key_set.proofs.SetLemmas.{Keys}
 use Rattle.key_list.specs.ListView.{map_of, HasNoneTwice}
 use Rattle.key_list.proofs.FoundLemmas.{IsFirst, first_of, find-first, find-missing, once-set, once-remove, once-where_key, once-push}
 use Rattle.key_list.proofs.MadeLemmas.{get-made, length-made, sum_by-made, made-set, made-push, made-remove, made-missing, made-where_key}
-
-abbrev pub Keys : Type 0
-Keys = List (Name × code.Entry)
 
 module _ (keys all : Keys) (name : Name) (same : keys ≡ all) where
   -- the place at which a scan finds a name, and that it finds none

@@ -1,7 +1,8 @@
 //! A finite map from names to entries, over one vector in no order. No contract speaks of the vector.
-ghost use Rattle.std.specs.Prelude.{◌≡◌, ◌-◌, ◌^◌, length, min, IfOk, OnOk, OnErr};
+ghost use Rattle.std.specs.Prelude.{◌≡◌, length, IfOk, OnOk, OnErr};
 ghost use Rattle.std.specs.Option.{option_map};
 ghost use Rattle.std.specs.FinMap as map;
+ghost use Rattle.general_words.specs.Saturated.{saturated};
 ghost use Rattle.model_maps.specs.KeyMap.{no_keys, weight, at_or_below, not_below};
 ghost use Rattle.key_set.specs.EntryView.{entry_of};
 
@@ -112,7 +113,7 @@ impl KeyList {
 
     /// What the keys weigh. A weight beyond the type's end is given as its last value.
     pub fn weight(&self) -> u64
-        ensures { result ≡ min (weight self.now) (2 ^ 64 - 1) }
+        ensures { result ≡ saturated (weight self.now) }
     {
         weight_of_all(&self.keys)
     }

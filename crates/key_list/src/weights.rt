@@ -1,5 +1,6 @@
 //! What keys weigh.
-ghost use Rattle.std.specs.Prelude.{◌≡◌, ◌-◌, ◌^◌, min, sum_by};
+ghost use Rattle.std.specs.Prelude.{◌≡◌, sum_by};
+ghost use Rattle.general_words.specs.Saturated.{saturated};
 ghost use Rattle.model_maps.specs.KeyMap.{weight_of_key};
 ghost use Rattle.key_set.specs.EntryView.{entry_of};
 
@@ -11,7 +12,7 @@ const OWN_WEIGHT: u64 = 64;
 
 /// What some keys weigh together. A weight beyond the type's end is given as its last value.
 pub fn weight_of_all(keys: &[(KeyName, Entry)]) -> u64
-    ensures { result ≡ min (sum_by (λ key. weight_of_key key.0 (entry_of key.1)) keys.now) (2 ^ 64 - 1) }
+    ensures { result ≡ saturated (sum_by (λ key. weight_of_key key.0 (entry_of key.1)) keys.now) }
 {
     let mut weight: u64 = 0;
     for key in keys {
@@ -22,7 +23,7 @@ pub fn weight_of_all(keys: &[(KeyName, Entry)]) -> u64
 
 /// What one key weighs.
 fn weight_of_one(name: &KeyName, entry: &Entry) -> u64
-    ensures { result ≡ min (weight_of_key name.now (entry_of entry.now)) (2 ^ 64 - 1) }
+    ensures { result ≡ saturated (weight_of_key name.now (entry_of entry.now)) }
 {
     OWN_WEIGHT
         .saturating_add(name.text_bytes() as u64)

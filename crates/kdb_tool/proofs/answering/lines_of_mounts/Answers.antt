@@ -4,7 +4,7 @@ use Rattle.std.proofs.Math.Seq.{take-length}
 use Rattle.std.specs.List.{flat_map}
 use Rattle.kdb_tool.specs.Lines.{line_of_mount}
 use Rattle.kdb_tool.proofs.AnswerLemmas.{lines-of-mounts}
-use Rattle.kdb_tool.proofs.TreeLemmas.{flat_map-more}
+use Rattle.general_words.proofs.Lists.{flat_map-more}
 use Rattle.kdb_tool.proofs.answering.lines_of_mounts.Goals as goal
 
 pub loop-i-preserved : goal.loop-i-preserved

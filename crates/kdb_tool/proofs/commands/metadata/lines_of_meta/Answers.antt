@@ -3,7 +3,7 @@ use Rattle.std.proofs.Common.{◌≡◌, ◌++◌, [], ◌∷◌, List, ℕ, ari
 use Rattle.std.proofs.Math.Seq.{take-length}
 use Rattle.std.specs.FinMap as map
 use Rattle.std.specs.List.{flat_map}
-use Rattle.kdb_tool.proofs.TreeLemmas.{flat_map-more}
+use Rattle.general_words.proofs.Lists.{flat_map-more}
 use Rattle.kdb_tool.proofs.commands.metadata.lines_of_meta.Goals as goal
 
 abbrev line_of : List ℕ × List ℕ → List ℕ

@@ -8,7 +8,8 @@ use Rattle.model_maps.specs.Entry.{Entry}
 use Rattle.key_set.specs.EntryView.{entry_of}
 use Rattle.kdb_tool.specs.Commands.{is_listed}
 use Rattle.kdb_tool.specs.Lines.{line_of_name}
-use Rattle.kdb_tool.proofs.TreeLemmas.{flat_map-more, flat_map-where}
+use Rattle.general_words.proofs.Lists.{flat_map-more}
+use Rattle.kdb_tool.proofs.TreeLemmas.{flat_map-where}
 use Rattle.kdb_tool.proofs.commands.trees.lines_below.Goals as goal
 
 abbrev line_where : Name → Name × Entry → List ℕ
