@@ -9,7 +9,6 @@ use std::{env, fs, process};
 
 mod commands;
 mod mounted;
-mod streams;
 
 const ONE_KEY: &[u8] = b"kdbOpen 2\n$key string 4 1\nsw/a\n1\n$end\n";
 
