@@ -1,90 +1,10 @@
 //! The program `kdb`: the tool over the files of the folder `.kdb`, and the real input and output.
 #![tactic(auto)]
 
-mod streams;
-
-use crate::streams::taken_streams;
-use disk_real::RealDisk;
-use kdb_outside::{OpenGate, ReaderSource, Sink, WriterSink};
-use kdb_tool::run;
-use key_meta::Text;
-use std::io::ErrorKind;
 use std::process::ExitCode;
-use std::{env, io};
-
-/// The folder of the store, in the folder that the program runs in.
-const FOLDER: &str = ".kdb";
-
-/// The words of the command line, without the program's name.
-fn words(rt: HostRuntime) -> io::Result<Vec<Text>> {
-    let mut words = Vec::new(rt.alloc());
-    for word in env::args(&rt)?.skip(1) {
-        words.push(Text::new(rt.alloc(), word.as_str())?)?;
-    }
-    Ok(words)
-}
 
 fn main(rt: HostRuntime) -> ExitCode {
-    let mut err = WriterSink::new(rt.stderr());
-    match taken_streams(rt) {
-        Ok(taken) => {
-            let status = run_words(rt, &mut err);
-            drop(taken);
-            status
-        }
-        Err(error) => refuse_to_start(error, &mut err),
-    }
-}
-
-/// Runs the tool with the words of the command line.
-fn run_words<E: Sink>(rt: HostRuntime, err: &mut E) -> ExitCode {
-    match words(rt) {
-        Ok(words) => run_in(rt, FOLDER, &words, err),
-        Err(error) => refuse_words(error, err),
-    }
-}
-
-/// Runs the tool over a folder and the real input and output.
-fn run_in<E: Sink>(rt: HostRuntime, folder: &str, words: &[Text], err: &mut E) -> ExitCode {
-    let Ok(disk) = RealDisk::new(rt, folder) else {
-        return end(70, "kdb: C01110 out of memory\n", err);
-    };
-    let mut input = ReaderSource::new(rt.stdin());
-    let mut out = WriterSink::new(rt.stdout());
-    let (status, _) = run(
-        rt.alloc(),
-        words,
-        &mut input,
-        &mut out,
-        err,
-        disk,
-        &OpenGate,
-    );
-    ExitCode::from(status.code())
-}
-
-/// Nothing can be opened, not even what takes the place of a closed stream, or memory is wanting.
-fn refuse_to_start<E: Sink>(error: io::Error, err: &mut E) -> ExitCode {
-    match error.kind() {
-        ErrorKind::OutOfMemory => end(70, "kdb: C01110 out of memory\n", err),
-        _ => end(74, "kdb: C01100 disk-fault\n", err),
-    }
-}
-
-/// The words can't be had: one of them is no text, or memory is wanting.
-fn refuse_words<E: Sink>(error: io::Error, err: &mut E) -> ExitCode {
-    match error.kind() {
-        ErrorKind::OutOfMemory => end(70, "kdb: C01110 out of memory\n", err),
-        _ => end(2, "kdb: C01320 argument: not UTF-8\n", err),
-    }
-}
-
-/// Puts a line on err and ends with a status, or with that of a fault.
-fn end<E: Sink>(status: u8, line: &str, err: &mut E) -> ExitCode {
-    match err.put(line.as_bytes()) {
-        Ok(()) => ExitCode::from(status),
-        Err(_) => ExitCode::from(74),
-    }
+    kdb_process::start(rt)
 }
 
 #[cfg(test)]

@@ -14,7 +14,6 @@ mod mounted;
 mod order;
 mod refusals;
 mod sizes;
-mod streams;
 
 const ONE_KEY: &[u8] = b"kdbOpen 2\n$key string 4 1\nsw/a\n1\n$end\n";
 

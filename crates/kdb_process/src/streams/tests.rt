@@ -1,5 +1,5 @@
 //! What stands in the place of a closed stream.
-use crate::streams::{dead_end, taken_streams};
+use super::*;
 use kdb_outside::{Failed, ReaderSource, Sink, Source, WriterSink};
 use std::test::Fail;
 

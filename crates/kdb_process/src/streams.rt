@@ -7,7 +7,7 @@ use std::os::fd::AsRawFd;
 const LAST_STREAM: i32 = 2;
 
 /// Something that is open, and that neither gives nor takes bytes: a folder that is read as a file.
-pub(crate) fn dead_end(rt: HostRuntime) -> io::Result<File> {
+fn dead_end(rt: HostRuntime) -> io::Result<File> {
     File::open(&rt, "/")
 }
 
@@ -24,3 +24,6 @@ pub(crate) fn taken_streams(rt: HostRuntime) -> io::Result<Vec<File>> {
     }
     Ok(taken)
 }
+
+#[cfg(test)]
+mod tests;
