@@ -88,6 +88,3 @@ impl Formats for AllFormats {
         }
     }
 }
-
-#[cfg(test)]
-mod tests;

@@ -299,6 +299,3 @@ impl Disk for MemDisk {
         self.call(file, Ok(Step::Synced))
     }
 }
-
-#[cfg(test)]
-mod tests;

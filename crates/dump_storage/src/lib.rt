@@ -7,8 +7,6 @@ mod pieces;
 mod progress;
 mod reading;
 mod records;
-#[cfg(test)]
-mod tests;
 mod texts;
 mod writing;
 

@@ -8,8 +8,6 @@ mod journal;
 mod laws;
 mod reading;
 mod states;
-#[cfg(test)]
-mod tests;
 mod writing;
 
 pub use faults::{JournalFault, JournalRefused};

@@ -6,8 +6,6 @@ mod files;
 mod laws;
 mod names;
 mod reading;
-#[cfg(test)]
-mod tests;
 mod writing;
 
 pub use faults::DecodeFault;

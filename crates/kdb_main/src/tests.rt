@@ -14,6 +14,7 @@ mod mounted;
 mod order;
 mod refusals;
 mod sizes;
+mod tool_runs;
 
 const ONE_KEY: &[u8] = b"kdbOpen 2\n$key string 4 1\nsw/a\n1\n$end\n";
 

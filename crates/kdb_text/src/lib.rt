@@ -6,6 +6,3 @@ mod showing;
 
 pub use quoting::quoted;
 pub use showing::{shown, shown_text};
-
-#[cfg(test)]
-mod tests;

@@ -74,6 +74,3 @@ pub fn run<S: Source, K: Sink, E: Sink, D: Disk + Send, G: Gate + Sync>(
     let status = finish(&answer, out, err);
     (status, disk)
 }
-
-#[cfg(test)]
-mod tests;

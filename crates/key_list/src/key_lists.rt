@@ -129,6 +129,3 @@ fn copy_of(alloc: Global, keys: &[(KeyName, Entry)]) -> Result<Vec<(KeyName, Ent
     }
     Ok(copied)
 }
-
-#[cfg(test)]
-mod tests;

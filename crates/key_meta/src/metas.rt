@@ -202,6 +202,3 @@ fn bytes_of(items: &[(Text, Text)]) -> u64
     }
     bytes
 }
-
-#[cfg(test)]
-mod tests;

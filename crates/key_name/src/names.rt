@@ -309,6 +309,3 @@ fn with_part(alloc: Global, parts: &[String], part: &str) -> Result<Vec<String>,
     all.push(String::from_str(alloc, part)?)?;
     Ok(all)
 }
-
-#[cfg(test)]
-mod tests;

@@ -11,8 +11,6 @@ mod mounts;
 mod points;
 mod reading;
 mod tables;
-#[cfg(test)]
-mod tests;
 
 pub use changing::{add, remove};
 pub use faults::TableFault;

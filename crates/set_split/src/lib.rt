@@ -16,6 +16,3 @@ pub use parts::{Part, Parts};
 pub use points::are_points;
 pub use splitting::split;
 pub use uniting::unite;
-
-#[cfg(test)]
-mod tests;

@@ -274,6 +274,3 @@ fn order_of_firsts<K: Ord, V>(ours: &VecDeque<(K, V)>, theirs: &VecDeque<(K, V)>
         (None, _) => Ordering::Greater,
     }
 }
-
-#[cfg(test)]
-mod tests;

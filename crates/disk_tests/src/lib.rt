@@ -1,0 +1,23 @@
+//! Tests of the public calls of the outside, of disks, files and the journal: of what no contract says, each call with ample memory.
+#![tactic(auto)]
+
+#[cfg(test)]
+mod file_names;
+#[cfg(test)]
+mod journal_bodies;
+#[cfg(test)]
+mod journals;
+#[cfg(test)]
+mod kinds;
+#[cfg(test)]
+mod mem_disks;
+#[cfg(test)]
+mod mem_sinks;
+#[cfg(test)]
+mod mem_sources;
+#[cfg(test)]
+mod readers;
+#[cfg(test)]
+mod whole_files;
+#[cfg(test)]
+mod writers;

@@ -1,0 +1,65 @@
+//! Writers by examples.
+
+use kdb_outside::{Failed, Sink, WriterSink};
+use std::io::{self, ErrorKind, Write};
+use std::test::Fail;
+
+/// Takes one byte a call and a `|` at each flush until its room is full, and is interrupted at every second write.
+#[derive(Drop)]
+struct Narrow<'a> {
+    taken: &'a mut Vec<u8>,
+    room: usize,
+    is_interrupted: bool,
+}
+
+impl Write for Narrow<'_> {
+    fn write(&mut self, buf: &[u8]) -> io::Result<usize> {
+        self.is_interrupted = !self.is_interrupted;
+        if self.is_interrupted {
+            return Err(io::Error::from(ErrorKind::Interrupted));
+        }
+        match buf.first() {
+            Some(byte) if self.taken.len() < self.room => {
+                self.taken.push(*byte)?;
+                Ok(1)
+            }
+            _ => Ok(0),
+        }
+    }
+
+    fn flush(&mut self) -> io::Result<()> {
+        if self.taken.len() < self.room {
+            self.taken.push(b'|')?;
+            return Ok(());
+        }
+        Err(io::Error::from(ErrorKind::StorageFull))
+    }
+}
+
+#[test]
+fn writes_each_piece_whole(rt: HostRuntime) -> Result<(), Fail> {
+    let mut out = Vec::new(rt.alloc());
+    let mut sink = WriterSink::new(&mut out);
+    assert_eq!(rt; sink.put(b"ab"), Ok(()));
+    assert_eq!(rt; sink.put(b""), Ok(()));
+    assert_eq!(rt; sink.put(b"c"), Ok(()));
+    drop(sink);
+    assert_eq!(rt; out.as_slice(), b"abc".as_slice());
+    Ok(())
+}
+
+#[test]
+fn flushes_each_piece_and_fails_at_a_full_writer(rt: HostRuntime) -> Result<(), Fail> {
+    let mut taken = Vec::new(rt.alloc());
+    let mut sink = WriterSink::new(Narrow {
+        taken: &mut taken,
+        room: 6,
+        is_interrupted: false,
+    });
+    assert_eq!(rt; sink.put(b"abc"), Ok(()));
+    assert_eq!(rt; sink.put(b"def"), Err(Failed));
+    assert_eq!(rt; sink.put(b""), Err(Failed));
+    drop(sink);
+    assert_eq!(rt; taken.as_slice(), b"abc|de".as_slice());
+    Ok(())
+}
