@@ -1,11 +1,11 @@
 -- What the opening of a calm disk finds and leaves.
-use Rattle.std.proofs.Common.{◌≡◌, ℕ, ◌≤◌, List, length, Bool, true, false, cond, ◌⊎◌, inl, inr, Option, Some, None, refl, sym, ap, ◌∙◌, subst, arith}
+use Rattle.std.proofs.Common.{◌≡◌, ℕ, ◌≤◌, List, Bool, true, false, cond, inl, inr, Option, Some, None, refl, sym, ap, ◌∙◌, subst, arith}
 use Rattle.std.specs.Prelude.{◌==◌}
-use Rattle.std.proofs.lemmas.Bool.{cases_eq, cases_lt, eqb-true, eq-eqb}
+use Rattle.std.proofs.lemmas.Bool.{eqb-true, eq-eqb}
 use Rattle.kdb_outside.specs.Images.{Image, IsImage, KeepsImages}
 use Rattle.journal_codec.specs.declared.files.FileText.{FileText}
 use Rattle.journal_codec.specs.Entry.{journal_name}
-use Rattle.intent_journal.specs.JournalBytes.{gate, entry_at, entry_in, IsShut, IsOpen, IsBroken}
+use Rattle.intent_journal.specs.JournalBytes.{gate, entry_in, IsOpen}
 use Rattle.intent_journal.specs.Outcomes.{content_in, with_entry, SameFiles, HasOnly, IsOutcome, IsEither}
 use Rattle.intent_journal.specs.States.{IsSettled, IsDoubtful, IsFound, IsCalm}
 use Rattle.intent_journal.specs.Moments.{LeavesElseOnly, LeavesMeanwhile, IsImageOr}
@@ -26,37 +26,6 @@ IsOpen-open_entry journal entry is =
 
 pub open_entry-IsOpen : (journal : List ℕ) (entry : List FileText) → IsOpen entry journal → open_entry journal ≡ Some entry
 open_entry-IsOpen journal entry opened = ap (λ (b : Bool). cond b (entry_in journal) None) (eq-eqb (gate journal) 1 opened.gate_is) ∙ opened.body
-
--- a journal that isn't broken and holds no entry is shut
-shut_without : (c : List ℕ) → (IsBroken c → ⊥) → entry_in c ≡ None → IsShut c
-shut_without c whole none = elim (cases_lt (length c) 5) [
-  | inl short ↦ inl short
-  | inr long ↦ elim (cases_eq (gate c) 0) [
-    | inl closed ↦ inr closed
-    | inr not_closed ↦ absurd (whole (record { not_short = long; not_closed = not_closed; no_body = none }))
-  ]
-]
-
-shut_or_holds : (c : List ℕ) (o : Option (List FileText)) → (IsBroken c → ⊥) → entry_in c ≡ o → IsShut c ⊎ ((entry : List FileText) × (o ≡ Some entry) × (entry_in c ≡ Some entry))
-shut_or_holds c None whole is = inl (shut_without c whole is)
-shut_or_holds c (Some entry) whole is = inr (entry, refl, is)
-
-calm_journal : (seen : Image) (leaves : List ℕ → List ℕ → Type 0) (files : Image) (doubt : Option (List FileText)) → IsCalm seen leaves files doubt → (c : List ℕ) → leaves journal_name c
-    → IsShut c ⊎ ((entry : List FileText) × (entry_in (seen journal_name) ≡ Some entry) × (entry_in c ≡ Some entry))
-calm_journal seen leaves files doubt calm c is = elim calm.journal [
-  | inl rest ↦ shut_or_holds c (entry_in (seen journal_name)) (calm.not_broken c is) (ap entry_at (rest c is).1)
-  | inr (inl closed) ↦ inl (inr (closed c is))
-  | inr (inr short) ↦ inl (inl (short c is))
-]
-
--- without an open entry the files are as they are read, and what the journal holds is in doubt
-pub calm_doubtful : (seen : Image) (old new : List ℕ → List ℕ → Type 0) (files : Image) (doubt : Option (List FileText)) → IsCalm seen old files doubt → open_entry (seen journal_name) ≡ None
-    → KeepsImages old new → IsDoubtful new (opened_files seen) (opened_doubt seen)
-calm_doubtful seen old new files doubt calm none kept =
-    subst (λ (o : Option (List FileText)). IsDoubtful new (files_with o seen) (doubt_with o (seen journal_name))) (sym none) (record {
-      same = λ file ne c is. calm.same file ne (λ entry opened. absurd (let some = open_entry-IsOpen (seen journal_name) entry opened in cc)) c ((kept file).no_more c is);
-      journal = λ c is. calm_journal seen old files doubt calm c ((kept journal_name).no_more c is);
-    })
 
 -- each image of a calm disk stands for the files, or for those with the entry
 pub calm_only : (seen : Image) (leaves : List ℕ → List ℕ → Type 0) (files : Image) (doubt : Option (List FileText)) → IsCalm seen leaves files doubt

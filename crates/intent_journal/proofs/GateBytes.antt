@@ -41,10 +41,6 @@ gate_from_first : (c : List ℕ) → slice_get c 0 ≡ Some 0 → gate c ≡ 0
 gate_from_first [] is = refl
 gate_from_first (x ∷ c) is = cc
 
-first_from_gate : (c : List ℕ) → 1 ≤ length c → gate c ≡ 0 → slice_get c 0 ≡ Some 0
-first_from_gate [] there is = absurd (omega arith)
-first_from_gate (x ∷ c) there is = ap Some is
-
 -- a closed gate that is closed again stays closed, and a short journal stays short
 pub IsShut-kept : (before now : List ℕ) → IsTornWrite 0 (0 ∷ []) before now → IsShut before → IsShut now
 IsShut-kept before now torn (inl short) = inl (omega (arith, torn.no_longer))
@@ -59,10 +55,6 @@ IsClosed-behind bytes (x ∷ before) (y ∷ now) torn closed =
     let same : y ∷ [] ≡ x ∷ [] = torn.front in
     let first : y ≡ x = cc in
     record { there = omega arith; gate_is = first ∙ closed.gate_is }
-
--- a gate that was written whole
-pub written_gate : (b : ℕ) (before : List ℕ) → written before 0 (b ∷ []) ≡ b ∷ drop 1 before
-written_gate b before = refl
 
 pub IsClosed-written : (before : List ℕ) → IsClosed (written before 0 (0 ∷ []))
 IsClosed-written before = record { there = omega arith; gate_is = refl }

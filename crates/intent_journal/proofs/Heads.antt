@@ -6,8 +6,7 @@ use Rattle.std.proofs.lemmas.List.{take_all, length-take}
 use Rattle.journal_codec.specs.declared.files.FileText.{FileText}
 use Rattle.journal_codec.specs.Entry.{number_of}
 use Rattle.journal_codec.specs.Reading.{Reading, Reads, Fails, read_body}
-use Rattle.intent_journal.specs.declared.faults.JournalFault.{JournalFault}
-use Rattle.intent_journal.specs.declared.faults.JournalFault.TheVariants.{DiskFault, BadJournal, Memory}
+use Rattle.intent_journal.specs.declared.faults.JournalFault.TheVariants.{BadJournal}
 use Rattle.intent_journal.specs.JournalBytes.{gate, entry_at, entry_in, files_read}
 use Rattle.intent_journal.specs.BadJournals.{longest_body, open_length, place_in, bad_place_in, bad_place_of, open_entry}
 use Rattle.intent_journal.specs.Opening.{TellsBody, TellsEntry}
@@ -120,11 +119,6 @@ TellsBody-fails size at there few fails = bad_place_in-few size there few ∙ ap
 -- what the whole journal tells
 pub TellsEntry-none : (journal : List ℕ) → open_length journal ≡ None → TellsEntry journal (Ok None)
 TellsEntry-none journal none = (ap (λ (o : Option ℕ). bad_place_of o journal) none, sym (open_entry-none journal none))
-
-pub TellsEntry-body : (journal : List ℕ) (size : ℕ) (e : JournalFault) → open_length journal ≡ Some size → TellsBody size (take size (drop 5 journal)) (Err e) → TellsEntry journal (Err e)
-TellsEntry-body journal size DiskFault is told = tt
-TellsEntry-body journal size Memory is told = tt
-TellsEntry-body journal size (BadJournal at) is told = ap (λ (o : Option ℕ). bad_place_of o journal) is ∙ told
 
 -- an open gate with a length behind it
 pub record IsOpenHead (journal : List ℕ) (size : ℕ) : Type 0 where

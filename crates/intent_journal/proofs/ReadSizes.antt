@@ -1,31 +1,20 @@
 -- A body that is read has as many bytes as the spelling of its files, and so no body of too many bytes is read.
-use Rattle.std.proofs.Common.{◌≡◌, ℕ, zero, suc, ◌+◌, ◌≤◌, leb, eqb, Bool, true, false, cond, List, [], ◌∷◌, ◌++◌, length, take, drop, Result, Ok, Err, refl, ap, subst, ◌∙◌, arith, length-append, length-drop}
+use Rattle.std.proofs.Common.{◌≡◌, ℕ, zero, suc, ◌+◌, ◌≤◌, leb, eqb, List, [], ◌∷◌, ◌++◌, length, take, drop, Ok, ap, subst, ◌∙◌, arith, length-append, length-drop}
 use Rattle.std.specs.List.{flat_map}
 use Rattle.std.proofs.lemmas.Bool.{leb-true, eqb-true}
 use Rattle.journal_codec.specs.declared.files.FileText.{FileText}
 use Rattle.journal_codec.specs.Entry.{number_of, length_bytes, spelled_file, spelled}
-use Rattle.journal_codec.specs.Reading.{Reads, Field, ◌>>=◌, checked, byte_at, number_at, bytes_at, is_count, count_at, is_next_name, is_content, file_at, files_at, all_of, reading_of, read_body}
-use Rattle.journal_codec.proofs.BodyLemmas.{is_read}
+use Rattle.journal_codec.specs.Reading.{Reads, byte_at, number_at, bytes_at, is_count, count_at, is_next_name, is_content, file_at, files_at, all_of, read_body}
+use Rattle.journal_codec.proofs.BodyLemmas.{is_read, checked_count, at_end, after_count, ended, reads_by}
 use Rattle.journal_codec.proofs.FieldLemmas.{bind_ok, ok_is, checked_ok, byte_takes, bytes_takes}
 use Rattle.intent_journal.proofs.Bodies.{length-spelled}
+use Rattle.journal_codec.proofs.FileLemmas.{after_content, after_length, after_name, after_size, after_others, after_first}
 
 number_size : (bytes : List ℕ) (x : ℕ × List ℕ) → number_at bytes ≡ Ok x → length bytes ≡ 4 + length x.1
 number_size bytes x e =
     let c = checked_ok (leb 4 (length bytes)) bytes (number_of (take 4 bytes), drop 4 bytes) x e in
     let long : 4 ≤ length bytes = leb-true 4 (length bytes) c.0 in
     omega (arith, length-drop 4 bytes, ap (λ (p : ℕ × List ℕ). length p.1) c.1)
-
-abbrev after_content : List ℕ × List ℕ → List ℕ × List ℕ → Field FileText
-after_content name content = Ok (record { file = name.0; bytes = content.0 }, content.1)
-
-abbrev after_length : List ℕ × List ℕ → ℕ × List ℕ → Field FileText
-after_length name size = bytes_at is_content size.0 size.1 >>= after_content name
-
-abbrev after_name : List ℕ × List ℕ → Field FileText
-after_name name = number_at name.1 >>= after_length name
-
-abbrev after_size : List ℕ → ℕ × List ℕ → Field FileText
-after_size previous size = bytes_at (is_next_name previous) size.0 size.1 >>= after_name
 
 sum_of : (f : FileText) (bytes behind_size behind_name behind_length rest : List ℕ) → length bytes ≡ suc (length behind_size) → behind_size ≡ f.file ++ behind_name → length behind_name ≡ 4 + length behind_length
     → behind_length ≡ f.bytes ++ rest → length bytes ≡ length (spelled_file f) + length rest
@@ -44,12 +33,6 @@ file_size previous bytes x e =
     (bytes_takes is_content l.0.0 l.0.1 c.0 c.1).parts in
     subst (λ (p : FileText × List ℕ). length bytes ≡ length (spelled_file p.0) + length p.1) {x = (f, c.0.1)} (ok_is (f, c.0.1) x c.2) sum
 
-abbrev after_others : FileText × List ℕ → List FileText × List ℕ → Field (List FileText)
-after_others first others = Ok (first.0 ∷ others.0, others.1)
-
-abbrev after_first : ℕ → FileText × List ℕ → Field (List FileText)
-after_first count first = files_at count first.0.file first.1 >>= after_others first
-
 files_size : (count : ℕ) (previous bytes : List ℕ) (x : List FileText × List ℕ) → files_at count previous bytes ≡ Ok x → length bytes ≡ length (flat_map spelled_file x.0) + length x.1
 unfolding files_at
 files_size zero previous bytes x e =
@@ -63,25 +46,12 @@ files_size (suc count) previous bytes x e =
     let sum : length bytes ≡ length (spelled_file f.0.0 ++ flat_map spelled_file o.0.0) + length o.0.1 = omega (arith, length-append (spelled_file f.0.0) (flat_map spelled_file o.0.0)) in
     subst (λ (p : List FileText × List ℕ). length bytes ≡ length (flat_map spelled_file p.0) + length p.1) {x = (f.0.0 ∷ o.0.0, o.0.1)} (ok_is (f.0.0 ∷ o.0.0, o.0.1) x o.2) sum
 
-abbrev checked_count : List ℕ → ℕ × List ℕ → Field ℕ
-checked_count body count = checked (is_count count.0) body count
-
 count_size : (body : List ℕ) (x : ℕ × List ℕ) → count_at body ≡ Ok x → length body ≡ 1 + length x.1
 unfolding count_at
 count_size body x e =
     let b = bind_ok (byte_at body) (checked_count body) x e in
     let c = checked_ok (is_count b.0.0) body b.0 x b.2 in
     omega (arith, ap length (byte_takes body b.0 b.1), ap (λ (p : ℕ × List ℕ). length p.1) c.1)
-
-abbrev at_end : List FileText × List ℕ → Result (List FileText) ℕ
-at_end files = cond (eqb (length files.1) 0) (Ok files.0) (Err (length files.1))
-
-abbrev after_count : ℕ × List ℕ → Result (List FileText) ℕ
-after_count count = files_at count.0 [] count.1 >>= at_end
-
-ended : (b : Bool) (files y : List FileText) (left : ℕ) → cond b (Ok files) (Err left) ≡ Ok y → (b ≡ true) × (files ≡ y)
-ended true files y left e = (refl, cc)
-ended false files y left e = absurd cc
 
 all_size : (body : List ℕ) (files : List FileText) → all_of body ≡ Ok files → length body ≡ length (spelled files)
 unfolding all_of
@@ -91,10 +61,6 @@ all_size body files e =
     let nothing = ended (eqb (length f.0.1) 0) f.0.0 files (length f.0.1) f.2 in
     let none : length f.0.1 ≡ 0 = eqb-true (length f.0.1) 0 nothing.0 in
     omega (arith, count_size body c.0 c.1, files_size c.0.0 [] c.0.1 f.0 f.1, ap (λ (fs : List FileText). length (flat_map spelled_file fs)) nothing.1)
-
-reads_by : (size : ℕ) (read : Result (List FileText) ℕ) (files : List FileText) → reading_of size read ≡ Reads files → read ≡ Ok files
-reads_by size (Ok found) files e = cc
-reads_by size (Err left) files e = absurd cc
 
 -- a body that is read has few bytes
 pub length-read : (body : List ℕ) (files : List FileText) → read_body body ≡ Reads files → length body ≤ 67200000

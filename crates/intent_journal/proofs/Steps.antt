@@ -1,5 +1,5 @@
 -- What a step of the journal's file, or of an entry's files, leaves meanwhile.
-use Rattle.std.proofs.Common.{◌≡◌, ◌≢◌, ℕ, List, [], ◌∷◌, inl, Option, Some, None, Result, Ok, Err, OnOk, OnErr, refl, sym, subst}
+use Rattle.std.proofs.Common.{◌≡◌, ◌≢◌, ℕ, List, [], ◌∷◌, inl, Option, Some, None, Result, Ok, Err, OnErr, refl, sym, subst}
 use Rattle.kdb_outside.specs.Files.{written}
 use Rattle.kdb_outside.specs.Images.{Image, IsImage, Only, IsTornWrite, Touches}
 use Rattle.journal_codec.specs.declared.files.FileText.{FileText}
@@ -13,10 +13,6 @@ use Rattle.intent_journal.proofs.Passages.{IsLagging-applied, IsSettled-doubt, I
 pub on_err : {X E : Type 0} (P : Type 0) (r : Result X E) → P → OnErr r P
 on_err P (Ok x) p = tt
 on_err P (Err e) p = p
-
-pub on_ok : {X E : Type 0} (P : Type 0) (r : Result X E) → P → OnOk r P
-on_ok P (Ok x) p = p
-on_ok P (Err e) p = tt
 
 -- what one image leaves
 abbrev only_image : Image → List ℕ → List ℕ → Type 0

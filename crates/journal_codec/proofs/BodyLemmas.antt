@@ -17,7 +17,7 @@ pub record TakesCount (body : List ℕ) (count : ℕ) (rest : List ℕ) : Type 0
   pub not_empty : 1 ≤ count
   pub not_many : count ≤ most_files
 
-abbrev checked_count : List ℕ → ℕ × List ℕ → Field ℕ
+abbrev pub checked_count : List ℕ → ℕ × List ℕ → Field ℕ
 checked_count body count = checked (is_count count.0) body count
 
 count_takes : (body : List ℕ) (x : ℕ × List ℕ) → count_at body ≡ Ok x → TakesCount body x.0 x.1
@@ -34,14 +34,14 @@ unfolding count_at
 count_again count rest some few = rw (and_from (leb 1 count) (leb count most_files) (le-leb 1 count some) (le-leb count most_files few)) refl
 
 -- what is read behind the count and behind the files
-abbrev at_end : List FileText × List ℕ → Result (List FileText) ℕ
+abbrev pub at_end : List FileText × List ℕ → Result (List FileText) ℕ
 at_end files = cond (eqb (length files.1) 0) (Ok files.0) (Err (length files.1))
 
-abbrev after_count : ℕ × List ℕ → Result (List FileText) ℕ
+abbrev pub after_count : ℕ × List ℕ → Result (List FileText) ℕ
 after_count count = files_at count.0 [] count.1 >>= at_end
 
 -- nothing stands behind the files
-ended : (b : Bool) (files y : List FileText) (left : ℕ) → cond b (Ok files) (Err left) ≡ Ok y → (b ≡ true) × (files ≡ y)
+pub ended : (b : Bool) (files y : List FileText) (left : ℕ) → cond b (Ok files) (Err left) ≡ Ok y → (b ≡ true) × (files ≡ y)
 ended true files y left e = (refl, cc)
 ended false files y left e = absurd cc
 
@@ -90,7 +90,7 @@ all_again files entry =
     bind_is (count_at (length files ∷ body)) after_count (length files, body) (Ok files) (count_again (length files) body entry.not_empty entry.not_many)
     (bind_is (files_at (length files) [] body) at_end (files, []) (Ok files) read refl)
 
-reads_by : (size : ℕ) (read : Result (List FileText) ℕ) (files : List FileText) → reading_of size read ≡ Reads files → read ≡ Ok files
+pub reads_by : (size : ℕ) (read : Result (List FileText) ℕ) (files : List FileText) → reading_of size read ≡ Reads files → read ≡ Ok files
 reads_by size (Ok found) files e = cc
 reads_by size (Err left) files e = absurd cc
 

@@ -12,16 +12,16 @@ use Rattle.journal_codec.proofs.FieldLemmas.{IsBytes, IsBytes-behind, bind_ok, b
 use Rattle.journal_codec.proofs.NameLemmas.{next_name_is, next_name_from, Rises}
 
 -- what is read behind each field of a file
-abbrev after_content : List ℕ × List ℕ → List ℕ × List ℕ → Field FileText
+abbrev pub after_content : List ℕ × List ℕ → List ℕ × List ℕ → Field FileText
 after_content name content = Ok (record { file = name.0; bytes = content.0 }, content.1)
 
-abbrev after_length : List ℕ × List ℕ → ℕ × List ℕ → Field FileText
+abbrev pub after_length : List ℕ × List ℕ → ℕ × List ℕ → Field FileText
 after_length name size = bytes_at is_content size.0 size.1 >>= after_content name
 
-abbrev after_name : List ℕ × List ℕ → Field FileText
+abbrev pub after_name : List ℕ × List ℕ → Field FileText
 after_name name = number_at name.1 >>= after_length name
 
-abbrev after_size : List ℕ → ℕ × List ℕ → Field FileText
+abbrev pub after_size : List ℕ → ℕ × List ℕ → Field FileText
 after_size previous size = bytes_at (is_next_name previous) size.0 size.1 >>= after_name
 
 regrouped : (head name content rest : List ℕ) → (name ++ (head ++ content)) ++ rest ≡ name ++ (head ++ (content ++ rest))
@@ -77,10 +77,10 @@ file_again previous f rest fits above =
     ap (λ (left : List ℕ). after_size previous (length f.file, left)) (regrouped (length_bytes (length f.bytes)) f.file f.bytes rest) ∙ behind_size
 
 -- what is read behind the first file
-abbrev after_others : FileText × List ℕ → List FileText × List ℕ → Field (List FileText)
+abbrev pub after_others : FileText × List ℕ → List FileText × List ℕ → Field (List FileText)
 after_others first others = Ok (first.0 ∷ others.0, others.1)
 
-abbrev after_first : ℕ → FileText × List ℕ → Field (List FileText)
+abbrev pub after_first : ℕ → FileText × List ℕ → Field (List FileText)
 after_first count first = files_at count first.0.file first.1 >>= after_others first
 
 -- what some files that were read took from the front of the bytes
