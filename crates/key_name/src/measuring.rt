@@ -1,6 +1,7 @@
 //! How many bytes canonical spellings have, without spelling them.
-ghost use Rattle.std.specs.Prelude.{◌≡◌, ◌+◌, ◌-◌, ◌<◌, ◌≤◌, ◌^◌, [], ◌∷◌, ◌++◌, length, map, min, string_bytes};
+ghost use Rattle.std.specs.Prelude.{◌≡◌, ◌+◌, ◌<◌, ◌≤◌, ◌^◌, [], ◌∷◌, ◌++◌, length, map, string_bytes};
 ghost use Rattle.std.specs.List.{flat_map};
+ghost use Rattle.general_words.specs.Saturated.{saturated};
 ghost use Rattle.model_names.specs.Spelling.{escaped, spelled, path_of_parts};
 
 /// How many bytes the path of some parts has.
@@ -36,7 +37,7 @@ pub fn joined_len(front: &[String], back: &[String]) -> usize
 /// value.
 pub fn child_len(parts: &[String], part: &str) -> usize
     requires { length (path_of_parts (map (λ part. string_bytes part) parts.now)) < 2 ^ 64 }
-    ensures { result ≡ min (length (path_of_parts (map (λ part. string_bytes part) parts.now ++ part.now ∷ []))) (2 ^ 64 - 1) }
+    ensures { result ≡ saturated (length (path_of_parts (map (λ part. string_bytes part) parts.now ++ part.now ∷ []))) }
 {
     let own = spelled_len(part).saturating_add(1);
     if parts.is_empty() {
