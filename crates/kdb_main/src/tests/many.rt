@@ -79,7 +79,7 @@ fn an_array_goes_on_past_a_hundred(rt: HostRuntime) -> Result<(), Fail> {
 fn dump_of_keys(alloc: Global, count: u64) -> Result<String, Fail> {
     let mut text = String::new(alloc);
     text.push_str("kdbOpen 2\n")?;
-    for number in 1_000..1_000 + count {
+    for number in 1_000..1_000_u64.saturating_add(count) {
         text.push_str(&format!(in alloc; "$key string 6 1\nk/{number}\n1\n")?)?;
     }
     text.push_str("$end\n")?;
@@ -89,7 +89,7 @@ fn dump_of_keys(alloc: Global, count: u64) -> Result<String, Fail> {
 /// The names of these keys below a name, one a line.
 fn lines_of_keys(alloc: Global, above: &str, count: u64) -> Result<String, Fail> {
     let mut text = String::new(alloc);
-    for number in 1_000..1_000 + count {
+    for number in 1_000..1_000_u64.saturating_add(count) {
         text.push_str(&format!(in alloc; "{above}/{number}\n")?)?;
     }
     Ok(text)
@@ -123,7 +123,7 @@ fn table_of(alloc: Global, count: u64) -> Result<(String, String), Fail> {
     let mut lines = String::new(alloc);
     file.push_str("kdbOpen 2\n")?;
     lines.push_str("spec:/ spec.ecf dump\ndir:/ dir.ecf dump\nuser:/ user.ecf dump\n")?;
-    for number in 10..10 + count {
+    for number in 10..10_u64.saturating_add(count) {
         file.push_str(&format!(in alloc;
             "$key string 27 7\nmountpoints/user:\\/m{number}/path\nm{number}.ecf\n"
         )?)?;
