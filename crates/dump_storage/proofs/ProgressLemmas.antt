@@ -8,7 +8,7 @@ use Rattle.model_names.specs.Spells.{Spells}
 use Rattle.model_names.proofs.OrderLemmas.{name_cmp_total, name_cmp-IsAntisymmetric}
 use Rattle.model_names.proofs.SpellsLemmas.{Spells-once}
 use Rattle.model_maps.specs.Entry.{Entry, plain_entry, IsValue, IsMetaName, with_meta}
-use Rattle.model_maps.specs.KeyMap.{KeyMap, no_keys, weight, heaviest_map}
+use Rattle.model_maps.specs.KeyMap.{KeyMap, no_keys, weight, key_weight, heaviest_map}
 use Rattle.model_dump.specs.Record.{Record, KeyKind, MetaKind, CopyKind}
 use Rattle.model_dump.specs.Adds.{Progress, PutsMeta, Adds}
 use Rattle.general_words.proofs.Maps.{insert-insert, get-insert_same}
@@ -33,11 +33,11 @@ module _ (before : Progress) (text value : List ℕ) where
   abbrev pub behind_key : Name → Progress
   behind_key name = record { keys = map.insert before.keys name (plain_entry value); present = Some name }
 
-  pub weight-key : (name : Name) → Spells (47 ∷ text) name → map.get before.keys name ≡ None → weight (behind_key name).keys ≡ weight before.keys + (64 + length (path name)) + length value
+  pub weight-key : (name : Name) → Spells (47 ∷ text) name → map.get before.keys name ≡ None → weight (behind_key name).keys ≡ weight before.keys + (key_weight + length (path name)) + length value
   weight-key name spells none =
       omega (arith, weight-insert before.keys name (plain_entry value) none, weight_of_key-plain name value, ap length (spelling-cascading name (Spells-cascading text name spells)))
 
-  pub Adds-key : (name : Name) → Spells (47 ∷ text) name → map.get before.keys name ≡ None → IsValue value → weight before.keys + (64 + length (path name)) + length value ≤ heaviest_map → Adds before (key_record text value) (behind_key name)
+  pub Adds-key : (name : Name) → Spells (47 ∷ text) name → map.get before.keys name ≡ None → IsValue value → weight before.keys + (key_weight + length (path name)) + length value ≤ heaviest_map → Adds before (key_record text value) (behind_key name)
   Adds-key name spells none is_value light = record {
     adds = record { name = name; spelled = spells; is_new = none; is_value = is_value; added = refl };
     light = omega (arith, weight-key name spells none);
@@ -52,7 +52,7 @@ module _ (before : Progress) (text value : List ℕ) where
       let same = Spells-once (47 ∷ text) adds.adds.name name adds.adds.spelled spells in
       (ap (map.get before.keys) (sym same) ∙ adds.adds.is_new, adds.adds.added ∙ ap behind_key same)
 
-  pub AddsNothing-heavy_key : (name : Name) → Spells (47 ∷ text) name → heaviest_map < weight before.keys + (64 + length (path name)) + length value → AddsNothing before (key_record text value)
+  pub AddsNothing-heavy_key : (name : Name) → Spells (47 ∷ text) name → heaviest_map < weight before.keys + (key_weight + length (path name)) + length value → AddsNothing before (key_record text value)
   AddsNothing-heavy_key name spells heavy after adds =
       let new = new_name name spells after adds in
       let same : weight after.keys ≡ weight (behind_key name).keys = ap (λ (p : Progress). weight p.keys) new.1 in

@@ -12,7 +12,7 @@ use Rattle.model_names.proofs.OrderLemmas.{name_cmp_total, name_cmp-IsAntisymmet
 use Rattle.key_name.specs.Comparing.{name_ties}
 use Rattle.general_words.specs.Texts.{text_cmp}
 use Rattle.model_maps.specs.Entry.{Entry, plain_entry, IsValue, IsMetaName, with_meta}
-use Rattle.model_maps.specs.KeyMap.{KeyMap, weight, heaviest_map}
+use Rattle.model_maps.specs.KeyMap.{KeyMap, weight, key_weight, heaviest_map}
 use Rattle.model_dump.specs.Adds.{Progress, Adds}
 use Rattle.dump_storage.specs.declared.progress.Present.{Present}
 use Rattle.dump_storage.specs.declared.progress.Progress as code
@@ -60,10 +60,10 @@ plain_names entry value plain name text has =
 
 -- a key that was read
 module _ (p : code.Progress) (sound : IsSound p) (text value : List ℕ) (name : Name) (spells : Spells (47 ∷ text) name) where
-  pub key_heavy : heaviest_map < p.weight + (64 + length (path name)) + length value → AddsNothing (progress_of p) (key_record text value)
+  pub key_heavy : heaviest_map < p.weight + (key_weight + length (path name)) + length value → AddsNothing (progress_of p) (key_record text value)
   key_heavy heavy = lemmas.AddsNothing-heavy_key (progress_of p) text value name spells (omega (arith, heavy, sound.weighed))
 
-  module _ (none : map.get (progress_of p).keys name ≡ None) (keys : KeyMap) (entry : Entry) (weighed : ℕ) (passed : keys ≡ (progress_of p).keys) (plain : entry ≡ plain_entry value) (weighs : weighed ≡ p.weight + (64 + length (path name)) + length value) (light : weighed ≤ heaviest_map) where
+  module _ (none : map.get (progress_of p).keys name ≡ None) (keys : KeyMap) (entry : Entry) (weighed : ℕ) (passed : keys ≡ (progress_of p).keys) (plain : entry ≡ plain_entry value) (weighs : weighed ≡ p.weight + (key_weight + length (path name)) + length value) (light : weighed ≤ heaviest_map) where
     abbrev pub after_key : code.Progress
     after_key = record { keys = keys; present = Some (record { name = name; entry = entry }); weight = weighed }
 

@@ -2,12 +2,12 @@
 use Rattle.std.specs.Prelude.{◌≡◌, ◌≢◌, ℕ, ◌<◌, ◌≤◌, Bool, true, false, List, length, None}
 use Rattle.std.specs.FinMap as map
 use Rattle.std.specs.List.{AllByRecursion}
-use Rattle.model_maps.specs.Entry.{Entry, with_meta}
+use Rattle.model_maps.specs.Entry.{Entry, longest_meta_name, with_meta}
 
 -- a name and a text, of which the name isn't too short or too long for metadata
 pub record HasMetaLength (item : List ℕ × List ℕ) : Type 0 where
   pub some : 0 < length item.0
-  pub limit : length item.0 ≤ 4096
+  pub limit : length item.0 ≤ longest_meta_name
 
 -- each of some items is such
 abbrev pub HaveMetaLengths : List (List ℕ × List ℕ) → Type 0

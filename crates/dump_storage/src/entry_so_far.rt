@@ -1,7 +1,7 @@
 //! The entry of the present key, whose metadata are still read. No order of a file makes the work quadratic: a tree takes the
 //! metadata as they come, and gives them up in order, so that each joins the others at their end.
 ghost use Rattle.std.specs.Prelude.{◌≡◌, ◌<◌, ◌≤◌, length, IfOk};
-ghost use Rattle.model_maps.specs.Entry.{plain_entry};
+ghost use Rattle.model_maps.specs.Entry.{longest_meta_name, plain_entry};
 ghost use Rattle.key_set.specs.EntryView.{entry_of};
 ghost use Rattle.dump_storage.specs.SoFarView.{PutsNew};
 
@@ -45,10 +45,10 @@ impl EntrySoFar {
         }
     }
 
-    /// Gives a name a text, and answers whether the name is new. Else nothing changes. A name has 1 to 4,096 bytes.
+    /// Gives a name a text, and answers whether the name is new. Else nothing changes. A name has 1 to `LONGEST_META_NAME` bytes.
     pub fn put_new(&mut self, name: &str, text: &str) -> Result<bool, Memory>
         requires some { 0 < length name.now }
-        requires limit { length name.now ≤ 4096 }
+        requires limit { length name.now ≤ longest_meta_name }
         ensures { IfOk result (PutsNew self.old name.now text.now self.new) }
     {
         let name = Text::new(self.alloc, name)?;

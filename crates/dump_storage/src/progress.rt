@@ -1,6 +1,7 @@
 //! How far a dump was read: the keys that its records so far make.
 ghost use Rattle.std.specs.Prelude.{◌≡◌, ◌≢◌, ◌+◌, ◌<◌, ◌≤◌, length, None, Some, IfOk, OnOk, MatchOption, IsTrue, ◌↔◌};
 ghost use Rattle.std.specs.FinMap as map;
+ghost use Rattle.model_maps.specs.Entry.{longest_meta_name};
 ghost use Rattle.model_maps.specs.KeyMap.{heaviest_map};
 ghost use Rattle.model_dump.specs.Adds.{start};
 ghost use Rattle.dump_storage.specs.RecordView.{record_of};
@@ -13,14 +14,8 @@ use crate::records::{Kind, Record};
 use crate::texts::{meta_name_of, name_of, value_of};
 use key_meta::{Memory, Text};
 use key_name::KeyName;
-use key_set::KeySet;
+use key_set::{HEAVIEST_MAP, KEY_WEIGHT, KeySet};
 use std::alloc::Global;
-
-/// The most that a map may weigh.
-const HEAVIEST_MAP: u64 = 16777216;
-
-/// What a key weighs beside its bytes.
-const WEIGHT_OF_A_KEY: usize = 64;
 
 /// The keys so far. The last one stands apart, so that its metadata joins it without a search.
 #[derive(Drop)]
@@ -88,7 +83,7 @@ impl Progress {
         if self.has(&name) {
             return Ok(false);
         }
-        let own = WEIGHT_OF_A_KEY + name.path_bytes();
+        let own = KEY_WEIGHT + name.path_bytes();
         let Some(weight) = heavier(self.weight, own, value.len()) else {
             return Ok(false);
         };
@@ -186,7 +181,7 @@ impl Present {
     /// would be too heavy, there is no answer and nothing changes.
     fn put(&mut self, weight: u64, name: &str, text: &str) -> Result<Option<u64>, Memory>
         requires some { 0 < length name.now }
-        requires limit { length name.now ≤ 4096 }
+        requires limit { length name.now ≤ longest_meta_name }
         ensures { IfOk result (λ put. MatchOption put
             ((self.new ≡ self.old) × CannotPut self.old weight name.now text.now)
             (λ heavier. PutsInto self.old weight name.now text.now self.new heavier)) }

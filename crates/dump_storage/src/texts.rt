@@ -5,15 +5,9 @@ ghost use Rattle.model_maps.specs.Entry.{IsValue, IsMetaName};
 ghost use Rattle.key_name.specs.declared.faults.NameFault.TheVariants.{Memory as OutOfMemory};
 ghost use Rattle.dump_storage.specs.Texts.{SpellsNothing};
 
-use key_meta::Memory;
+use key_meta::{LONGEST_META_NAME, LONGEST_VALUE, Memory};
 use key_name::{KeyName, NameFault};
 use std::alloc::{AllocError, Global};
-
-/// The most bytes of a value and of a metadata text.
-const LONGEST_VALUE: usize = 65536;
-
-/// The most bytes of a metadata name.
-const LONGEST_META_NAME: usize = 4096;
 
 /// The name that a text spells behind a slash.
 pub fn name_of(alloc: Global, text: &[u8]) -> Result<Option<KeyName>, Memory>

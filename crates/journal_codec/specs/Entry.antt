@@ -5,6 +5,7 @@ use Rattle.std.specs.List.{flat_map, starts_with}
 use Rattle.std.specs.List.Sorted.{IsStrictlySortedBy}
 use Rattle.std.specs.Ordering.{nat_cmp}
 use Rattle.std.specs.Cmp.Lexicographic.{slice_cmp}
+use Rattle.backend_files.specs.WholeFile as whole
 use Rattle.kdb_outside.specs.FileName.{IsFileName}
 use Rattle.journal_codec.specs.declared.files.FileText.{FileText}
 
@@ -20,9 +21,9 @@ number_of = from_le_bytes w32
 abbrev pub most_files : ℕ
 most_files = 64
 
--- the most bytes of a content, 1 MiB
+-- the most bytes of a content: it is that of a whole file
 abbrev pub longest_content : ℕ
-longest_content = 1048576
+longest_content = whole.longest_file
 
 -- the most bytes of a spelled file: 5 of the two lengths, 100 of the name, and the content
 abbrev pub longest_file : ℕ

@@ -53,7 +53,7 @@ count_at body = do
 abbrev pub is_next_name : List ℕ → List ℕ → Bool
 is_next_name previous name = is_file_name name && (not (begins_with_journal name) && is_lt (slice_cmp nat_cmp previous name))
 
--- at most 1 MiB
+-- not too long
 abbrev pub is_content : List ℕ → Bool
 is_content bytes = nat_le (length bytes) longest_content
 

@@ -7,15 +7,13 @@ ghost use Rattle.journal_codec.specs.Stops.{Gives};
 use crate::faults::Stop;
 use crate::names::{last_name, next_name};
 use crate::{DecodeFault, FileText};
+use backend_files::LONGEST_FILE;
 use kdb_outside::FileName;
 use key_meta::List;
 use std::alloc::Global;
 
 /// The most files of an entry.
 const MOST_FILES: u8 = 64;
-
-/// The most bytes of a content.
-const LONGEST_CONTENT: usize = 1048576;
 
 /// The files of the entry that this body spells, or the place of the first field that has no reading.
 pub fn decode(alloc: Global, body: &[u8]) -> Result<List<FileText>, DecodeFault>
@@ -99,7 +97,7 @@ fn content_of(alloc: Global, size: u32, bytes: &[u8]) -> Result<(List<u8>, &[u8]
     ensures { Gives (λ x. (x.0, x.1.now)) result (bytes_at is_content size bytes.now) }
 {
     let size = size as usize;
-    if size > LONGEST_CONTENT || bytes.len() < size {
+    if size as u64 > LONGEST_FILE || bytes.len() < size {
         return Err(stop_before(bytes));
     }
     let (content, rest) = bytes.split_at(size);

@@ -4,6 +4,7 @@ use Rattle.std.specs.List.{before_first, after_first}
 use Rattle.model_names.specs.Name.{Name}
 use Rattle.model_names.specs.NameOf.{name_of}
 use Rattle.model_names.specs.Refuses.{refusal_of}
+use Rattle.model_maps.specs.Entry.{longest_meta_name}
 use Rattle.general_words.specs.Texts.{is_text}
 use Rattle.kdb_tool.specs.declared.extents.Extent.{Extent}
 use Rattle.kdb_tool.specs.declared.extents.Extent.TheVariants.{Alone, WithBelow}
@@ -126,9 +127,9 @@ on_name word asked = elim (name_of word) [ Some name ↦ asked name | None ↦ u
 abbrev pub on_name_for : Use → List ℕ → (Name → Request) → Request
 on_name_for by word asked = on_name word (λ name. if bars by name.namespace then Bars by name else asked name)
 
--- a text may be a metadata name: it has 1 to 4,096 bytes
+-- a text may be a metadata name: it is neither empty nor too long
 abbrev pub is_meta : List ℕ → Bool
-is_meta text = nat_lt 0 (length text) && nat_le (length text) 4096
+is_meta text = nat_lt 0 (length text) && nat_le (length text) longest_meta_name
 
 -- a word that is to be a metadata name, and what is asked for where it is one
 abbrev pub on_meta : List ℕ → Request → Request

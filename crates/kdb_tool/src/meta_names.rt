@@ -1,13 +1,12 @@
 //! Names of metadata.
 ghost use Rattle.std.specs.Prelude.{◌≡◌, ◌<◌, ◌≤◌, false, true, length, MatchOption};
+ghost use Rattle.model_maps.specs.Entry.{longest_meta_name};
 ghost use Rattle.kdb_tool.specs.Request.{is_meta};
 
+use key_meta::LONGEST_META_NAME;
 use std::marker::Model;
 
-/// The most bytes of a metadata name.
-const LONGEST_META_NAME: usize = 4096;
-
-/// A text of 1 to 4,096 bytes.
+/// A text of 1 to `LONGEST_META_NAME` bytes.
 #[derive(Debug, Drop)]
 pub struct MetaName<'a> {
     text: &'a str,
@@ -15,12 +14,13 @@ pub struct MetaName<'a> {
 
 impl<'a> Model for MetaName<'a> {
     ghost use Rattle.std.specs.Prelude.{ℕ, List, ◌<◌, ◌≤◌, length};
+    ghost use Rattle.model_maps.specs.Entry.{longest_meta_name};
 
     ghost Value = { List ℕ };
 
     ghost view = { λ name. name.text.now };
 
-    ghost invariant = { λ name. (0 < length name.text.now) × (length name.text.now ≤ 4096) };
+    ghost invariant = { λ name. (0 < length name.text.now) × (length name.text.now ≤ longest_meta_name) };
 }
 
 impl<'a> MetaName<'a> {
@@ -37,7 +37,7 @@ impl<'a> MetaName<'a> {
     pub fn as_str(&self) -> &str
         ensures text { result.now ≡ self.now }
         ensures some { 0 < length self.now }
-        ensures limit { length self.now ≤ 4096 }
+        ensures limit { length self.now ≤ longest_meta_name }
     {
         self.text
     }

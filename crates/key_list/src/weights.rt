@@ -5,10 +5,7 @@ ghost use Rattle.model_maps.specs.KeyMap.{weight_of_key};
 ghost use Rattle.key_set.specs.EntryView.{entry_of};
 
 use key_name::KeyName;
-use key_set::Entry;
-
-/// What a key weighs beside its bytes.
-const OWN_WEIGHT: u64 = 64;
+use key_set::{Entry, KEY_WEIGHT};
 
 /// What some keys weigh together. A weight beyond the type's end is given as its last value.
 pub fn weight_of_all(keys: &[(KeyName, Entry)]) -> u64
@@ -25,7 +22,7 @@ pub fn weight_of_all(keys: &[(KeyName, Entry)]) -> u64
 fn weight_of_one(name: &KeyName, entry: &Entry) -> u64
     ensures { result ≡ saturated (weight_of_key name.now (entry_of entry.now)) }
 {
-    OWN_WEIGHT
+    (KEY_WEIGHT as u64)
         .saturating_add(name.text_bytes() as u64)
         .saturating_add(entry.value.as_str().len() as u64)
         .saturating_add(entry.meta.bytes())

@@ -2,10 +2,12 @@
 #![tactic(auto)]
 
 mod item_names;
+mod limits;
 mod lists;
 mod metas;
 mod texts;
 
+pub use limits::{LONGEST_META_NAME, LONGEST_VALUE};
 pub use lists::List;
 pub use metas::Meta;
 use std::alloc::AllocError;

@@ -5,7 +5,7 @@ ghost use Rattle.std.specs.FinMap as map;
 ghost use Rattle.std.specs.FinMap.{is_sorted};
 ghost use Rattle.general_words.specs.Saturated.{saturated};
 ghost use Rattle.general_words.specs.Texts.{text_cmp};
-ghost use Rattle.model_maps.specs.Entry.{IsArray, meta_bytes};
+ghost use Rattle.model_maps.specs.Entry.{IsArray, longest_meta_name, meta_bytes};
 ghost use Rattle.sorted_map.specs.Place.{IsPlace, IsGap};
 ghost use Rattle.std.specs.Cmp.{partial_equiv_from_equiv};
 ghost use Rattle.key_meta.specs.MetaView.{AreTexts};
@@ -84,10 +84,10 @@ impl Meta {
         }
     }
 
-    /// Gives a name a text, and answers the text that it had. A name has 1 to 4,096 bytes.
+    /// Gives a name a text, and answers the text that it had. A name has 1 to `LONGEST_META_NAME` bytes.
     pub fn set(&mut self, name: &str, text: &str) -> Result<Option<Text>, Memory>
         requires some { 0 < length name.now }
-        requires limit { length name.now ≤ 4096 }
+        requires limit { length name.now ≤ longest_meta_name }
         ensures former { IfOk result (λ former. former ≡ map.get self.old name.now) }
         ensures ok { OnOk result (self.new ≡ map.insert self.old name.now text.now) }
         ensures err { OnErr result (self.new ≡ self.old) }

@@ -10,10 +10,11 @@ use Rattle.model_names.specs.ArrayPart.{is_array_like, canonical_part, digits_of
 use Rattle.model_names.specs.RawParts.{raw_parts}
 use Rattle.general_words.specs.Texts.{is_text}
 use Rattle.model_names.specs.Spelling.{escaped, spelled, is_reserved, path_of_parts, word_of}
-use Rattle.model_names.specs.Spells.{Move, Adds, Stays, GoesUp, meaning, moved, part_of_text, unescaped_from, walked}
+use Rattle.model_names.specs.Spells.{Move, Adds, Stays, GoesUp, meaning, moved, part_of_text, walked, unescaped}
 use Rattle.model_names.proofs.EscapeLemmas.{IsUnescaped, flat_map-escaped-same}
 use Rattle.model_names.proofs.NameLemmas.{spelled-text}
 use Rattle.model_names.proofs.PartLemmas.{slashed-raw_parts}
+use Rattle.model_names.proofs.ReadLemmas.{meaning-by_form, unescaped_from, unescaped-escape, unescaped-next}
 use Rattle.model_names.proofs.RefusesLemmas.{from_map, from_and_then, branch_taken, cond_some}
 use Rattle.general_words.proofs.Texts.{other_text, same_text}
 use Rattle.model_names.proofs.ArrayLemmas.{are_digits-like, canonical_part-from, is_array_like-part_of_digits}
@@ -80,12 +81,12 @@ length-unescaped : (waits : Bool) (raw : List ℕ) (part : Part) → unescaped_f
 length-unescaped false [] part h = let none = ap length (some_is [] part h) in omega arith
 length-unescaped true [] part h = absurd cc
 length-unescaped true (b ∷ raw) part h =
-    let escapes = cond_some ((b == 92) || (b == 47)) (option_map (λ part. b ∷ part) (unescaped_from false raw)) part h in
-    let rest = from_map (λ part. b ∷ part) (unescaped_from false raw) part escapes.1 in
+    let escapes = cond_some ((b == 92) || (b == 47)) (option_map (λ part. b ∷ part) (unescaped raw)) part (sym (unescaped-escape b raw) ∙ h) in
+    let rest = from_map (λ part. b ∷ part) (unescaped raw) part escapes.1 in
     let bytes = ap length rest.2 in
     omega (arith, bytes, length-unescaped false raw rest.0 rest.1)
 length-unescaped false (b ∷ raw) part h =
-    branch_taken (b == 92) (unescaped_from (b == 92) raw) _ _ h
+    branch_taken (b == 92) (unescaped_from (b == 92) raw) _ _ (sym (unescaped-next b raw) ∙ h)
     (λ _ e. omega (arith, length-unescaped (b == 92) raw part e))
     (λ e. let rest = from_map (λ part. b ∷ part) (unescaped_from (b == 92) raw) part e in
     let bytes = ap length rest.2 in
@@ -124,10 +125,10 @@ AddsAtMost n GoesUp = Unit {0}
 at_most : (n : ℕ) (m move : Move) → ◌≡◌ {A = Option Move} (Some m) (Some move) → AddsAtMost n m → AddsAtMost n move
 at_most n m move e h = subst (AddsAtMost n) (some_is m move e) h
 
-text_at_most : (raw : List ℕ) (move : Move) → option_map Adds (option_and_then part_of_text (unescaped_from false raw)) ≡ Some move → AddsAtMost (2 * length raw + 1) move
+text_at_most : (raw : List ℕ) (move : Move) → option_map Adds (option_and_then part_of_text (unescaped raw)) ≡ Some move → AddsAtMost (2 * length raw + 1) move
 text_at_most raw move h =
-    let adds = from_map Adds (option_and_then part_of_text (unescaped_from false raw)) move h in
-    let text = from_and_then part_of_text (unescaped_from false raw) adds.0 adds.1 in
+    let adds = from_map Adds (option_and_then part_of_text (unescaped raw)) move h in
+    let text = from_and_then part_of_text (unescaped raw) adds.0 adds.1 in
     let bytes : length (spelled adds.0) ≤ 2 * length raw + 1 = omega (arith, length-part_of_text text.0 adds.0 text.2, length-unescaped false raw text.0 text.1) in
     subst (AddsAtMost (2 * length raw + 1)) adds.2 bytes
 
@@ -137,7 +138,7 @@ literal_bytes raw text n e h = let same = ap length (same_text raw text e) in om
 meaning_at_most : (raw : List ℕ) (move : Move) → meaning raw ≡ Some move → AddsAtMost (2 * length raw + 1) move
 meaning_at_most raw move h =
     let n = 2 * length raw + 1 in
-    branch_taken ((length raw == 0) || is_text raw (codes ".")) _ _ _ h (λ _ e. at_most n Stays move e tt)
+    branch_taken ((length raw == 0) || is_text raw (codes ".")) _ _ _ (sym (meaning-by_form raw) ∙ h) (λ _ e. at_most n Stays move e tt)
     (λ h. branch_taken (is_text raw (codes "..")) _ _ _ h (λ _ e. at_most n GoesUp move e tt)
     (λ h. branch_taken (is_text raw (codes "%")) _ _ _ h (λ t e. at_most n (Adds []) move e (literal_bytes raw (codes "%") 1 t (omega arith)))
     (λ h. branch_taken (is_text raw (92 ∷ codes "%")) _ _ _ h (λ t e. at_most n (Adds (codes "%")) move e (literal_bytes raw (92 ∷ codes "%") 2 t (omega arith)))

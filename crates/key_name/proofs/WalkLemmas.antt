@@ -1,21 +1,21 @@
 -- A walk over raw parts, and the escapes of one.
 use Rattle.std.proofs.Common.{◌≡◌, ◌≢◌, ℕ, ◌+◌, ◌<◌, Bool, true, false, not, cond, ◌==◌, ◌&&◌, ◌||◌, List, [], ◌∷◌, ◌++◌, length, drop, get_or, codes, map, Option, Some, option_and_then, refl, sym, ap, ap₂, subst, ◌∙◌, inl, inr, arith, append_assoc}
 use Rattle.std.specs.List.{list_any}
-use Rattle.std.specs.Option.{option_map}
 use Rattle.std.specs.Prelude.{encode_utf8, encode_utf8_all}
-use Rattle.std.proofs.lemmas.Bool.{cond-true, cond-false, and_right, ne_eqb, eq-eqb, or_from, or_parts, cases_eq}
+use Rattle.std.proofs.lemmas.Bool.{cond-true, cond-false, and_right, ne_eqb, eqb-false, eq-eqb, or_from, or_parts, cases_eq}
 use Rattle.std.proofs.lemmas.List.{append-nil}
 use Rattle.std.specs.Str.{IsUtf8, chars}
 use Rattle.std.proofs.lemmas.Str.{encodes-chars, encode_ascii, encodes-append}
 use Rattle.model_names.specs.Name.{Part}
 use Rattle.general_words.specs.Texts.{is_text}
 use Rattle.model_names.specs.ArrayPart.{is_array_like, canonical_part, digits_of, part_of_digits}
-use Rattle.model_names.specs.Spells.{Move, Adds, Stays, GoesUp, meaning, moved, part_of_text, unescaped_from, walked}
+use Rattle.model_names.specs.Spells.{Move, Adds, Stays, GoesUp, meaning, moved, part_of_text, walked, unescaped}
+use Rattle.model_names.proofs.ReadLemmas.{meaning-by_form, unescaped_from, unescaped-escape, unescaped-next, unescaped-plain}
 use Rattle.model_names.proofs.RefusesLemmas.{branch_taken, from_map, from_and_then}
 use Rattle.key_name.specs.declared.raw_parts.Raw.{Raw}
 use Rattle.key_name.specs.Raws.{texts}
 use Rattle.model_names.proofs.ArrayLemmas.{canonical_part-from}
-use Rattle.key_name.proofs.ArrayLemmas.{unescaped_from-array, is_array_like-unescaped}
+use Rattle.key_name.proofs.ArrayLemmas.{unescaped-array, is_array_like-unescaped}
 use Rattle.model_names.proofs.EscapeLemmas.{IsUnescaped-encode_utf8, read_all, escapes_no_letter}
 use Rattle.general_words.proofs.Texts.{other_text, same_text}
 use Rattle.key_name.proofs.PassLemmas.{drop-item}
@@ -35,46 +35,46 @@ pub meaning-adds : (raw : List ℕ) (move : Move) → raw ≢ [] → raw ≢ cod
 meaning-adds raw move filled dot dots h =
     let stays = or_from _ _ (length_of_some raw filled) (other_text raw (codes ".") dot) in
     let ups = other_text raw (codes "..") dots in
-    let adds = sym (cond-false ((length raw == 0) || is_text raw (codes ".")) (Some Stays) _ stays ∙ cond-false (is_text raw (codes "..")) (Some GoesUp) _ ups) ∙ h in
+    let adds = sym (cond-false ((length raw == 0) || is_text raw (codes ".")) (Some Stays) _ stays ∙ cond-false (is_text raw (codes "..")) (Some GoesUp) _ ups) ∙ (sym (meaning-by_form raw) ∙ h) in
     branch_taken (is_text raw (codes "%")) _ _ _ adds (λ _ e. ([], sym (some_move _ _ e)))
     (λ h. branch_taken (is_text raw (92 ∷ codes "%")) _ _ _ h (λ _ e. (codes "%", sym (some_move _ _ e)))
     (λ h. branch_taken (is_text raw (92 ∷ codes ".")) _ _ _ h (λ _ e. (codes ".", sym (some_move _ _ e)))
     (λ h. branch_taken (is_text raw (92 ∷ codes "..")) _ _ _ h (λ _ e. (codes "..", sym (some_move _ _ e)))
-    (λ h. let part = from_map Adds (option_and_then part_of_text (unescaped_from false raw)) move h in (part.0, sym part.2)))))
+    (λ h. let part = from_map Adds (option_and_then part_of_text (unescaped raw)) move h in (part.0, sym part.2)))))
 
 adds_is : (a b : Part) → Adds a ≡ Adds b → a ≡ b
 adds_is a b e = cc
 
 -- a raw part that is none of the reserved ones
-pub meaning-text : (raw : List ℕ) (part : Part) → raw ≢ codes "%" → raw ≢ 92 ∷ codes "%" → raw ≢ 92 ∷ codes "." → raw ≢ 92 ∷ codes ".." → meaning raw ≡ Some (Adds part) → option_and_then part_of_text (unescaped_from false raw) ≡ Some part
+pub meaning-text : (raw : List ℕ) (part : Part) → raw ≢ codes "%" → raw ≢ 92 ∷ codes "%" → raw ≢ 92 ∷ codes "." → raw ≢ 92 ∷ codes ".." → meaning raw ≡ Some (Adds part) → option_and_then part_of_text (unescaped raw) ≡ Some part
 meaning-text raw part empty percent dot dots h =
-    branch_taken ((length raw == 0) || is_text raw (codes ".")) _ _ _ h (λ _ e. absurd (cc))
+    branch_taken ((length raw == 0) || is_text raw (codes ".")) _ _ _ (sym (meaning-by_form raw) ∙ h) (λ _ e. absurd (cc))
     (λ h. branch_taken (is_text raw (codes "..")) _ _ _ h (λ _ e. absurd (cc))
     (λ h. branch_taken (is_text raw (codes "%")) _ _ _ h (λ t _. absurd (empty (same_text raw (codes "%") t)))
     (λ h. branch_taken (is_text raw (92 ∷ codes "%")) _ _ _ h (λ t _. absurd (percent (same_text raw (92 ∷ codes "%") t)))
     (λ h. branch_taken (is_text raw (92 ∷ codes ".")) _ _ _ h (λ t _. absurd (dot (same_text raw (92 ∷ codes ".") t)))
     (λ h. branch_taken (is_text raw (92 ∷ codes "..")) _ _ _ h (λ t _. absurd (dots (same_text raw (92 ∷ codes "..") t)))
-    (λ h. let adds = from_map Adds (option_and_then part_of_text (unescaped_from false raw)) (Adds part) h in adds.1 ∙ ap (λ p. Some p) (adds_is adds.0 part adds.2)))))))
+    (λ h. let adds = from_map Adds (option_and_then part_of_text (unescaped raw)) (Adds part) h in adds.1 ∙ ap (λ p. Some p) (adds_is adds.0 part adds.2)))))))
 
-pub part_of_text-array : (raw digits part : List ℕ) → is_array_like raw ≡ true → digits ≡ digits_of raw → option_and_then part_of_text (unescaped_from false raw) ≡ Some part → part ≡ part_of_digits digits
+pub part_of_text-array : (raw digits part : List ℕ) → is_array_like raw ≡ true → digits ≡ digits_of raw → option_and_then part_of_text (unescaped raw) ≡ Some part → part ≡ part_of_digits digits
 part_of_text-array raw digits part like is h =
-    let canonical = sym (ap (option_and_then part_of_text) (unescaped_from-array raw like) ∙ cond-true (is_array_like raw) (canonical_part raw) (Some raw) like) ∙ h in
+    let canonical = sym (ap (option_and_then part_of_text) (unescaped-array raw like) ∙ cond-true (is_array_like raw) (canonical_part raw) (Some raw) like) ∙ h in
     (canonical_part-from raw part canonical).is ∙ ap part_of_digits (sym is)
 
-pub part_of_text-plain : (raw part : List ℕ) → is_array_like raw ≡ false → option_and_then part_of_text (unescaped_from false raw) ≡ Some part → unescaped_from false raw ≡ Some part
+pub part_of_text-plain : (raw part : List ℕ) → is_array_like raw ≡ false → option_and_then part_of_text (unescaped raw) ≡ Some part → unescaped raw ≡ Some part
 part_of_text-plain raw part other h =
-    let text = from_and_then part_of_text (unescaped_from false raw) part h in
+    let text = from_and_then part_of_text (unescaped raw) part h in
     text.1 ∙ sym (cond-false (is_array_like text.0) (canonical_part text.0) (Some text.0) (is_array_like-unescaped raw text.0 text.1 other)) ∙ text.2
 
 -- ---- escapes
 
 -- a raw part without a backslash is read as it is
-pub unescaped_from-bare : (raw part : List ℕ) → list_any (λ b. b == 92) raw ≡ false → unescaped_from false raw ≡ Some part → raw ≡ part
-unescaped_from-bare [] part h reads = cc
-unescaped_from-bare (b ∷ raw) part h reads =
+pub unescaped-bare : (raw part : List ℕ) → list_any (λ b. b == 92) raw ≡ false → unescaped raw ≡ Some part → raw ≡ part
+unescaped-bare [] part h reads = cc
+unescaped-bare (b ∷ raw) part h reads =
     let tests = or_parts (b == 92) (list_any (λ b. b == 92) raw) h in
-    let rest = from_map (λ part. b ∷ part) (unescaped_from false raw) part (sym (ap (λ t. cond t (unescaped_from t raw) (option_map (λ part. b ∷ part) (unescaped_from t raw))) tests.0) ∙ reads) in
-    ap (λ r. b ∷ r) (unescaped_from-bare raw rest.0 tests.1 rest.1) ∙ rest.2
+    let rest = from_map (λ part. b ∷ part) (unescaped raw) part (sym (unescaped-plain b raw (eqb-false b 92 tests.0)) ∙ reads) in
+    ap (λ r. b ∷ r) (unescaped-bare raw rest.0 tests.1 rest.1) ∙ rest.2
 
 -- what is read of a part so far is written, and what is left of its text leads to the rest of the part
 pub record Leads (waits : Bool) (written left part : List ℕ) : Type 0 where
@@ -105,15 +105,15 @@ Leads-ordinary false written left part c no_backslash no_slash h =
 pub Leads-backslash : (waits : Bool) (written left part : List ℕ) → Leads waits written (92 ∷ left) part → Leads (not waits) (written ++ cond (not waits) [] (92 ∷ [])) left part
 Leads-backslash false written left part h = record { rest = h.rest; reads = h.reads; whole = h.whole ∙ ap (λ w. w ++ h.rest) (sym (append-nil written)) }
 Leads-backslash true written left part h =
-    let tail = from_map (λ part. 92 ∷ part) (unescaped_from false left) h.rest h.reads in
+    let tail = from_map (λ part. 92 ∷ part) (unescaped left) h.rest (sym (unescaped-escape 92 left) ∙ h.reads) in
     record { rest = tail.0; reads = tail.1; whole = h.whole ∙ ap (λ rest. written ++ rest) (sym tail.2) ∙ sym (append_assoc written (92 ∷ []) tail.0) }
 
 pub Leads-slash : (waits : Bool) (written left part : List ℕ) → Leads waits written (47 ∷ left) part → Leads false (written ++ 47 ∷ []) left part
 Leads-slash false written left part h =
-    let tail = from_map (λ part. 47 ∷ part) (unescaped_from false left) h.rest h.reads in
+    let tail = from_map (λ part. 47 ∷ part) (unescaped left) h.rest (sym (unescaped-next 47 left) ∙ h.reads) in
     record { rest = tail.0; reads = tail.1; whole = h.whole ∙ ap (λ rest. written ++ rest) (sym tail.2) ∙ sym (append_assoc written (47 ∷ []) tail.0) }
 Leads-slash true written left part h =
-    let tail = from_map (λ part. 47 ∷ part) (unescaped_from false left) h.rest h.reads in
+    let tail = from_map (λ part. 47 ∷ part) (unescaped left) h.rest (sym (unescaped-escape 47 left) ∙ h.reads) in
     record { rest = tail.0; reads = tail.1; whole = h.whole ∙ ap (λ rest. written ++ rest) (sym tail.2) ∙ sym (append_assoc written (47 ∷ []) tail.0) }
 
 leads_at : (m n : Bool) (a b left part : List ℕ) → m ≡ n → a ≡ b → Leads n b left part → Leads m a left part

@@ -1,9 +1,12 @@
 //! What is wrong with raw parts, each kind of fault in a pass of its own.
 ghost use Rattle.std.specs.Prelude.{◌≡◌, ◌+◌, ◌^◌, ◌<◌, length, ◌&&◌, ◌||◌, ◌==◌, not, false, is_none};
 ghost use Rattle.std.specs.List.{position};
+ghost use Rattle.std.specs.Option.{option_map};
+ghost use Rattle.std.specs.Result.{result_err};
 ghost use Rattle.model_names.specs.ArrayPart.{is_array_like, canonical_part};
 ghost use Rattle.general_words.specs.Searches.{first_some};
-ghost use Rattle.model_names.specs.Refuses.{bad_escape, bad_escape_from, bad_array};
+ghost use Rattle.model_names.specs.Refuses.{bad_escape, bad_array};
+ghost use Rattle.model_names.specs.Spells.{read_letters};
 ghost use Rattle.key_name.specs.Raws.{with_places};
 
 use crate::arrays::is_bad_array;
@@ -53,7 +56,7 @@ fn bad_escape(raw: &Raw) -> Option<usize>
 
 fn bad_escape_in(at: usize, text: &str) -> Option<usize>
     requires { at + length text.now < 2 ^ 64 }
-    ensures { result ≡ bad_escape_from false at text.now }
+    ensures { result ≡ option_map (λ place. at + place) (result_err (read_letters text.now)) }
 {
     let mut waits = false;
     for (i, b) in text.as_bytes().iter().enumerate() {

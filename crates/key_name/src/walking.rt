@@ -1,7 +1,7 @@
 //! From raw parts to the parts that they lead to.
 ghost use Rattle.std.specs.Prelude.{◌≡◌, [], IfOk, OnOk, Some, false, not, ◌&&◌, ◌==◌, ◌++◌, if◌then◌else◌, map, option_and_then, string_bytes, encode_utf8, List};
 ghost use Rattle.model_names.specs.Name.{Part};
-ghost use Rattle.model_names.specs.Spells.{Move, Adds, meaning, moved, part_of_text, unescaped_from, walked};
+ghost use Rattle.model_names.specs.Spells.{Move, Adds, meaning, moved, part_of_text, unescaped, walked};
 ghost use Rattle.key_name.specs.Raws.{texts};
 
 use crate::Memory;
@@ -49,7 +49,7 @@ fn part_of(alloc: Global, raw: &str) -> Result<String, Memory>
 
 /// The part that a raw part stands for which is none of the reserved ones.
 fn part_of_text(alloc: Global, raw: &str) -> Result<String, Memory>
-    ensures { IfOk result (λ text. (part : Part) → option_and_then part_of_text (unescaped_from false raw.now) ≡ Some part → string_bytes text ≡ part) }
+    ensures { IfOk result (λ text. (part : Part) → option_and_then part_of_text (unescaped raw.now) ≡ Some part → string_bytes text ≡ part) }
 {
     match array_digits(raw) {
         Some(digits) => array_part(alloc, digits),
@@ -59,7 +59,7 @@ fn part_of_text(alloc: Global, raw: &str) -> Result<String, Memory>
 
 /// A raw part without its escapes. Most have none, and are copied as they are.
 fn unescaped(alloc: Global, raw: &str) -> Result<String, Memory>
-    ensures { IfOk result (λ text. (part : Part) → unescaped_from false raw.now ≡ Some part → string_bytes text ≡ part) }
+    ensures { IfOk result (λ text. (part : Part) → unescaped raw.now ≡ Some part → string_bytes text ≡ part) }
 {
     if raw.as_bytes().contains(&b'\\') {
         without_escapes(alloc, raw)
@@ -69,7 +69,7 @@ fn unescaped(alloc: Global, raw: &str) -> Result<String, Memory>
 }
 
 fn without_escapes(alloc: Global, raw: &str) -> Result<String, Memory>
-    ensures { IfOk result (λ text. (part : Part) → unescaped_from false raw.now ≡ Some part → string_bytes text ≡ part) }
+    ensures { IfOk result (λ text. (part : Part) → unescaped raw.now ≡ Some part → string_bytes text ≡ part) }
 {
     let mut text = String::new(alloc);
     let mut waits = false;

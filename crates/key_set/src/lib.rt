@@ -10,3 +10,4 @@ mod weights;
 pub use entries::Entry;
 pub use iters::KeySetIter;
 pub use key_sets::{KeySet, equal_sets_are_the_same_map, the_keys_set_last_are_found};
+pub use weights::{HEAVIEST_MAP, KEY_WEIGHT};

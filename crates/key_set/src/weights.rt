@@ -8,7 +8,10 @@ use crate::Entry;
 use key_name::KeyName;
 
 /// What a key weighs beside its bytes.
-const OWN_WEIGHT: u64 = 64;
+pub const KEY_WEIGHT: usize = 64;
+
+/// The most that a map may weigh, in a file and in the whole store.
+pub const HEAVIEST_MAP: u64 = 16777216;
 
 /// What some keys weigh together. A weight beyond the type's end is given as its last value.
 pub fn weight_of_all(keys: &[(KeyName, Entry)]) -> u64
@@ -25,7 +28,7 @@ pub fn weight_of_all(keys: &[(KeyName, Entry)]) -> u64
 fn weight_of_one(name: &KeyName, entry: &Entry) -> u64
     ensures { result ≡ saturated (weight_of_key name.now (entry_of entry.now)) }
 {
-    OWN_WEIGHT
+    (KEY_WEIGHT as u64)
         .saturating_add(name.text_bytes() as u64)
         .saturating_add(entry.value.as_str().len() as u64)
         .saturating_add(entry.meta.bytes())

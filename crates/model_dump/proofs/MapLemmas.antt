@@ -14,7 +14,7 @@ use Rattle.general_words.specs.Texts.{text_cmp}
 use Rattle.model_maps.specs.Entry.{Entry, plain_entry, IsValue, longest_value, with_meta}
 use Rattle.model_names.specs.Spelling.{spelling}
 use Rattle.general_words.proofs.Maps.{sum_by-insert, sum_by-empty}
-use Rattle.model_maps.specs.KeyMap.{KeyMap, no_keys, weight, weight_of_key}
+use Rattle.model_maps.specs.KeyMap.{KeyMap, no_keys, key_weight, weight, weight_of_key}
 
 -- a new key's own weight is added
 pub weight-insert : (keys : KeyMap) (name : Name) (entry : Entry) → map.get keys name ≡ None → weight (map.insert keys name entry) ≡ weight keys + weight_of_key name entry
@@ -23,7 +23,7 @@ weight-insert keys name entry none = sum_by-insert name_cmp_total (λ key. weigh
 pub weight-no_keys : weight no_keys ≡ 0
 weight-no_keys = sum_by-empty name_cmp (λ key. weight_of_key key.0 key.1)
 
-pub weight_of_key-plain : (name : Name) (value : List ℕ) → weight_of_key name (plain_entry value) ≡ 64 + length (spelling name) + length value
+pub weight_of_key-plain : (name : Name) (value : List ℕ) → weight_of_key name (plain_entry value) ≡ key_weight + length (spelling name) + length value
 weight_of_key-plain name value = omega (arith, sum_by-empty text_cmp (λ (m : List ℕ × List ℕ). length m.0 + length m.1))
 
 -- a new metadata's own bytes are added

@@ -13,7 +13,7 @@ use Rattle.model_names.specs.Refuses.{Refusal, refusal_of}
 use Rattle.model_names.specs.Spells.{Spells}
 use Rattle.model_names.proofs.OrderLemmas.{name_cmp_total, name_cmp-IsAntisymmetric}
 use Rattle.model_names.proofs.RefusesLemmas.{refusal_of-spelled, Spells-from_no_refusal}
-use Rattle.model_maps.specs.Entry.{IsValue, IsMetaName, longest_value}
+use Rattle.model_maps.specs.Entry.{IsValue, IsMetaName, longest_value, longest_meta_name}
 
 -- a fact holds or it doesn't
 abbrev pub IsTold : Type 0 → Type 0
@@ -49,7 +49,7 @@ value-told text = elim (utf8-told text) as (λ _. IsTold (IsValue text)) [
 pub meta_name-told : (name : List ℕ) → IsTold (IsMetaName name)
 meta_name-told name = elim (utf8-told name) as (λ _. IsTold (IsMetaName name)) [
   | inl utf8 ↦ elim (le-told 1 (length name)) as (λ _. IsTold (IsMetaName name)) [
-    | inl some ↦ told-along (λ short. record { utf8 = utf8; some = some; limit = short }) (λ (n : IsMetaName name). n.limit) (le-told (length name) 4096)
+    | inl some ↦ told-along (λ short. record { utf8 = utf8; some = some; limit = short }) (λ (n : IsMetaName name). n.limit) (le-told (length name) longest_meta_name)
     | inr none ↦ inr (λ (n : IsMetaName name). none n.some)
   ]
   | inr fails ↦ inr (λ (n : IsMetaName name). fails n.utf8)

@@ -18,7 +18,7 @@ abbrev pub IsBare : Sign → Type 0
 IsBare (Plain b) = b ≢ 92
 IsBare (Covered b) = Unit {0}
 
-signs-plain : (b : ℕ) (bytes : List ℕ) → b ≢ 92 → signs (b ∷ bytes) ≡ Plain b ∷ signs bytes
+pub signs-plain : (b : ℕ) (bytes : List ℕ) → b ≢ 92 → signs (b ∷ bytes) ≡ Plain b ∷ signs bytes
 signs-plain b [] h = refl
 signs-plain b (c ∷ bytes) h = cond-false (b == 92) _ _ (ne_eqb b 92 h)
 

@@ -37,11 +37,15 @@ pub record IsValue (text : List ℕ) : Type 0 where
   pub utf8 : IsUtf8 text
   pub limit : length text ≤ longest_value
 
--- a name that metadata may have: 1 to 4,096 bytes
+-- the most bytes of a metadata name
+abbrev pub longest_meta_name : ℕ
+longest_meta_name = 4096
+
+-- a name that metadata may have: not empty, and not too long
 pub record IsMetaName (name : List ℕ) : Type 0 where
   pub utf8 : IsUtf8 name
   pub some : 0 < length name
-  pub limit : length name ≤ 4096
+  pub limit : length name ≤ longest_meta_name
 
 -- the bytes of metadata: its names and texts
 abbrev pub meta_bytes : Meta → ℕ

@@ -16,9 +16,13 @@ KeyMap = FinMap name_cmp Entry
 abbrev pub no_keys : KeyMap
 no_keys = map.empty
 
--- the weight of a key: 64, and the bytes of its canonical name, its value, its metadata names and texts
+-- what a key weighs beside its bytes
+abbrev pub key_weight : ℕ
+key_weight = 64
+
+-- the weight of a key: its own, and the bytes of its canonical name, its value, its metadata names and texts
 abbrev pub weight_of_key : Name → Entry → ℕ
-weight_of_key name entry = 64 + length (spelling name) + length entry.value + meta_bytes entry.meta
+weight_of_key name entry = key_weight + length (spelling name) + length entry.value + meta_bytes entry.meta
 
 -- the weight of a map: the sum of those of its keys
 abbrev pub weight : KeyMap → ℕ

@@ -15,7 +15,7 @@ pub fn a_new_key_adds_its_weight()
     ensures added { (keys : KeyMap) (name : Name) (entry : Entry) → map.get keys name ≡ None → weight (map.insert keys name entry) ≡ weight keys + weight_of_key name entry }
 {}
 
-/// A key weighs 64, and the bytes of its canonical name and of its value.
+/// A key weighs `key_weight`, 64, and the bytes of its canonical name and of its value.
 pub fn a_key_weighs_its_texts()
     ensures { weight_of_key (record { namespace = User; parts = codes "a" ∷ [] }) (plain_entry (codes "x")) ≡ 72 }
 {}

@@ -1,6 +1,5 @@
 -- What the escapes of a part leave as it is, and how escaped bytes are read.
-use Rattle.std.proofs.Common.{◌≡◌, ◌≢◌, ℕ, ◌<◌, true, false, cond, ◌==◌, ◌||◌, List, [], ◌∷◌, ◌++◌, length, get_or, Some, None, refl, sym, ap, ap₂, ◌∙◌, lit<, arith}
-use Rattle.std.specs.Option.{option_map}
+use Rattle.std.proofs.Common.{◌≡◌, ◌≢◌, ℕ, ◌<◌, true, ◌==◌, ◌||◌, List, [], ◌∷◌, ◌++◌, length, get_or, Some, None, refl, sym, ap, ap₂, ◌∙◌, lit<, arith}
 use Rattle.std.specs.List.{AllByRecursion, flat_map}
 use Rattle.std.specs.Prelude.{encode_utf8, encode_utf8_all}
 use Rattle.std.proofs.lemmas.Bool.{ne_eqb, or_from, cond-false}
@@ -9,7 +8,8 @@ use Rattle.std.proofs.lemmas.List.Elements.{recursion_from_All}
 use Rattle.std.proofs.lemmas.List.Concat.{flat_map-append}
 use Rattle.std.proofs.lemmas.Str.{encodes-append, inside_one, length-encode, len_utf8_bounds}
 use Rattle.model_names.specs.Spelling.{escaped}
-use Rattle.model_names.specs.Spells.{unescaped_from}
+use Rattle.model_names.specs.Spells.{unescaped}
+use Rattle.model_names.proofs.ReadLemmas.{unescaped_from, unescaped-escape, unescaped-plain}
 use Rattle.model_names.proofs.RefusesLemmas.{from_map}
 
 -- a byte that is spelled as it is
@@ -52,11 +52,11 @@ letter_bytes : (c : ℕ) → 0 < length (encode_utf8 c)
 letter_bytes c = let bounds = len_utf8_bounds c in omega (arith, length-encode c)
 
 -- bytes without a backslash are read as they are
-pub read_all : (bytes left : List ℕ) → AllByRecursion IsUnescaped bytes → (rest : List ℕ) → unescaped_from false (bytes ++ left) ≡ Some rest → (tail : List ℕ) × (unescaped_from false left ≡ Some tail) × (rest ≡ bytes ++ tail)
+pub read_all : (bytes left : List ℕ) → AllByRecursion IsUnescaped bytes → (rest : List ℕ) → unescaped (bytes ++ left) ≡ Some rest → (tail : List ℕ) × (unescaped left ≡ Some tail) × (rest ≡ bytes ++ tail)
 read_all [] left ordinary rest h = (rest, h, refl)
 read_all (b ∷ bytes) left ordinary rest h =
-    let plain = sym (ap (λ t. cond t (unescaped_from t (bytes ++ left)) (option_map (λ part. b ∷ part) (unescaped_from t (bytes ++ left)))) (ne_eqb b 92 ordinary.0.no_backslash)) ∙ h in
-    let behind = from_map (λ part. b ∷ part) (unescaped_from false (bytes ++ left)) rest plain in
+    let plain = sym (unescaped-plain b (bytes ++ left) ordinary.0.no_backslash) ∙ h in
+    let behind = from_map (λ part. b ∷ part) (unescaped (bytes ++ left)) rest plain in
     let tail = read_all bytes left ordinary.1 behind.0 behind.1 in
     (tail.0, tail.1, sym behind.2 ∙ ap (λ t. b ∷ t) tail.2)
 
@@ -64,7 +64,7 @@ read_all (b ∷ bytes) left ordinary rest h =
 escapes_none : (bytes left : List ℕ) → AllByRecursion IsUnescaped bytes → 0 < length bytes → unescaped_from true (bytes ++ left) ≡ None
 escapes_none [] left ordinary h = absurd (omega arith)
 escapes_none (b ∷ bytes) left ordinary h =
-    cond-false ((b == 92) || (b == 47)) _ _ (or_from _ _ (ne_eqb b 92 ordinary.0.no_backslash) (ne_eqb b 47 ordinary.0.no_slash))
+    unescaped-escape b (bytes ++ left) ∙ cond-false ((b == 92) || (b == 47)) _ _ (or_from _ _ (ne_eqb b 92 ordinary.0.no_backslash) (ne_eqb b 47 ordinary.0.no_slash))
 
 -- no other letter can be escaped
 pub escapes_no_letter : (c : ℕ) (left : List ℕ) → c ≢ 92 → c ≢ 47 → unescaped_from true (encode_utf8 c ++ left) ≡ None

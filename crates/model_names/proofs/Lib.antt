@@ -1,5 +1,6 @@
 pub mod OrderLemmas
 pub mod SpellsLemmas
+pub mod ReadLemmas
 pub mod RefusesLemmas
 pub mod RawCutLemmas
 pub mod BelowOrder

@@ -1,6 +1,6 @@
 -- The canonical spelling of a well-formed name spells it, and what a text spells is well formed.
 use Rattle.std.specs.Prelude.{◌≡◌, ◌≢◌, ℕ, ◌<◌, true, false, ◌||◌, ◌==◌, List, [], ◌∷◌, ◌++◌, length, map, Option, Some, option_and_then, codes, encode_utf8, encode_utf8_all}
-use Rattle.std.proofs.Common.{cond, refl, sym, ap, subst, ◌∙◌, inl, inr, arith, lit<, append_assoc}
+use Rattle.std.proofs.Common.{refl, sym, ap, subst, ◌∙◌, inl, inr, arith, lit<, append_assoc}
 use Rattle.std.specs.List.{AllByRecursion, flat_map, onto_first}
 use Rattle.std.specs.Option.{option_map}
 use Rattle.std.specs.Str.{IsUtf8, all_scalars}
@@ -15,13 +15,14 @@ use Rattle.model_names.specs.ArrayPart.{is_array_like, canonical_part}
 use Rattle.model_names.specs.Name.{Name, Part}
 use Rattle.model_names.specs.RawParts.{raw_parts, raw_parts_from, put_before}
 use Rattle.model_names.specs.Refuses.{begins_with_slash}
-use Rattle.model_names.specs.Spells.{Spells, Adds, walked, moved, meaning, unescaped_from, part_of_text}
+use Rattle.model_names.specs.Spells.{Spells, Adds, walked, moved, meaning, part_of_text, unescaped}
 use Rattle.general_words.specs.Texts.{is_text}
 use Rattle.model_names.specs.Spelling.{spelling, spelled, escaped, is_reserved, word_of, path_of_parts}
 use Rattle.model_names.specs.WellFormed.{IsName, IsPart}
 use Rattle.model_names.proofs.ArrayLemmas.{canonical_part-own}
 use Rattle.model_names.proofs.EscapeLemmas.{flat_map-escaped-letter}
 use Rattle.model_names.proofs.PartLemmas.{IsText, IsText-raw_parts, IsUtf8-byte, IsUtf8-cons, all_append, all_back, text_from_test, utf8_behind_slash, walked_parts}
+use Rattle.model_names.proofs.ReadLemmas.{meaning-by_form, unescaped-escape, unescaped-plain}
 use Rattle.model_names.proofs.RefusesLemmas.{slash_begins}
 use Rattle.model_names.proofs.SpellsLemmas.{Spells-once, same_cut}
 use Rattle.general_words.proofs.Lists.{some_is}
@@ -126,26 +127,26 @@ raw_parts-path part (next ∷ parts) =
 
 -- ---- what a spelled part means
 
-ordinary_read : (b : ℕ) (bytes part : List ℕ) → b ≢ 92 → unescaped_from false bytes ≡ Some part → unescaped_from false (b ∷ bytes) ≡ Some (b ∷ part)
-ordinary_read b bytes part other h = ap (λ t. cond t (unescaped_from t bytes) (option_map (λ part. b ∷ part) (unescaped_from t bytes))) (ne_eqb b 92 other) ∙ ap (option_map (λ part. b ∷ part)) h
+ordinary_read : (b : ℕ) (bytes part : List ℕ) → b ≢ 92 → unescaped bytes ≡ Some part → unescaped (b ∷ bytes) ≡ Some (b ∷ part)
+ordinary_read b bytes part other h = unescaped-plain b bytes other ∙ ap (option_map (λ part. b ∷ part)) h
 
 -- the escapes of a part are read as the part
-pub unescaped-escaped : (part : Part) → unescaped_from false (flat_map escaped part) ≡ Some part
+pub unescaped-escaped : (part : Part) → unescaped (flat_map escaped part) ≡ Some part
 unescaped-escaped [] = refl
 unescaped-escaped (b ∷ part) =
     elim (cases_Bool ((b == 92) || (b == 47))) [
       | inl e ↦
           let bytes : escaped b ≡ 92 ∷ b ∷ [] = cond-true _ _ _ e in
-          ap (λ t. unescaped_from false (t ++ flat_map escaped part)) bytes ∙ cond-true ((b == 92) || (b == 47)) _ _ e ∙ ap (option_map (λ part. b ∷ part)) (unescaped-escaped part)
+          ap (λ t. unescaped (t ++ flat_map escaped part)) bytes ∙ unescaped-escape b (flat_map escaped part) ∙ cond-true ((b == 92) || (b == 47)) _ _ e ∙ ap (option_map (λ part. b ∷ part)) (unescaped-escaped part)
       | inr e ↦
           let bytes : escaped b ≡ b ∷ [] = cond-false _ _ _ e in
-          ap (λ t. unescaped_from false (t ++ flat_map escaped part)) bytes ∙ ordinary_read b (flat_map escaped part) part (eqb-false b 92 (or_parts (b == 92) (b == 47) e).0) (unescaped-escaped part)
+          ap (λ t. unescaped (t ++ flat_map escaped part)) bytes ∙ ordinary_read b (flat_map escaped part) part (eqb-false b 92 (or_parts (b == 92) (b == 47) e).0) (unescaped-escaped part)
     ]
 
-other_raw : (raw text : List ℕ) (part : Part) → unescaped_from false raw ≡ Some part → (unescaped_from false text ≡ Some part → ⊥) → is_text raw text ≡ false
-other_raw raw text part reads apart = false_from_ne_true (is_text raw text) (λ e. apart (sym (ap (unescaped_from false) (same_text raw text e)) ∙ reads))
+other_raw : (raw text : List ℕ) (part : Part) → unescaped raw ≡ Some part → (unescaped text ≡ Some part → ⊥) → is_text raw text ≡ false
+other_raw raw text part reads apart = false_from_ne_true (is_text raw text) (λ e. apart (sym (ap unescaped (same_text raw text e)) ∙ reads))
 
-not_empty : (raw : List ℕ) (part : Part) → unescaped_from false raw ≡ Some part → (length part == 0) ≡ false → (length raw == 0) ≡ false
+not_empty : (raw : List ℕ) (part : Part) → unescaped raw ≡ Some part → (length part == 0) ≡ false → (length raw == 0) ≡ false
 not_empty [] part reads filled = let none = ap length (some_is [] part reads) in absurd (true≢false (ap (λ n. n == 0) none ∙ filled))
 not_empty (b ∷ raw) part reads filled = ne_eqb (length (b ∷ raw)) 0 (omega arith)
 
@@ -166,7 +167,8 @@ meaning-text part h filled ordinary =
     let two = or_parts (is_text part (codes "%") || is_text part (codes ".")) (is_text part (codes "..")) ordinary in
     let one = or_parts (is_text part (codes "%")) (is_text part (codes ".")) two.0 in
     let stays = or_from _ _ (not_empty raw part reads filled) (other_raw raw (codes ".") part reads (not_reserved (codes ".") part one.1)) in
-    cond-false ((length raw == 0) || is_text raw (codes ".")) _ _ stays
+    meaning-by_form raw
+    ∙ cond-false ((length raw == 0) || is_text raw (codes ".")) _ _ stays
     ∙ cond-false (is_text raw (codes "..")) _ _ (other_raw raw (codes "..") part reads (not_reserved (codes "..") part two.1))
     ∙ cond-false (is_text raw (codes "%")) _ _ (other_raw raw (codes "%") part reads (not_reserved (codes "%") part one.0))
     ∙ cond-false (is_text raw (92 ∷ codes "%")) _ _ (other_raw raw (92 ∷ codes "%") part reads (λ e. absurd (cc)))

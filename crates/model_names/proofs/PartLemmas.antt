@@ -15,10 +15,11 @@ use Rattle.model_names.specs.Name.{Part}
 use Rattle.model_names.specs.ArrayPart.{is_array_like, digits_of, part_of_digits, canonical_part}
 use Rattle.model_names.specs.RawParts.{raw_parts_from, put_before}
 use Rattle.general_words.specs.Texts.{is_text}
-use Rattle.model_names.specs.Spells.{Move, Adds, Stays, GoesUp, meaning, moved, walked, part_of_text, unescaped_from}
+use Rattle.model_names.specs.Spells.{Move, Adds, Stays, GoesUp, meaning, moved, walked, part_of_text, unescaped}
 use Rattle.model_names.specs.WellFormed.{IsPart}
 use Rattle.model_names.proofs.ArrayLemmas.{are_digits-like, canonical_part-from, ascii-part_of_digits, is_canonical-part_of_digits}
 use Rattle.model_names.proofs.EscapeLemmas.{IsUnescaped-encode_utf8, read_all, escapes_no_letter}
+use Rattle.model_names.proofs.ReadLemmas.{meaning-by_form, unescaped_from, unescaped-escape, unescaped-next}
 use Rattle.model_names.proofs.RefusesLemmas.{from_map, from_and_then, cond_some, branch_taken}
 use Rattle.model_names.proofs.SpellsLemmas.{is_ascii_text_byte, no_nul-from_test, is_ascii-from_test}
 use Rattle.general_words.proofs.Lists.{some_is}
@@ -129,11 +130,11 @@ unescaped_no_nul : (waits : Bool) (raw : List ℕ) (part : Part) → unescaped_f
 unescaped_no_nul false [] part h bytes = subst (λ (t : List ℕ). AllByRecursion (λ b. 0 < b) t) (some_is [] part h) tt
 unescaped_no_nul true [] part h bytes = absurd cc
 unescaped_no_nul true (b ∷ raw) part h bytes =
-    let escapes = cond_some ((b == 92) || (b == 47)) (option_map (λ part. b ∷ part) (unescaped_from false raw)) part h in
-    let rest = from_map (λ part. b ∷ part) (unescaped_from false raw) part escapes.1 in
+    let escapes = cond_some ((b == 92) || (b == 47)) (option_map (λ part. b ∷ part) (unescaped raw)) part (sym (unescaped-escape b raw) ∙ h) in
+    let rest = from_map (λ part. b ∷ part) (unescaped raw) part escapes.1 in
     subst (λ (t : List ℕ). AllByRecursion (λ b. 0 < b) t) rest.2 (bytes.0, unescaped_no_nul false raw rest.0 rest.1 bytes.1)
 unescaped_no_nul false (b ∷ raw) part h bytes =
-    branch_taken (b == 92) (unescaped_from (b == 92) raw) _ _ h
+    branch_taken (b == 92) (unescaped_from (b == 92) raw) _ _ (sym (unescaped-next b raw) ∙ h)
     (λ _ e. unescaped_no_nul (b == 92) raw part e bytes.1)
     (λ e. let rest = from_map (λ part. b ∷ part) (unescaped_from (b == 92) raw) part e in
     subst (λ (t : List ℕ). AllByRecursion (λ b. 0 < b) t) rest.2 (bytes.0, unescaped_no_nul (b == 92) raw rest.0 rest.1 bytes.1))
@@ -142,15 +143,15 @@ unescaped_no_nul false (b ∷ raw) part h bytes =
 utf8_backslash : (waits : Bool) (left : List ℕ) (part : Part) → unescaped_from waits (92 ∷ left) ≡ Some part → ((waits : Bool) (part : Part) → unescaped_from waits left ≡ Some part → IsUtf8 part) → IsUtf8 part
 utf8_backslash false left part h more = more true part h
 utf8_backslash true left part h more =
-    let rest = from_map (λ part. 92 ∷ part) (unescaped_from false left) part h in
+    let rest = from_map (λ part. 92 ∷ part) (unescaped left) part (sym (unescaped-escape 92 left) ∙ h) in
     subst (λ (t : List ℕ). IsUtf8 t) rest.2 (IsUtf8-cons 92 rest.0 (lit< tt) (more false rest.0 rest.1))
 
 utf8_slash : (waits : Bool) (left : List ℕ) (part : Part) → unescaped_from waits (47 ∷ left) ≡ Some part → ((waits : Bool) (part : Part) → unescaped_from waits left ≡ Some part → IsUtf8 part) → IsUtf8 part
 utf8_slash false left part h more =
-    let rest = from_map (λ part. 47 ∷ part) (unescaped_from false left) part h in
+    let rest = from_map (λ part. 47 ∷ part) (unescaped left) part (sym (unescaped-next 47 left) ∙ h) in
     subst (λ (t : List ℕ). IsUtf8 t) rest.2 (IsUtf8-cons 47 rest.0 (lit< tt) (more false rest.0 rest.1))
 utf8_slash true left part h more =
-    let rest = from_map (λ part. 47 ∷ part) (unescaped_from false left) part h in
+    let rest = from_map (λ part. 47 ∷ part) (unescaped left) part (sym (unescaped-escape 47 left) ∙ h) in
     subst (λ (t : List ℕ). IsUtf8 t) rest.2 (IsUtf8-cons 47 rest.0 (lit< tt) (more false rest.0 rest.1))
 
 utf8_ordinary : (waits : Bool) (c : ℕ) (left : List ℕ) (part : Part) → c ≢ 92 → c ≢ 47 → IsUtf8 (encode_utf8 c) → unescaped_from waits (encode_utf8 c ++ left) ≡ Some part → ((waits : Bool) (part : Part) → unescaped_from waits left ≡ Some part → IsUtf8 part) → IsUtf8 part
@@ -178,11 +179,11 @@ unescaped_utf8 (c ∷ letters) waits part scalars h =
       ]
     ]
 
-IsText-unescaped : (raw : List ℕ) (part : Part) → IsText raw → unescaped_from false raw ≡ Some part → IsText part
+IsText-unescaped : (raw : List ℕ) (part : Part) → IsText raw → unescaped raw ≡ Some part → IsText part
 IsText-unescaped raw part text h =
     let letters = text.utf8 in
     record {
-      utf8 = unescaped_utf8 letters.0 false part letters.1.0 (ap (unescaped_from false) letters.1.1 ∙ h);
+      utf8 = unescaped_utf8 letters.0 false part letters.1.0 (ap unescaped letters.1.1 ∙ h);
       no_nul = unescaped_no_nul false raw part h text.no_nul;
     }
 
@@ -217,10 +218,10 @@ adds_at m n e h = subst AddsPart (some_is m n e) h
 plain_part : (part : Part) → IsText part → is_array_like part ≡ false → IsPart part
 plain_part part text other = record { utf8 = text.utf8; no_nul = text.no_nul; canonical = λ like. absurd (true≢false (sym like ∙ other)) }
 
-text_adds : (raw : List ℕ) (move : Move) → IsText raw → option_map Adds (option_and_then part_of_text (unescaped_from false raw)) ≡ Some move → AddsPart move
+text_adds : (raw : List ℕ) (move : Move) → IsText raw → option_map Adds (option_and_then part_of_text (unescaped raw)) ≡ Some move → AddsPart move
 text_adds raw move text h =
-    let adds = from_map Adds (option_and_then part_of_text (unescaped_from false raw)) move h in
-    let part = from_and_then part_of_text (unescaped_from false raw) adds.0 adds.1 in
+    let adds = from_map Adds (option_and_then part_of_text (unescaped raw)) move h in
+    let part = from_and_then part_of_text (unescaped raw) adds.0 adds.1 in
     subst AddsPart adds.2 (IsPart-from_text part.0 adds.0 (IsText-unescaped raw part.0 text part.1) part.2)
 
 -- what a raw part of a text means adds a well-formed part, if any
@@ -230,7 +231,7 @@ AddsPart-meaning raw move text h =
     let percent : AddsPart (Adds (codes "%")) = plain_part (codes "%") (text_from_test (codes "%") refl) refl in
     let dot : AddsPart (Adds (codes ".")) = plain_part (codes ".") (text_from_test (codes ".") refl) refl in
     let dots : AddsPart (Adds (codes "..")) = plain_part (codes "..") (text_from_test (codes "..") refl) refl in
-    branch_taken ((length raw == 0) || is_text raw (codes ".")) _ _ _ h (λ _ e. adds_at Stays move e tt)
+    branch_taken ((length raw == 0) || is_text raw (codes ".")) _ _ _ (sym (meaning-by_form raw) ∙ h) (λ _ e. adds_at Stays move e tt)
     (λ h. branch_taken (is_text raw (codes "..")) _ _ _ h (λ _ e. adds_at GoesUp move e tt)
     (λ h. branch_taken (is_text raw (codes "%")) _ _ _ h (λ _ e. adds_at (Adds []) move e empty)
     (λ h. branch_taken (is_text raw (92 ∷ codes "%")) _ _ _ h (λ _ e. adds_at (Adds (codes "%")) move e percent)

@@ -1,21 +1,21 @@
 -- Refusals and spellings: a text has a refusal exactly where it spells no name.
-use Rattle.std.specs.Prelude.{◌≡◌, ℕ, ◌+◌, ◌-◌, ◌<◌, ◌≤◌, nat_lt, Bool, true, false, not, ◌&&◌, ◌||◌, ◌==◌, List, [], ◌∷◌, ◌++◌, length, drop, Option, Some, None, option_and_then, is_none, codes}
-use Rattle.std.proofs.Common.{suc, append_assoc, cond, refl, sym, ap, subst, ◌∙◌, inl, inr, arith}
+use Rattle.std.specs.Prelude.{◌≡◌, ℕ, ◌+◌, ◌<◌, ◌≤◌, nat_lt, Bool, true, false, not, ◌||◌, ◌==◌, List, [], ◌∷◌, ◌++◌, length, drop, Option, Some, None, Result, Ok, Err, option_and_then, is_none, codes}
+use Rattle.std.proofs.Common.{suc, append_assoc, cond, refl, sym, ap, ◌∙◌, inl, inr, arith}
 use Rattle.std.specs.List.{AllByRecursion, position, position_or_len, before_first, after_first, list_any}
-use Rattle.std.specs.Option.{option_map, option_or}
+use Rattle.std.specs.Option.{option_map, option_flatten, option_or}
+use Rattle.std.specs.Result.{result_ok, result_err}
 use Rattle.std.specs.Str.{IsUtf8}
-use Rattle.std.proofs.lemmas.Bool.{cond-true, cond-false, cond_both, eqb-true, eqb-false, ne_eqb, le-ltb, ltb-false, or_cases, or_from, cases_Bool}
+use Rattle.std.proofs.lemmas.Bool.{cond-true, cond-false, cond_both, eqb-true, eqb-false, ne_eqb, le-ltb, ltb-false, cases_Bool}
 use Rattle.std.proofs.lemmas.List.Sums.{split_at_first, passes_at_first}
 use Rattle.model_names.specs.declared.namespaces.Namespace.{Namespace}
 use Rattle.model_names.specs.declared.namespaces.Namespace.TheVariants.{Cascading, Spec, Proc, Dir, User, System, Default}
 use Rattle.model_names.specs.Name.{Name, Part}
-use Rattle.model_names.specs.ArrayPart.{is_array_like, canonical_part}
 use Rattle.general_words.specs.Texts.{is_text}
 use Rattle.general_words.specs.Searches.{first_some}
 use Rattle.model_names.specs.Spelling.{word_of, path, path_of_parts}
 use Rattle.model_names.specs.RawParts.{raw_parts}
-use Rattle.model_names.specs.Spells.{Spells, Move, Adds, meaning, moved, part_of_text, unescaped_from, walked, longest_path}
-use Rattle.model_names.specs.Refuses.{Refusal, NoNamespace, UnknownNamespace, NoSlash, BadEscape, BadArray, Nul, TooLong, Start, At, Refused, namespace_of_word, begins_with_slash, start_behind, start_of_text, placed, is_literal, bad_escape_from, bad_escape, bad_array, too_long, refusal_behind, refusal_of}
+use Rattle.model_names.specs.Spells.{Spells, Move, meaning, moved, read_part, walked, longest_path}
+use Rattle.model_names.specs.Refuses.{Refusal, NoNamespace, UnknownNamespace, NoSlash, BadEscape, BadArray, Nul, TooLong, Start, At, Refused, namespace_of_word, begins_with_slash, start_behind, start_of_text, placed, bad_escape, bad_array, too_long, refusal_behind, refusal_of}
 use Rattle.model_names.proofs.SpellsLemmas.{drop-word}
 use Rattle.general_words.proofs.Texts.{same_text}
 
@@ -42,52 +42,10 @@ pub cond_some : {A : Type 0} (t : Bool) (o : Option A) (y : A) → cond t o None
 cond_some true o y h = (refl, h)
 cond_some false o y h = absurd cc
 
-cond_none : {A : Type 0} (t : Bool) (o : Option A) (y : A) → cond t o (Some y) ≡ None → (t ≡ true) × (o ≡ None)
-cond_none true o y h = (refl, h)
-cond_none false o y h = absurd cc
-
 -- which of two branches was taken
-branch : {A G : Type 0} (t : Bool) (x y z : A) → cond t x y ≡ z → (t ≡ true → G) → (y ≡ z → G) → G
-branch true x y z h f g = f refl
-branch false x y z h f g = g h
-
 pub branch_taken : {A G : Type 0} (t : Bool) (x y z : A) → cond t x y ≡ z → (t ≡ true → x ≡ z → G) → (y ≡ z → G) → G
 branch_taken true x y z h f g = f refl h
 branch_taken false x y z h f g = g h
-
--- ---- escapes
-
-one_of_both : {A : Type 0} (t : Bool) (f : A → A) (o : Option A) (y : A) → cond t o (option_map f o) ≡ Some y → (x : A) × (o ≡ Some x)
-one_of_both true f o y h = (y, h)
-one_of_both false f o y h = let m = from_map f o y h in (m.0, m.1)
-
-some_of_both : {A : Type 0} (t : Bool) (f : A → A) (o : Option A) (x : A) → o ≡ Some x → (y : A) × (cond t o (option_map f o) ≡ Some y)
-some_of_both true f o x h = (x, h)
-some_of_both false f o x h = (f x, ap (option_map f) h)
-
--- what unescapes has no bad escape
-pub bad_escape_from-none : (waits : Bool) (place : ℕ) (raw : List ℕ) (part : Part) → unescaped_from waits raw ≡ Some part → bad_escape_from waits place raw ≡ None
-bad_escape_from-none false place [] part h = refl
-bad_escape_from-none true place [] part h = absurd cc
-bad_escape_from-none false place (b ∷ bytes) part h =
-    let rest = one_of_both (b == 92) (λ part. b ∷ part) (unescaped_from (b == 92) bytes) part h in
-    bad_escape_from-none (b == 92) (place + 1) bytes rest.0 rest.1
-bad_escape_from-none true place (b ∷ bytes) part h =
-    let escapes = cond_some ((b == 92) || (b == 47)) _ part h in
-    let rest = from_map (λ part. b ∷ part) (unescaped_from false bytes) part escapes.1 in
-    cond-true _ _ _ escapes.0 ∙ bad_escape_from-none false (place + 1) bytes rest.0 rest.1
-
--- and the other way
-pub unescaped_from-some : (waits : Bool) (place : ℕ) (raw : List ℕ) → bad_escape_from waits place raw ≡ None → (part : Part) × (unescaped_from waits raw ≡ Some part)
-unescaped_from-some false place [] h = ([], refl)
-unescaped_from-some true place [] h = absurd cc
-unescaped_from-some false place (b ∷ bytes) h =
-    let rest = unescaped_from-some (b == 92) (place + 1) bytes h in
-    some_of_both (b == 92) (λ part. b ∷ part) (unescaped_from (b == 92) bytes) rest.0 rest.1
-unescaped_from-some true place (b ∷ bytes) h =
-    let escapes = cond_none ((b == 92) || (b == 47)) (bad_escape_from false (place + 1) bytes) (place - 1) h in
-    let rest = unescaped_from-some false (place + 1) bytes escapes.1 in
-    (b ∷ rest.0, cond-true _ _ _ escapes.0 ∙ ap (option_map (λ part. b ∷ part)) rest.1)
 
 -- ---- one raw part
 
@@ -96,68 +54,22 @@ pub record IsFine (place : ℕ) (raw : List ℕ) : Type 0 where
   pub escapes : bad_escape (place, raw) ≡ None
   pub arrays : bad_array (place, raw) ≡ None
 
-fine_at : (place : ℕ) (raw text : List ℕ) → is_text raw text ≡ true → IsFine place text → IsFine place raw
-fine_at place raw text e h = let P : List ℕ → Type 0 = λ r. IsFine place r in subst P (sym (same_text raw text e)) h
-
-fine_empty : (place : ℕ) (raw : List ℕ) → (length raw == 0) ≡ true → IsFine place raw
-fine_empty place [] e = record { escapes = refl; arrays = refl }
-fine_empty place (b ∷ raw) e = let h = eqb-true (length (b ∷ raw)) 0 e in absurd (omega arith)
-
--- an array part that is made canonical is none that is refused
-no_bad : {A : Type 0} (array : Bool) (o : Option A) (text part : A) (place : ℕ) → cond array o (Some text) ≡ Some part → cond (array && is_none o) (Some place) None ≡ None
-no_bad true None text part place h = absurd cc
-no_bad true (Some x) text part place h = refl
-no_bad false o text part place h = refl
-
-no_bad_back : {A : Type 0} (array : Bool) (o : Option A) (text : A) (place : ℕ) → cond (array && is_none o) (Some place) None ≡ None → (part : A) × (cond array o (Some text) ≡ Some part)
-no_bad_back true None text place h = absurd cc
-no_bad_back true (Some x) text place h = (x, refl)
-no_bad_back false o text place h = (text, refl)
-
-refused_array : ℕ → Part → Option ℕ
-refused_array place text = cond (is_array_like text && is_none (canonical_part text)) (Some place) None
-
-fine_text : (place : ℕ) (raw : List ℕ) (move : Move) → option_map Adds (option_and_then part_of_text (unescaped_from false raw)) ≡ Some move → IsFine place raw
-unfolding refused_array
-fine_text place raw move h =
-    let adds = from_map Adds (option_and_then part_of_text (unescaped_from false raw)) move h in
-    let text = from_and_then part_of_text (unescaped_from false raw) adds.0 adds.1 in
-    record {
-      escapes = cond_both (is_literal raw) None (bad_escape_from false place raw) (λ o. o ≡ None) (λ _. refl) (λ _. bad_escape_from-none false place raw text.0 text.1);
-      arrays = ap (option_and_then (refused_array place)) text.1 ∙ no_bad (is_array_like text.0) (canonical_part text.0) text.0 adds.0 place text.2;
-    }
-
 pub IsFine-from_meaning : (place : ℕ) (raw : List ℕ) (move : Move) → meaning raw ≡ Some move → IsFine place raw
 IsFine-from_meaning place raw move h =
-    branch ((length raw == 0) || is_text raw (codes ".")) _ _ _ h
-    (λ e. elim (or_cases (length raw == 0) (is_text raw (codes ".")) e) [ inl e ↦ fine_empty place raw e | inr e ↦ fine_at place raw (codes ".") e (record { escapes = refl; arrays = refl }) ])
-    (λ h. branch (is_text raw (codes "..")) _ _ _ h (λ e. fine_at place raw (codes "..") e (record { escapes = refl; arrays = refl }))
-    (λ h. branch (is_text raw (codes "%")) _ _ _ h (λ e. fine_at place raw (codes "%") e (record { escapes = refl; arrays = refl }))
-    (λ h. branch (is_text raw (92 ∷ codes "%")) _ _ _ h (λ e. fine_at place raw (92 ∷ codes "%") e (record { escapes = refl; arrays = refl }))
-    (λ h. branch (is_text raw (92 ∷ codes ".")) _ _ _ h (λ e. fine_at place raw (92 ∷ codes ".") e (record { escapes = refl; arrays = refl }))
-    (λ h. branch (is_text raw (92 ∷ codes "..")) _ _ _ h (λ e. fine_at place raw (92 ∷ codes "..") e (record { escapes = refl; arrays = refl }))
-    (λ h. fine_text place raw move h))))))
-
-some_if : (t : Bool) (x : Move) (y : Option Move) → (t ≡ false → (move : Move) × (y ≡ Some move)) → (move : Move) × (cond t (Some x) y ≡ Some move)
-some_if true x y f = (x, refl)
-some_if false x y f = f refl
-
-text_meaning : (place : ℕ) (raw : List ℕ) → is_literal raw ≡ false → IsFine place raw → (move : Move) × (option_map Adds (option_and_then part_of_text (unescaped_from false raw)) ≡ Some move)
-unfolding refused_array
-text_meaning place raw literal h =
-    let text = unescaped_from-some false place raw (sym (cond-false (is_literal raw) None (bad_escape_from false place raw) literal) ∙ h.escapes) in
-    let part = no_bad_back (is_array_like text.0) (canonical_part text.0) text.0 place (sym (ap (option_and_then (refused_array place)) text.1) ∙ h.arrays) in
-    (Adds part.0, ap (λ o. option_map Adds (option_and_then part_of_text o)) text.1 ∙ ap (option_map Adds) part.1)
+    let reads = reads_move (read_part raw) h in record { escapes = ap (λ r. option_map (λ at. place + at) (result_err r)) reads; arrays = ap (λ r. option_and_then (λ move. cond (is_none move) (Some place) None) (result_ok r)) reads }
+  where
+    reads_move : (r : Result (Option Move) ℕ) → option_flatten (result_ok r) ≡ Some move → r ≡ Ok (Some move)
+    reads_move (Ok None) h = absurd cc
+    reads_move (Ok (Some other)) h = ap (λ m. Ok m) h
+    reads_move (Err at) h = absurd cc
 
 pub meaning-fine : (place : ℕ) (raw : List ℕ) → IsFine place raw → (move : Move) × (meaning raw ≡ Some move)
-meaning-fine place raw h =
-    some_if ((length raw == 0) || is_text raw (codes ".")) _ _
-    (λ _. some_if (is_text raw (codes "..")) _ _
-    (λ _. some_if (is_text raw (codes "%")) _ _
-    (λ _. some_if (is_text raw (92 ∷ codes "%")) _ _
-    (λ percent. some_if (is_text raw (92 ∷ codes ".")) _ _
-    (λ dot. some_if (is_text raw (92 ∷ codes "..")) _ _
-    (λ dots. text_meaning place raw (or_from _ _ (or_from _ _ percent dot) dots) h))))))
+meaning-fine place raw h = by (read_part raw) h.escapes h.arrays
+  where
+    by : (r : Result (Option Move) ℕ) → option_map (λ at. place + at) (result_err r) ≡ None → option_and_then (λ move. cond (is_none move) (Some place) None) (result_ok r) ≡ None → (move : Move) × (option_flatten (result_ok r) ≡ Some move)
+    by (Ok None) escapes arrays = absurd cc
+    by (Ok (Some move)) escapes arrays = (move, refl)
+    by (Err at) escapes arrays = absurd cc
 
 -- ---- all raw parts
 

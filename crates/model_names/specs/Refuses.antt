@@ -1,15 +1,15 @@
 -- Why a text spells no name: the first refusal of a table, with its place in the text. (This project's own.)
-use Rattle.std.specs.Prelude.{ℕ, ◌+◌, ◌-◌, nat_lt, Bool, true, false, ◌&&◌, ◌||◌, ◌==◌, if◌then◌else◌, List, [], ◌∷◌, length, drop, Option, Some, None, option_and_then, is_none, codes}
+use Rattle.std.specs.Prelude.{ℕ, ◌+◌, nat_lt, Bool, false, ◌==◌, if◌then◌else◌, List, [], ◌∷◌, length, drop, Option, Some, None, option_and_then, is_none, codes}
 use Rattle.std.specs.List.{position, before_first, after_first, list_any}
 use Rattle.std.specs.Option.{option_map, option_or}
+use Rattle.std.specs.Result.{result_ok, result_err}
 use Rattle.model_names.specs.declared.namespaces.Namespace.{Namespace}
 use Rattle.model_names.specs.declared.namespaces.Namespace.TheVariants.{Spec, Proc, Dir, User, System, Default}
-use Rattle.model_names.specs.ArrayPart.{is_array_like, canonical_part}
 use Rattle.general_words.specs.Texts.{is_text}
 use Rattle.general_words.specs.Searches.{first_some}
 use Rattle.model_names.specs.Spelling.{path_of_parts}
 use Rattle.model_names.specs.RawParts.{raw_parts}
-use Rattle.model_names.specs.Spells.{unescaped_from, walked, longest_path}
+use Rattle.model_names.specs.Spells.{read_part, walked, longest_path}
 
 -- what is wrong with a text; places count its bytes from 0
 pub data Refusal : Type 0 where
@@ -60,25 +60,13 @@ abbrev pub placed : ℕ → List (List ℕ) → List (ℕ × List ℕ)
 placed place [] = []
 placed place (raw ∷ raws) = (place, raw) ∷ placed (place + length raw + 1) raws
 
--- a raw part that stands for `%`, `.` or `..` itself
-abbrev pub is_literal : List ℕ → Bool
-is_literal raw = is_text raw (92 ∷ codes "%") || is_text raw (92 ∷ codes ".") || is_text raw (92 ∷ codes "..")
-
--- the place of the first backslash that stands before neither a slash nor a backslash; one may be waiting for its byte
-abbrev pub bad_escape_from : Bool → ℕ → List ℕ → Option ℕ
-bad_escape_from false place [] = None
-bad_escape_from true place [] = Some (place - 1)
-bad_escape_from false place (b ∷ bytes) = bad_escape_from (b == 92) (place + 1) bytes
-bad_escape_from true place (b ∷ bytes) =
-    let rest = bad_escape_from false (place + 1) bytes in if (b == 92) || (b == 47) then rest else Some (place - 1)
-
 -- the place of the first backslash of a raw part that escapes nothing
 abbrev pub bad_escape : ℕ × List ℕ → Option ℕ
-bad_escape part = if is_literal part.1 then None else bad_escape_from false part.0 part.1
+bad_escape part = option_map (λ at. part.0 + at) (result_err (read_part part.1))
 
 -- the place of a raw part that looks like an array's and has no canonical form
 abbrev pub bad_array : ℕ × List ℕ → Option ℕ
-bad_array part = option_and_then (λ text. if is_array_like text && is_none (canonical_part text) then Some part.0 else None) (unescaped_from false part.1)
+bad_array part = option_and_then (λ move. if is_none move then Some part.0 else None) (result_ok (read_part part.1))
 
 -- the length of the path that raw parts lead to, where it is over the limit
 abbrev pub too_long : List (List ℕ) → Option ℕ

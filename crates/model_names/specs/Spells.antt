@@ -1,8 +1,9 @@
 -- Which texts spell which names. (After Elektra's page on key names: empty parts, `.` and `..` as in a path of files.
 -- The literal parts, the escapes, the array parts and the limit are this project's own.)
-use Rattle.std.specs.Prelude.{◌≡◌, ℕ, ◌-◌, ◌<◌, ◌≤◌, Bool, true, false, ◌||◌, ◌==◌, if◌then◌else◌, List, [], ◌∷◌, ◌++◌, length, take, Option, Some, None, option_and_then, codes}
+use Rattle.std.specs.Prelude.{◌≡◌, ℕ, ◌+◌, ◌-◌, ◌<◌, ◌≤◌, ◌||◌, ◌==◌, if◌then◌else◌, List, [], ◌∷◌, ◌++◌, length, take, Option, Some, Result, Ok, Err, option_and_then, codes}
 use Rattle.std.specs.List.{AllByRecursion}
-use Rattle.std.specs.Option.{option_map}
+use Rattle.std.specs.Option.{option_map, option_flatten}
+use Rattle.std.specs.Result.{result_map_both, result_ok}
 use Rattle.std.specs.Str.{IsUtf8}
 use Rattle.model_names.specs.Name.{Part, Name}
 use Rattle.model_names.specs.ArrayPart.{is_array_like, canonical_part}
@@ -20,29 +21,41 @@ pub data Move : Type 0 where
   Stays : Move
   GoesUp : Move
 
--- a raw part without its escapes; none where a backslash stands before another byte than a slash or a backslash
-abbrev pub unescaped_from : Bool → List ℕ → Option Part
-unescaped_from false [] = Some []
-unescaped_from true [] = None
-unescaped_from true (b ∷ bytes) =
-    if (b == 92) || (b == 47) then option_map (λ part. b ∷ part) (unescaped_from false bytes) else None
-unescaped_from false (b ∷ bytes) =
-    let rest = unescaped_from (b == 92) bytes in if b == 92 then rest else option_map (λ part. b ∷ part) rest
+-- a letter before what is read behind it; the place of a fault behind it moves by the bytes that the letter stands in
+abbrev pub put_letter : ℕ → ℕ → Result Part ℕ → Result Part ℕ
+put_letter bytes letter rest = result_map_both (λ part. letter ∷ part) (λ at. at + bytes) rest
+
+-- the letters of a raw part without their escapes, or the place in it of the first backslash that escapes nothing: one that
+-- stands before neither a slash nor a backslash
+abbrev pub read_letters : List ℕ → Result Part ℕ
+read_letters [] = Ok []
+read_letters (b ∷ []) = if b == 92 then Err 0 else Ok (b ∷ [])
+read_letters (b ∷ c ∷ bytes) =
+    if b == 92 then (if (c == 92) || (c == 47) then put_letter 2 c (read_letters bytes) else Err 0) else put_letter 1 b (read_letters (c ∷ bytes))
+
+-- a raw part without its escapes; none where one of its backslashes escapes nothing
+abbrev pub unescaped : List ℕ → Option Part
+unescaped raw = result_ok (read_letters raw)
 
 -- the part that a raw part stands for which is none of the reserved ones: an array-like part is made canonical or refused
 abbrev pub part_of_text : Part → Option Part
 part_of_text part = if is_array_like part then canonical_part part else Some part
 
--- what a raw part means; none where it is refused. `%` is the empty part, and `\%`, `\.` and `\..` are literal parts
+-- what is read of a raw part: its move, or none where it looks like an array's part and has no canonical form, or the place in
+-- it of its first backslash that escapes nothing. `%` is the empty part, and `\%`, `\.` and `\..` are literal parts
+abbrev pub read_part : List ℕ → Result (Option Move) ℕ
+read_part raw =
+    if (length raw == 0) || is_text raw (codes ".") then Ok (Some Stays) else
+    (if is_text raw (codes "..") then Ok (Some GoesUp) else
+    (if is_text raw (codes "%") then Ok (Some (Adds [])) else
+    (if is_text raw (92 ∷ codes "%") then Ok (Some (Adds (codes "%"))) else
+    (if is_text raw (92 ∷ codes ".") then Ok (Some (Adds (codes "."))) else
+    (if is_text raw (92 ∷ codes "..") then Ok (Some (Adds (codes ".."))) else
+    result_map_both (λ text. option_map Adds (part_of_text text)) (λ at. at) (read_letters raw))))))
+
+-- what a raw part means; none where it is refused
 abbrev pub meaning : List ℕ → Option Move
-meaning raw =
-    if (length raw == 0) || is_text raw (codes ".") then Some Stays else
-    (if is_text raw (codes "..") then Some GoesUp else
-    (if is_text raw (codes "%") then Some (Adds []) else
-    (if is_text raw (92 ∷ codes "%") then Some (Adds (codes "%")) else
-    (if is_text raw (92 ∷ codes ".") then Some (Adds (codes ".")) else
-    (if is_text raw (92 ∷ codes "..") then Some (Adds (codes "..")) else
-    option_map Adds (option_and_then part_of_text (unescaped_from false raw)))))))
+meaning raw = option_flatten (result_ok (read_part raw))
 
 -- the path after a move; there is nothing above a root
 abbrev pub moved : List Part → Move → List Part

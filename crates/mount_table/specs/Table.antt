@@ -63,7 +63,7 @@ table_from entries = do
 abbrev pub table_of : KeyMap → Result (List Mount) TableFault
 table_of keys = table_from (entries_of keys)
 
--- mountpoints as a table has them: points of mounts, 1 to 64 of them
+-- mountpoints as a table has them: points of mounts, at least one and not too many
 pub record ArePoints (names : List Name) : Type 0 where
   pub points : IsPoints names
   pub some : 1 ≤ length names

@@ -11,11 +11,11 @@ ghost use Rattle.mounted_store.specs.declared.verdicts.Verdict.TheVariants.{Valu
 use crate::Verdict;
 use crate::changes::Change;
 use crate::setting::first_long;
-use crate::weighing::{HEAVIEST_MAP, is_own_point};
+use crate::weighing::is_own_point;
 use crate::writing::Written;
 use key_meta::Memory;
 use key_name::KeyName;
-use key_set::KeySet;
+use key_set::{HEAVIEST_MAP, KeySet};
 use mount_table::{MountTable, TableFault};
 use std::alloc::{AllocError, Global};
 

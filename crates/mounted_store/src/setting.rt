@@ -20,15 +20,12 @@ use crate::changes::Change;
 use crate::weighing::visible_weight;
 use crate::whole::relative;
 use crate::{FileState, MountedFile};
-use key_meta::{Memory, Meta};
+use key_meta::{LONGEST_VALUE, Memory, Meta};
 use key_name::{KeyName, owner};
 use key_set::{Entry, KeySet};
 use mount_table::Mount;
 use set_split::Part;
 use std::alloc::Global;
-
-/// The most bytes of a value or of a metadata text.
-const LONGEST_VALUE: usize = 65536;
 
 /// The changes of all touched mounts, given the keys that each involved mount owns.
 pub fn changes_of(

@@ -8,9 +8,7 @@ ghost use Rattle.mounted_store.specs.Weighed.{added_weight, own_weight, visible_
 
 use crate::{Cause, FileState, MountedFile};
 use key_name::{KeyName, Namespace};
-
-/// The most that all visible keys may weigh together.
-pub const HEAVIEST_MAP: u64 = 16777216;
+use key_set::HEAVIEST_MAP;
 
 /// Makes bad each file that is too heavy: the table's own file is weighed first, and then the others in their order.
 pub fn weigh_all(files: &mut [MountedFile])

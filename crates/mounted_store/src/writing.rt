@@ -12,15 +12,13 @@ ghost use Rattle.mounted_store.specs.declared.verdicts.Verdict.TheVariants.{NotS
 
 use crate::Verdict;
 use crate::changes::Change;
+use backend_files::LONGEST_FILE;
 use kdb_outside::FileName;
 use key_meta::{List, Memory};
 use key_name::{KeyName, NameFault};
 use sorted_map::SortedMap;
 use std::alloc::{AllocError, Global};
 use storage_api::{Formats, WriteRefusal};
-
-/// The most bytes of a file.
-const LONGEST_FILE: usize = 1048576;
 
 /// The texts of some files by their names, and the refusal of the first one that is too long.
 #[derive(Debug, Drop)]
@@ -68,7 +66,7 @@ fn add(written: &mut Written, change: &Change, bytes: Vec<u8>) -> Result<(), Mem
     ensures files { OnOk result (written.new.files ≡ put text_cmp change.now.mount.file bytes.items written.old.files) }
     ensures long { OnOk result (written.new.too_long ≡ option_or written.old.too_long (if_too_long change.now bytes.items)) }
 {
-    if written.too_long.is_none() && bytes.len() > LONGEST_FILE {
+    if written.too_long.is_none() && bytes.len() as u64 > LONGEST_FILE {
         written.too_long = Some(Verdict::FileTooLarge {
             mount: change.mount.at.copy()?,
             bytes: bytes.len() as u64,

@@ -4,7 +4,7 @@ use Rattle.std.specs.BTreeMap.{is_at}
 use Rattle.std.specs.FinMap as map
 use Rattle.std.specs.Map.{lookup}
 use Rattle.general_words.specs.Texts.{text_cmp}
-use Rattle.model_maps.specs.Entry.{Entry, with_meta}
+use Rattle.model_maps.specs.Entry.{Entry, longest_meta_name, with_meta}
 use Rattle.dump_storage.specs.SoFarView.{HasMetaLength, HaveMetaLengths}
 use Rattle.dump_storage.proofs.SoFarLemmas.{entry_with, meta_of, get-lookup, some-there, none-there, meta_of-insert, lengths-put}
 use Rattle.dump_storage.proofs.entry_so_far.EntrySoFar.put_new.Goals as goal
@@ -19,7 +19,7 @@ pub invariant_of-self-2 : goal.invariant_of-self-2
 invariant_of-self-2 c =
     let fine : HasMetaLength (c.in_ok-name.name, c.in_ok-text.text) = record {
       some = subst (λ n. 0 < length n) (sym c.in_ok-name.ensures) c.requires.some;
-      limit = subst (λ n. length n ≤ 4096) (sym c.in_ok-name.ensures) c.requires.limit;
+      limit = subst (λ n. length n ≤ longest_meta_name) (sym c.in_ok-name.ensures) c.requires.limit;
     } in
     subst HaveMetaLengths (sym c.in_ok-insert.ensures.entries) (lengths-put c.in_ok-name.name c.in_ok-text.text c.self.inside.items.entries fine c.self.invariant)
 

@@ -9,6 +9,7 @@ use Rattle.sorted_map.specs.Place.{IsPlace}
 use Rattle.general_words.proofs.Maps.{from_sorted-put}
 use Rattle.sorted_map.proofs.MapLemmas.{get-place, insert-place, on_ok}
 use Rattle.std.specs.Str.{IsUtf8}
+use Rattle.model_maps.specs.Entry.{longest_meta_name}
 use Rattle.key_meta.specs.MetaView.{AreItems, IsItem}
 use Rattle.key_meta.proofs.ItemLemmas.{AreItems-put, AreItems-set, IsItem-at}
 use Rattle.key_meta.proofs.metas.Meta.set.Goals as goal
@@ -47,7 +48,7 @@ returns-in_ok-text-in-Err-clause-ok c = on_ok c.insert.result (λ done.
     ∙ ap (λ m. map.insert m c.args.name.now c.args.text.now) c.self.view_is) c.insert.ensures.ok
 
 -- a name and a text that are passed make an item
-made : (name text : List ℕ) → IsUtf8 name → 0 < length name → length name ≤ 4096 → IsUtf8 text → IsItem (name, text)
+made : (name text : List ℕ) → IsUtf8 name → 0 < length name → length name ≤ longest_meta_name → IsUtf8 text → IsItem (name, text)
 made name text utf8 some limit is_text = record { is_name = record { utf8 = utf8; some = some; limit = limit }; is_text = is_text }
 
 -- whether or not the item was put in
@@ -64,5 +65,5 @@ invariant_of-self c =
 
 pub invariant_of-self-in-Err : goal.invariant_of-self-in-Err
 invariant_of-self-in-Err c =
-    let item = made c.in_ok-name-in-Err.name c.in_ok-text-in-Err.text (subst IsUtf8 (sym c.in_ok-name-in-Err.ensures) c.utf8.name) (subst (λ n. 0 < length n) (sym c.in_ok-name-in-Err.ensures) c.requires.some) (subst (λ n. length n ≤ 4096) (sym c.in_ok-name-in-Err.ensures) c.requires.limit) (subst IsUtf8 (sym c.in_ok-text-in-Err.ensures) c.utf8.text) in
+    let item = made c.in_ok-name-in-Err.name c.in_ok-text-in-Err.text (subst IsUtf8 (sym c.in_ok-name-in-Err.ensures) c.utf8.name) (subst (λ n. 0 < length n) (sym c.in_ok-name-in-Err.ensures) c.requires.some) (subst (λ n. length n ≤ longest_meta_name) (sym c.in_ok-name-in-Err.ensures) c.requires.limit) (subst IsUtf8 (sym c.in_ok-text-in-Err.ensures) c.utf8.text) in
     by_result c.self.inside.items c.insert.new.self c.in_ok-name-in-Err.name c.in_ok-text-in-Err.text c.insert.result c.self.invariant item c.insert.ensures.ok c.insert.ensures.err
