@@ -8,16 +8,16 @@ use Rattle.std.proofs.lemmas.List.Folds.{flat_map-map}
 use Rattle.key_name.specs.Owner.{owner_of}
 use Rattle.model_names.specs.Name.{Name}
 use Rattle.mount_table.specs.declared.mounts.Mount.{Mount}
-use Rattle.mounted_store.specs.Getting.{got, Gets}
-use Rattle.mounted_store.specs.declared.files.MountedFile.{MountedFile}
-use Rattle.mounted_store.specs.declared.refusals.GetFault.{GetFault}
-use Rattle.mounted_store.specs.declared.refusals.GetFault.TheVariants as faults
+use Rattle.mounted_files.specs.Getting.{got, Gets}
+use Rattle.mounted_files.specs.declared.files.MountedFile.{MountedFile}
+use Rattle.mounted_files.specs.declared.refusals.GetFault.{GetFault}
+use Rattle.mounted_files.specs.declared.refusals.GetFault.TheVariants as faults
 use Rattle.kdb_tool.specs.Answer.{Answer, done, refused}
 use Rattle.kdb_tool.specs.Lines.{line_of_mount}
 use Rattle.kdb_tool.specs.Request.{Action}
 use Rattle.kdb_tool.specs.Commands.{parent_of}
 use Rattle.kdb_tool.specs.Answers.{AnswersGot, file_told, line_of_get, owner_in}
-use Rattle.mounted_store.proofs.PointLemmas.{points-of_mounts}
+use Rattle.mounted_files.proofs.PointLemmas.{points-of_mounts}
 
 -- the answer to one whose keys can't be got
 pub got-fault : (files : List MountedFile) (name parent : Name) (action : Action) (fault : GetFault) (answer : Answer) → parent ≡ parent_of name action → Gets (got files parent) fault → fault ≢ faults.Memory

@@ -3,10 +3,10 @@ use Rattle.std.specs.Prelude.{◌≡◌, ℕ, List, Result, Ok, Err}
 use Rattle.std.proofs.Common.{sym, ap, subst, ◌∙◌}
 use Rattle.model_names.specs.Name.{Name}
 use Rattle.model_maps.specs.KeyMap.{KeyMap}
-use Rattle.mounted_store.specs.Getting.{got}
-use Rattle.mounted_store.specs.declared.files.MountedFile.{MountedFile}
-use Rattle.mounted_store.specs.declared.refusals.GetFault.{GetFault}
-use Rattle.mounted_store.specs.declared.refusals.OpenRefusal.{OpenRefusal}
+use Rattle.mounted_files.specs.Getting.{got}
+use Rattle.mounted_files.specs.declared.files.MountedFile.{MountedFile}
+use Rattle.mounted_files.specs.declared.refusals.GetFault.{GetFault}
+use Rattle.mounted_files.specs.declared.refusals.OpenRefusal.{OpenRefusal}
 use Rattle.kdb_tool.specs.Request.{Action, Question, Mounts, FileOf, On, Request, Refuses, Bars, Asks, request}
 use Rattle.kdb_tool.specs.Answer.{Answer}
 use Rattle.kdb_tool.specs.Commands.{Step, Tells, Sets, parent_of, step_of}

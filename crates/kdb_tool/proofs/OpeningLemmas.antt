@@ -6,11 +6,11 @@ use Rattle.all_formats.specs.Meanings.{Reads, IsBadAt}
 use Rattle.model_names.specs.Name.{Name}
 use Rattle.mount_table.specs.Table.{own_mount}
 use Rattle.mount_table.specs.declared.mounts.Mount.{Mount}
-use Rattle.mounted_store.specs.Files.{AreStates}
-use Rattle.mounted_store.specs.Opening.{IsOpened, MakesTable}
-use Rattle.mounted_store.specs.Weighed.{weighed}
-use Rattle.mounted_store.specs.declared.files.MountedFile.{MountedFile}
-use Rattle.mounted_store.proofs.PointLemmas.{points-of_mounts}
+use Rattle.mounted_files.specs.Files.{AreStates}
+use Rattle.mounted_files.specs.Opening.{IsOpened, MakesTable}
+use Rattle.mounted_files.specs.Weighed.{weighed}
+use Rattle.mounted_files.specs.declared.files.MountedFile.{MountedFile}
+use Rattle.mounted_files.proofs.PointLemmas.{points-of_mounts}
 
 -- no file has a state to mean
 pub states-none : (bytes_of : List ℕ → List ℕ) (points : List Name) → AreStates Reads IsBadAt bytes_of points []

@@ -14,19 +14,19 @@ use Rattle.mount_table.specs.Table.{table_of, own_mount}
 use Rattle.mount_table.specs.declared.faults.TableFault.{TableFault}
 use Rattle.mount_table.specs.declared.mounts.Mount.{Mount}
 use Rattle.backend_files.specs.WholeFile.{longest_file}
-use Rattle.mounted_store.specs.Whole.{whole, all_fit}
-use Rattle.mounted_store.specs.Owned.{not_owned_by}
+use Rattle.mounted_files.specs.Whole.{whole, all_fit}
+use Rattle.mounted_files.specs.Owned.{not_owned_by}
 use Rattle.set_split.specs.Parts.{owned_by}
-use Rattle.mounted_store.specs.Files.{Holds, IsCause, IsState, AreStates, points_of}
-use Rattle.mounted_store.specs.Opening.{MakesTable, IsOpened, RefusesOpening, Opens}
-use Rattle.mounted_store.specs.Weighed.{weighed}
-use Rattle.mounted_store.specs.declared.causes.Cause.{Cause}
-use Rattle.mounted_store.specs.declared.causes.Cause.TheVariants.{TooLong, BadFile, TooHeavy}
-use Rattle.mounted_store.specs.declared.files.FileState.{FileState}
-use Rattle.mounted_store.specs.declared.files.FileState.TheVariants.{Good, Bad}
-use Rattle.mounted_store.specs.declared.files.MountedFile.{MountedFile}
-use Rattle.mounted_store.specs.declared.refusals.OpenRefusal.{OpenRefusal}
-use Rattle.mounted_store.specs.declared.refusals.OpenRefusal.TheVariants as refusal
+use Rattle.mounted_files.specs.Files.{Holds, IsCause, IsState, AreStates, points_of}
+use Rattle.mounted_files.specs.Opening.{MakesTable, IsOpened, RefusesOpening, Opens}
+use Rattle.mounted_files.specs.Weighed.{weighed}
+use Rattle.mounted_files.specs.declared.causes.Cause.{Cause}
+use Rattle.mounted_files.specs.declared.causes.Cause.TheVariants.{TooLong, BadFile, TooHeavy}
+use Rattle.mounted_files.specs.declared.files.FileState.{FileState}
+use Rattle.mounted_files.specs.declared.files.FileState.TheVariants.{Good, Bad}
+use Rattle.mounted_files.specs.declared.files.MountedFile.{MountedFile}
+use Rattle.mounted_files.specs.declared.refusals.OpenRefusal.{OpenRefusal}
+use Rattle.mounted_files.specs.declared.refusals.OpenRefusal.TheVariants as refusal
 
 few_not_long : (bytes : List ℕ) → length bytes ≤ longest_file → longest_file < length bytes → ⊥
 few_not_long bytes few long = omega (arith, few, long)

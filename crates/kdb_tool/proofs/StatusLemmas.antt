@@ -9,12 +9,12 @@ use Rattle.model_maps.specs.Entry.{Entry}
 use Rattle.model_maps.specs.KeyMap.{KeyMap}
 use Rattle.mount_table.specs.Changing as table
 use Rattle.mount_table.specs.declared.faults.TableFault.{TableFault}
-use Rattle.mounted_store.specs.Getting.{got}
-use Rattle.mounted_store.specs.declared.files.MountedFile.{MountedFile}
-use Rattle.mounted_store.specs.declared.refusals.GetFault.{GetFault}
-use Rattle.mounted_store.specs.declared.refusals.OpenRefusal.{OpenRefusal}
-use Rattle.mounted_store.specs.declared.verdicts.Verdict.{Verdict}
-use Rattle.mounted_store.specs.declared.verdicts.Verdict.TheVariants.{ValueTooLong, FileTooLarge, NotStorable, BadTable, DatabaseFull, Same, Stores}
+use Rattle.mounted_files.specs.Getting.{got}
+use Rattle.mounted_files.specs.declared.files.MountedFile.{MountedFile}
+use Rattle.mounted_files.specs.declared.refusals.GetFault.{GetFault}
+use Rattle.mounted_files.specs.declared.refusals.OpenRefusal.{OpenRefusal}
+use Rattle.mounted_files.specs.declared.verdicts.Verdict.{Verdict}
+use Rattle.mounted_files.specs.declared.verdicts.Verdict.TheVariants.{ValueTooLong, FileTooLarge, NotStorable, BadTable, DatabaseFull, Same, Stores}
 use Rattle.kdb_tool.specs.Answer.{Answer, warned}
 use Rattle.kdb_tool.specs.Lines.{no_name, not_found}
 use Rattle.kdb_tool.specs.Request.{Action, Get, Set, Remove, Names, GetMeta, SetMeta, MetaNames, Bring, MountFile, Unmount, Question, Mounts, FileOf, On}

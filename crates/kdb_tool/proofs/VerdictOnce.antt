@@ -8,12 +8,12 @@ use Rattle.all_formats.specs.Laws as laws
 use Rattle.key_name.specs.Joining.{joined}
 use Rattle.model_names.specs.Name.{Name}
 use Rattle.model_maps.specs.KeyMap.{KeyMap}
-use Rattle.mounted_store.specs.Judging.{Breaks, AreStorable, IsVerdict, early_refusal, late_verdict}
-use Rattle.mounted_store.specs.Setting.{changes}
-use Rattle.mounted_store.specs.declared.changes.Change.{Change}
-use Rattle.mounted_store.specs.declared.files.MountedFile.{MountedFile}
-use Rattle.mounted_store.specs.declared.verdicts.Verdict.{Verdict}
-use Rattle.mounted_store.specs.declared.verdicts.Verdict.TheVariants.{NotStorable}
+use Rattle.mounted_files.specs.Judging.{Breaks, AreStorable, IsVerdict, early_refusal, late_verdict}
+use Rattle.mounted_files.specs.Setting.{changes}
+use Rattle.mounted_files.specs.declared.changes.Change.{Change}
+use Rattle.mounted_files.specs.declared.files.MountedFile.{MountedFile}
+use Rattle.mounted_files.specs.declared.verdicts.Verdict.{Verdict}
+use Rattle.mounted_files.specs.declared.verdicts.Verdict.TheVariants.{NotStorable}
 
 abbrev storable : Change → Type 0
 storable change = all.IsStorable change.mount.kind change.contents

@@ -6,17 +6,17 @@ use Rattle.key_name.specs.Owner.{owner_of}
 use Rattle.model_names.specs.Name.{Name}
 use Rattle.model_maps.specs.KeyMap.{KeyMap}
 use Rattle.mount_table.specs.Points.{own_point}
-use Rattle.mounted_store.specs.Files.{points_of}
-use Rattle.mounted_store.specs.Getting.{got}
-use Rattle.mounted_store.specs.Judging.{IsVerdict}
-use Rattle.mounted_store.specs.Opening.{Opens}
-use Rattle.mounted_store.specs.declared.files.MountedFile.{MountedFile}
-use Rattle.mounted_store.specs.declared.refusals.GetFault.{GetFault}
-use Rattle.mounted_store.specs.declared.refusals.GetFault.TheVariants as faults
-use Rattle.mounted_store.specs.declared.refusals.OpenRefusal.{OpenRefusal}
-use Rattle.mounted_store.specs.declared.refusals.OpenRefusal.TheVariants as refusals
-use Rattle.mounted_store.specs.declared.verdicts.Verdict.{Verdict}
-use Rattle.mounted_store.specs.declared.verdicts.Verdict.TheVariants.{ValueTooLong, FileTooLarge, NotStorable, BadTable, DatabaseFull, Same, Stores}
+use Rattle.mounted_files.specs.Files.{points_of}
+use Rattle.mounted_files.specs.Getting.{got}
+use Rattle.mounted_files.specs.Judging.{IsVerdict}
+use Rattle.mounted_files.specs.Opening.{Opens}
+use Rattle.mounted_files.specs.declared.files.MountedFile.{MountedFile}
+use Rattle.mounted_files.specs.declared.refusals.GetFault.{GetFault}
+use Rattle.mounted_files.specs.declared.refusals.GetFault.TheVariants as faults
+use Rattle.mounted_files.specs.declared.refusals.OpenRefusal.{OpenRefusal}
+use Rattle.mounted_files.specs.declared.refusals.OpenRefusal.TheVariants as refusals
+use Rattle.mounted_files.specs.declared.verdicts.Verdict.{Verdict}
+use Rattle.mounted_files.specs.declared.verdicts.Verdict.TheVariants.{ValueTooLong, FileTooLarge, NotStorable, BadTable, DatabaseFull, Same, Stores}
 use Rattle.kdb_tool.specs.Lines.{too_long, bad_file, too_heavy, bad_table, value_too_long, file_too_large, not_storable, database_full, not_found, out_of_memory, line_of_mount}
 use Rattle.kdb_tool.specs.Answer.{Answer, tells, done, stores, refused}
 use Rattle.kdb_tool.specs.Uses.{barred}

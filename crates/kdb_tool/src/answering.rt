@@ -2,10 +2,10 @@
 ghost use Rattle.std.specs.Prelude.{◌≡◌, ◌≢◌, ◌++◌, ◌∷◌, [], IfOk, OnOk, string_bytes};
 ghost use Rattle.std.specs.List.{flat_map};
 ghost use Rattle.std.specs.Option.{option_copied, option_map};
-ghost use Rattle.mounted_store.specs.Getting.{got};
+ghost use Rattle.mounted_files.specs.Getting.{got};
 ghost use Rattle.kdb_tool.specs.AnswerView.{answer_of, seen_step};
-ghost use Rattle.mounted_store.specs.declared.refusals.GetFault.TheVariants.{Memory as OutOfMemory};
-ghost use Rattle.mounted_store.specs.declared.refusals.OpenRefusal.TheVariants.{Memory as NoMemory};
+ghost use Rattle.mounted_files.specs.declared.refusals.GetFault.TheVariants.{Memory as OutOfMemory};
+ghost use Rattle.mounted_files.specs.declared.refusals.OpenRefusal.TheVariants.{Memory as NoMemory};
 ghost use Rattle.kdb_tool.specs.Answer.{done, refused};
 ghost use Rattle.kdb_tool.specs.Answers.{AnswersOpened, AnswersIn, AnswersGot, AnswersStep, AnswersSet, IsRefusedBy, answer_by, file_told, mounts_told, owner_in, line_of_get, line_of_opening};
 ghost use Rattle.kdb_tool.specs.Commands.{parent_of};
@@ -30,7 +30,7 @@ use key_meta::Memory;
 use key_name::{KeyName, owner};
 use key_set::KeySet;
 use mount_table::Mount;
-use mounted_store::{GetFault, Mounted, OpenRefusal, Verdict};
+use mounted_files::{GetFault, Mounted, OpenRefusal, Verdict};
 use std::alloc::{AllocError, Global};
 
 /// The answer to a question, by what came of the opening.

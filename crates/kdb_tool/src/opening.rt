@@ -5,8 +5,8 @@ ghost use Rattle.kdb_outside.specs.Frames.{OnlyReads};
 ghost use Rattle.backend_files.specs.WholeFile.{IsWhole};
 ghost use Rattle.all_formats.specs.Meanings.{Reads, IsBadAt};
 ghost use Rattle.mount_table.specs.Table.{own_mount};
-ghost use Rattle.mounted_store.specs.Files.{AreStates};
-ghost use Rattle.mounted_store.specs.Opening.{IsOpened, MakesTable, Opens};
+ghost use Rattle.mounted_files.specs.Files.{AreStates};
+ghost use Rattle.mounted_files.specs.Opening.{IsOpened, MakesTable, Opens};
 
 use crate::answers::Stop;
 use crate::places::own_file;
@@ -14,7 +14,7 @@ use all_formats::AllFormats;
 use backend_files::{FileRead, read_file};
 use kdb_outside::{Disk, FileName};
 use mount_table::MountTable;
-use mounted_store::{Mounted, OpenRefusal, Opening, read_table_file};
+use mounted_files::{Mounted, OpenRefusal, Opening, read_table_file};
 use std::alloc::Global;
 
 /// The file of the table's own keys, and what it gave.

@@ -4,7 +4,7 @@ use backend_files::FileRead;
 use key_meta::{List, Meta, Text};
 use key_name::KeyName;
 use key_set::{Entry, KeySet};
-use mounted_store::{GetFault, Mounted, Opening, Verdict, read_table_file};
+use mounted_files::{GetFault, Mounted, Opening, Verdict, read_table_file};
 use std::alloc::Global;
 use std::test::Fail;
 

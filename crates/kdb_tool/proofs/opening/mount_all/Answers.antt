@@ -5,7 +5,7 @@ use Rattle.kdb_outside.proofs.Frames.{OnlyReads-none, OnlyReads-then}
 use Rattle.backend_files.specs.WholeFile.{IsWhole}
 use Rattle.mount_table.specs.Table.{own_mount}
 use Rattle.mount_table.specs.declared.mounts.Mount.{Mount}
-use Rattle.mounted_store.specs.Files.{AreStates}
+use Rattle.mounted_files.specs.Files.{AreStates}
 use Rattle.kdb_tool.proofs.OpeningLemmas.{states-none, is-opened}
 use Rattle.kdb_tool.proofs.opening.mount_all.Goals as goal
 

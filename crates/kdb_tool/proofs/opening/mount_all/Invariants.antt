@@ -2,7 +2,7 @@
 use Rattle.std.proofs.Common.{◌≡◌, true, length, map as over}
 use Rattle.kdb_outside.specs.Frames.{OnlyReads}
 use Rattle.all_formats.specs.Meanings.{Reads, IsBadAt}
-use Rattle.mounted_store.specs.Files.{AreStates}
+use Rattle.mounted_files.specs.Files.{AreStates}
 use Rattle.kdb_tool.proofs.opening.mount_all.Given as goal
 
 abbrev pub invariant-loop-added : goal.invariant-loop-added

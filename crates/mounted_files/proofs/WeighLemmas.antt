@@ -1,0 +1,34 @@
+-- Weighing keeps mounts and shadows, and goes on file by file.
+use Rattle.std.proofs.Common.{◌≡◌, ℕ, ◌+◌, nat_lt, Bool, true, false, cond, List, [], ◌∷◌, map as over, refl, ap}
+use Rattle.general_words.specs.Saturated.{saturated}
+use Rattle.model_maps.specs.KeyMap.{weight, heaviest_map}
+use Rattle.mounted_files.specs.Short.{HasShortShadow, HaveShortShadows}
+use Rattle.mounted_files.specs.Weighed.{added_weight, weighed, weighed_behind, weighed_file, weighed_from, own_weight}
+use Rattle.mounted_files.specs.declared.causes.Cause.TheVariants.{TooHeavy}
+use Rattle.mounted_files.specs.declared.files.FileState.{FileState}
+use Rattle.mounted_files.specs.declared.files.FileState.TheVariants.{Good, Bad}
+use Rattle.mounted_files.specs.declared.files.MountedFile.{MountedFile}
+
+mounts-from : (sum : ℕ) (files : List MountedFile) → over (λ file. file.mount) (weighed_from sum files) ≡ over (λ file. file.mount) files
+mounts-from sum [] = refl
+mounts-from sum (file ∷ files) = ap (λ l. file.mount ∷ l) (mounts-from (sum + added_weight (weighed_file sum file)) files)
+
+-- the mounts stay
+pub weighed-mounts : (files : List MountedFile) → over (λ file. file.mount) (weighed files) ≡ over (λ file. file.mount) files
+weighed-mounts files = mounts-from (own_weight files) files
+
+short-behind : (sum : ℕ) (state : FileState) → HasShortShadow state → HasShortShadow (weighed_behind sum state)
+short-behind sum (Good visible shadow) short = by (nat_lt heaviest_map (sum + weight visible))
+  where
+    by : (b : Bool) → HasShortShadow (cond b (Bad (TooHeavy (saturated (sum + weight visible)))) (Good visible shadow))
+    by true = tt
+    by false = short
+short-behind sum (Bad cause) short = tt
+
+short-from : (sum : ℕ) (files : List MountedFile) → HaveShortShadows files → HaveShortShadows (weighed_from sum files)
+short-from sum [] short = tt
+short-from sum (file ∷ files) short = (short-behind _ file.state short.0, short-from (sum + added_weight (weighed_file sum file)) files short.1)
+
+-- shadows stay short
+pub weighed-short : (files : List MountedFile) → HaveShortShadows files → HaveShortShadows (weighed files)
+weighed-short files short = short-from (own_weight files) files short

@@ -1,0 +1,37 @@
+-- What a format reads is within the limits, so its names can be put behind a mountpoint.
+use Rattle.std.proofs.Common.{refl, subst, sym, ◌∙◌, inr}
+use Rattle.mounted_files.specs.Holding.{IsHolding}
+use Rattle.mounted_files.specs.Short.{AreShort}
+use Rattle.mounted_files.specs.Whole.{all_fit, whole}
+use Rattle.mounted_files.specs.declared.holding.Holding.{Holding}
+use Rattle.model_maps.specs.KeyMap.{KeyMap}
+use Rattle.mounted_files.proofs.LimitLemmas.{cascading-limited, short-limited}
+use Rattle.mounted_files.proofs.ChangeLemmas.{short-whole}
+use Rattle.mounted_files.proofs.WholeLemmas.{some_if, none_if}
+use Rattle.mounted_files.proofs.holding.holding_of.Goals as goal
+
+pub whole-requires : goal.whole-requires
+whole-requires g c = cascading-limited c.in-Ok.keys (g.F.Formats.read_is_limited c.args.kind c.args.bytes.now c.in-Ok.keys c.in-Ok.ensures)
+
+pub returns-in-Some-clause-is : goal.returns-in-Some-clause-is
+returns-in-Some-clause-is g c few =
+    let point = c.args.point.now in
+    let keys = c.in-Ok.keys in
+    let is = some_if (all_fit point keys) (whole point keys) c.in-Some.keys (sym c.in-Some.is ∙ c.in_ok-keys-in-Ok.ensures) in
+    record { keys = keys; reads_as = record { few = few; reads = c.in-Ok.ensures }; fit = is.0; is = is.1 }
+
+pub returns-in-Some-clause-short : goal.returns-in-Some-clause-short
+returns-in-Some-clause-short g c =
+    let point = c.args.point.now in
+    let keys = c.in-Ok.keys in
+    let is = some_if (all_fit point keys) (whole point keys) c.in-Some.keys (sym c.in-Some.is ∙ c.in_ok-keys-in-Ok.ensures) in
+    let limited = g.F.Formats.read_is_limited c.args.kind c.args.bytes.now keys c.in-Ok.ensures in
+    subst (λ (found : KeyMap). AreShort found) (sym is.1) (short-whole point keys (short-limited keys limited))
+
+pub returns-in-Ok-clause-is : goal.returns-in-Ok-clause-is
+returns-in-Ok-clause-is g c few =
+    let point = c.args.point.now in
+    let keys = c.in-Ok.keys in
+    let too_long = none_if (all_fit point keys) (whole point keys) (sym c.in-None.is ∙ c.in_ok-keys-in-Ok.ensures) in
+    subst (λ (holding : Holding). IsHolding g.F.Formats.reads g.F.Formats.is_bad_at point c.args.kind c.args.bytes.now holding) (sym c.bad_at.ensures)
+    (inr (record { keys = keys; reads_as = record { few = few; reads = c.in-Ok.ensures }; too_long = too_long; is = refl }))

@@ -1,0 +1,26 @@
+-- The first key that is told is the first one with a text that is too long.
+use Rattle.std.proofs.Common.{sym, ◌∙◌}
+use Rattle.std.specs.FinMap as map
+use Rattle.std.specs.List.{list_any}
+use Rattle.key_set.specs.EntryView.{entry_of}
+use Rattle.model_names.specs.Name.{Name}
+use Rattle.model_maps.specs.Entry.{Entry}
+use Rattle.set_split.specs.Involved.{owns}
+use Rattle.mounted_files.specs.Setting.{long_in, long_text}
+use Rattle.general_words.proofs.Searches.{first_some-found, first_some-next}
+use Rattle.mounted_files.proofs.FirstLemmas.{told-under, told-nothing}
+use Rattle.mounted_files.proofs.setting.first_long.Goals as goal
+
+pub returns-in-Some-long_text_if_owned : goal.returns-in-Some-long_text_if_owned
+returns-in-Some-long_text_if_owned c =
+    let key : Name × Entry = (c.in-Some.name.now, entry_of c.in-Some.entry.now) in
+    let owned = list_any (λ i. owns c.args.points.now i key.0) c.args.mounts.now in
+    sym (first_some-found (long_in c.args.points.now c.args.mounts.now) (map.entries c.args.keys.now) c.loop-i.i key (key.0, c.in-Some-long_text_if_owned.bytes) c.in-Some.ensures c.loop-i.invariant
+    (told-under owned (long_text key.1) key.0 c.in-Some-long_text_if_owned.bytes (sym c.long_text_if_owned.ensures ∙ c.in-Some-long_text_if_owned.is)))
+
+pub loop-i-preserved : goal.loop-i-preserved
+loop-i-preserved c =
+    let key : Name × Entry = (c.in-Some.name.now, entry_of c.in-Some.entry.now) in
+    let owned = list_any (λ i. owns c.args.points.now i key.0) c.args.mounts.now in
+    first_some-next (long_in c.args.points.now c.args.mounts.now) (map.entries c.args.keys.now) c.loop-i.i key c.in-Some.ensures c.loop-i.invariant
+    (told-nothing owned (long_text key.1) key.0 (sym c.long_text_if_owned.ensures ∙ c.in_default-long_text_if_owned.is))

@@ -1,0 +1,50 @@
+-- The keys of the file make a table, or refuse the opening as the file does.
+use Rattle.std.proofs.Common.{◌≡◌, ℕ, List, Result, Ok, Err, MatchResult, subst, sym}
+use Rattle.kdb_outside.specs.declared.kinds.Kind.TheVariants.{Dump}
+use Rattle.model_names.specs.Name.{Name}
+use Rattle.model_maps.specs.KeyMap.{KeyMap}
+use Rattle.mount_table.specs.Points.{own_point}
+use Rattle.mount_table.specs.Table.{table_of}
+use Rattle.mount_table.specs.declared.mounts.Mount.{Mount}
+use Rattle.mounted_files.specs.Files.{Badness, Holds, IsCause, Reading}
+use Rattle.mounted_files.specs.Holding.{IsHolding}
+use Rattle.mounted_files.specs.Opening.{MakesTable, RefusesOpening}
+use Rattle.mounted_files.specs.Refusing.{IsRefusalOf, RefusesTable}
+use Rattle.mounted_files.specs.declared.causes.Cause.{Cause}
+use Rattle.mounted_files.specs.declared.causes.Cause.TheVariants as cause
+use Rattle.mounted_files.specs.declared.holding.Holding.{Holding}
+use Rattle.mounted_files.specs.declared.refusals.OpenRefusal.{OpenRefusal}
+use Rattle.mounted_files.specs.declared.refusals.OpenRefusal.TheVariants.{TooLong, BadFile, BadTable, Memory}
+use Rattle.mounted_files.proofs.table_file.read_table_file.Goals as goal
+
+module _ (Reads : Reading) (IsBad : Badness) (bytes : List ℕ) where
+  from_keys : (keys : KeyMap) (made : Result (List Mount) OpenRefusal) → Holds Reads own_point Dump bytes keys → MatchResult made (λ table. table_of keys ≡ Ok table) (RefusesTable (table_of keys)) → MatchResult made (λ table. MakesTable Reads bytes (Ok table)) (RefusesOpening Reads IsBad bytes)
+  from_keys keys (Ok table) holds is = record { keys = keys; holds = holds; is = is }
+  from_keys keys (Err (BadTable fault)) holds is = record { keys = keys; holds = holds; is = is }
+  from_keys keys (Err Memory) holds is = tt
+  from_keys keys (Err (TooLong n)) holds is = absurd is
+  from_keys keys (Err (BadFile line)) holds is = absurd is
+
+  from_cause : (why : Cause) (refusal : OpenRefusal) → IsRefusalOf why refusal → IsCause Reads IsBad own_point Dump bytes why → RefusesOpening Reads IsBad bytes refusal
+  from_cause (cause.TooLong n) refusal is bad = subst (λ (r : OpenRefusal). RefusesOpening Reads IsBad bytes r) (sym is) bad
+  from_cause (cause.BadFile line) refusal is bad = subst (λ (r : OpenRefusal). RefusesOpening Reads IsBad bytes r) (sym is) bad
+  from_cause (cause.TooHeavy weight) refusal is bad = absurd bad
+
+  -- what the file holds at the mountpoint of the table's own keys
+  held : (point : Name) (found holding : Holding) → point ≡ own_point → found ≡ holding → IsHolding Reads IsBad point Dump bytes found → IsHolding Reads IsBad own_point Dump bytes holding
+  held point found holding point_is is holds = subst (λ (h : Holding). IsHolding Reads IsBad own_point Dump bytes h) is (subst (λ (p : Name). IsHolding Reads IsBad p Dump bytes found) point_is holds)
+
+pub returns-in-Keys : goal.returns-in-Keys
+returns-in-Keys g c bytes is_whole =
+    let Reads = g.F.Formats.reads in
+    let IsBad = g.F.Formats.is_bad_at in
+    from_keys Reads IsBad bytes c.in-Keys.keys c.table_of.result
+    (held Reads IsBad bytes c.in_ok-point.point c.in_ok-keys.field-0 _ c.in_ok-point.ensures c.in-Keys.is (c.in_ok-keys.ensures.is bytes is_whole))
+    c.table_of.ensures
+
+pub returns : goal.returns
+returns g c bytes is_whole =
+    let Reads = g.F.Formats.reads in
+    let IsBad = g.F.Formats.is_bad_at in
+    from_cause Reads IsBad bytes c.in-Bad.cause c.refusal_of.result c.refusal_of.ensures
+    (held Reads IsBad bytes c.in_ok-point.point c.in_ok-keys.field-0 _ c.in_ok-point.ensures c.in-Bad.is (c.in_ok-keys.ensures.is bytes is_whole))

@@ -1,0 +1,142 @@
+//! What the files of all mounts mean together.
+ghost use Rattle.std.specs.Prelude.{◌≡◌, MatchResult, IfOk, Ok, None, map as over};
+ghost use Rattle.key_set.specs.WithAll.{with_all};
+ghost use Rattle.mounted_files.specs.Getting.{fault_in, fault_of, got, visible_of, Gets, IsFaultIn};
+ghost use Rattle.mounted_files.specs.Judging.{IsVerdict};
+ghost use Rattle.mounted_files.specs.Short.{HaveShortShadows};
+ghost use Rattle.mounted_files.specs.Weighed.{weighed};
+
+use crate::judging::{early_refusal, late_verdict};
+use crate::setting::{changes_of, weight_after};
+use crate::weighing::weigh_all;
+use crate::writing::{Writing, write_all};
+use crate::{Cause, FileState, GetFault, MountedFile, Verdict};
+use key_meta::Memory;
+use key_name::KeyName;
+use key_set::KeySet;
+use mount_table::MountTable;
+use set_split::{involved, split};
+use std::alloc::Global;
+use std::marker::Model;
+use storage_api::Formats;
+
+/// A mount table, and the state of each mount's file. Seen as the list of mounts with their states.
+#[derive(Debug, Drop)]
+pub struct Mounted {
+    table: MountTable,
+    files: Vec<MountedFile>,
+}
+
+impl Model for Mounted {
+    ghost use Rattle.std.specs.Prelude.{List};
+    ghost use Rattle.mounted_files.specs.declared.files.MountedFile.{MountedFile};
+    ghost use Rattle.std.specs.Coded.{coded_list};
+    ghost use Rattle.mounted_files.specs.contracts.files.MountedFile.{the_row};
+
+    ghost Value = { List MountedFile };
+
+    ghost coded = { coded_list the_row.coded };
+
+    ghost use Rattle.mounted_files.specs.MountedView.{IsMounted};
+
+    ghost view = { λ m. m.files.items };
+
+    ghost invariant = { IsMounted };
+}
+
+impl Mounted {
+    /// The files of a table's mounts, weighed together.
+    pub(crate) fn new(table: MountTable, files: Vec<MountedFile>) -> Mounted
+        requires table { over (λ file. file.mount) files.items ≡ table }
+        requires short { HaveShortShadows files.items }
+        ensures { result ≡ weighed files.items }
+    {
+        let mut files = files;
+        weigh_all(&mut files);
+        Mounted { table, files }
+    }
+
+    /// The table of the mounts.
+    pub fn table(&self) -> &MountTable
+        ensures { result.now ≡ over (λ file. file.mount) self.now }
+    {
+        &self.table
+    }
+
+    /// What a get of a parent gives: the visible keys of all mounts that it involves, which are the owner of the parent and each mount at or
+    /// below it. A cascading parent involves those of its path in spec, dir, user and system; one in proc or default involves none.
+    ///
+    /// It is refused exactly where such a mount is bad: with the first one in the order of the table, and its cause.
+    pub fn get(&self, alloc: Global, parent: &KeyName) -> Result<KeySet, GetFault>
+        ensures { MatchResult result (λ keys. got self.now parent.now ≡ Ok keys) (Gets (got self.now parent.now)) }
+    {
+        let mounts = involved(alloc, self.table.points(), parent)?;
+        let mut keys = KeySet::new(alloc);
+        for mount in mounts.as_slice() {
+            if let Some(file) = self.files.get(*mount) {
+                add_visible(&mut keys, file)?;
+            }
+        }
+        Ok(keys)
+    }
+
+    /// What becomes of a set of these keys at this parent, by one who got the parent when the store was opened, and nothing since.
+    ///
+    /// The keys that an involved mount owns are wanted there, in place of its visible keys. It is touched where they differ. What its file
+    /// is to hold are the wanted keys and its shadow. A bad mount is never touched.
+    ///
+    /// The first of these applies: `ValueTooLong`, for the first key that an involved mount owns with too long a text, its value before its
+    /// metadata; `FileTooLarge` with a weight, for the first touched mount whose file would hold keys of more than 16,777,216;
+    /// `NotStorable`, for the first one whose format can't hold these keys; `FileTooLarge` with a length, for the first one whose text would have more than
+    /// 1,048,576 bytes; `BadTable`, where the keys wanted for `system:/elektra` make no table; `Same`, where no mount is touched; `DatabaseFull`, where
+    /// all visible keys would weigh more than 16,777,216; `Stores`.
+    pub fn judge<F: Formats>(
+        &self,
+        alloc: Global,
+        formats: &F,
+        parent: &KeyName,
+        keys: &KeySet,
+    ) -> Result<Verdict, Memory>
+        ensures { IfOk result (IsVerdict F.text F.is_storable F.breaks_at self.now parent.now keys.now) }
+    {
+        let points = self.table.points();
+        let mounts = involved(alloc, points, parent)?;
+        let parts = split(alloc, points, parent, keys)?;
+        let changes = changes_of(alloc, &self.files, parts.parts.as_slice())?;
+        if let Some(refusal) = early_refusal(points, mounts.as_slice(), keys, &changes)? {
+            return Ok(refusal);
+        }
+        match write_all(alloc, formats, &changes)? {
+            Writing::Done { written } => {
+                let weight = weight_after(&changes, &self.files);
+                late_verdict(alloc, &changes, weight, written, parts.aside)
+            }
+            Writing::Refused { refusal } => Ok(refusal),
+        }
+    }
+}
+
+/// Adds the visible keys of a file, unless it is bad.
+fn add_visible(keys: &mut KeySet, file: &MountedFile) -> Result<(), GetFault>
+    ensures { MatchResult result (λ _. (fault_in file.now ≡ None) × (keys.new ≡ with_all (visible_of file.now.state) keys.old)) (IsFaultIn file.now) }
+{
+    match &file.state {
+        FileState::Good { visible, .. } => {
+            keys.append_all(visible.copy()?)?;
+            Ok(())
+        }
+        FileState::Bad { cause } => Err(fault_of(&file.mount.at, *cause)?),
+    }
+}
+
+/// A mount is bad for a cause.
+fn fault_of(mount: &KeyName, cause: Cause) -> Result<GetFault, Memory>
+    ensures { IfOk result (λ fault. fault ≡ fault_of mount.now cause) }
+{
+    let mount = mount.copy()?;
+    Ok(match cause {
+        Cause::TooLong { bytes } => GetFault::TooLong { mount, bytes },
+        Cause::BadFile { line } => GetFault::BadFile { mount, line },
+        Cause::TooHeavy { weight } => GetFault::TooHeavy { mount, weight },
+    })
+}

@@ -1,0 +1,48 @@
+//! Which keys of a file its mount owns.
+ghost use Rattle.std.specs.Prelude.{◌≡◌, IfOk};
+ghost use Rattle.std.specs.List.Sorted.{IsStrictlySortedBy};
+ghost use Rattle.model_names.specs.Order.{name_cmp};
+ghost use Rattle.set_split.specs.Involved.{owns};
+ghost use Rattle.set_split.specs.Parts.{owned_by};
+ghost use Rattle.mounted_files.specs.Owned.{not_owned_by};
+ghost use Rattle.mounted_files.specs.declared.files.FileState.TheVariants.{Good};
+
+use crate::FileState;
+use crate::adding::put;
+use key_meta::Memory;
+use key_name::{KeyName, owner};
+use key_set::KeySet;
+use std::alloc::Global;
+
+/// The state of a file with these keys: those that the mount of this number owns are visible, and the others are its shadow.
+pub fn good_state(
+    alloc: Global,
+    points: &[KeyName],
+    i: usize,
+    keys: &KeySet,
+) -> Result<FileState, Memory>
+    requires { IsStrictlySortedBy name_cmp points.now }
+    ensures { IfOk result (λ state. state ≡ Good (owned_by points.now i keys.now) (not_owned_by points.now i keys.now)) }
+{
+    let mut visible = KeySet::new(alloc);
+    let mut shadow = KeySet::new(alloc);
+    for place in 0..keys.len() {
+        let Some((name, entry)) = keys.at(place) else {
+            unreachable!()
+        };
+        if owns(points, i, name) {
+            put(&mut visible, name.copy()?, entry)?;
+        } else {
+            put(&mut shadow, name.copy()?, entry)?;
+        }
+    }
+    Ok(FileState::Good { visible, shadow })
+}
+
+/// Whether the mount of this number owns a name.
+fn owns(points: &[KeyName], i: usize, name: &KeyName) -> bool
+    requires { IsStrictlySortedBy name_cmp points.now }
+    ensures { result ≡ owns points.now i name.now }
+{
+    owner(points, name) == Some(i)
+}

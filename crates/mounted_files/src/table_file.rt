@@ -1,0 +1,67 @@
+//! The mount table, read from the file of its own keys.
+ghost use Rattle.std.specs.Prelude.{◌≡◌, MatchResult, IfOk, ℕ, List, Ok};
+ghost use Rattle.backend_files.specs.WholeFile.{IsWhole};
+ghost use Rattle.mount_table.specs.Points.{own_point};
+ghost use Rattle.mount_table.specs.Table.{table_of};
+ghost use Rattle.mounted_files.specs.Opening.{MakesTable, RefusesOpening};
+ghost use Rattle.mounted_files.specs.Refusing.{RefusesTable, IsRefusalOf};
+
+use crate::holding::{Holding, read_holding};
+use crate::{Cause, OpenRefusal};
+use backend_files::FileRead;
+use kdb_outside::Kind;
+use key_meta::Memory;
+use key_name::{KeyName, NameFault, Namespace};
+use key_set::KeySet;
+use mount_table::{MountTable, TableFault};
+use std::alloc::{AllocError, Global};
+use storage_api::Formats;
+
+/// The table that the keys of `elektra.ecf` make, given what that file gave. `TooLong` and `BadFile` come where the file is too long or holds no
+/// keys, and `BadTable` where its keys make no table.
+pub fn read_table_file<F: Formats>(
+    alloc: Global,
+    formats: &F,
+    own: &FileRead,
+) -> Result<MountTable, OpenRefusal>
+    ensures { (bytes : List ℕ) → IsWhole bytes own.now → MatchResult result (λ table. MakesTable F.reads bytes (Ok table)) (RefusesOpening F.reads F.is_bad_at bytes) }
+{
+    let point = own_point(alloc)?;
+    match read_holding(alloc, formats, &point, Kind::Dump, own)? {
+        Holding::Keys { keys } => table_of(alloc, &keys),
+        Holding::Bad { cause } => Err(refusal_of(cause)),
+    }
+}
+
+/// The mountpoint of the table's own keys.
+fn own_point(alloc: Global) -> Result<KeyName, Memory>
+    ensures { IfOk result (λ point. point ≡ own_point) }
+{
+    match KeyName::root(alloc, Namespace::System).child("elektra") {
+        Ok(point) => Ok(point),
+        Err(NameFault::Memory) => Err(AllocError),
+        Err(_) => unreachable!(),
+    }
+}
+
+/// The table that some keys make.
+fn table_of(alloc: Global, keys: &KeySet) -> Result<MountTable, OpenRefusal>
+    ensures { MatchResult result (λ table. table_of keys.now ≡ Ok table) (RefusesTable (table_of keys.now)) }
+{
+    match MountTable::read_table(alloc, keys) {
+        Ok(table) => Ok(table),
+        Err(TableFault::Memory) => Err(OpenRefusal::Memory),
+        Err(fault) => Err(OpenRefusal::BadTable { fault }),
+    }
+}
+
+/// Why a store isn't opened whose own file is bad. A single file is never too heavy.
+fn refusal_of(cause: Cause) -> OpenRefusal
+    ensures { IsRefusalOf cause result }
+{
+    match cause {
+        Cause::TooLong { bytes } => OpenRefusal::TooLong { bytes },
+        Cause::BadFile { line } => OpenRefusal::BadFile { line },
+        Cause::TooHeavy { .. } => OpenRefusal::Memory,
+    }
+}

@@ -1,0 +1,94 @@
+//! A file holds names relative to its mountpoint, which stands before each of them.
+ghost use Rattle.std.specs.Prelude.{◌≡◌, ◌∷◌, [], nat_le, if◌then◌else◌, filter_map, IfOk, OnOk, Some, None, length};
+ghost use Rattle.std.specs.FinMap as map;
+ghost use Rattle.key_name.specs.Joining.{joined, way_to};
+ghost use Rattle.key_set.specs.EntryView.{entry_of};
+ghost use Rattle.key_set.specs.WithAll.{with_keys};
+ghost use Rattle.model_names.specs.declared.namespaces.Namespace.TheVariants.{Cascading};
+ghost use Rattle.model_names.specs.Spelling.{path};
+ghost use Rattle.model_names.specs.Spells.{longest_path};
+ghost use Rattle.mounted_files.specs.Sound.{AreCascading, AreSound};
+ghost use Rattle.mounted_files.specs.Whole.{as_way, whole, all_fit, relative};
+
+use crate::adding::put;
+use key_meta::Memory;
+use key_name::{KeyName, NameFault};
+use key_set::{Entry, KeySet};
+use std::alloc::{AllocError, Global};
+
+/// The keys of a file under whole names. There are none where one of these names would be too long.
+pub fn whole(alloc: Global, point: &KeyName, keys: &KeySet) -> Result<Option<KeySet>, Memory>
+    requires { AreCascading keys.now }
+    ensures { IfOk result (λ found. found ≡ (if all_fit point.now keys.now then Some (whole point.now keys.now) else None)) }
+{
+    let mut all = KeySet::new(alloc);
+    for i in 0..keys.len() {
+        let Some((name, entry)) = keys.at(i) else {
+            unreachable!()
+        };
+        let Some(name) = whole_name(point, name)? else {
+            return Ok(None);
+        };
+        put(&mut all, name, entry)?;
+    }
+    Ok(Some(all))
+}
+
+/// A name behind a mountpoint, unless it would be too long.
+fn whole_name(point: &KeyName, name: &KeyName) -> Result<Option<KeyName>, Memory>
+    requires { name.now.namespace ≡ Cascading }
+    ensures { IfOk result (λ found. found ≡ (if nat_le (length (path (joined point.now name.now))) longest_path then Some (joined point.now name.now) else None)) }
+{
+    match point.join(name) {
+        Ok(whole) => Ok(Some(whole)),
+        Err(NameFault::Memory) => Err(AllocError),
+        Err(_) => Ok(None),
+    }
+}
+
+/// The keys at or below a mountpoint, under the names that lead there.
+pub fn relative(alloc: Global, point: &KeyName, keys: &KeySet) -> Result<KeySet, Memory>
+    ensures is { IfOk result (λ found. found ≡ relative point.now keys.now) }
+    ensures sound { IfOk result (λ found. AreSound point.now found) }
+{
+    let mut all = KeySet::new(alloc);
+    for i in 0..keys.len() {
+        let Some((name, entry)) = keys.at(i) else {
+            unreachable!()
+        };
+        put_way(&mut all, point, name, entry)?;
+    }
+    Ok(all)
+}
+
+/// Puts a key under the name that leads there from a mountpoint, if it is that or below it.
+fn put_way(all: &mut KeySet, point: &KeyName, name: &KeyName, entry: &Entry) -> Result<(), Memory>
+    ensures made { OnOk result (all.new ≡ with_keys (filter_map (as_way point.now) ((name.now, entry_of entry.now) ∷ [])) all.old) }
+    ensures sound { AreSound point.now all.old → OnOk result (AreSound point.now all.new) }
+{
+    match name.relative_to(point)? {
+        Some(way) => put_sound(all, point, name, way, entry),
+        None => Ok(()),
+    }
+}
+
+/// Puts a key under the name that leads there. What is put is sound, since names, values and metadata are.
+fn put_sound(
+    all: &mut KeySet,
+    point: &KeyName,
+    name: &KeyName,
+    way: KeyName,
+    entry: &Entry,
+) -> Result<(), Memory>
+    requires way { Some way ≡ way_to point.now name.now }
+    requires back { joined point.now way ≡ name.now }
+    ensures made { OnOk result (all.new ≡ map.insert all.old way (entry_of entry.now)) }
+    ensures sound { AreSound point.now all.old → OnOk result (AreSound point.now all.new) }
+{
+    // Each of these calls tells that what it looks at is well formed.
+    let _parts = way.len();
+    let _all_parts = name.len();
+    let _value = entry.value.as_str();
+    let _is_bare = entry.meta.is_empty();
+    put(all, way, entry)
+}

@@ -1,8 +1,0 @@
--- The keys so far under relative names, all sound.
-use Rattle.std.proofs.Common.{◌≡◌}
-use Rattle.mounted_store.specs.Sound.{AreSound}
-use Rattle.mounted_store.proofs.WholeLemmas.{relative_front}
-use Rattle.mounted_store.proofs.whole.relative.Given as goal
-
-abbrev pub invariant-loop-i : goal.invariant-loop-i
-invariant-loop-i l = record { made : l.all ≡ relative_front l.point l.keys l.i; sound : AreSound l.point l.all }
