@@ -13,6 +13,10 @@ no_entries (x ∷ es) e = absurd (omega arith)
 pub some_is : {A : Type 0} (a b : A) → ◌≡◌ {A = Option A} (Some a) (Some b) → a ≡ b
 some_is a b e = cc
 
+-- what one place holds is one
+pub found_once : {A : Type 0} {o : Option A} (a b : A) → o ≡ Some a → o ≡ Some b → a ≡ b
+found_once a b p q = cc
+
 -- an element that was read stands at its place
 pub at_place : {A : Type 0} (xs : List A) (i : ℕ) (x : A) → i < length xs → x ≡ get_or xs i x → Some x ≡ slice_get xs i
 at_place [] i x lt is = absurd (omega arith)

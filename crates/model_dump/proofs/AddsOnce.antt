@@ -1,16 +1,13 @@
 -- A record adds one way to what was read before it.
-use Rattle.std.specs.Prelude.{◌≡◌, ℕ, List, ◌∷◌, Option, Some}
+use Rattle.std.specs.Prelude.{◌≡◌, ℕ, List, ◌∷◌, Some}
 use Rattle.std.proofs.Common.{sym, ap, ap₂, subst, ◌∙◌}
 use Rattle.std.specs.FinMap as map
+use Rattle.general_words.proofs.Lists.{found_once}
 use Rattle.model_names.specs.Name.{Name}
 use Rattle.model_names.proofs.SpellsLemmas.{Spells-once}
 use Rattle.model_maps.specs.Entry.{Entry, plain_entry, with_meta}
 use Rattle.model_dump.specs.Record.{RecordKind, KeyKind, MetaKind, CopyKind, Record}
 use Rattle.model_dump.specs.Adds.{Progress, AddsKey, PutsMeta, CopiesMeta, AddsBy, Adds}
-
--- what one place holds
-found_once : {A : Type 0} {o : Option A} (a b : A) → o ≡ Some a → o ≡ Some b → a ≡ b
-found_once a b p q = cc
 
 key_once : (before : Progress) (text value : List ℕ) (a b : Progress) → AddsKey before text value a → AddsKey before text value b → a ≡ b
 key_once before text value a b p q =

@@ -2,6 +2,7 @@
 use Rattle.std.specs.Prelude.{◌≡◌, ℕ, ◌≤◌, List, ◌∷◌, Option, None, Some}
 use Rattle.std.specs.FinMap as map
 use Rattle.std.proofs.Common.{refl, sym, ap, subst, ◌∙◌, inl, inr}
+use Rattle.general_words.proofs.Lists.{found_once}
 use Rattle.model_names.specs.Name.{Name}
 use Rattle.model_names.specs.Spells.{Spells}
 use Rattle.model_names.proofs.SpellsLemmas.{Spells-once}
@@ -14,9 +15,6 @@ use Rattle.model_dump.proofs.AddsOnce.{AddsBy-once}
 
 none_or : {A : Type 0} (o : Option A) (x : A) → o ≡ None → o ≡ Some x → ⊥
 none_or o x none some = let both = sym none ∙ some in absurd cc
-
-one_in : {A : Type 0} (o : Option A) (x y : A) → o ≡ Some x → o ≡ Some y → x ≡ y
-one_in o x y p q = cc
 
 -- the map after a record
 abbrev Told : (Progress → Type 0) → Type 0
@@ -41,12 +39,12 @@ puts-told before name text = elim (option-told before.present) as (λ _. Told (P
   | inl none ↦ inr (λ (puts : (after : Progress) × PutsMeta before name text after). none_or before.present puts.1.key none puts.1.present)
   | inr key ↦ elim (option-told (map.get before.keys key.0)) as (λ _. Told (PutsMeta before name text)) [
     | inl none ↦ inr (λ (puts : (after : Progress) × PutsMeta before name text after).
-        none_or (map.get before.keys key.0) puts.1.entry none (ap (map.get before.keys) (one_in before.present key.0 puts.1.key key.1 puts.1.present) ∙ puts.1.found))
+        none_or (map.get before.keys key.0) puts.1.entry none (ap (map.get before.keys) (found_once key.0 puts.1.key key.1 puts.1.present) ∙ puts.1.found))
     | inr entry ↦ elim (option-told (map.get entry.0.meta name)) as (λ _. Told (PutsMeta before name text)) [
       | inl is_new ↦ inl (_, record { key = key.0; present = key.1; entry = entry.0; found = entry.1; is_new = is_new; added = refl })
       | inr taken ↦ inr (λ (puts : (after : Progress) × PutsMeta before name text after).
-          let keys = one_in before.present key.0 puts.1.key key.1 puts.1.present in
-          let entries = one_in (map.get before.keys key.0) entry.0 puts.1.entry entry.1 (ap (map.get before.keys) keys ∙ puts.1.found) in
+          let keys = found_once key.0 puts.1.key key.1 puts.1.present in
+          let entries = found_once entry.0 puts.1.entry entry.1 (ap (map.get before.keys) keys ∙ puts.1.found) in
           none_or (map.get puts.1.entry.meta name) taken.0 puts.1.is_new (ap (λ (e : Entry). map.get e.meta name) (sym entries) ∙ taken.1))
     ]
   ]
@@ -73,7 +71,7 @@ copy-told before source_text name = elim (spells-told (47 ∷ source_text)) as (
     earlier-told : (source : Name) → IsTold (before.present ≡ Some source)
     earlier-told source = elim (option-told before.present) as (λ _. IsTold (before.present ≡ Some source)) [
       | inl none ↦ inr (λ is. none_or before.present source none is)
-      | inr key ↦ told-along (λ same. key.1 ∙ ap Some same) (λ is. one_in before.present key.0 source key.1 is) (names-told key.0 source)
+      | inr key ↦ told-along (λ same. key.1 ∙ ap Some same) (λ is. found_once key.0 source key.1 is) (names-told key.0 source)
     ]
 
     from : (source : Name) → Spells (47 ∷ source_text) source → Told (CopiesMeta before source_text name)
@@ -88,7 +86,7 @@ copy-told before source_text name = elim (spells-told (47 ∷ source_text)) as (
           | inr text ↦ told-along
               (λ (puts : (after : Progress) × PutsMeta before name text.0 after). (puts.0, record { source = source; spelled = spells; earlier = earlier; entry = entry.0; found = entry.1; text = text.0; has = text.1; puts = puts.1 }))
               (λ (copies : (after : Progress) × CopiesMeta before source_text name after).
-              let texts : text.0 ≡ copies.1.text = one_in (map.get entry.0.meta name) text.0 copies.1.text text.1 (ap (λ (e : Entry). map.get e.meta name) (entries entry.0 entry.1 copies.1) ∙ copies.1.has) in
+              let texts : text.0 ≡ copies.1.text = found_once text.0 copies.1.text text.1 (ap (λ (e : Entry). map.get e.meta name) (entries entry.0 entry.1 copies.1) ∙ copies.1.has) in
               (copies.0, subst (λ t. PutsMeta before name t copies.0) (sym texts) copies.1.puts))
               (puts-told before name text.0)
         ]
@@ -99,7 +97,7 @@ copy-told before source_text name = elim (spells-told (47 ∷ source_text)) as (
         same copies = Spells-once (47 ∷ source_text) source copies.source spells copies.spelled
 
         entries : {after : Progress} (entry : Entry) → map.get before.keys source ≡ Some entry → (copies : CopiesMeta before source_text name after) → entry ≡ copies.entry
-        entries entry found copies = one_in (map.get before.keys source) entry copies.entry found (ap (map.get before.keys) (same copies) ∙ copies.found)
+        entries entry found copies = found_once entry copies.entry found (ap (map.get before.keys) (same copies) ∙ copies.found)
 
 by-told : (kind : RecordKind) (before : Progress) (first second : List ℕ) → Told (AddsBy kind before first second)
 by-told KeyKind = key-told

@@ -1,7 +1,7 @@
 -- What some bytes read as is within the limits of a file: each record keeps it so.
 use Rattle.std.specs.Prelude.{◌≡◌, ◌⊎◌, ℕ, Bool, true, false, List, [], ◌∷◌, Option, None, Some}
 use Rattle.std.specs.FinMap as finite
-use Rattle.std.specs.FinMap.{FinMap, IsAntisymmetric, slice_cmp-IsAntisymmetric, nat_cmp-IsAntisymmetric}
+use Rattle.std.specs.FinMap.{FinMap, IsAntisymmetric}
 use Rattle.std.specs.Cmp.{IsTotalOrder}
 use Rattle.std.specs.Ordering.{is_eq, eq_by_cmp}
 use Rattle.std.specs.declared.cmp.Ordering.{Ordering}
@@ -13,6 +13,7 @@ use Rattle.model_names.specs.Order.{name_cmp}
 use Rattle.model_names.proofs.NameLemmas.{spelled_is_name, slash_is_cascading}
 use Rattle.model_names.proofs.OrderLemmas.{name_cmp_total, name_cmp-IsAntisymmetric}
 use Rattle.general_words.specs.Texts.{text_cmp}
+use Rattle.general_words.proofs.Texts.{text_cmp-IsAntisymmetric}
 use Rattle.model_maps.specs.Entry.{Entry, plain_entry, with_meta}
 use Rattle.model_maps.specs.KeyMap.{KeyMap, no_keys}
 use Rattle.model_maps.specs.Limits.{IsLimitedMeta, IsLimitedKey, IsLimited}
@@ -39,9 +40,6 @@ found_in_insert {X = X} {R = R} total same m k v q x e =
       | inl here ↦ inl (same q k (tied_by (R q k) here.0), here.1)
       | inr there ↦ inr there
     ]
-
-text_cmp-IsAntisymmetric : IsAntisymmetric text_cmp
-text_cmp-IsAntisymmetric = slice_cmp-IsAntisymmetric nat_cmp-IsAntisymmetric
 
 -- every key of a map is within the limits
 abbrev HasLimitedKeys : KeyMap → Type 0

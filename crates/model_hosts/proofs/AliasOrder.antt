@@ -1,5 +1,5 @@
 -- In name order an alias stands behind its host, with no other host between them.
-use Rattle.std.specs.Prelude.{◌≡◌, ◌≢◌, ◌⊎◌, Bool, true, false, T, List, [], ◌∷◌, ◌++◌, length, Some}
+use Rattle.std.specs.Prelude.{◌≡◌, ◌≢◌, ◌⊎◌, true, false, T, List, [], ◌∷◌, ◌++◌, length, Some}
 use Rattle.std.proofs.Common.{refl, sym, ap, subst, ◌∙◌, append_assoc, inl, inr}
 use Rattle.std.specs.FinMap as finite
 use Rattle.std.specs.FinMap.{is_sorted}
@@ -7,6 +7,7 @@ use Rattle.std.specs.List.{AllByRecursion}
 use Rattle.std.specs.Ordering.{is_lt, ordering_reverse}
 use Rattle.std.specs.declared.cmp.Ordering.{Ordering}
 use Rattle.std.specs.declared.cmp.Ordering.TheVariants.{Less}
+use Rattle.general_words.proofs.Tests.{true_of}
 use Rattle.model_names.specs.Below.{is_at_or_below}
 use Rattle.model_names.specs.Name.{Part, Name}
 use Rattle.model_names.specs.Order.{name_cmp}
@@ -19,10 +20,6 @@ use Rattle.model_lines.proofs.AllLemmas.{all-append, all-weaker}
 use Rattle.model_formats.proofs.HoldingLemmas.{EachHas-entries}
 use Rattle.model_lines.proofs.SortedKeys.{below, before_all, below_each, sorted-behind}
 use Rattle.model_hosts.specs.Keys.{host_name, alias_name}
-
-true_of : (b : Bool) → T b → b ≡ true
-true_of true h = refl
-true_of false h = absurd h
 
 -- an alias's name is below its host's
 alias_below : (x y a : Part) → T (is_at_or_below (host_name x y) (alias_name x y a))

@@ -1,8 +1,7 @@
 -- Texts that became metadata are read back from it.
-use Rattle.std.specs.Prelude.{◌≡◌, ◌≢◌, ℕ, zero, suc, ◌+◌, ◌-◌, ◌^◌, ◌<◌, ◌≤◌, nat_lt, nat_le, true, false, List, [], ◌∷◌, length, drop, replicate, Option, None, Some, codes, is_some}
+use Rattle.std.specs.Prelude.{◌≡◌, ◌≢◌, ℕ, zero, suc, ◌+◌, ◌-◌, ◌^◌, ◌<◌, ◌≤◌, false, List, [], ◌∷◌, length, drop, replicate, Option, None, Some, codes, is_some}
 use Rattle.std.proofs.Common.{cond, refl, sym, ap, subst, ◌∙◌, arith, inl, inr, length-append}
 use Rattle.std.specs.FinMap as finite
-use Rattle.std.specs.FinMap.{IsAntisymmetric, slice_cmp-IsAntisymmetric, nat_cmp-IsAntisymmetric}
 use Rattle.std.specs.Fmt.{decimal}
 use Rattle.std.specs.List.{AllByRecursion}
 use Rattle.std.specs.Ordering.{is_eq, eq_by_cmp}
@@ -13,24 +12,16 @@ use Rattle.std.proofs.lemmas.Cmp.{nat_list_cmp_total}
 use Rattle.std.proofs.lemmas.Fmt.{decimal_is_IsNumeral, length-decimal-le}
 use Rattle.std.proofs.lemmas.List.{length-replicate}
 use Rattle.std.proofs.lemmas.Str.{IsUtf8-append}
-use Rattle.std.specs.Char.{is_ascii_digit}
-use Rattle.std.specs.Int.{IsInRange}
-use Rattle.std.specs.List.{list_all}
-use Rattle.std.proofs.Common.{get_or}
-use Rattle.std.proofs.lemmas.Bool.{and_from, le-leb, lt-ltb}
-use Rattle.std.proofs.lemmas.Str.Parse.{digit_at}
-use Rattle.model_names.specs.ArrayPart.{last_index, are_digits, digits_of, array_part}
+use Rattle.model_names.specs.ArrayPart.{last_index, digits_of, array_part}
 use Rattle.model_names.specs.Name.{Part}
-use Rattle.model_names.proofs.ArrayLemmas.{digits_of-part_of_digits, ascii-part_of_digits}
+use Rattle.model_names.proofs.ArrayLemmas.{index_decimal, digits_of-part_of_digits, ascii-part_of_digits}
 use Rattle.model_names.proofs.PartLemmas.{text_from_ascii, text_from_test}
 use Rattle.general_words.specs.Texts.{text_cmp}
+use Rattle.general_words.proofs.Texts.{text_cmp-IsAntisymmetric}
 use Rattle.model_maps.specs.Entry.{Meta, IsValue, IsMetaName}
 use Rattle.model_maps.specs.Limits.{IsLimitedMeta}
 use Rattle.model_lines.proofs.MapFacts.{found_in_insert, get-insert_same}
 use Rattle.model_hosts.specs.Comments.{comment_name, comments_from, comments, texts_from, texts_of}
-
-text_cmp-IsAntisymmetric : IsAntisymmetric text_cmp
-text_cmp-IsAntisymmetric = slice_cmp-IsAntisymmetric nat_cmp-IsAntisymmetric
 
 -- ---- the names of comments
 
@@ -38,22 +29,10 @@ text_cmp-IsAntisymmetric = slice_cmp-IsAntisymmetric nat_cmp-IsAntisymmetric
 abbrev index_of : Part → ℕ
 index_of part = digits_value 10 (digits_of part)
 
-digits-decimal : (index : ℕ) → index ≤ last_index → are_digits (decimal index) ≡ true
-digits-decimal index within =
-    let small : index < 2 ^ 64 = omega (arith, within) in
-    let numeral = decimal_is_IsNumeral index small in
-    and_from (nat_lt 0 (length (decimal index))) _ (lt-ltb _ _ numeral.0.0) (all_digits (decimal index) (λ k lt. digit_at (decimal index) k numeral.0.1 lt))
-  where
-    all_digits : (ds : List ℕ) → ((k : ℕ) → k < length ds → IsInRange 48 57 (get_or ds k 0)) → list_all is_ascii_digit ds ≡ true
-    all_digits [] h = refl
-    all_digits (d ∷ ds) h =
-        let range = h 0 (omega arith) in
-        and_from (is_ascii_digit d) _ (and_from (nat_le 48 d) (nat_le d 57) (le-leb 48 d range.0) (le-leb d 57 range.1)) (all_digits ds (λ k lt. h (suc k) (omega (arith, lt))))
-
 index_of-array_part : (index : ℕ) → index ≤ last_index → index_of (array_part index) ≡ index
 index_of-array_part index within =
     let small : index < 2 ^ 64 = omega (arith, within) in
-    ap (digits_value 10) (digits_of-part_of_digits (decimal index) (digits-decimal index within)) ∙ (decimal_is_IsNumeral index small).1
+    ap (digits_value 10) (digits_of-part_of_digits (decimal index) ((index_decimal index within).0)) ∙ (decimal_is_IsNumeral index small).1
 
 -- different comments have different names
 pub comment_name-once : (i j : ℕ) → i ≤ last_index → j ≤ last_index → comment_name i ≡ comment_name j → i ≡ j
@@ -141,7 +120,7 @@ texts_of-all P meta each = from (length (finite.entries meta)) 0
 
 pub comment_name-IsMetaName : (index : ℕ) → index ≤ last_index → IsMetaName (comment_name index)
 comment_name-IsMetaName index within =
-    let part = text_from_ascii (array_part index) (ascii-part_of_digits (decimal index) (digits-decimal index within)) in
+    let part = text_from_ascii (array_part index) (ascii-part_of_digits (decimal index) ((index_decimal index within).0)) in
     let prefix = text_from_test (codes "comment/") refl in
     let digits = decimal index in
     let size : length digits ≤ 20 = length-decimal-le 20 index (omega arith) (omega arith) (omega arith) in

@@ -7,11 +7,12 @@ use Rattle.std.specs.Ordering.{eq_by_cmp}
 use Rattle.std.proofs.lemmas.Bool.{cases_eq}
 use Rattle.std.proofs.lemmas.Str.{IsUtf8-nil}
 use Rattle.model_names.specs.ArrayPart.{last_index}
-use Rattle.model_names.specs.Name.{Part, Name, rank}
+use Rattle.model_names.specs.Name.{Part, Name}
 use Rattle.model_names.specs.Order.{name_cmp}
 use Rattle.model_names.specs.WellFormed.{IsName}
-use Rattle.model_names.proofs.OrderLemmas.{name_cmp_total, same_rank}
+use Rattle.model_names.proofs.OrderLemmas.{name_cmp_total}
 use Rattle.general_words.specs.Texts.{text_cmp}
+use Rattle.model_formats.proofs.Telling.{names-told}
 use Rattle.model_maps.specs.Entry.{Entry, plain_entry, IsValue}
 use Rattle.model_maps.specs.KeyMap.{KeyMap, no_keys, weight, heaviest_map}
 use Rattle.model_maps.specs.Limits.{IsLimitedKey, IsLimited}
@@ -21,7 +22,7 @@ use Rattle.model_lines.proofs.EachKey.{EachHas-no_keys, EachHas-insert, found_in
 use Rattle.model_lines.proofs.Leading.{IsFunctional, IsDecided, Leads-kept}
 use Rattle.model_lines.proofs.LineLemmas.{IsInLine, lines-in_line}
 use Rattle.model_lines.proofs.MapFacts.{get-insert_same, weight-no_keys}
-use Rattle.model_lines.proofs.Telling.{IsTold, IsFound, both-told, either-told, le-told, none-told, bytes-told, lists-told, all-told, utf8-told, value-told, name-told, meta-told}
+use Rattle.model_lines.proofs.Telling.{IsTold, IsFound, both-told, either-told, le-told, none-told, bytes-told, all-told, utf8-told, value-told, name-told, meta-told}
 use Rattle.model_hosts.specs.Line.{Meaning, Skipped, Comment, Gives, Unreadable, meaning}
 use Rattle.model_hosts.specs.Comments.{comments, texts_of}
 use Rattle.model_hosts.specs.Keys.{family, host_name, alias_name, IsWordByte, IsWord, IsOneLine, IsHostKey, IsAliasKey, IsHostsKey, IsStorable}
@@ -98,16 +99,6 @@ Step-told before line =
 
 different-told : (a b : ℕ) → IsTold (a ≢ b)
 different-told a b = elim (cases_eq a b) [ inl same ↦ inr (λ h. h same) | inr other ↦ inl other ]
-
-names-told : (a b : Name) → IsTold (a ≡ b)
-names-told a b =
-    elim (cases_eq (rank a.namespace) (rank b.namespace)) [
-      | inl same ↦ elim (lists-told bytes-told a.parts b.parts) [
-        | inl parts ↦ inl (λ i. record { namespace = same_rank a.namespace b.namespace same i; parts = parts i })
-        | inr other ↦ inr (λ e. other (ap (λ (n : Name). n.parts) e))
-      ]
-      | inr other ↦ inr (λ e. other (ap (λ (n : Name). rank n.namespace) e))
-    ]
 
 filled-told : (word : List ℕ) → IsTold (word ≢ [])
 filled-told [] = inr (λ h. h refl)

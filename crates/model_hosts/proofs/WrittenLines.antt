@@ -10,9 +10,6 @@ use Rattle.model_hosts.specs.Keys.{IsWordByte, IsWord, IsOneLine}
 use Rattle.model_hosts.specs.Text.{host_line}
 use Rattle.model_hosts.proofs.WordLemmas.{words-word, words-row}
 
-differ : (a b : ℕ) → (a == b) ≡ false → a ≢ b
-differ a b e = eqb-false a b e
-
 no_return-any : (bytes : List ℕ) → AllByRecursion (λ b. b ≢ 13) bytes → list_any (λ b. b == 13) bytes ≡ false
 no_return-any [] h = refl
 no_return-any (b ∷ bytes) h = or_from (b == 13) (list_any (λ b. b == 13) bytes) (ne_eqb b 13 h.0) (no_return-any bytes h.1)
@@ -31,10 +28,10 @@ meaning-clean line h =
 
 -- a comment
 pub meaning-comment : (text : List ℕ) → IsOneLine text → meaning (35 ∷ text) ≡ Comment text
-meaning-comment text h = meaning-clean (35 ∷ text) (differ 35 13 refl, all-weaker (λ b. (b ≢ 10) × (b ≢ 13)) (λ b. b ≢ 13) (λ b p. p.1) text h)
+meaning-comment text h = meaning-clean (35 ∷ text) (eqb-false 35 13 refl, all-weaker (λ b. (b ≢ 10) × (b ≢ 13)) (λ b. b ≢ 13) (λ b p. p.1) text h)
 
 pub comment-in_line : (text : List ℕ) → IsOneLine text → AllByRecursion IsInLine (35 ∷ text)
-comment-in_line text h = (differ 35 10 refl, all-weaker (λ b. (b ≢ 10) × (b ≢ 13)) IsInLine (λ b p. p.0) text h)
+comment-in_line text h = (eqb-false 35 10 refl, all-weaker (λ b. (b ≢ 10) × (b ≢ 13)) IsInLine (λ b p. p.0) text h)
 
 -- bytes that stand in the line of an entry
 record IsEntryByte (b : ℕ) : Type 0 where
@@ -46,10 +43,10 @@ word-entry : (word : List ℕ) → IsWord word → AllByRecursion IsEntryByte wo
 word-entry word is = all-weaker IsWordByte IsEntryByte (λ b h. record { no_feed = h.no_feed; no_return = h.no_return; no_hash = h.no_hash }) word is.bytes
 
 blank-entry : IsEntryByte 32
-blank-entry = record { no_feed = differ 32 10 refl; no_return = differ 32 13 refl; no_hash = differ 32 35 refl }
+blank-entry = record { no_feed = eqb-false 32 10 refl; no_return = eqb-false 32 13 refl; no_hash = eqb-false 32 35 refl }
 
 tab-entry : IsEntryByte 9
-tab-entry = record { no_feed = differ 9 10 refl; no_return = differ 9 13 refl; no_hash = differ 9 35 refl }
+tab-entry = record { no_feed = eqb-false 9 10 refl; no_return = eqb-false 9 13 refl; no_hash = eqb-false 9 35 refl }
 
 host_line-entry : (address host : List ℕ) (aliases : List (List ℕ)) → IsWord address → IsWord host → AllByRecursion IsWord aliases → AllByRecursion IsEntryByte (host_line address host aliases)
 host_line-entry address host aliases is_address is_host are_aliases =

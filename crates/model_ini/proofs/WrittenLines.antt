@@ -35,18 +35,15 @@ line_signs name value = name_signs name ++ Plain 32 ∷ Plain 61 ∷ Plain 32 �
 pub line_of-spelled : (name value : List ℕ) → line_of name value ≡ flat_map spelled_sign (line_signs name value)
 line_of-spelled name value = sym (flat_map-append spelled_sign (name_signs name) (Plain 32 ∷ Plain 61 ∷ Plain 32 ∷ value_signs value))
 
-differ : (a b : ℕ) → (a == b) ≡ false → a ≢ b
-differ a b e = eqb-false a b e
-
 pub line_signs-written : (name value : List ℕ) → AllByRecursion IsWritten (line_signs name value)
 line_signs-written name value =
-    let blank : IsWritten (Plain 32) = record { no_backslash = differ 32 92 refl; no_feed = differ 32 10 refl; no_return = differ 32 13 refl; no_tab = differ 32 9 refl } in
-    let equals : IsWritten (Plain 61) = record { no_backslash = differ 61 92 refl; no_feed = differ 61 10 refl; no_return = differ 61 13 refl; no_tab = differ 61 9 refl } in
+    let blank : IsWritten (Plain 32) = record { no_backslash = eqb-false 32 92 refl; no_feed = eqb-false 32 10 refl; no_return = eqb-false 32 13 refl; no_tab = eqb-false 32 9 refl } in
+    let equals : IsWritten (Plain 61) = record { no_backslash = eqb-false 61 92 refl; no_feed = eqb-false 61 10 refl; no_return = eqb-false 61 13 refl; no_tab = eqb-false 61 9 refl } in
     all-append IsWritten (name_signs name) (Plain 32 ∷ Plain 61 ∷ Plain 32 ∷ value_signs value) (name_signs-written name) (blank, (equals, (blank, value_signs-written value)))
 
 spelled-in_line : (s : Sign) → IsWritten s → AllByRecursion (λ b. (b ≢ 10) × (b ≢ 13)) (spelled_sign s)
 spelled-in_line (Plain b) h = ((h.no_feed, h.no_return), tt)
-spelled-in_line (Covered b) h = ((differ 92 10 refl, differ 92 13 refl), ((h.0, h.1), tt))
+spelled-in_line (Covered b) h = ((eqb-false 92 10 refl, eqb-false 92 13 refl), ((h.0, h.1), tt))
 
 line_of-clean : (name value : List ℕ) → AllByRecursion (λ b. (b ≢ 10) × (b ≢ 13)) (line_of name value)
 line_of-clean name value =

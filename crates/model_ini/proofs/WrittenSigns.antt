@@ -56,22 +56,19 @@ all-at_last P f keeps (x ∷ y ∷ xs) h = (h.0, all-at_last P f keeps (y ∷ xs
 
 -- ---- each sign
 
-differ : (a b : ℕ) → (a == b) ≡ false → a ≢ b
-differ a b e = eqb-false a b e
-
 written-value : (b : ℕ) → IsWritten (value_sign b)
 written-value b =
-    by_byte (λ t. IsWritten (cond t (Covered 92) (cond (b == 10) (Covered 110) (cond (b == 13) (Covered 114) (cond (b == 9) (Covered 116) (Plain b)))))) b 92 (λ _. (differ 92 10 refl, differ 92 13 refl)) (λ no_backslash.
-    by_byte (λ t. IsWritten (cond t (Covered 110) (cond (b == 13) (Covered 114) (cond (b == 9) (Covered 116) (Plain b))))) b 10 (λ _. (differ 110 10 refl, differ 110 13 refl)) (λ no_feed.
-    by_byte (λ t. IsWritten (cond t (Covered 114) (cond (b == 9) (Covered 116) (Plain b)))) b 13 (λ _. (differ 114 10 refl, differ 114 13 refl)) (λ no_return.
-    by_byte (λ t. IsWritten (cond t (Covered 116) (Plain b))) b 9 (λ _. (differ 116 10 refl, differ 116 13 refl)) (λ no_tab.
+    by_byte (λ t. IsWritten (cond t (Covered 92) (cond (b == 10) (Covered 110) (cond (b == 13) (Covered 114) (cond (b == 9) (Covered 116) (Plain b)))))) b 92 (λ _. (eqb-false 92 10 refl, eqb-false 92 13 refl)) (λ no_backslash.
+    by_byte (λ t. IsWritten (cond t (Covered 110) (cond (b == 13) (Covered 114) (cond (b == 9) (Covered 116) (Plain b))))) b 10 (λ _. (eqb-false 110 10 refl, eqb-false 110 13 refl)) (λ no_feed.
+    by_byte (λ t. IsWritten (cond t (Covered 114) (cond (b == 9) (Covered 116) (Plain b)))) b 13 (λ _. (eqb-false 114 10 refl, eqb-false 114 13 refl)) (λ no_return.
+    by_byte (λ t. IsWritten (cond t (Covered 116) (Plain b))) b 9 (λ _. (eqb-false 116 10 refl, eqb-false 116 13 refl)) (λ no_tab.
     record { no_backslash = no_backslash; no_feed = no_feed; no_return = no_return; no_tab = no_tab }))))
 
 written-name : (b : ℕ) → IsWritten (name_sign b)
-written-name b = by_byte (λ t. IsWritten (cond t (Covered 61) (value_sign b))) b 61 (λ _. (differ 61 10 refl, differ 61 13 refl)) (λ _. written-value b)
+written-name b = by_byte (λ t. IsWritten (cond t (Covered 61) (value_sign b))) b 61 (λ _. (eqb-false 61 10 refl, eqb-false 61 13 refl)) (λ _. written-value b)
 
 written-cover_blank : (s : Sign) → IsWritten s → IsWritten (cover_blank s)
-written-cover_blank (Plain b) h = by_byte (λ t. IsWritten (cond t (Covered 115) (Plain b))) b 32 (λ _. (differ 115 10 refl, differ 115 13 refl)) (λ _. h)
+written-cover_blank (Plain b) h = by_byte (λ t. IsWritten (cond t (Covered 115) (Plain b))) b 32 (λ _. (eqb-false 115 10 refl, eqb-false 115 13 refl)) (λ _. h)
 written-cover_blank (Covered b) h = h
 
 written-cover_mark : (s : Sign) → IsWritten s → IsWritten (cover_mark s)

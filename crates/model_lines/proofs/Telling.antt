@@ -1,14 +1,13 @@
 -- What can be told: each condition that the line of a file or a key of a map must meet holds or doesn't.
 pub use Rattle.model_formats.proofs.Telling.{IsTold, le-told, utf8-told, value-told}
-use Rattle.std.specs.Prelude.{◌≡◌, ◌⊎◌, ℕ, ◌<◌, ◌≤◌, Bool, true, false, List, [], ◌∷◌, length, Option, Some, None, nat_eq}
-use Rattle.std.proofs.Common.{refl, sym, ap, ◌∙◌, arith, inl, inr}
+use Rattle.std.specs.Prelude.{◌≡◌, ◌⊎◌, ℕ, ◌<◌, Bool, true, false, List, [], ◌∷◌, length, Option, Some, None, nat_eq}
+use Rattle.std.proofs.Common.{refl, sym, ap, ◌∙◌, inl, inr}
 use Rattle.std.specs.FinMap as finite
 use Rattle.std.specs.List.{AllByRecursion}
-use Rattle.std.specs.Str.{IsUtf8, is_utf8}
+use Rattle.std.specs.Str.{IsUtf8}
 use Rattle.std.specs.Cmp.Lexicographic.{pointwise}
-use Rattle.std.proofs.lemmas.Bool.{cases_Bool, cases_lt, true≢false}
+use Rattle.std.proofs.lemmas.Bool.{cases_Bool, true≢false}
 use Rattle.std.proofs.lemmas.Slice.Eq.{bytes_eq-Decides}
-use Rattle.std.proofs.lemmas.Str.{IsUtf8-from_is_utf8, is_utf8-from_IsUtf8}
 use Rattle.model_names.specs.ArrayPart.{is_array_like, is_canonical}
 use Rattle.model_names.specs.Name.{Part, Name}
 use Rattle.model_names.specs.Refuses.{Refusal, refusal_of}
@@ -16,7 +15,7 @@ use Rattle.model_names.specs.Spelling.{path}
 use Rattle.model_names.specs.Spells.{Spells, longest_path}
 use Rattle.model_names.specs.WellFormed.{IsPart, IsName}
 use Rattle.model_names.proofs.RefusesLemmas.{refusal_of-spelled, Spells-from_no_refusal}
-use Rattle.model_maps.specs.Entry.{Meta, IsValue, longest_value}
+use Rattle.model_maps.specs.Entry.{Meta}
 
 -- some value has a property, or none does
 abbrev pub IsFound : {A : Type 0} → (A → Type 0) → Type 0

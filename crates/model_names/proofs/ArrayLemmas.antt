@@ -174,7 +174,7 @@ index_spelled ds digits index =
         ]
 
 -- and the decimal of an index is such
-index_decimal : (index : ℕ) → index ≤ last_index → (are_digits (decimal index) ≡ true) × (is_index (decimal index) ≡ true)
+pub index_decimal : (index : ℕ) → index ≤ last_index → (are_digits (decimal index) ≡ true) × (is_index (decimal index) ≡ true)
 index_decimal index within =
     let small : index < 2 ^ 64 = omega (arith, within) in
     let numeral = decimal_is_IsNumeral index small in

@@ -3,15 +3,12 @@ use Rattle.std.specs.Prelude.{◌≡◌, ℕ, ◌<◌, List, length, Option, Non
 use Rattle.std.proofs.Common.{sym, ap, subst, ◌∙◌, arith, get_or}
 use Rattle.std.proofs.lemmas.List.{same_lists}
 use Rattle.std.proofs.lemmas.Option.{slice_get-get_or}
+use Rattle.general_words.proofs.Lists.{found_once}
 use Rattle.model_maps.specs.Entry.{Meta, IsArray}
 use Rattle.model_rules.specs.Types.{kind_of}
 use Rattle.model_rules.specs.Rules.{BreaksType, UnknownType, WrongType, BreaksRange, BadRange, OutOfRange, BreaksEnum, breach}
 use Rattle.model_rules.specs.Range.{IsRange}
 use Rattle.model_rules.specs.declared.breaches.Broken.{Broken}
-
--- what one place holds
-pub found_once : {A : Type 0} {o : Option A} (a b : A) → o ≡ Some a → o ≡ Some b → a ≡ b
-found_once a b p q = cc
 
 not_both : {A : Type 0} {o : Option A} (a : A) → o ≡ None → o ≡ Some a → ⊥
 not_both a p q = cc

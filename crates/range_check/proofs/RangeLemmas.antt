@@ -9,7 +9,7 @@ use Rattle.model_rules.specs.Rules.{BreaksRange, BadRange, OutOfRange}
 use Rattle.model_rules.specs.declared.breaches.Broken.{Broken}
 use Rattle.model_rules.specs.declared.intervals.Interval.{Interval}
 use Rattle.model_rules.proofs.RangeOnce.{IsRange-once}
-use Rattle.model_rules.proofs.RulesOnce.{found_once}
+use Rattle.general_words.proofs.Lists.{found_once}
 
 pub keeps_range : (value : List ℕ) (meta : Meta) (text : List ℕ) (intervals : List Interval) (broken : Broken) → map.get meta (codes "check/range") ≡ Some text → IsRange text intervals → (number : ℤ) × IsNumber value number × LiesIn intervals number → BreaksRange value meta broken → ⊥
 keeps_range value meta text intervals broken get range inside (BadRange t f none e) = none intervals (subst (λ x. IsRange x intervals) (found_once text t get f) range)

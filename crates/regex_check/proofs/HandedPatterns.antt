@@ -5,7 +5,7 @@ use Rattle.std.proofs.Common.{subst}
 use Rattle.model_maps.specs.Entry.{Meta}
 use Rattle.model_rules.specs.Rules.{BreaksPattern, BadPattern, Mismatch, KeepsPattern, longest_pattern}
 use Rattle.model_rules.specs.declared.breaches.Broken.{Broken}
-use Rattle.model_rules.proofs.RulesOnce.{found_once}
+use Rattle.general_words.proofs.Lists.{found_once}
 use Rattle.regex_check.specs.Answers.{Refutes, NoPattern, NoMatch}
 use Rattle.regex_check.specs.Grammar.{Matches, Misses}
 
