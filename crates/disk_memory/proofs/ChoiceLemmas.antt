@@ -227,7 +227,3 @@ torn_bytes-more choice place former bytes so_far next i value within pushed torn
 pub left_of_write-within : (choice : Choice) (at : ℕ) (bytes content : List ℕ) (w : Way) → at ≤ length content → w ≡ way choice → write_by_way w choice at bytes content ≡ left_of_write choice at bytes content
 left_of_write-within choice at bytes content w within is =
     ap (λ x. write_by_way x choice at bytes content) is ∙ sym (cond-true _ _ _ (le-leb at (length content) within))
-
--- and of one that would begin behind it
-pub left_of_write-past : (choice : Choice) (at : ℕ) (bytes content : List ℕ) → length content < at → left_of_write choice at bytes content ≡ content
-left_of_write-past choice at bytes content past = grind (arith, nat_tests)

@@ -3,25 +3,13 @@ use Rattle.std.proofs.Common.{◌≡◌, ◌≢◌, Bool, true, false, cond, Lis
 use Rattle.std.proofs.lemmas.Bool.{cond-true, cond-false}
 use Rattle.disk_memory.specs.declared.changes.Change.{Change}
 use Rattle.disk_memory.specs.declared.changes.Step.{Step}
-use Rattle.disk_memory.specs.Steps.{steps_of, after, after_all, Leaves, LeavesAfter, sure_after, synced}
+use Rattle.disk_memory.specs.Steps.{steps_of, after, after_all, Leaves, LeavesAfter}
 use Rattle.disk_memory.proofs.Named.{is_this_name, is_other_name}
 
 -- what a read gives after one more step
 pub after_all-push : (seen : List ℕ) (steps : List Step) (step : Step) → after_all seen (steps ++ step ∷ []) ≡ after (after_all seen steps) step
 after_all-push seen [] step = refl
 after_all-push seen (first ∷ steps) step = after_all-push (after seen first) steps step
-
--- what is sure after one more step
-pub synced-push : (seen sure : List ℕ) (steps : List Step) (step : Step) → synced seen sure (steps ++ step ∷ []) ≡ sure_after step (after_all seen steps) (synced seen sure steps)
-synced-push seen sure [] step = refl
-synced-push seen sure (first ∷ steps) step = synced-push (after seen first) (sure_after first seen sure) steps step
-
--- a crash behind one more step may leave what came by it
-pub LeavesAfter-push : (seen former : List ℕ) (steps : List Step) (step : Step) (before now : List ℕ) → LeavesAfter seen former steps before → Leaves step (after_all seen steps) before now
-    → LeavesAfter seen former (steps ++ step ∷ []) now
-LeavesAfter-push seen former [] step before now left last = (now, subst (λ c. Leaves step seen c now) left last, refl)
-LeavesAfter-push seen former (first ∷ steps) step before now left last =
-    (left.0, left.1, LeavesAfter-push (after seen first) left.0 steps step before now left.2 last)
 
 -- what a crash behind one more step may leave came by it
 pub LeavesAfter-last : (seen former : List ℕ) (steps : List Step) (step : Step) (now : List ℕ) → LeavesAfter seen former (steps ++ step ∷ []) now

@@ -40,9 +40,6 @@ without_back-last passes [] last h = cond-true (passes last && true) _ _ (and_tr
     and_true t e = ap (λ u. u && true) e
 without_back-last passes (x ∷ xs) last h = ap (λ rest. cond (passes x && (length rest == 0)) [] (x ∷ rest)) (without_back-last passes xs last h)
 
-pub FirstFails-append : {A : Type 0} (passes : A → Bool) (x : A) (xs ys : List A) → FirstFails passes (x ∷ xs) → FirstFails passes ((x ∷ xs) ++ ys)
-FirstFails-append passes x xs ys h = h
-
 pub FirstFails-at_first : {A : Type 0} (passes : A → Bool) (P : A → Type 0) (f : A → A) → ((x : A) → P x → passes (f x) ≡ false) → (xs : List A) → AllByRecursion P xs → FirstFails passes (at_first f xs)
 FirstFails-at_first passes P f fails [] h = tt
 FirstFails-at_first passes P f fails (x ∷ xs) h = fails x h.0

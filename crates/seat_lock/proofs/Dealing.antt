@@ -79,9 +79,6 @@ module _ {E : Type 0} (maker : E → ℕ) where
   owns-right log [] ys a = a
   owns-right log (x ∷ xs) ys a = owns-right log xs ys a.1
 
-  pub gathers-none : HasAll maker [] (idle_view [] [])
-  gathers-none = record { count = refl; seen = (λ k d lt. absurd (omega arith)); own = (λ log owns k d lt. absurd (omega arith)) }
-
   -- one seat more is taken in
   gathers-one : (rest : List (Known E)) (place : TableId) (number : ℕ) (seen own : List E) (v w : View E) → HasAll maker rest v → w ≡ compared_view (joint_view v (idle_view seen ((number, own) ∷ [])))
       → IsPrefix v.seen w.seen → IsPrefix seen w.seen → HasAll maker (knowledge place number seen own ∷ rest) w
