@@ -46,6 +46,11 @@ impl KeySet {
         }
     }
 
+    /// Where the set takes its memory from.
+    pub fn allocator(&self) -> Global {
+        self.keys.allocator()
+    }
+
     /// How many keys there are.
     pub fn len(&self) -> usize
         ensures { result ≡ length (map.entries self.now) }

@@ -1,0 +1,3 @@
+pub mod LowestLemmas
+pub mod FrontLemmas
+pub mod StandsLemmas

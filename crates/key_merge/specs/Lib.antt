@@ -1,0 +1,4 @@
+pub mod Merging
+pub mod Refusing
+pub mod Front
+pub mod Walk
