@@ -30,7 +30,7 @@ item_decides x y = said (same_item x y) (λ h. λ i. (h.0 i, h.1 i)) (λ e. (ap 
 meta_decides : (x y : Meta) → Decides (same_meta x y) (x ≡ y)
 meta_decides x y = said (same_meta x y) (map.same_entries_map x y) (ap map.entries) (pointwise_decides item_decides (map.entries x) (map.entries y))
 
-entry_decides : (x y : Entry) → Decides (same_entry x y) (x ≡ y)
+pub entry_decides : (x y : Entry) → Decides (same_entry x y) (x ≡ y)
 entry_decides x y =
     said (same_entry x y) (λ h. λ i. record { value = h.0 i; meta = h.1 i }) (λ e. (ap (λ z. z.value) e, ap (λ z. z.meta) e)) (both _ _ (bytes_decides x.value y.value) (meta_decides x.meta y.meta))
 

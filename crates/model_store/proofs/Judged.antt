@@ -1,0 +1,118 @@
+-- What follows from a verdict: a set that passed has fronts and fits its files; a set that commits is blocked by nothing and is light.
+use Rattle.std.proofs.Common.{◌≡◌, ◌⊎◌, ℕ, ◌≤◌, Bool, true, false, cond, nat_lt, List, [], ◌∷◌, ◌++◌, Option, Some, None, refl, sym, ap, ◌∙◌, inl, inr, ltb-false}
+use Rattle.std.specs.List.{AllByRecursion}
+use Rattle.std.specs.Option.{option_map, option_or, option_and_then}
+use Rattle.general_words.specs.Saturated.{saturated}
+use Rattle.general_words.specs.Searches.{first_some}
+use Rattle.general_words.proofs.Searches.{none_before, none_behind}
+use Rattle.general_words.proofs.Lists.{some_is}
+use Rattle.model_maps.specs.KeyMap.{KeyMap, weight, heaviest_map}
+use Rattle.model_history.specs.Changes.{after}
+use Rattle.model_history.specs.History as past
+use Rattle.model_history.specs.History.{is_among, history_weight, heaviest_history, first_after}
+use Rattle.model_store.specs.Store.{Store, Formats}
+use Rattle.model_store.specs.Fitting.{Fits, too_heavy, too_long, bad_table, IsStorableAt}
+use Rattle.model_store.specs.Sets.{Prepared}
+use Rattle.model_store.specs.Verdicts.{Late, Same, Conflict, DatabaseFull, HistoryFull, Commits, Follows, IsEarly, IsLate, BreaksFirst, wanted_in, if_unseen, not_fetched, long_value, before_formats, behind_formats, blocking, conflict_at, conflict, commit_of, if_untouched, if_heavy, if_full}
+use Rattle.model_store.proofs.Members.{from_all, nothing_at}
+
+-- where an answer is nothing, no step tells anything
+nothing-follows : {A : Type 0} (o : Option A) (P : Type 0) → Follows o None P → (o ≡ None) × P
+nothing-follows None P h = (refl, h)
+nothing-follows (Some told) P h = absurd cc
+
+-- where no step tells an answer, the rest holds of it
+rest-follows : {A : Type 0} (o : Option A) (answer : A) (P : Type 0) → (o ≡ Some answer → ⊥) → Follows o (Some answer) P → (o ≡ None) × P
+rest-follows None answer P off h = (refl, h)
+rest-follows (Some told) answer P off h = absurd (off (sym h))
+
+-- ---- before the history
+
+pub record HasPassed (formats : Formats) (store : Store) (set : Prepared) : Type 0 where
+  pub fetched : (m : ℕ) → is_among set.involved m ≡ true → (front : ℕ) × (set.fronts m ≡ Some front)
+  pub fits : (m : ℕ) → is_among set.touched m ≡ true → Fits formats store (wanted_in store set) m
+
+seen : (m : ℕ) (o : Option ℕ) → if_unseen m o ≡ None → (front : ℕ) × (o ≡ Some front)
+seen m None e = absurd cc
+seen m (Some front) e = (front, refl)
+
+pub has_passed : (formats : Formats) (store : Store) (set : Prepared) → IsEarly formats store set None → HasPassed formats store set
+has_passed formats store set early =
+    let first = nothing-follows (before_formats store set) _ early in
+    let behind = none_behind (not_fetched set) (option_or (long_value store set) (first_some (too_heavy store (wanted_in store set)) set.touched)) first.0 in
+    let heavy = none_behind (long_value store set) (first_some (too_heavy store (wanted_in store set)) set.touched) behind in
+    passed heavy (none_before (not_fetched set) _ first.0) first.1
+  where
+    passed : first_some (too_heavy store (wanted_in store set)) set.touched ≡ None → not_fetched set ≡ None
+        → BreaksFirst formats store set None ⊎ (AllByRecursion (IsStorableAt formats store (wanted_in store set)) set.touched × (None ≡ behind_formats formats store set)) → HasPassed formats store set
+    passed heavy fetched (inl breaks) = let is = breaks.is in absurd cc
+    passed heavy fetched (inr can) = record {
+      fetched = λ m among. seen m (set.fronts m) (nothing_at (λ n. if_unseen n (set.fronts n)) set.involved m fetched among);
+      fits = λ m among. record {
+        light = nothing_at (too_heavy store (wanted_in store set)) set.touched m heavy among;
+        storable = from_all (IsStorableAt formats store (wanted_in store set)) set.touched m can.0 among;
+        short = nothing_at (too_long formats store (wanted_in store set)) set.touched m (none_before _ (first_some (bad_table store (wanted_in store set)) set.touched) (sym can.1)) among;
+        table = nothing_at (bad_table store (wanted_in store set)) set.touched m (none_behind (first_some (too_long formats store (wanted_in store set)) set.touched) _ (sym can.1)) among;
+      };
+    }
+
+-- ---- by the history
+
+pub record IsCommitted (history : List past.Commit) (keys : KeyMap) (set : Prepared) (commit : past.Commit) : Type 0 where
+  pub free : conflict history set ≡ None
+  pub light : weight (after keys set.changes) ≤ heaviest_map
+  pub not_full : history_weight (history ++ commit_of set ∷ []) ≤ heaviest_history
+  pub is : commit ≡ commit_of set
+
+abbrev is_commit : Late → Bool
+is_commit (Commits commit aside) = true
+is_commit late = false
+
+no_same : (touched : List ℕ) (n : ℕ) (late : Late) → if_untouched touched n ≡ Some late → is_commit late ≡ false
+no_same [] n late e = ap is_commit (sym (some_is (Same n) late e))
+no_same (m ∷ touched) n late e = absurd cc
+
+no_conflict : (history : List past.Commit) (fronts : ℕ → Option ℕ) (ms : List ℕ) (late : Late) → first_some (conflict_at history fronts) ms ≡ Some late → is_commit late ≡ false
+no_conflict history fronts [] late e = absurd cc
+no_conflict history fronts (m ∷ ms) late e = elim (blocking history fronts m) as (λ (o : Option ℕ). option_or (option_map (Conflict m) o) (first_some (conflict_at history fronts) ms) ≡ Some late → is_commit late ≡ false) [
+  | None ↦ λ h. no_conflict history fronts ms late h
+  | Some by ↦ λ h. ap is_commit (sym (some_is (Conflict m by) late h))
+] e
+
+no_limit : (b : Bool) (told late : Late) → is_commit told ≡ false → cond b (Some told) None ≡ Some late → is_commit late ≡ false
+no_limit true told late off e = ap is_commit (sym (some_is told late e)) ∙ off
+no_limit false told late off e = absurd cc
+
+within : (n limit : ℕ) (told : Late) → cond (nat_lt limit n) (Some told) None ≡ None → n ≤ limit
+within n limit told e = elim (nat_lt limit n) as (λ b. nat_lt limit n ≡ b → cond b (Some told) None ≡ None → n ≤ limit) [
+  | true ↦ λ is h. absurd cc
+  | false ↦ λ is h. ltb-false limit n is
+] refl e
+
+pub is_committed : (history : List past.Commit) (keys : KeyMap) (set : Prepared) (commit : past.Commit) (aside : ℕ) → IsLate history keys set (Commits commit aside) → IsCommitted history keys set commit
+is_committed history keys set commit aside late =
+    let touched = rest-follows (if_untouched set.touched set.aside) (Commits commit aside) _ (λ e. let off : is_commit (Commits commit aside) ≡ false = no_same set.touched set.aside (Commits commit aside) e in absurd cc) late in
+    let free = rest-follows (conflict history set) (Commits commit aside) _ (λ e. let off : is_commit (Commits commit aside) ≡ false = no_conflict history set.fronts set.touched (Commits commit aside) e in absurd cc) touched.1 in
+    let w : ℕ = weight (after keys set.changes) in
+    let light = rest-follows (if_heavy w) (Commits commit aside) _ (λ e. let off : is_commit (Commits commit aside) ≡ false = no_limit (nat_lt heaviest_map w) (DatabaseFull (saturated w)) (Commits commit aside) refl e in absurd cc) free.1 in
+    let h : ℕ = history_weight (history ++ commit_of set ∷ []) in
+    let full = rest-follows (if_full h) (Commits commit aside) _ (λ e. let off : is_commit (Commits commit aside) ≡ false = no_limit (nat_lt heaviest_history h) (HistoryFull (saturated h)) (Commits commit aside) refl e in absurd cc) light.1 in
+    record {
+      free = free.0;
+      light = within w heaviest_map (DatabaseFull (saturated w)) light.0;
+      not_full = within h heaviest_history (HistoryFull (saturated h)) full.0;
+      is = same commit (commit_of set) aside set.aside full.1;
+    }
+  where
+    same : (c d : past.Commit) (n k : ℕ) → Commits c n ≡ Commits d k → c ≡ d
+    same c d n k e = cc
+
+-- a mount of a set that commits is blocked by nothing
+pub not_blocked : (history : List past.Commit) (set : Prepared) (m front : ℕ) → conflict history set ≡ None → is_among set.touched m ≡ true → set.fronts m ≡ Some front → first_after history m front ≡ None
+not_blocked history set m front free among is = by (first_after history m front) refl (nothing_at (conflict_at history set.fronts) set.touched m free among)
+  where
+    by : (o : Option ℕ) → first_after history m front ≡ o → conflict_at history set.fronts m ≡ None → first_after history m front ≡ None
+    by None e none = e
+    by (Some n) e none =
+        let told : conflict_at history set.fronts m ≡ Some (Conflict m n) = ap (λ o. option_map (Conflict m) (option_and_then (first_after history m) o)) is ∙ ap (option_map (Conflict m)) e in
+        absurd cc

@@ -1,0 +1,10 @@
+pub mod Store
+pub mod Fitting
+pub mod Records
+pub mod Sets
+pub mod Verdicts
+pub mod Legal
+pub mod Events
+pub mod Worlds
+pub mod Cores
+pub mod Promise

@@ -1,0 +1,41 @@
+-- What an opening fixes: the mounts, which of them are bad, the keys that each file keeps for other mounts, the map of all visible keys,
+-- and the keys in `proc` of each handle. (After Elektra's page on mounting.)
+use Rattle.std.specs.Prelude.{ℕ, Bool, List, map as over}
+use Rattle.std.specs.List.{list_any}
+use Rattle.kdb_outside.specs.declared.kinds.Kind.{Kind}
+use Rattle.key_set.specs.WithAll.{with_all}
+use Rattle.model_names.specs.Name.{Name}
+use Rattle.model_maps.specs.KeyMap.{KeyMap}
+use Rattle.mount_table.specs.declared.mounts.Mount.{Mount}
+use Rattle.mounted_files.specs.Whole.{relative}
+use Rattle.set_split.specs.Involved.{owns}
+
+-- mounts are named by their numbers
+pub record Store : Type 0 where
+  pub mounts : List Mount
+  pub is_bad : ℕ → Bool
+  pub shadow : ℕ → KeyMap
+  pub start : KeyMap
+  pub procs : ℕ → KeyMap
+
+-- the mountpoints of some mounts
+abbrev pub points_at : List Mount → List Name
+points_at mounts = over (λ mount. mount.at) mounts
+
+-- those of a store
+abbrev pub points_of : Store → List Name
+points_of store = points_at store.mounts
+
+-- one of some mounts owns a name
+abbrev pub is_owned : List Name → List ℕ → Name → Bool
+is_owned points mounts name = list_any (λ m. owns points m name) mounts
+
+-- what formats are to a store: the text of a map, which maps a file can hold, and at which key another map breaks
+pub record Formats : Type 1 where
+  pub text : Kind → KeyMap → List ℕ
+  pub IsStorable : Kind → KeyMap → Type 0
+  pub BreaksAt : Kind → KeyMap → Name → Type 0
+
+-- what the file of a mount is to hold where some keys are wanted for it: these and its shadow, under relative names
+abbrev pub contents : Store → ℕ → Mount → KeyMap → KeyMap
+contents store m mount wanted = relative mount.at (with_all wanted (store.shadow m))

@@ -1,0 +1,112 @@
+-- What comes of a set: the first of its refusals, nothing to do, or a commit. A relation, since which keys a format can hold is one. (After
+-- Elektra's kdbSet, whose conflict is another's change since the own get; the order and the limits are this project's own.)
+use Rattle.std.specs.Prelude.{◌≡◌, ◌⊎◌, ℕ, nat_lt, if◌then◌else◌, List, [], ◌∷◌, ◌++◌, Option, Some, None, option_and_then}
+use Rattle.std.specs.FinMap as map
+use Rattle.std.specs.List.{AllByRecursion}
+use Rattle.std.specs.Option.{option_map, option_or}
+use Rattle.general_words.specs.Saturated.{saturated}
+use Rattle.general_words.specs.Searches.{first_some}
+use Rattle.model_names.specs.Name.{Name}
+use Rattle.model_maps.specs.KeyMap.{KeyMap, weight, heaviest_map}
+use Rattle.model_history.specs.Changes.{after}
+use Rattle.model_history.specs.History.{Commit, first_after, history_weight, heaviest_history}
+use Rattle.mounted_files.specs.Setting.{first_long_in}
+use Rattle.model_store.specs.Store.{Store, Formats, points_of}
+use Rattle.model_store.specs.Fitting.{Early, NotFetched, ValueTooLong, NotStorable, too_heavy, too_long, bad_table, IsStorableAt, BreaksAtMount}
+use Rattle.model_store.specs.Records.{Fronts}
+use Rattle.model_store.specs.Sets.{Prepared, wants}
+
+-- an answer is what a step tells, and where it tells nothing something else holds of it
+abbrev pub Follows : {A : Type 0} → Option A → Option A → Type 0 → Type 0
+Follows (Some told) answer Otherwise = answer ≡ Some told
+Follows None answer Otherwise = Otherwise
+
+-- ---- before the history is asked
+
+abbrev pub wanted_in : Store → Prepared → ℕ → KeyMap
+wanted_in store set = wants (points_of store) set.keys
+
+-- the first involved mount that the handle has not seen
+abbrev pub if_unseen : ℕ → Option ℕ → Option Early
+if_unseen m None = Some (NotFetched m)
+if_unseen m (Some front) = None
+
+abbrev pub not_fetched : Prepared → Option Early
+not_fetched set = first_some (λ m. if_unseen m (set.fronts m)) set.involved
+
+-- the first text that is too long, of the keys that an involved mount owns
+abbrev pub long_value : Store → Prepared → Option Early
+long_value store set = option_map (λ long. ValueTooLong long.0 long.1) (first_long_in (points_of store) set.involved set.keys)
+
+-- what is refused before the formats are asked: a mount that wasn't fetched, a text that is too long, a file that is too heavy
+abbrev pub before_formats : Store → Prepared → Option Early
+before_formats store set = option_or (not_fetched set) (option_or (long_value store set) (first_some (too_heavy store (wanted_in store set)) set.touched))
+
+-- the first touched mount whose format can't hold what its file is to hold
+pub record BreaksFirst (formats : Formats) (store : Store) (set : Prepared) (answer : Option Early) : Type 0 where
+  pub before : List ℕ
+  pub mount : ℕ
+  pub behind : List ℕ
+  pub stand : set.touched ≡ before ++ mount ∷ behind
+  pub storable : AllByRecursion (IsStorableAt formats store (wanted_in store set)) before
+  pub name : Name
+  pub breaks : BreaksAtMount formats store (wanted_in store set) mount name
+  pub is : answer ≡ Some (NotStorable mount name)
+
+-- what is refused of files that their formats can hold: a text that is too long, and keys that make no table
+abbrev pub behind_formats : Formats → Store → Prepared → Option Early
+behind_formats formats store set = option_or (first_some (too_long formats store (wanted_in store set)) set.touched) (first_some (bad_table store (wanted_in store set)) set.touched)
+
+-- the first refusal of a set, or none
+abbrev pub IsEarly : Formats → Store → Prepared → Option Early → Type 0
+IsEarly formats store set answer =
+    Follows (before_formats store set) answer
+    (BreaksFirst formats store set answer
+    ⊎ (AllByRecursion (IsStorableAt formats store (wanted_in store set)) set.touched × (answer ≡ behind_formats formats store set)))
+
+-- ---- blocking commits
+
+-- the commit that blocks a mount: the first behind the front of the mount that touches it
+abbrev pub blocking : List Commit → Fronts → ℕ → Option ℕ
+blocking history fronts m = option_and_then (first_after history m) (fronts m)
+
+-- ---- what the history decides
+
+-- no mount is touched, with the number of keys left aside; a commit blocks a mount; the map after the set, or the history with it, weighs too
+-- much; or the set is a commit, with the number of keys left aside
+pub data Late : Type 0 where
+  Same : ℕ → Late
+  Conflict : ℕ → ℕ → Late
+  DatabaseFull : ℕ → Late
+  HistoryFull : ℕ → Late
+  Commits : Commit → ℕ → Late
+
+-- the commit of a set
+abbrev pub commit_of : Prepared → Commit
+commit_of set = record { handle = set.handle; touched = set.touched; changes = map.entries set.changes }
+
+abbrev pub if_untouched : List ℕ → ℕ → Option Late
+if_untouched [] aside = Some (Same aside)
+if_untouched (m ∷ mounts) aside = None
+
+-- the lowest touched mount that a commit blocks
+abbrev pub conflict_at : List Commit → Fronts → ℕ → Option Late
+conflict_at history fronts m = option_map (Conflict m) (blocking history fronts m)
+
+abbrev pub conflict : List Commit → Prepared → Option Late
+conflict history set = first_some (conflict_at history set.fronts) set.touched
+
+abbrev pub if_heavy : ℕ → Option Late
+if_heavy n = if nat_lt heaviest_map n then Some (DatabaseFull (saturated n)) else None
+
+abbrev pub if_full : ℕ → Option Late
+if_full n = if nat_lt heaviest_history n then Some (HistoryFull (saturated n)) else None
+
+-- what becomes of a set that passed, by the history and the present map. The check rules will stand between the conflict and the weights
+abbrev pub IsLate : List Commit → KeyMap → Prepared → Late → Type 0
+IsLate history keys set answer =
+    Follows (if_untouched set.touched set.aside) (Some answer)
+    (Follows (conflict history set) (Some answer)
+    (Follows (if_heavy (weight (after keys set.changes))) (Some answer)
+    (Follows (if_full (history_weight (history ++ commit_of set ∷ []))) (Some answer)
+    (answer ≡ Commits (commit_of set) set.aside))))
