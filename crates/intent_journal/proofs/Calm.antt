@@ -12,7 +12,7 @@ use Rattle.intent_journal.specs.States.{IsSettled, IsDoubtful, IsFound, IsCalm}
 use Rattle.intent_journal.specs.Moments.{LeavesElseOnly, LeavesMeanwhile, IsImageOr}
 use Rattle.intent_journal.specs.BadJournals.{open_entry, files_with, doubt_with, opened_files, opened_doubt}
 use Rattle.intent_journal.proofs.Meanwhile.{else_weaker, else_both, meanwhile}
-use Rattle.intent_journal.proofs.Passages.{GivesEither, shut_or_holds, with_entries-same, either_same, IsDoubtful-from, IsSettled-doubt, IsSettled-only}
+use Rattle.intent_journal.proofs.Passages.{GivesEither, shut_or_holds, with_entries-same, either_same, IsDoubtful-from, IsDoubtful-only, IsSettled-doubt, IsSettled-only}
 use Rattle.intent_journal.proofs.ReadLemmas.{IsImage-kept}
 
 cond_open : (b : Bool) (o : Option (List FileText)) (entry : List FileText) → cond b o None ≡ Some entry → (b ≡ true) × (o ≡ Some entry)
@@ -195,3 +195,14 @@ calm_then seen leaves files doubt before between past mid since calm time later 
     (else_both before between past mid since (HasOnly (IsEither files doubt))
     (else_weaker before past mid (IsImage leaves) (HasOnly (IsEither files doubt)) time (calm_only seen leaves files doubt calm)) later next.earlier)
     (λ image was. calm_only seen leaves files doubt calm image (now image was))
+
+-- a calm disk without an open entry is calm with the files that are read and the entry that stands in its journal, and stays so while it is read
+pub calm_at_read : (seen now : Image) (old new : List ℕ → List ℕ → Type 0) (files : Image) (doubt : Option (List FileText)) → IsCalm seen old files doubt → open_entry (seen journal_name) ≡ None
+    → now ≡ seen → KeepsImages old new → IsCalm now new (opened_files seen) (opened_doubt seen)
+calm_at_read seen now old new files doubt calm none same kept =
+    calm_kept seen now old new (opened_files seen) (opened_doubt seen) same kept (record {
+      same = calm.same;
+      journal = calm.journal;
+      not_broken = calm.not_broken;
+      outcomes = λ image outcome is has. (IsDoubtful-only old (opened_files seen) (opened_doubt seen) (calm_read_doubt seen old files doubt calm none) image is).each outcome has;
+    })

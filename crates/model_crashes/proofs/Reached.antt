@@ -35,14 +35,13 @@ IsBegun-before (Some entry) = search rules
 pub begun_last : (begun : List Begun) (number : ℕ) (entry : List FileText) → Contains (begun ++ (number, entry) ∷ []) (number, entry)
 begun_last begun number entry = Contains-append_right begun ((number, entry) ∷ []) (number, entry) (search rules)
 
--- what was reached stays reached
-pub reached_more : (files : Image) (commits next : List (List FileText)) (begun more : List Begun) (image : Image) → IsReached files commits begun image
-    → IsReached files (commits ++ next) (begun ++ more) image
-reached_more files commits next begun more image reached = record {
+-- what was reached stays reached: behind more commits, and where more was begun
+pub reached_next : (files : Image) (commits next : List (List FileText)) (begun : List Begun) (image : Image) → IsReached files commits begun image → IsReached files (commits ++ next) begun image
+reached_next files commits next begun image reached = record {
   number = reached.number;
   within = let within = reached.within in omega (arith, length-append commits next);
   doubt = reached.doubt;
-  was_begun = IsBegun-more begun more reached.number reached.doubt reached.was_begun;
+  was_begun = reached.was_begun;
   is = subst (λ (prefix : List (List FileText)). HasOnly (IsEither (with_entries files prefix) reached.doubt) image)
       (sym (take-append-le reached.number commits next reached.within)) reached.is;
 }
@@ -55,6 +54,10 @@ reached_begun files commits begun more image reached = record {
   was_begun = IsBegun-more begun more reached.number reached.doubt reached.was_begun;
   is = reached.is;
 }
+
+pub reached_more : (files : Image) (commits next : List (List FileText)) (begun more : List Begun) (image : Image) → IsReached files commits begun image
+    → IsReached files (commits ++ next) (begun ++ more) image
+reached_more files commits next begun more image reached = reached_next files commits next (begun ++ more) image (reached_begun files commits begun more image reached)
 
 -- an image of now is reached, with all commits
 pub reached_now : (files : Image) (commits : List (List FileText)) (begun : List Begun) (doubt : Option (List FileText)) (image : Image) → IsBegun begun (length commits) doubt

@@ -1,5 +1,5 @@
 -- A journal at rest between the phases.
-use Rattle.std.proofs.Common.{◌≡◌, ◌≢◌, ◌⊎◌, ℕ, List, true, inl, inr, Option, Some, None, Result, Ok, Err, OnOk, OnErr, refl, sym, subst, ◌∙◌}
+use Rattle.std.proofs.Common.{◌≡◌, ◌≢◌, ◌⊎◌, ℕ, List, true, inl, inr, Option, Some, Result, Ok, Err, OnOk, OnErr, refl, sym, subst, ◌∙◌}
 use Rattle.kdb_outside.specs.declared.disks.Disk.{Ghosts}
 use Rattle.kdb_outside.specs.declared.faults.Failed.{Failed}
 use Rattle.kdb_outside.specs.Frames.{OnlyReads}
@@ -11,7 +11,7 @@ use Rattle.intent_journal.specs.declared.states.State.TheVariants.{Clean, Doubt,
 use Rattle.intent_journal.specs.Journal.{JournalValue}
 use Rattle.intent_journal.specs.Moments.{LeavesOnly}
 use Rattle.intent_journal.specs.Outcomes.{with_entry, HasOnly, IsOutcome, IsEither}
-use Rattle.intent_journal.specs.States.{IsSettled, IsDoubtful, IsLagging}
+use Rattle.intent_journal.specs.States.{IsSettled, IsDoubtful}
 use Rattle.intent_journal.proofs.Passages.{IsSettled-doubt, IsSettled-only, IsDoubtful-only, IsLagging-only}
 use Rattle.model_crashes.proofs.Moments.{only_follows}
 use Rattle.model_crashes.proofs.Reached.{only_weaker}
@@ -106,3 +106,9 @@ rests_read g old new files doubt reads state entry rests = record {
   doubtful = λ is. doubtful_kept (g.may_leave old.disk) (g.may_leave new.disk) files doubt (reads.images rests.tells) (rests.doubtful (sym state ∙ is));
   lag = λ is. behind_kept (g.may_leave old.disk) (g.may_leave new.disk) old.entry new.entry files entry (reads.images rests.tells) (rests.lag (sym state ∙ is));
 }
+
+-- behind a closing, settled or not, each image stands for the files, or for these with the doubt
+pub closed_only : {D : Type 0} (g : Ghosts D) (journal : JournalValue D) (files : Image) (doubt : Option (List FileText)) (r : Result Unit Failed) → OnOk r (IsSettled (g.may_leave journal.disk) files)
+    → OnErr r (IsResting g journal files doubt) → (image : Image) → IsImage (g.may_leave journal.disk) image → HasOnly (IsEither files doubt) image
+closed_only g journal files doubt (Ok x) settled rests image is = only_files files image doubt (IsSettled-only (g.may_leave journal.disk) files settled image is)
+closed_only g journal files doubt (Err e) settled rests image is = resting_only g journal files doubt rests image is

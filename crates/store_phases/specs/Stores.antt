@@ -1,5 +1,5 @@
 -- A store over a journal, seen as a run on the disk as its opening left it. This project's own.
-use Rattle.std.specs.Prelude.{◌≡◌, ℕ, ◌≤◌, List, length}
+use Rattle.std.specs.Prelude.{◌≡◌, ◌≤◌, length}
 use Rattle.kdb_outside.specs.declared.disks.Disk.{Ghosts}
 use Rattle.kdb_outside.specs.Faults.{HasRisen}
 use Rattle.intent_journal.specs.declared.states.State.TheVariants.{Doubt, Lag}

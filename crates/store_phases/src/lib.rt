@@ -2,5 +2,7 @@
 #![tactic(auto)]
 
 mod phases;
+mod runs;
 
 pub use phases::{begin, bring_in, make_clean, store};
+pub use runs::{close, commit, open, read};

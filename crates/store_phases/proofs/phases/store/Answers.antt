@@ -1,5 +1,4 @@
 use Rattle.std.proofs.Common.{Some, inl, inr, rules, ◌∙◌}
-use Rattle.kdb_outside.specs.Images.{Image}
 use Rattle.intent_journal.specs.Outcomes.{with_entry, HasOnly, IsOutcome, IsEither}
 use Rattle.intent_journal.specs.States.{IsSettled, IsLagging}
 use Rattle.intent_journal.specs.Moments.{LeavesOnly}
