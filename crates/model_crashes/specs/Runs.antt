@@ -60,7 +60,3 @@ after_begun run entry later = record run { begun = run.begun ++ (length run.comm
 abbrev pub after_commit : Run → List FileText → Run
 after_commit run entry =
     record run { commits = run.commits ++ entry ∷ []; begun = run.begun ++ (length run.commits, entry) ∷ []; doubt = None }
-
--- nothing is in doubt any more
-abbrev pub after_settling : Run → Run
-after_settling run = record run { doubt = None }
