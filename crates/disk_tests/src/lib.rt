@@ -1,6 +1,7 @@
 //! Tests of the public calls of the outside, of disks, files and the journal: of what no contract says, each call with ample memory.
 #![tactic(auto)]
 
+mod crashes;
 #[cfg(test)]
 mod file_names;
 #[cfg(test)]
@@ -21,3 +22,5 @@ mod readers;
 mod whole_files;
 #[cfg(test)]
 mod writers;
+
+pub use crashes::{Ended, two_commits};

@@ -1,17 +1,18 @@
 -- What the opening of a calm disk finds and leaves.
-use Rattle.std.proofs.Common.{◌≡◌, ℕ, ◌≤◌, List, Bool, true, false, cond, inl, inr, Option, Some, None, refl, sym, ap, ◌∙◌, subst, arith}
+use Rattle.std.proofs.Common.{◌≡◌, ℕ, ◌≤◌, List, [], ◌∷◌, Bool, true, false, cond, inl, inr, Option, Some, None, bytes_eq, refl, sym, ap, ◌∙◌, subst, arith}
 use Rattle.std.specs.Prelude.{◌==◌}
 use Rattle.std.proofs.lemmas.Bool.{eqb-true, eq-eqb}
+use Rattle.std.proofs.lemmas.Slice.Eq.{bytes_eq-Decides}
 use Rattle.kdb_outside.specs.Images.{Image, IsImage, KeepsImages}
 use Rattle.journal_codec.specs.declared.files.FileText.{FileText}
 use Rattle.journal_codec.specs.Entry.{journal_name}
-use Rattle.intent_journal.specs.JournalBytes.{gate, entry_in, IsOpen}
-use Rattle.intent_journal.specs.Outcomes.{content_in, with_entry, SameFiles, HasOnly, IsOutcome, IsEither}
+use Rattle.intent_journal.specs.JournalBytes.{gate, entry_at, entry_in, IsOwnFile, IsOpen}
+use Rattle.intent_journal.specs.Outcomes.{content_in, with_entry, with_entries, SameFiles, StandsAlone, HasOnly, IsOutcome, IsEither}
 use Rattle.intent_journal.specs.States.{IsSettled, IsDoubtful, IsFound, IsCalm}
 use Rattle.intent_journal.specs.Moments.{LeavesElseOnly, LeavesMeanwhile, IsImageOr}
 use Rattle.intent_journal.specs.BadJournals.{open_entry, files_with, doubt_with, opened_files, opened_doubt}
 use Rattle.intent_journal.proofs.Meanwhile.{else_weaker, else_both, meanwhile}
-use Rattle.intent_journal.proofs.Passages.{IsSettled-doubt}
+use Rattle.intent_journal.proofs.Passages.{GivesEither, shut_or_holds, with_entries-same, either_same, IsDoubtful-from, IsDoubtful-only, IsSettled-doubt, IsSettled-only}
 use Rattle.intent_journal.proofs.ReadLemmas.{IsImage-kept}
 
 cond_open : (b : Bool) (o : Option (List FileText)) (entry : List FileText) → cond b o None ≡ Some entry → (b ≡ true) × (o ≡ Some entry)
@@ -44,17 +45,12 @@ calm_found seen leaves files doubt entry calm is file ne none =
     let same : entry ≡ other = cc in
     subst (λ (e : List FileText). content_in e file ≡ None) same none)
 
--- files that are the same are among the same
-either_same : (files outcome other : Image) (doubt : Option (List FileText)) → SameFiles other outcome → IsEither files doubt outcome → IsEither files doubt other
-either_same files outcome other doubt same (inl is) = inl (λ file ne. same file ne ∙ is file ne)
-either_same files outcome other doubt same (inr brings) = inr (brings.0, brings.1, λ file ne. same file ne ∙ brings.2 file ne)
-
 -- and what it leaves then is one of the outcomes
 pub calm_recovered : (seen : Image) (leaves : List ℕ → List ℕ → Type 0) (files : Image) (doubt : Option (List FileText)) (entry : List FileText) → IsCalm seen leaves files doubt
     → open_entry (seen journal_name) ≡ Some entry → IsImage leaves seen → (image : Image) → HasOnly (IsOutcome (with_entry seen entry)) image → HasOnly (IsEither files doubt) image
 calm_recovered seen leaves files doubt entry calm is seen_is image only =
     let opened = IsOpen-open_entry (seen journal_name) entry is in
-    let brought = calm.outcomes seen (with_entry seen entry) seen_is (inr (entry, record { not_closed = λ closed. let open_too = opened.gate_is in omega arith; body = opened.body }, λ file ne. refl)) in
+    let brought = calm.outcomes seen (with_entry seen entry) seen_is (entry ∷ [], record { not_closed = λ closed. let open_too = opened.gate_is in omega arith; body = opened.body }, λ file ne. refl) in
     record { not_broken = only.not_broken; each = λ outcome has. either_same files (with_entry seen entry) outcome doubt (only.each outcome has) brought }
 
 -- a disk that was only read is as calm as before
@@ -72,11 +68,103 @@ calm_kept seen now old new files doubt same kept calm =
       outcomes = λ image outcome is has. calm.outcomes image outcome (IsImage-kept old new kept image is) has;
     })
 
--- a recovered journal is settled
-pub calm_settled : (seen : Image) (leaves : List ℕ → List ℕ → Type 0) (entry : List FileText) → open_entry (seen journal_name) ≡ Some entry → IsSettled leaves (with_entry seen entry)
+-- another journal in the place of the one that is read
+abbrev put_journal : Image → List ℕ → Image
+put_journal seen c file = cond (bytes_eq file journal_name) c (seen file)
+
+put_leaves : (leaves : List ℕ → List ℕ → Type 0) (seen : Image) (c file : List ℕ) (b : Bool) → bytes_eq file journal_name ≡ b → IsImage leaves seen → leaves journal_name c → leaves file (cond b c (seen file))
+put_leaves leaves seen c file true here is left = subst (λ (n : List ℕ). leaves n c) (sym ((bytes_eq-Decides file journal_name).0 here)) left
+put_leaves leaves seen c file false other is left = is file
+
+put_same : (seen : Image) (c file : List ℕ) (b : Bool) → bytes_eq file journal_name ≡ b → ¬ IsOwnFile file → cond b c (seen file) ≡ seen file
+put_same seen c file true here own = absurd (own ((bytes_eq-Decides file journal_name).0 here))
+put_same seen c file false other own = refl
+
+none_open : (seen : Image) (file : List ℕ) → open_entry (seen journal_name) ≡ None → (entry : List FileText) → IsOpen entry (seen journal_name) → content_in entry file ≡ None
+none_open seen file none entry opened = let some = open_entry-IsOpen (seen journal_name) entry opened in absurd (cc)
+
+-- with no open entry, what a calm disk has in doubt is in doubt over its files
+calm_own : (seen : Image) (leaves : List ℕ → List ℕ → Type 0) (files : Image) (doubt : Option (List FileText)) → IsCalm seen leaves files doubt
+    → open_entry (seen journal_name) ≡ None → IsImage leaves seen → SameFiles files seen → IsDoubtful leaves files doubt
+calm_own seen leaves files doubt calm none seen_is same = record {
+  same = λ file own c is. calm.same file own (none_open seen file none) c is ∙ sym (same file own);
+  not_broken = calm.not_broken;
+  outcomes = λ c entries is reads.
+      let image = put_journal seen c in
+      let outcome = with_entries image entries in
+      either_same files outcome (with_entries files entries) doubt
+      (λ file own. with_entries-same entries files image file (same file own ∙ sym (put_same seen c file (bytes_eq file journal_name) refl own)))
+      (calm.outcomes image outcome (λ file. put_leaves leaves seen c file (bytes_eq file journal_name) refl seen_is is) (entries, reads, λ file own. refl));
+}
+
+gives_read : (seen : Image) (leaves : List ℕ → List ℕ → Type 0) (files : Image) (doubt : Option (List FileText)) (c : List ℕ) (entry : List FileText) → IsCalm seen leaves files doubt → leaves journal_name c
+    → entry_in c ≡ Some entry → GivesEither seen (entry_in (seen journal_name)) c
+gives_read seen leaves files doubt c entry calm is some = elim calm.journal [
+  | inl rest ↦ inr (entry, some, inr (entry, sym (ap entry_at ((rest c is).1)) ∙ some, λ file own. refl))
+  | inr (inl closed) ↦ inl (inr (closed c is))
+  | inr (inr short) ↦ inl (inl (short c is))
+]
+
+-- and so is the entry that stands in its journal
+calm_read : (seen : Image) (leaves : List ℕ → List ℕ → Type 0) (files : Image) (doubt : Option (List FileText)) → IsCalm seen leaves files doubt
+    → open_entry (seen journal_name) ≡ None → IsDoubtful leaves seen (entry_in (seen journal_name))
+calm_read seen leaves files doubt calm none =
+    IsDoubtful-from leaves seen (entry_in (seen journal_name)) (λ file own. calm.same file own (none_open seen file none)) (λ c is. elim (shut_or_holds c (calm.not_broken c is)) [
+      | inl shut ↦ inl shut
+      | inr holds ↦ gives_read seen leaves files doubt c holds.0 calm is holds.1
+    ])
+
+pub calm_read_doubt : (seen : Image) (leaves : List ℕ → List ℕ → Type 0) (files : Image) (doubt : Option (List FileText)) → IsCalm seen leaves files doubt
+    → open_entry (seen journal_name) ≡ None → IsDoubtful leaves (opened_files seen) (opened_doubt seen)
+calm_read_doubt seen leaves files doubt calm none =
+    subst (λ (o : Option (List FileText)). IsDoubtful leaves (files_with o seen) (doubt_with o (seen journal_name))) (sym none) (calm_read seen leaves files doubt calm none)
+
+pub calm_own_doubt : (seen : Image) (leaves : List ℕ → List ℕ → Type 0) (files : Image) (doubt : Option (List FileText)) → IsCalm seen leaves files doubt
+    → open_entry (seen journal_name) ≡ None → IsImage leaves seen → SameFiles files (opened_files seen) → IsDoubtful leaves files doubt
+calm_own_doubt seen leaves files doubt calm none seen_is same =
+    calm_own seen leaves files doubt calm none seen_is (subst (λ (o : Option (List FileText)). SameFiles files (files_with o seen)) none same)
+
+-- the files that the opening leaves are those of the calm disk, or those with its entry
+stands_read : (seen : Image) (leaves : List ℕ → List ℕ → Type 0) (files : Image) (doubt : Option (List FileText)) → IsCalm seen leaves files doubt
+    → open_entry (seen journal_name) ≡ None → IsImage leaves seen → StandsAlone (seen journal_name)
+stands_read seen leaves files doubt calm none seen_is = elim (shut_or_holds (seen journal_name) (calm.not_broken (seen journal_name) (seen_is journal_name))) [
+  | inl shut ↦ inl shut
+  | inr holds ↦ inr (λ opened. let some = open_entry-IsOpen (seen journal_name) holds.0 (record { gate_is = opened; body = holds.1 }) in absurd (cc), holds)
+]
+
+either_read : (seen : Image) (leaves : List ℕ → List ℕ → Type 0) (files : Image) (doubt found : Option (List FileText)) → open_entry (seen journal_name) ≡ found → IsCalm seen leaves files doubt → IsImage leaves seen
+    → IsEither files doubt (files_with found seen)
+either_read seen leaves files doubt None is calm seen_is = calm.outcomes seen seen seen_is ([], stands_read seen leaves files doubt calm is seen_is, λ file own. refl)
+either_read seen leaves files doubt (Some entry) is calm seen_is =
+    let opened = IsOpen-open_entry (seen journal_name) entry is in
+    calm.outcomes seen (with_entry seen entry) seen_is (entry ∷ [], record { not_closed = λ closed. let open_too = opened.gate_is in omega arith; body = opened.body }, λ file own. refl)
+
+pub calm_files : (seen : Image) (leaves : List ℕ → List ℕ → Type 0) (files : Image) (doubt : Option (List FileText)) → IsCalm seen leaves files doubt → IsImage leaves seen → IsEither files doubt (opened_files seen)
+calm_files seen leaves files doubt calm seen_is = either_read seen leaves files doubt (open_entry (seen journal_name)) refl calm seen_is
+
+-- a settled disk is calm
+pub settled_calm : (seen : Image) (leaves : List ℕ → List ℕ → Type 0) (settled files : Image) (doubt : Option (List FileText)) → IsSettled leaves settled → IsImage leaves seen → IsEither files doubt settled
+    → IsCalm seen leaves files doubt
+settled_calm seen leaves settled files doubt state seen_is either = record {
+  same = λ file own unnamed c is. state.same file own c is ∙ sym (state.same file own (seen file) (seen_is file));
+  journal = inr (inl (λ c is. (state.closed c is).gate_is));
+  not_broken = λ c is broken. broken.not_closed (state.closed c is).gate_is;
+  outcomes = λ image outcome is has. either_same files settled outcome doubt ((IsSettled-only leaves settled state image is).each outcome has) either;
+}
+
+-- what a recovered journal is
+pub recovered_files : (seen : Image) (leaves : List ℕ → List ℕ → Type 0) (entry : List FileText) → open_entry (seen journal_name) ≡ Some entry → IsSettled leaves (with_entry seen entry)
+    → IsSettled leaves (opened_files seen)
+recovered_files seen leaves entry is state = subst (λ (o : Option (List FileText)). IsSettled leaves (files_with o seen)) (sym is) state
+
+pub recovered_doubt : (seen : Image) (leaves : List ℕ → List ℕ → Type 0) (entry : List FileText) → open_entry (seen journal_name) ≡ Some entry → IsSettled leaves (with_entry seen entry)
     → IsDoubtful leaves (opened_files seen) (opened_doubt seen)
-calm_settled seen leaves entry is state =
+recovered_doubt seen leaves entry is state =
     subst (λ (o : Option (List FileText)). IsDoubtful leaves (files_with o seen) (doubt_with o (seen journal_name))) (sym is) (IsSettled-doubt leaves (with_entry seen entry) None state)
+
+pub settled_own : (leaves : List ℕ → List ℕ → Type 0) (settled files : Image) (doubt : Option (List FileText)) → IsSettled leaves settled → SameFiles files settled → IsDoubtful leaves files doubt
+settled_own leaves settled files doubt state same =
+    IsSettled-doubt leaves files doubt (record { same = λ file own c is. state.same file own c is ∙ sym (same file own); closed = state.closed })
 
 -- while an open entry of a calm disk is recovered
 pub calm_recovering : (seen : Image) (leaves : List ℕ → List ℕ → Type 0) (files : Image) (doubt : Option (List FileText)) (entry : List FileText) (before : ℕ) (past since : ℕ → Image → Type 0)
@@ -107,3 +195,14 @@ calm_then seen leaves files doubt before between past mid since calm time later 
     (else_both before between past mid since (HasOnly (IsEither files doubt))
     (else_weaker before past mid (IsImage leaves) (HasOnly (IsEither files doubt)) time (calm_only seen leaves files doubt calm)) later next.earlier)
     (λ image was. calm_only seen leaves files doubt calm image (now image was))
+
+-- a calm disk without an open entry is calm with the files that are read and the entry that stands in its journal, and stays so while it is read
+pub calm_at_read : (seen now : Image) (old new : List ℕ → List ℕ → Type 0) (files : Image) (doubt : Option (List FileText)) → IsCalm seen old files doubt → open_entry (seen journal_name) ≡ None
+    → now ≡ seen → KeepsImages old new → IsCalm now new (opened_files seen) (opened_doubt seen)
+calm_at_read seen now old new files doubt calm none same kept =
+    calm_kept seen now old new (opened_files seen) (opened_doubt seen) same kept (record {
+      same = calm.same;
+      journal = calm.journal;
+      not_broken = calm.not_broken;
+      outcomes = λ image outcome is has. (IsDoubtful-only old (opened_files seen) (opened_doubt seen) (calm_read_doubt seen old files doubt calm none) image is).each outcome has;
+    })

@@ -9,7 +9,9 @@ pub mod Sound
 pub mod ReadLemmas
 pub mod Heads
 pub mod Recovering
+pub mod Readings
 pub mod Calm
+pub mod Openings
 pub mod ReadSizes
 pub mod Breaking
 pub mod OneImage

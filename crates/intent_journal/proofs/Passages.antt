@@ -1,12 +1,13 @@
 -- How the states pass into each other, and what the images of each stand for.
-use Rattle.std.proofs.Common.{◌≡◌, ◌≢◌, ℕ, List, [], ◌∷◌, inl, inr, Option, Some, None, refl, sym, ap, ◌∙◌, subst, arith}
+use Rattle.std.proofs.Common.{◌≡◌, ◌≢◌, ℕ, List, [], ◌∷◌, inl, inr, ◌⊎◌, ◌≤◌, length, Option, Some, None, refl, sym, ap, ◌∙◌, subst, arith}
+use Rattle.std.proofs.lemmas.Bool.{cases_lt, cases_eq}
 use Rattle.std.specs.Option.{unwrap_or}
 use Rattle.kdb_outside.specs.Files.{written}
 use Rattle.kdb_outside.specs.Images.{Image, IsImage, Only, IsTornWrite}
 use Rattle.journal_codec.specs.declared.files.FileText.{FileText}
 use Rattle.journal_codec.specs.Entry.{journal_name}
-use Rattle.intent_journal.specs.JournalBytes.{entry_in, IsClosed, IsOpen}
-use Rattle.intent_journal.specs.Outcomes.{content_in, with_entry, HasOnly, IsOutcome, IsEither}
+use Rattle.intent_journal.specs.JournalBytes.{gate, entry_in, IsOwnFile, IsShut, IsClosed, IsOpen, IsBroken}
+use Rattle.intent_journal.specs.Outcomes.{content_in, with_entry, with_entries, SameFiles, StandsAlone, BringsIn, ReadsAs, HasOnly, IsOutcome, IsEither}
 use Rattle.intent_journal.specs.States.{IsSettled, IsDoubtful, IsLagging, HasBody, HasAppliedAll}
 use Rattle.intent_journal.proofs.GateBytes.{gate_of_shut, entry_in-kept, IsShut-kept, IsClosed-behind, IsClosed-written, IsOpen-written}
 use Rattle.intent_journal.proofs.Contents.{HasAppliedAll-content}
@@ -22,37 +23,113 @@ with_entry-same entry files others file same = unwrap_same (content_in entry fil
 same_entry : (c : List ℕ) (e entry : List FileText) → entry_in c ≡ Some e → entry_in c ≡ Some entry → e ≡ entry
 same_entry c e entry first second = cc
 
+-- files are the same with entries where they were the same before
+pub with_entries-same : (entries : List (List FileText)) (files others : Image) (file : List ℕ) → files file ≡ others file → with_entries files entries file ≡ with_entries others entries file
+with_entries-same [] files others file same = same
+with_entries-same (entry ∷ entries) files others file same =
+    with_entries-same entries (with_entry files entry) (with_entry others entry) file (with_entry-same entry files others file (λ _. same))
+
+-- files that are the same are among the same
+pub either_same : (files outcome other : Image) (doubt : Option (List FileText)) → SameFiles other outcome → IsEither files doubt outcome → IsEither files doubt other
+either_same files outcome other doubt same (inl is) = inl (λ file ne. same file ne ∙ is file ne)
+either_same files outcome other doubt same (inr brings) = inr (brings.0, brings.1, λ file ne. same file ne ∙ brings.2 file ne)
+
+holds_or_shut : (c : List ℕ) → ¬ IsBroken c → 5 ≤ length c → gate c ≢ 0 → (o : Option (List FileText)) → entry_in c ≡ o → IsShut c ⊎ ((entry : List FileText) × (entry_in c ≡ Some entry))
+holds_or_shut c whole long opened None none = absurd (whole (record { not_short = long; not_closed = opened; no_body = none }))
+holds_or_shut c whole long opened (Some entry) some = inr (entry, some)
+
+-- a journal that isn't broken is shut, or an entry stands in it
+pub shut_or_holds : (c : List ℕ) → ¬ IsBroken c → IsShut c ⊎ ((entry : List FileText) × (entry_in c ≡ Some entry))
+shut_or_holds c whole = elim (cases_lt (length c) 5) [
+  | inl short ↦ inl (inl short)
+  | inr long ↦ elim (cases_eq (gate c) 0) [
+    | inl closed ↦ inl (inr closed)
+    | inr opened ↦ holds_or_shut c whole long opened (entry_in c) refl
+  ]
+]
+
+-- the journal is shut, or its entry gives the files or these with the doubt
+abbrev pub GivesEither : Image → Option (List FileText) → List ℕ → Type 0
+GivesEither files doubt c = IsShut c ⊎ ((entry : List FileText) × (entry_in c ≡ Some entry) × (IsEither files doubt (with_entry files entry)))
+
+gives_of : (files : Image) (doubt : Option (List FileText)) (c : List ℕ) (entry : List FileText) → entry_in c ≡ Some entry
+    → ((entries : List (List FileText)) → ReadsAs c entries → IsEither files doubt (with_entries files entries)) → GivesEither files doubt c
+gives_of files doubt c entry some outcomes = elim (cases_eq (gate c) 0) [
+  | inl closed ↦ inl (inr closed)
+  | inr opened ↦ inr (entry, some, outcomes (entry ∷ []) (record { not_closed = opened; body = some }))
+]
+
+-- what a journal in doubt is
+pub IsDoubtful-gives : (leaves : List ℕ → List ℕ → Type 0) (files : Image) (doubt : Option (List FileText)) → IsDoubtful leaves files doubt
+    → (c : List ℕ) → leaves journal_name c → GivesEither files doubt c
+IsDoubtful-gives leaves files doubt state c is = elim (shut_or_holds c (state.not_broken c is)) [
+  | inl shut ↦ inl shut
+  | inr holds ↦ gives_of files doubt c holds.0 holds.1 (λ entries reads. state.outcomes c entries is reads)
+]
+
+not_broken_of : (files : Image) (doubt : Option (List FileText)) (c : List ℕ) → GivesEither files doubt c → ¬ IsBroken c
+not_broken_of files doubt c (inl (inl short)) broken = let long = broken.not_short in omega arith
+not_broken_of files doubt c (inl (inr closed)) broken = broken.not_closed closed
+not_broken_of files doubt c (inr holds) broken = let none = broken.no_body in let some = holds.1 in cc
+
+brought_in : (files : Image) (doubt : Option (List FileText)) (c : List ℕ) (entry : List FileText) → GivesEither files doubt c → BringsIn entry c → IsEither files doubt (with_entry files entry)
+brought_in files doubt c entry (inl shut) brings = absurd (brings.not_closed (gate_of_shut c entry brings.body shut))
+brought_in files doubt c entry (inr holds) brings =
+    subst (λ (e : List FileText). IsEither files doubt (with_entry files e)) (same_entry c holds.0 entry holds.1 brings.body) holds.2
+
+read_gives : (files : Image) (doubt : Option (List FileText)) (c : List ℕ) (entries : List (List FileText)) → GivesEither files doubt c → ReadsAs c entries → IsEither files doubt (with_entries files entries)
+read_gives files doubt c [] gives reads = inl (λ file ne. refl)
+read_gives files doubt c (entry ∷ []) gives reads = brought_in files doubt c entry gives reads
+read_gives files doubt c (entry ∷ (next ∷ entries)) gives reads = absurd reads
+
+-- and what is a journal in doubt
+pub IsDoubtful-from : (leaves : List ℕ → List ℕ → Type 0) (files : Image) (doubt : Option (List FileText)) → ((file : List ℕ) → ¬ IsOwnFile file → Only (files file) (leaves file))
+    → ((c : List ℕ) → leaves journal_name c → GivesEither files doubt c) → IsDoubtful leaves files doubt
+IsDoubtful-from leaves files doubt same gives = record {
+  same = same;
+  not_broken = λ c is. not_broken_of files doubt c (gives c is);
+  outcomes = λ c entries is reads. read_gives files doubt c entries (gives c is) reads;
+}
+
 -- what a crash leaves of a journal in doubt stands for the files, or for those with the entry
 pub IsDoubtful-only : (leaves : List ℕ → List ℕ → Type 0) (files : Image) (doubt : Option (List FileText)) → IsDoubtful leaves files doubt
     → (image : Image) → IsImage leaves image → HasOnly (IsEither files doubt) image
 IsDoubtful-only leaves files doubt state image is = record {
-  not_broken = λ broken. elim (state.journal (image journal_name) (is journal_name)) [
-    | inl (inl short) ↦ let long = broken.not_short in omega arith
-    | inl (inr closed) ↦ broken.not_closed closed
-    | inr holds ↦ let none = broken.no_body in let some = holds.2 in cc
-  ];
-  each = λ outcome has. elim has [
-    | inl alone ↦ inl (λ file ne. alone.1 file ne ∙ state.same file ne (image file) (is file))
-    | inr brings ↦ elim (state.journal (image journal_name) (is journal_name)) [
-      | inl shut ↦ absurd (brings.1.not_closed (gate_of_shut (image journal_name) brings.0 brings.1.body shut))
-      | inr holds ↦
-          let e : holds.0 ≡ brings.0 = same_entry (image journal_name) holds.0 brings.0 holds.2 brings.1.body in
-          inr (brings.0, holds.1 ∙ ap Some e, λ file ne. brings.2 file ne ∙ with_entry-same brings.0 image files file (λ _. state.same file ne (image file) (is file)))
-    ]
-  ];
+  not_broken = state.not_broken (image journal_name) (is journal_name);
+  each = λ outcome has.
+      either_same files (with_entries files has.0) outcome doubt
+      (λ file ne. has.2 file ne ∙ with_entries-same has.0 image files file (state.same file ne (image file) (is file)))
+      (state.outcomes (image journal_name) has.0 (is journal_name) has.1);
 }
 
 -- what a crash leaves of a settled journal stands for the files
 pub IsSettled-doubt : (leaves : List ℕ → List ℕ → Type 0) (files : Image) (doubt : Option (List FileText)) → IsSettled leaves files → IsDoubtful leaves files doubt
-IsSettled-doubt leaves files doubt state = record { same = state.same; journal = λ c is. inl (inr (state.closed c is).gate_is) }
+IsSettled-doubt leaves files doubt state = IsDoubtful-from leaves files doubt state.same (λ c is. inl (inr (state.closed c is).gate_is))
+
+either_none : (files outcome : Image) → IsEither files None outcome → IsOutcome files outcome
+either_none files outcome (inl same) = same
+either_none files outcome (inr brings) = let none = brings.1 in absurd (cc)
+
+-- with no doubt there are only the files
+pub HasOnly-none : (files image : Image) → HasOnly (IsEither files None) image → HasOnly (IsOutcome files) image
+HasOnly-none files image only = record { not_broken = only.not_broken; each = λ outcome has. either_none files outcome (only.each outcome has) }
 
 pub IsSettled-only : (leaves : List ℕ → List ℕ → Type 0) (files : Image) → IsSettled leaves files → (image : Image) → IsImage leaves image → HasOnly (IsOutcome files) image
-IsSettled-only leaves files state image is =
-    let only = IsDoubtful-only leaves files None (IsSettled-doubt leaves files None state) image is in
-    record {
-      not_broken = only.not_broken;
-      each = λ outcome has. elim (only.each outcome has) [ inl same ↦ same | inr brings ↦ let none = brings.1 in absurd (cc) ];
-    }
+IsSettled-only leaves files state image is = HasOnly-none files image (IsDoubtful-only leaves files None (IsSettled-doubt leaves files None state) image is)
+
+-- behind an open gate nothing stands alone
+open_alone : (c : List ℕ) (entry : List FileText) → IsOpen entry c → StandsAlone c → ⊥
+open_alone c entry opened (inl shut) = let closed = gate_of_shut c entry opened.body shut in let is_open = opened.gate_is in omega arith
+open_alone c entry opened (inr torn) = torn.0 opened.gate_is
+
+open_outcome : (leaves : List ℕ → List ℕ → Type 0) (files : Image) (entry : List FileText) (image outcome : Image) (entries : List (List FileText)) → IsLagging leaves files entry → IsImage leaves image
+    → IsOpen entry (image journal_name) → ReadsAs (image journal_name) entries → SameFiles outcome (with_entries image entries) → SameFiles outcome (with_entry files entry)
+open_outcome leaves files entry image outcome [] state is opened reads same = absurd (open_alone (image journal_name) entry opened reads)
+open_outcome leaves files entry image outcome (other ∷ []) state is opened reads same = λ file ne.
+    let e : other ≡ entry = same_entry (image journal_name) other entry reads.body opened.body in
+    same file ne ∙ ap (λ (texts : List FileText). with_entry image texts file) e
+    ∙ with_entry-same entry image files file (λ none. state.same file ne none (image file) (is file))
+open_outcome leaves files entry image outcome (other ∷ (next ∷ entries)) state is opened reads same = absurd reads
 
 -- what a crash leaves while the gate is open on an entry stands for the files with it
 pub IsLagging-only : (leaves : List ℕ → List ℕ → Type 0) (files : Image) (entry : List FileText) → IsLagging leaves files entry
@@ -61,35 +138,24 @@ IsLagging-only leaves files entry state image is =
     let opened = state.opened (image journal_name) (is journal_name) in
     record {
       not_broken = λ broken. let none = broken.no_body in let some = opened.body in cc;
-      each = λ outcome has. elim has [
-        | inl alone ↦ elim alone.0 [
-          | inl shut ↦ let closed = gate_of_shut (image journal_name) entry opened.body shut in let is_open = opened.gate_is in absurd (omega arith)
-          | inr torn ↦ absurd (torn.0 opened.gate_is)
-        ]
-        | inr brings ↦ λ file ne.
-            let e : brings.0 ≡ entry = same_entry (image journal_name) brings.0 entry brings.1.body opened.body in
-            brings.2 file ne ∙ ap (λ (texts : List FileText). with_entry image texts file) e
-            ∙ with_entry-same entry image files file (λ none. state.same file ne none (image file) (is file))
-      ];
+      each = λ outcome has. open_outcome leaves files entry image outcome has.0 state is opened has.1 has.2;
     }
 
 -- closing a gate in doubt leaves the doubt
 pub IsDoubtful-closing : (old new : List ℕ → List ℕ → Type 0) (files : Image) (doubt : Option (List FileText)) → IsDoubtful old files doubt
-    → ((other : List ℕ) → other ≢ journal_name → (c : List ℕ) → new other c → old other c)
+    → ((other : List ℕ) → ¬ IsOwnFile other → (c : List ℕ) → new other c → old other c)
     → ((c : List ℕ) → new journal_name c → (former : List ℕ) × old journal_name former × IsTornWrite 0 (0 ∷ []) former c) → IsDoubtful new files doubt
-IsDoubtful-closing old new files doubt state others step = record {
-  same = λ file ne c is. state.same file ne c (others file ne c is);
-  journal = λ c is.
-      let torn = step c is in
-      elim (state.journal torn.0 torn.1) [
-        | inl shut ↦ inl (IsShut-kept torn.0 c torn.2 shut)
-        | inr holds ↦ inr (holds.0, holds.1, entry_in-kept 0 torn.0 c torn.2 ∙ holds.2)
-      ];
-}
+IsDoubtful-closing old new files doubt state others step =
+    IsDoubtful-from new files doubt (λ file ne c is. state.same file ne c (others file ne c is)) (λ c is.
+    let torn = step c is in
+    elim (IsDoubtful-gives old files doubt state torn.0 torn.1) [
+      | inl shut ↦ inl (IsShut-kept torn.0 c torn.2 shut)
+      | inr holds ↦ inr (holds.0, entry_in-kept 0 torn.0 c torn.2 ∙ holds.1, holds.2)
+    ])
 
 -- a gate that was closed for good
-pub IsSettled-closed : (old new : List ℕ → List ℕ → Type 0) (files : Image) (seen : List ℕ) → ((file : List ℕ) → file ≢ journal_name → Only (files file) (old file))
-    → ((other : List ℕ) → other ≢ journal_name → (c : List ℕ) → new other c → old other c)
+pub IsSettled-closed : (old new : List ℕ → List ℕ → Type 0) (files : Image) (seen : List ℕ) → ((file : List ℕ) → ¬ IsOwnFile file → Only (files file) (old file))
+    → ((other : List ℕ) → ¬ IsOwnFile other → (c : List ℕ) → new other c → old other c)
     → Only (written seen 0 (0 ∷ [])) (new journal_name) → IsSettled new files
 IsSettled-closed old new files seen same others only = record {
   same = λ file ne c is. same file ne c (others file ne c is);
@@ -98,7 +164,7 @@ IsSettled-closed old new files seen same others only = record {
 
 -- writing behind a closed gate leaves it closed
 pub IsSettled-behind : (old new : List ℕ → List ℕ → Type 0) (files : Image) (bytes : List ℕ) → IsSettled old files
-    → ((other : List ℕ) → other ≢ journal_name → (c : List ℕ) → new other c → old other c)
+    → ((other : List ℕ) → ¬ IsOwnFile other → (c : List ℕ) → new other c → old other c)
     → ((c : List ℕ) → new journal_name c → (former : List ℕ) × old journal_name former × IsTornWrite 1 bytes former c) → IsSettled new files
 IsSettled-behind old new files bytes state others step = record {
   same = λ file ne c is. state.same file ne c (others file ne c is);
@@ -107,16 +173,16 @@ IsSettled-behind old new files bytes state others step = record {
 
 -- opening the gate on a body brings its entry in doubt
 pub IsDoubtful-opening : (old new : List ℕ → List ℕ → Type 0) (files : Image) (entry : List FileText) → IsSettled old files → HasBody old entry
-    → ((other : List ℕ) → other ≢ journal_name → (c : List ℕ) → new other c → old other c)
+    → ((other : List ℕ) → ¬ IsOwnFile other → (c : List ℕ) → new other c → old other c)
     → ((c : List ℕ) → new journal_name c → (former : List ℕ) × old journal_name former × IsTornWrite 0 (1 ∷ []) former c) → IsDoubtful new files (Some entry)
-IsDoubtful-opening old new files entry state body others step = record {
-  same = λ file ne c is. state.same file ne c (others file ne c is);
-  journal = λ c is. let torn = step c is in inr (entry, refl, entry_in-kept 1 torn.0 c torn.2 ∙ (body torn.0 torn.1).body);
-}
+IsDoubtful-opening old new files entry state body others step =
+    IsDoubtful-from new files (Some entry) (λ file ne c is. state.same file ne c (others file ne c is)) (λ c is.
+    let torn = step c is in
+    inr (entry, entry_in-kept 1 torn.0 c torn.2 ∙ (body torn.0 torn.1).body, inr (entry, refl, λ file ne. refl)))
 
 -- a gate that was opened for good
-pub IsLagging-opened : (old new : List ℕ → List ℕ → Type 0) (files : Image) (entry : List FileText) (seen : List ℕ) → ((file : List ℕ) → file ≢ journal_name → Only (files file) (old file))
-    → entry_in seen ≡ Some entry → ((other : List ℕ) → other ≢ journal_name → (c : List ℕ) → new other c → old other c)
+pub IsLagging-opened : (old new : List ℕ → List ℕ → Type 0) (files : Image) (entry : List FileText) (seen : List ℕ) → ((file : List ℕ) → ¬ IsOwnFile file → Only (files file) (old file))
+    → entry_in seen ≡ Some entry → ((other : List ℕ) → ¬ IsOwnFile other → (c : List ℕ) → new other c → old other c)
     → Only (written seen 0 (1 ∷ [])) (new journal_name) → IsLagging new files entry
 IsLagging-opened old new files entry seen same body others only = record {
   same = λ file ne none c is. same file ne c (others file ne c is);
@@ -138,18 +204,9 @@ applied_file leaves files entry file (Some bytes) is all same = HasAppliedAll-co
 
 -- with all files applied, the files are those with the entry
 pub IsLagging-applied : (leaves : List ℕ → List ℕ → Type 0) (files : Image) (entry : List FileText) → IsLagging leaves files entry → HasAppliedAll leaves entry
-    → (file : List ℕ) → file ≢ journal_name → Only (with_entry files entry file) (leaves file)
+    → (file : List ℕ) → ¬ IsOwnFile file → Only (with_entry files entry file) (leaves file)
 IsLagging-applied leaves files entry state all file ne =
     applied_file leaves files entry file (content_in entry file) refl all (state.same file ne)
-
--- closing the gate behind an entry leaves it in doubt
-pub IsDoubtful-applied : (old new : List ℕ → List ℕ → Type 0) (files : Image) (entry : List FileText) → IsLagging old files entry → HasAppliedAll old entry
-    → ((other : List ℕ) → other ≢ journal_name → (c : List ℕ) → new other c → old other c)
-    → ((c : List ℕ) → new journal_name c → (former : List ℕ) × old journal_name former × IsTornWrite 0 (0 ∷ []) former c) → IsDoubtful new (with_entry files entry) (Some entry)
-IsDoubtful-applied old new files entry state all others step = record {
-  same = λ file ne c is. IsLagging-applied old files entry state all file ne c (others file ne c is);
-  journal = λ c is. let torn = step c is in inr (entry, refl, entry_in-kept 0 torn.0 c torn.2 ∙ (state.opened torn.0 torn.1).body);
-}
 
 -- files with an entry stay what they are when it comes in again
 pub with_entry-again : (files : Image) (entry : List FileText) (file : List ℕ) → with_entry (with_entry files entry) entry file ≡ with_entry files entry file
@@ -159,10 +216,11 @@ with_entry-again files entry file = again (content_in entry file) (files file)
     again None x = refl
     again (Some y) x = refl
 
--- an entry that is in all files of its own brings nothing new
-pub IsEither-again : (files outcome : Image) (entry : List FileText) → IsEither (with_entry files entry) (Some entry) outcome → IsOutcome (with_entry files entry) outcome
-IsEither-again files outcome entry (inl same) file ne = same file ne
-IsEither-again files outcome entry (inr brings) file ne =
-    let some = brings.1 in
-    let e : entry ≡ brings.0 = cc in
-    brings.2 file ne ∙ sym (ap (λ (texts : List FileText). with_entry (with_entry files entry) texts file) e) ∙ with_entry-again files entry file
+-- closing the gate behind an entry that is in all its files leaves no doubt: brought in again, it changes nothing
+pub IsDoubtful-applied : (old new : List ℕ → List ℕ → Type 0) (files : Image) (entry : List FileText) → IsLagging old files entry → HasAppliedAll old entry
+    → ((other : List ℕ) → ¬ IsOwnFile other → (c : List ℕ) → new other c → old other c)
+    → ((c : List ℕ) → new journal_name c → (former : List ℕ) × old journal_name former × IsTornWrite 0 (0 ∷ []) former c) → IsDoubtful new (with_entry files entry) None
+IsDoubtful-applied old new files entry state all others step =
+    IsDoubtful-from new (with_entry files entry) None (λ file ne c is. IsLagging-applied old files entry state all file ne c (others file ne c is)) (λ c is.
+    let torn = step c is in
+    inr (entry, entry_in-kept 0 torn.0 c torn.2 ∙ (state.opened torn.0 torn.1).body, inl (λ file ne. with_entry-again files entry file)))

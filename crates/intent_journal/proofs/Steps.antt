@@ -8,7 +8,7 @@ use Rattle.intent_journal.specs.Outcomes.{content_in, with_entry, HasOnly, IsOut
 use Rattle.intent_journal.specs.States.{IsSettled, IsDoubtful, IsLagging, HasBody, HasAppliedAll}
 use Rattle.intent_journal.specs.Moments.{LeavesElseOnly, LeavesMeanwhile, IsStepOf, KeepsUnnamed}
 use Rattle.intent_journal.proofs.Meanwhile.{else_weaker, meanwhile}
-use Rattle.intent_journal.proofs.Passages.{IsLagging-applied, IsSettled-doubt, IsDoubtful-only, IsSettled-only, IsLagging-only, IsDoubtful-closing, IsSettled-closed, IsSettled-behind, IsDoubtful-opening, IsLagging-opened, IsLagging-kept, IsDoubtful-applied, IsEither-again}
+use Rattle.intent_journal.proofs.Passages.{IsLagging-applied, IsSettled-doubt, IsDoubtful-only, IsSettled-only, IsLagging-only, IsDoubtful-closing, IsSettled-closed, IsSettled-behind, IsDoubtful-opening, IsLagging-opened, IsLagging-kept, IsDoubtful-applied, HasOnly-none}
 
 pub on_err : {X E : Type 0} (P : Type 0) (r : Result X E) → P → OnErr r P
 on_err P (Ok x) p = tt
@@ -113,11 +113,11 @@ pub closing : (name : List ℕ) (old : List ℕ → List ℕ → Type 0) (before
 closing name old before past since files entry named state all time =
     else_weaker before past since (IsStepOf name (IsTornWrite 0 (0 ∷ [])) old) (HasOnly (IsOutcome (with_entry files entry))) time (λ image step.
     let torn = image_step name (IsTornWrite 0 (0 ∷ [])) old image named step in
-    let only = IsDoubtful-only (only_image image) (with_entry files entry) (Some entry) (IsDoubtful-applied old (only_image image) files entry state all torn.others torn.this) image (λ file. refl) in
-    record { not_broken = only.not_broken; each = λ outcome has. IsEither-again files outcome entry (only.each outcome has) })
+    HasOnly-none (with_entry files entry) image
+    (IsDoubtful-only (only_image image) (with_entry files entry) None (IsDoubtful-applied old (only_image image) files entry state all torn.others torn.this) image (λ file. refl)))
 
 pub closing_doubt : (name : List ℕ) (old new : List ℕ → List ℕ → Type 0) (files : Image) (entry : List FileText) → name ≡ journal_name
-    → IsLagging old files entry → HasAppliedAll old entry → Touches name (IsTornWrite 0 (0 ∷ [])) old new → IsDoubtful new (with_entry files entry) (Some entry)
+    → IsLagging old files entry → HasAppliedAll old entry → Touches name (IsTornWrite 0 (0 ∷ [])) old new → IsDoubtful new (with_entry files entry) None
 closing_doubt name old new files entry named state all touches =
     let step = journal_step name (IsTornWrite 0 (0 ∷ [])) old new named touches in
     IsDoubtful-applied old new files entry state all step.others step.this

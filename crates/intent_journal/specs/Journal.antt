@@ -7,12 +7,14 @@ use Rattle.intent_journal.specs.declared.states.State.{State}
 use Rattle.intent_journal.specs.declared.states.State.TheVariants.{Clean, Doubt, Lag}
 use Rattle.intent_journal.specs.JournalBytes.{IsClosed, IsOpen}
 
--- a journal over a disk, its state, the entry that the gate is open on, and whether an open entry was found and isn't recovered yet
+-- a journal over a disk, its state, the entry that the gate is open on, whether an open entry was found and isn't recovered yet, and
+-- whether the opening recovered one
 pub record JournalValue (D : Type 0) : Type 0 where
   pub disk : D
   pub state : State
   pub entry : List FileText
   pub found : Bool
+  pub recovered : Bool
 
 -- the journal has its name, and its file is as its state says where the disk tells
 pub record IsSound (tells : Bool) (seen : Image) (leaves : List ℕ → List ℕ → Type 0) (name : List ℕ) (state : State) (found : Bool) (entry : List FileText) : Type 0 where

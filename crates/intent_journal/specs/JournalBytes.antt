@@ -1,8 +1,12 @@
 -- The bytes of the journal: the gate, the length of a body in four bytes, and the body of an entry. This project's own.
 use Rattle.std.specs.Prelude.{◌≡◌, ◌≢◌, ◌⊎◌, ℕ, ◌<◌, ◌≤◌, List, length, take, drop, slice_index, Option, Some, None, if◌then◌else◌, ◌&&◌, nat_le}
 use Rattle.journal_codec.specs.declared.files.FileText.{FileText}
-use Rattle.journal_codec.specs.Entry.{number_of}
+use Rattle.journal_codec.specs.Entry.{number_of, journal_name}
 use Rattle.journal_codec.specs.Reading.{Reading, Reads, Fails, read_body}
+
+-- a file that the journal keeps for itself, and no entry names
+abbrev pub IsOwnFile : List ℕ → Type 0
+IsOwnFile file = file ≡ journal_name
 
 -- the first byte: 1 is open, and 0 is closed
 abbrev pub gate : List ℕ → ℕ

@@ -4,7 +4,7 @@ use Rattle.std.specs.Option.{unwrap_or}
 use Rattle.kdb_outside.specs.Images.{Image}
 use Rattle.journal_codec.specs.declared.files.FileText.{FileText}
 use Rattle.journal_codec.specs.Entry.{journal_name}
-use Rattle.intent_journal.specs.JournalBytes.{gate, entry_in, IsShut, IsBroken}
+use Rattle.intent_journal.specs.JournalBytes.{gate, entry_in, IsOwnFile, IsShut, IsBroken}
 
 -- the content that an entry has for a file, if it names it
 abbrev pub content_in : List FileText → List ℕ → Option (List ℕ)
@@ -15,9 +15,14 @@ content_in (text ∷ texts) file = if bytes_eq text.file file then Some text.byt
 abbrev pub with_entry : Image → List FileText → Image
 with_entry image entry file = unwrap_or (content_in entry file) (image file)
 
--- the same but for the journal
+-- files with these entries, one after the other
+abbrev pub with_entries : Image → List (List FileText) → Image
+with_entries image [] = image
+with_entries image (entry ∷ entries) = with_entries (with_entry image entry) entries
+
+-- the same but for the journal's own files
 abbrev pub SameFiles : Image → Image → Type 0
-SameFiles files others = (file : List ℕ) → file ≢ journal_name → files file ≡ others file
+SameFiles files others = (file : List ℕ) → ¬ IsOwnFile file → files file ≡ others file
 
 -- the files may stand as they are: the journal is shut, or holds an entry behind a gate that isn't open for good
 abbrev pub StandsAlone : List ℕ → Type 0
@@ -28,17 +33,22 @@ pub record BringsIn (entry : List FileText) (journal : List ℕ) : Type 0 where
   pub not_closed : gate journal ≢ 0
   pub body : entry_in journal ≡ Some entry
 
--- these are files that an image stands for
+-- the journal reads as these open entries: as none, or as the one that it holds, and as either where its gate may be read both ways
+abbrev pub ReadsAs : List ℕ → List (List FileText) → Type 0
+ReadsAs journal [] = StandsAlone journal
+ReadsAs journal (entry ∷ []) = BringsIn entry journal
+ReadsAs journal (entry ∷ (next ∷ entries)) = ⊥
+
+-- these are files that an image stands for: its own, with the entries that its journal reads as
 abbrev pub HasOutcome : Image → Image → Type 0
-HasOutcome image files = (StandsAlone (image journal_name) × SameFiles files image)
-    ⊎ ((entry : List FileText) × (BringsIn entry (image journal_name)) × (SameFiles files (with_entry image entry)))
+HasOutcome image files = (entries : List (List FileText)) × (ReadsAs (image journal_name) entries) × (SameFiles files (with_entries image entries))
 
 -- the image isn't broken, and all files that it stands for have this property
 pub record HasOnly (Property : Image → Type 0) (image : Image) : Type 0 where
-  pub not_broken : IsBroken (image journal_name) → ⊥
+  pub not_broken : ¬ IsBroken (image journal_name)
   pub each : (files : Image) → HasOutcome image files → Property files
 
--- these files, but for the journal
+-- these files, but for the journal's own
 abbrev pub IsOutcome : Image → Image → Type 0
 IsOutcome files outcome = SameFiles outcome files
 

@@ -1,5 +1,5 @@
 //! The journal, and the steps of an entry through it.
-ghost use Rattle.std.specs.Prelude.{◌≡◌, ◌≢◌, ◌⊎◌, ◌∷◌, ◌<◌, ◌+◌, ◌++◌, length, slice_get, List, [], Option, Some, true, false, Err, IfOk, IsOk, OnOk, OnErr};
+ghost use Rattle.std.specs.Prelude.{◌≡◌, ◌≢◌, ◌⊎◌, ◌∷◌, ◌<◌, ◌+◌, ◌++◌, length, slice_get, List, [], Option, Some, None, true, false, Err, IfOk, IsOk, OnOk, OnErr};
 ghost use Rattle.backend_files.specs.WholeFile.{IsWhole, IsShort, IsGiven};
 ghost use Rattle.kdb_outside.specs.Faults.{HasCause, HasRisen};
 ghost use Rattle.kdb_outside.specs.Files.{written};
@@ -37,6 +37,7 @@ pub struct Journal<D: Disk> {
     name: FileName,
     state: State,
     found: bool,
+    recovered: bool,
     entry: List<FileText>,
 }
 
@@ -45,7 +46,7 @@ impl<D: Disk> Model for Journal<D> {
 
     ghost Value = { JournalValue D };
 
-    ghost view = { λ j. record { disk = j.disk; state = j.state; entry = j.entry; found = j.found } };
+    ghost view = { λ j. record { disk = j.disk; state = j.state; entry = j.entry; found = j.found; recovered = j.recovered } };
 
     ghost invariant = { λ j. IsSound (D.tells j.disk) (D.seen j.disk) (D.may_leave j.disk) j.name j.state j.found j.entry };
 }
@@ -56,6 +57,13 @@ impl<D: Disk> Journal<D> {
         ensures { result ≡ self.now.state }
     {
         self.state
+    }
+
+    /// Whether the opening found an open entry, and brought it in.
+    pub fn has_recovered(&self) -> bool
+        ensures { result ≡ self.now.recovered }
+    {
+        self.recovered
     }
 
     /// The disk, with what stands on it.
@@ -72,6 +80,7 @@ impl<D: Disk> Journal<D> {
         ensures short { IfOk result IsShort }
         ensures given { IfOk result (IsGiven D.Disk self.old.disk file.now) }
         ensures journal { (self.new.state ≡ self.old.state) × (self.new.entry ≡ self.old.entry) × (self.new.found ≡ self.old.found) }
+        ensures recovered { self.new.recovered ≡ self.old.recovered }
         ensures reads { OnlyReads D.Disk self.old.disk self.new.disk }
         ensures cause { result ≡ Err FileFault.DiskFault → HasRisen (D.faults self.old.disk) (D.faults self.new.disk) }
     {
@@ -85,6 +94,7 @@ impl<D: Disk> Journal<D> {
         ensures ok { self.old.found ≡ true → OnOk result (self.new.state ≡ State.Clean) }
         ensures err { OnErr result (self.new.state ≡ State.Doubt) }
         ensures found { self.new.found ≡ false }
+        ensures recovered { self.new.recovered ≡ self.old.recovered }
         ensures settled { D.tells self.old.disk ≡ true → self.old.found ≡ true → (files : Image) → IsFound (D.may_leave self.old.disk) files self.old.entry
             → OnOk result (IsSettled (D.may_leave self.new.disk) (with_entry files self.old.entry)) }
         ensures any_moment { D.tells self.old.disk ≡ true → self.old.found ≡ true → (files : Image) → IsFound (D.may_leave self.old.disk) files self.old.entry
@@ -107,6 +117,7 @@ impl<D: Disk> Journal<D> {
         requires { self.old.state ≢ State.Lag }
         ensures clean { self.old.state ≡ State.Clean → self.new ≡ self.old }
         ensures found { self.new.found ≡ false }
+        ensures recovered { self.new.recovered ≡ self.old.recovered }
         ensures ok { OnOk result (self.new.state ≡ State.Clean) }
         ensures err { OnErr result (self.new.state ≡ State.Doubt) }
         ensures settled { D.tells self.old.disk ≡ true → (files : Image) (doubt : Option (List Item)) → IsDoubtful (D.may_leave self.old.disk) files doubt
@@ -129,6 +140,7 @@ impl<D: Disk> Journal<D> {
         requires { self.old.state ≡ State.Clean }
         ensures state { self.new.state ≡ State.Clean }
         ensures found { self.new.found ≡ false }
+        ensures recovered { self.new.recovered ≡ self.old.recovered }
         ensures body { D.tells self.old.disk ≡ true → (entry : List Item) → IsEntry entry → encoded.now ≡ length_bytes (length (spelled entry)) ++ spelled entry
             → OnOk result (HasBody (D.may_leave self.new.disk) entry) }
         ensures settled { D.tells self.old.disk ≡ true → (files : Image) → IsSettled (D.may_leave self.old.disk) files → IsSettled (D.may_leave self.new.disk) files }
@@ -148,6 +160,7 @@ impl<D: Disk> Journal<D> {
         ensures ok { OnOk result ((self.new.state ≡ State.Lag) × (self.new.entry ≡ files)) }
         ensures err { OnErr result (self.new.state ≡ State.Doubt) }
         ensures found { self.new.found ≡ false }
+        ensures recovered { self.new.recovered ≡ self.old.recovered }
         ensures lagging { D.tells self.old.disk ≡ true → (before : Image) → IsSettled (D.may_leave self.old.disk) before
             → OnOk result (IsLagging (D.may_leave self.new.disk) before files) }
         ensures doubtful { D.tells self.old.disk ≡ true → (before : Image) → IsSettled (D.may_leave self.old.disk) before
@@ -171,6 +184,7 @@ impl<D: Disk> Journal<D> {
         ensures state { self.new.state ≡ State.Lag }
         ensures entry { self.new.entry ≡ self.old.entry }
         ensures found { self.new.found ≡ false }
+        ensures recovered { self.new.recovered ≡ self.old.recovered }
         ensures durable { D.tells self.old.disk ≡ true → (text : Item) → slice_get self.old.entry i ≡ Some text → OnOk result (Only text.bytes (D.may_leave self.new.disk text.file)) }
         ensures others { D.tells self.old.disk ≡ true → (text : Item) → slice_get self.old.entry i ≡ Some text → KeepsOtherImages text.file (D.may_leave self.old.disk) (D.may_leave self.new.disk) }
         ensures applied { D.tells self.old.disk ≡ true → HasApplied (D.may_leave self.old.disk) self.old.entry i → OnOk result (HasApplied (D.may_leave self.new.disk) self.old.entry (i + 1)) }
@@ -192,10 +206,11 @@ impl<D: Disk> Journal<D> {
         ensures err { OnErr result (self.new.state ≡ State.Doubt) }
         ensures entry { self.new.entry ≡ [] }
         ensures found { self.new.found ≡ false }
+        ensures recovered { self.new.recovered ≡ self.old.recovered }
         ensures settled { D.tells self.old.disk ≡ true → (files : Image) → IsLagging (D.may_leave self.old.disk) files self.old.entry
             → OnOk result (IsSettled (D.may_leave self.new.disk) (with_entry files self.old.entry)) }
         ensures doubtful { D.tells self.old.disk ≡ true → (files : Image) → IsLagging (D.may_leave self.old.disk) files self.old.entry
-            → OnErr result (IsDoubtful (D.may_leave self.new.disk) (with_entry files self.old.entry) (Some self.old.entry)) }
+            → OnErr result (IsDoubtful (D.may_leave self.new.disk) (with_entry files self.old.entry) None) }
         ensures any_moment { D.tells self.old.disk ≡ true → (files : Image) → IsLagging (D.may_leave self.old.disk) files self.old.entry
             → LeavesOnly D.Disk self.old.disk self.new.disk (HasOnly (IsOutcome (with_entry files self.old.entry))) }
         ensures goes { GoesOn D.Disk self.old.disk self.new.disk }
@@ -211,12 +226,13 @@ impl<D: Disk> Journal<D> {
         ensures ok { OnOk result (self.new.state ≡ State.Clean) }
         ensures err { OnErr result (((self.new.state ≡ State.Lag) × (self.new.entry ≡ self.old.entry)) ⊎ (self.new.state ≡ State.Doubt)) }
         ensures found { self.new.found ≡ false }
+        ensures recovered { self.new.recovered ≡ self.old.recovered }
         ensures settled { D.tells self.old.disk ≡ true → (files : Image) → IsLagging (D.may_leave self.old.disk) files self.old.entry
             → OnOk result (IsSettled (D.may_leave self.new.disk) (with_entry files self.old.entry)) }
         ensures lagging { D.tells self.old.disk ≡ true → (files : Image) → IsLagging (D.may_leave self.old.disk) files self.old.entry → self.new.state ≡ State.Lag
             → OnErr result (IsLagging (D.may_leave self.new.disk) files self.old.entry) }
         ensures doubtful { D.tells self.old.disk ≡ true → (files : Image) → IsLagging (D.may_leave self.old.disk) files self.old.entry → self.new.state ≡ State.Doubt
-            → OnErr result (IsDoubtful (D.may_leave self.new.disk) (with_entry files self.old.entry) (Some self.old.entry)) }
+            → OnErr result (IsDoubtful (D.may_leave self.new.disk) (with_entry files self.old.entry) None) }
         ensures any_moment { D.tells self.old.disk ≡ true → (files : Image) → IsLagging (D.may_leave self.old.disk) files self.old.entry
             → LeavesOnly D.Disk self.old.disk self.new.disk (HasOnly (IsOutcome (with_entry files self.old.entry))) }
         ensures goes { GoesOn D.Disk self.old.disk self.new.disk }
@@ -232,6 +248,7 @@ impl<D: Disk> Journal<D> {
         ensures err { OnErr result (self.new.state ≡ State.Doubt) }
         ensures entry { self.new.entry ≡ [] }
         ensures found { self.new.found ≡ false }
+        ensures recovered { self.new.recovered ≡ self.old.recovered }
         ensures durable { D.tells self.old.disk ≡ true → OnOk result (Only (written (D.seen self.old.disk journal_name) 0 (0 ∷ [])) (D.may_leave self.new.disk journal_name)) }
         ensures images { D.tells self.old.disk ≡ true → Touches journal_name (IsTornWrite 0 (0 ∷ [])) (D.may_leave self.old.disk) (D.may_leave self.new.disk) }
         ensures time { D.tells self.old.disk ≡ true → AddsOnly D.Disk self.old.disk self.new.disk (IsStepOf journal_name (IsTornWrite 0 (0 ∷ [])) (D.may_leave self.old.disk)) }

@@ -12,5 +12,8 @@ mod writing;
 
 pub use faults::{JournalFault, JournalRefused};
 pub use journal::Journal;
-pub use laws::one_image_is_calm;
+pub use laws::{
+    a_broken_journal_has_no_reading, a_settled_disk_is_calm, an_unbroken_image_is_calm_alone,
+    one_image_is_calm,
+};
 pub use states::State;

@@ -1,5 +1,5 @@
 //! The opening of a journal: an open entry is brought into its files before anything else happens.
-ghost use Rattle.std.specs.Prelude.{◌≡◌, ◌≢◌, ℕ, List, Option, Some, None, true, false, Err, IfOk, IfErr, IfSome, OnOk};
+ghost use Rattle.std.specs.Prelude.{◌≡◌, ◌≢◌, ℕ, List, Option, Some, None, true, false, is_some, Err, IfOk, IfErr, IfSome, OnOk};
 ghost use Rattle.kdb_outside.specs.Faults.{HasRisen};
 ghost use Rattle.kdb_outside.specs.Frames.{GoesOn, OnlyReads};
 ghost use Rattle.kdb_outside.specs.Images.{Image, KeepsImages};
@@ -7,7 +7,7 @@ ghost use Rattle.journal_codec.specs.declared.files.FileText.{FileText as Item};
 ghost use Rattle.journal_codec.specs.Entry.{IsEntry, journal_name};
 ghost use Rattle.intent_journal.specs.BadJournals.{bad_place, open_entry, opened_files, opened_doubt};
 ghost use Rattle.intent_journal.specs.JournalBytes.{IsOpen};
-ghost use Rattle.intent_journal.specs.Outcomes.{with_entry, HasOnly, IsOutcome, IsEither};
+ghost use Rattle.intent_journal.specs.Outcomes.{with_entry, SameFiles, HasOnly, IsOutcome, IsEither};
 ghost use Rattle.intent_journal.specs.States.{IsSettled, IsDoubtful, IsFound, IsCalm};
 ghost use Rattle.intent_journal.specs.Moments.{AddsOnly, LeavesOnly, IsImageOr};
 ghost use Rattle.intent_journal.specs.Opened.{disk_of, fault_of};
@@ -21,16 +21,26 @@ use key_meta::List;
 use std::alloc::Global;
 
 impl<D: Disk> Journal<D> {
-    /// Opens the journal of a disk, and brings an open entry into its files. Then the gate is in doubt, since what was read may
-    /// be pending. A refusal hands the disk back.
+    /// Opens the journal of a disk, and brings an open entry into its files; a journal without one is only read. Then the gate
+    /// is in doubt, since what was read may be pending. A refusal hands the disk back.
     pub fn open(alloc: Global, disk: D) -> Result<Journal<D>, JournalRefused<D>>
         ensures state { IfOk result (λ journal. (journal.state ≡ State.Doubt) × (journal.found ≡ false)) }
         ensures good { D.tells disk ≡ true → OnOk result (bad_place (D.seen disk journal_name) ≡ None) }
         ensures bad { D.tells disk ≡ true → (at : ℕ) → fault_of result ≡ Some (JournalFault.BadJournal at) → bad_place (D.seen disk journal_name) ≡ Some at }
         ensures calm { D.tells disk ≡ true → (files : Image) (doubt : Option (List Item)) → IsCalm (D.seen disk) (D.may_leave disk) files doubt
             → (at : ℕ) → fault_of result ≡ Some (JournalFault.BadJournal at) → ⊥ }
+        ensures recovered { D.tells disk ≡ true → IfOk result (λ journal. journal.recovered ≡ is_some (open_entry (D.seen disk journal_name))) }
+        ensures left_alone { IfOk result (λ journal. journal.recovered ≡ false → OnlyReads D.Disk disk journal.disk) }
+        ensures files { D.tells disk ≡ true → (files : Image) (doubt : Option (List Item)) → IsCalm (D.seen disk) (D.may_leave disk) files doubt
+            → IfOk result (λ _. IsEither files doubt (opened_files (D.seen disk))) }
+        ensures settled { D.tells disk ≡ true → (files : Image) (doubt : Option (List Item)) → IsCalm (D.seen disk) (D.may_leave disk) files doubt
+            → IfOk result (λ journal. journal.recovered ≡ true → IsSettled (D.may_leave journal.disk) (opened_files (D.seen disk))) }
         ensures doubtful { D.tells disk ≡ true → (files : Image) (doubt : Option (List Item)) → IsCalm (D.seen disk) (D.may_leave disk) files doubt
             → IfOk result (λ journal. IsDoubtful (D.may_leave journal.disk) (opened_files (D.seen disk)) (opened_doubt (D.seen disk))) }
+        ensures own { D.tells disk ≡ true → (files : Image) (doubt : Option (List Item)) → IsCalm (D.seen disk) (D.may_leave disk) files doubt
+            → SameFiles files (opened_files (D.seen disk)) → IfOk result (λ journal. IsDoubtful (D.may_leave journal.disk) files doubt) }
+        ensures calm_still { D.tells disk ≡ true → (files : Image) (doubt : Option (List Item)) → IsCalm (D.seen disk) (D.may_leave disk) files doubt
+            → IfOk result (λ journal. IsCalm (D.seen journal.disk) (D.may_leave journal.disk) files doubt) }
         ensures any_moment { D.tells disk ≡ true → (files : Image) (doubt : Option (List Item)) → IsCalm (D.seen disk) (D.may_leave disk) files doubt
             → LeavesOnly D.Disk disk (disk_of result) (HasOnly (IsEither files doubt)) }
         ensures kept { D.tells disk ≡ true → IfErr result (λ refused. refused.fault ≢ JournalFault.DiskFault → KeepsImages (D.may_leave disk) (D.may_leave refused.disk)) }
@@ -50,8 +60,18 @@ impl<D: Disk> Journal<D> {
         requires entry { IfSome found.entry IsEntry }
         requires open { D.tells disk ≡ true → found.entry ≡ open_entry (D.seen disk journal_name) }
         ensures state { IfOk result (λ journal. (journal.state ≡ State.Doubt) × (journal.found ≡ false)) }
+        ensures recovered { IfOk result (λ journal. journal.recovered ≡ is_some found.entry) }
+        ensures left_alone { IfOk result (λ journal. journal.recovered ≡ false → journal.disk ≡ disk) }
+        ensures files { D.tells disk ≡ true → (files : Image) (doubt : Option (List Item)) → IsCalm (D.seen disk) (D.may_leave disk) files doubt
+            → IsEither files doubt (opened_files (D.seen disk)) }
+        ensures settled { D.tells disk ≡ true → (files : Image) (doubt : Option (List Item)) → IsCalm (D.seen disk) (D.may_leave disk) files doubt
+            → IfOk result (λ journal. journal.recovered ≡ true → IsSettled (D.may_leave journal.disk) (opened_files (D.seen disk))) }
         ensures doubtful { D.tells disk ≡ true → (files : Image) (doubt : Option (List Item)) → IsCalm (D.seen disk) (D.may_leave disk) files doubt
             → IfOk result (λ journal. IsDoubtful (D.may_leave journal.disk) (opened_files (D.seen disk)) (opened_doubt (D.seen disk))) }
+        ensures own { D.tells disk ≡ true → (files : Image) (doubt : Option (List Item)) → IsCalm (D.seen disk) (D.may_leave disk) files doubt
+            → SameFiles files (opened_files (D.seen disk)) → IfOk result (λ journal. IsDoubtful (D.may_leave journal.disk) files doubt) }
+        ensures calm_still { D.tells disk ≡ true → (files : Image) (doubt : Option (List Item)) → IsCalm (D.seen disk) (D.may_leave disk) files doubt
+            → IfOk result (λ journal. IsCalm (D.seen journal.disk) (D.may_leave journal.disk) files doubt) }
         ensures any_moment { D.tells disk ≡ true → (files : Image) (doubt : Option (List Item)) → IsCalm (D.seen disk) (D.may_leave disk) files doubt
             → LeavesOnly D.Disk disk (disk_of result) (HasOnly (IsEither files doubt)) }
         ensures fault { IfErr result (λ refused. refused.fault ≡ JournalFault.DiskFault) }
@@ -67,6 +87,7 @@ impl<D: Disk> Journal<D> {
                 name,
                 state: State::Doubt,
                 found: false,
+                recovered: false,
                 entry: List::from_vec(Vec::new(alloc)),
             }),
         }
@@ -83,6 +104,7 @@ impl<D: Disk> Journal<D> {
         requires entry { IsEntry entry }
         requires open { D.tells disk ≡ true → IsOpen entry (D.seen disk journal_name) }
         ensures state { IfOk result (λ journal. (journal.state ≡ State.Doubt) × (journal.found ≡ false)) }
+        ensures recovered { IfOk result (λ journal. journal.recovered ≡ true) }
         ensures settled { D.tells disk ≡ true → (files : Image) → IsFound (D.may_leave disk) files entry
             → IfOk result (λ journal. IsSettled (D.may_leave journal.disk) (with_entry files entry)) }
         ensures any_moment { D.tells disk ≡ true → (files : Image) → IsFound (D.may_leave disk) files entry
@@ -97,6 +119,7 @@ impl<D: Disk> Journal<D> {
             name,
             state: State::Doubt,
             found: true,
+            recovered: true,
             entry,
         };
         match journal.recover() {

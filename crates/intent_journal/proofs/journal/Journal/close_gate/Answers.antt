@@ -1,4 +1,4 @@
-use Rattle.std.proofs.Common.{Some, refl}
+use Rattle.std.proofs.Common.{None, refl}
 use Rattle.std.proofs.lemmas.Result.{on_ok_weaker}
 use Rattle.journal_codec.specs.Entry.{journal_name}
 use Rattle.intent_journal.specs.Outcomes.{with_entry}
@@ -14,7 +14,7 @@ returns-clause-settled g c tells files state =
 
 pub returns-clause-doubtful : goal.returns-clause-doubtful
 returns-clause-doubtful g c tells files state =
-    on_err (IsDoubtful (g.D.Disk.may_leave c.shut.new.self.disk) (with_entry files c.args.self.now.entry) (Some c.args.self.now.entry)) c.shut.result
+    on_err (IsDoubtful (g.D.Disk.may_leave c.shut.new.self.disk) (with_entry files c.args.self.now.entry) None) c.shut.result
     (closing_doubt journal_name _ _ files c.args.self.now.entry refl state (c.requires.applied tells) (c.shut.ensures.images tells))
 
 pub returns-clause-any_moment : goal.returns-clause-any_moment

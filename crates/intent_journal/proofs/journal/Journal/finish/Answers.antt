@@ -1,4 +1,4 @@
-use Rattle.std.proofs.Common.{Some, List, refl, ap, subst, ◌∙◌}
+use Rattle.std.proofs.Common.{None, List, refl, ap, subst, ◌∙◌}
 use Rattle.std.proofs.lemmas.Result.{on_ok_weaker}
 use Rattle.journal_codec.specs.declared.files.FileText.{FileText}
 use Rattle.journal_codec.specs.Entry.{journal_name}
@@ -80,7 +80,7 @@ returns-clause-doubtful g c =
     let others = subst (λ (files : List FileText). KeepsUnnamedImages files old mid) c.as_slice.ensures (c.put_files.ensures.others tells) in
     let lagging = IsLagging-kept old mid files entry state unnamed (λ other none. (others other none).no_more) in
     let all = subst (λ (files : List FileText). HasAppliedAll mid files) c.as_slice.ensures (c.in_ok-put_files.ensures.durable tells) in
-    on_err (IsDoubtful (g.D.Disk.may_leave c.shut.new.self.disk) (with_entry files entry) (Some entry)) c.shut.result
+    on_err (IsDoubtful (g.D.Disk.may_leave c.shut.new.self.disk) (with_entry files entry) None) c.shut.result
     (closing_doubt journal_name mid _ files entry refl lagging all (c.shut.ensures.images tells_then)))
 
 pub returns-clause-any_moment : goal.returns-clause-any_moment

@@ -1,0 +1,114 @@
+-- A journal at rest between the phases.
+use Rattle.std.proofs.Common.{◌≡◌, ◌≢◌, ◌⊎◌, ℕ, List, true, inl, inr, Option, Some, Result, Ok, Err, OnOk, OnErr, refl, sym, subst, ◌∙◌}
+use Rattle.kdb_outside.specs.declared.disks.Disk.{Ghosts}
+use Rattle.kdb_outside.specs.declared.faults.Failed.{Failed}
+use Rattle.kdb_outside.specs.Frames.{OnlyReads}
+use Rattle.kdb_outside.specs.Images.{Image, IsImage, KeepsImages}
+use Rattle.journal_codec.specs.declared.files.FileText.{FileText}
+use Rattle.journal_codec.specs.Entry.{journal_name}
+use Rattle.intent_journal.specs.declared.states.State.{State}
+use Rattle.intent_journal.specs.declared.states.State.TheVariants.{Clean, Doubt, Lag}
+use Rattle.intent_journal.specs.Journal.{JournalValue}
+use Rattle.intent_journal.specs.Moments.{LeavesOnly}
+use Rattle.intent_journal.specs.Outcomes.{with_entry, HasOnly, IsOutcome, IsEither}
+use Rattle.intent_journal.specs.States.{IsSettled, IsDoubtful}
+use Rattle.intent_journal.proofs.Passages.{IsSettled-doubt, IsSettled-only, IsDoubtful-only, IsLagging-only}
+use Rattle.model_crashes.proofs.Moments.{only_follows}
+use Rattle.model_crashes.proofs.Reached.{only_weaker}
+use Rattle.store_phases.specs.Resting.{IsBehind, IsResting}
+
+pub cases_state : (s : State) → (s ≡ Clean) ⊎ (s ≡ Doubt) ⊎ (s ≡ Lag)
+cases_state Clean = inl refl
+cases_state Doubt = inr (inl refl)
+cases_state Lag = inr (inr refl)
+
+-- the files are among these, whatever the doubt
+pub only_files : (files image : Image) (doubt : Option (List FileText)) → HasOnly (IsOutcome files) image → HasOnly (IsEither files doubt) image
+only_files files image doubt only = only_weaker (IsOutcome files) (IsEither files doubt) image (λ outcome same. inl same) only
+
+-- the files with an entry are among these with that doubt
+pub only_with : (files image : Image) (entry : List FileText) → HasOnly (IsOutcome (with_entry files entry)) image → HasOnly (IsEither files (Some entry)) image
+only_with files image entry only = only_weaker (IsOutcome (with_entry files entry)) (IsEither files (Some entry)) image (λ outcome same. inr (entry, refl, same)) only
+
+behind_only : (files last image : Image) (doubt : Option (List FileText)) → files ≡ last → HasOnly (IsOutcome last) image → HasOnly (IsEither files doubt) image
+behind_only files last image doubt is only = only_files files image doubt (subst (λ (f : Image). HasOnly (IsOutcome f) image) (sym is) only)
+
+-- at rest each image stands for the files, or for these with the doubt
+pub resting_only : {D : Type 0} (g : Ghosts D) (journal : JournalValue D) (files : Image) (doubt : Option (List FileText)) → IsResting g journal files doubt
+    → (image : Image) → IsImage (g.may_leave journal.disk) image → HasOnly (IsEither files doubt) image
+resting_only g journal files doubt rests image is = elim (cases_state journal.state) [
+  | inl clean ↦ only_files files image doubt (IsSettled-only (g.may_leave journal.disk) files (rests.clean clean) image is)
+  | inr (inl in_doubt) ↦ IsDoubtful-only (g.may_leave journal.disk) files doubt (rests.doubtful in_doubt) image is
+  | inr (inr lag) ↦
+      let behind = rests.lag lag in
+      behind_only files (with_entry behind.before journal.entry) image doubt behind.last (IsLagging-only (g.may_leave journal.disk) behind.before journal.entry behind.lagging image is)
+]
+
+-- a journal that doesn't lag is settled, or in doubt
+pub resting_doubt : {D : Type 0} (g : Ghosts D) (journal : JournalValue D) (files : Image) (doubt : Option (List FileText)) → IsResting g journal files doubt → journal.state ≢ Lag
+    → IsDoubtful (g.may_leave journal.disk) files doubt
+resting_doubt g journal files doubt rests not_lag = elim (cases_state journal.state) [
+  | inl clean ↦ IsSettled-doubt (g.may_leave journal.disk) files doubt (rests.clean clean)
+  | inr (inl in_doubt) ↦ rests.doubtful in_doubt
+  | inr (inr lag) ↦ absurd (not_lag lag)
+]
+
+-- a gate that could not be closed
+rests_in_doubt : {D : Type 0} (g : Ghosts D) (journal : JournalValue D) (files : Image) (doubt : Option (List FileText)) → g.tells journal.disk ≡ true → journal.state ≡ Doubt
+    → IsDoubtful (g.may_leave journal.disk) files doubt → IsResting g journal files doubt
+rests_in_doubt g journal files doubt tells in_doubt state = record {
+  tells = tells;
+  clean = λ clean. absurd (let both : Doubt ≡ Clean = sym in_doubt ∙ clean in cc);
+  doubtful = λ _. state;
+  lag = λ lag. absurd (let both : Doubt ≡ Lag = sym in_doubt ∙ lag in cc);
+}
+
+pub rests_unsettled : {D : Type 0} (g : Ghosts D) (journal : JournalValue D) (files : Image) (doubt : Option (List FileText)) (r : Result Unit Failed) → g.tells journal.disk ≡ true
+    → OnErr r (journal.state ≡ Doubt) → OnErr r (IsDoubtful (g.may_leave journal.disk) files doubt) → OnErr r (IsResting g journal files doubt)
+rests_unsettled g journal files doubt (Ok x) tells in_doubt state = tt
+rests_unsettled g journal files doubt (Err e) tells in_doubt state = rests_in_doubt g journal files doubt tells in_doubt state
+
+-- while an entry that lags is brought in
+pub behind_moment : {D : Type 0} (g : Ghosts D) (old new : D) (files before : Image) (entry : List FileText) (doubt : Option (List FileText)) → files ≡ with_entry before entry
+    → LeavesOnly g old new (HasOnly (IsOutcome (with_entry before entry))) → LeavesOnly g old new (HasOnly (IsEither files doubt))
+behind_moment g old new files before entry doubt is only =
+    only_follows g old new (HasOnly (IsOutcome (with_entry before entry))) (HasOnly (IsEither files doubt)) (λ image has. behind_only files (with_entry before entry) image doubt is has) only
+
+-- a disk that was only read
+settled_kept : (old new : List ℕ → List ℕ → Type 0) (files : Image) → KeepsImages old new → IsSettled old files → IsSettled new files
+settled_kept old new files kept state = record {
+  same = λ file own c is. state.same file own c ((kept file).no_more c is);
+  closed = λ c is. state.closed c ((kept journal_name).no_more c is);
+}
+
+doubtful_kept : (old new : List ℕ → List ℕ → Type 0) (files : Image) (doubt : Option (List FileText)) → KeepsImages old new → IsDoubtful old files doubt → IsDoubtful new files doubt
+doubtful_kept old new files doubt kept state = record {
+  same = λ file own c is. state.same file own c ((kept file).no_more c is);
+  not_broken = λ c is. state.not_broken c ((kept journal_name).no_more c is);
+  outcomes = λ c entries is reads. state.outcomes c entries ((kept journal_name).no_more c is) reads;
+}
+
+behind_kept : (old new : List ℕ → List ℕ → Type 0) (entry now : List FileText) (files : Image) → now ≡ entry → KeepsImages old new → IsBehind old entry files → IsBehind new now files
+behind_kept old new entry now files same kept behind = subst (λ (e : List FileText). IsBehind new e files) (sym same) (record {
+  before = behind.before;
+  last = behind.last;
+  lagging = record {
+    same = λ file own none c is. behind.lagging.same file own none c ((kept file).no_more c is);
+    opened = λ c is. behind.lagging.opened c ((kept journal_name).no_more c is);
+  };
+})
+
+pub rests_read : {D : Type 0} (g : Ghosts D) (old new : JournalValue D) (files : Image) (doubt : Option (List FileText)) → OnlyReads g old.disk new.disk → new.state ≡ old.state → new.entry ≡ old.entry
+    → IsResting g old files doubt → IsResting g new files doubt
+rests_read g old new files doubt reads state entry rests = record {
+  tells = reads.tells ∙ rests.tells;
+  clean = λ is. settled_kept (g.may_leave old.disk) (g.may_leave new.disk) files (reads.images rests.tells) (rests.clean (sym state ∙ is));
+  doubtful = λ is. doubtful_kept (g.may_leave old.disk) (g.may_leave new.disk) files doubt (reads.images rests.tells) (rests.doubtful (sym state ∙ is));
+  lag = λ is. behind_kept (g.may_leave old.disk) (g.may_leave new.disk) old.entry new.entry files entry (reads.images rests.tells) (rests.lag (sym state ∙ is));
+}
+
+-- behind a closing, settled or not, each image stands for the files, or for these with the doubt
+pub closed_only : {D : Type 0} (g : Ghosts D) (journal : JournalValue D) (files : Image) (doubt : Option (List FileText)) (r : Result Unit Failed) → OnOk r (IsSettled (g.may_leave journal.disk) files)
+    → OnErr r (IsResting g journal files doubt) → (image : Image) → IsImage (g.may_leave journal.disk) image → HasOnly (IsEither files doubt) image
+closed_only g journal files doubt (Ok x) settled rests image is = only_files files image doubt (IsSettled-only (g.may_leave journal.disk) files settled image is)
+closed_only g journal files doubt (Err e) settled rests image is = resting_only g journal files doubt rests image is

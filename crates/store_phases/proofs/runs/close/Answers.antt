@@ -1,0 +1,19 @@
+use Rattle.std.proofs.Common.{sym, subst}
+use Rattle.kdb_outside.specs.Images.{Image, IsImage}
+use Rattle.intent_journal.specs.Outcomes.{HasOnly, IsEither}
+use Rattle.model_crashes.specs.Runs.{files_of, IsReached}
+use Rattle.intent_journal.specs.Moments.{LeavesOnly}
+use Rattle.store_phases.proofs.Resting.{closed_only}
+use Rattle.store_phases.proofs.Stores.{closing_reached}
+use Rattle.store_phases.proofs.runs.close.Goals as goal
+
+pub returns-clause-always : goal.returns-clause-always
+returns-clause-always g c opened run store =
+    subst (λ d. LeavesOnly g.D.Disk opened d (IsReached run.files run.commits run.begun)) (sym c.into_disk.ensures)
+    (closing_reached g.D.Disk opened c.args.journal.disk c.make_clean.new.journal.disk run store.later store.doubt_begun store.always (c.make_clean.ensures.any_moment (files_of run) run.doubt store.rests))
+
+pub returns-clause-now : goal.returns-clause-now
+returns-clause-now g c opened run store =
+    subst (λ d. (image : Image) → IsImage (g.D.Disk.may_leave d) image → HasOnly (IsEither (files_of run) run.doubt) image) (sym c.into_disk.ensures)
+    (closed_only g.D.Disk c.make_clean.new.journal (files_of run) run.doubt c.make_clean.result (c.make_clean.ensures.settled (files_of run) run.doubt store.rests)
+    (c.make_clean.ensures.rests (files_of run) run.doubt store.rests))

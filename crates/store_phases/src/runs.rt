@@ -1,0 +1,94 @@
+//! A run of commits on a journal, from its opening to its close.
+ghost use Rattle.std.specs.Prelude.{◌≡◌, ℕ, ◌++◌, length, List, Option, Some, true, Err, IfOk, OnOk, OnErr};
+ghost use Rattle.backend_files.specs.WholeFile.{IsWhole, IsShort};
+ghost use Rattle.kdb_outside.specs.Crashes.{EveryImage};
+ghost use Rattle.kdb_outside.specs.Faults.{HasCause, HasRisen};
+ghost use Rattle.kdb_outside.specs.Frames.{GoesOn, OnlyReads};
+ghost use Rattle.kdb_outside.specs.Images.{Image};
+ghost use Rattle.journal_codec.specs.declared.files.FileText.{FileText as Item};
+ghost use Rattle.journal_codec.specs.Entry.{IsEntry, length_bytes, spelled};
+ghost use Rattle.intent_journal.specs.BadJournals.{opened_files, opened_doubt};
+ghost use Rattle.intent_journal.specs.JournalBytes.{IsOwnFile};
+ghost use Rattle.intent_journal.specs.Moments.{LeavesOnly};
+ghost use Rattle.intent_journal.specs.Opened.{disk_of, fault_of};
+ghost use Rattle.intent_journal.specs.Outcomes.{SameFiles, HasOnly, IsEither};
+ghost use Rattle.intent_journal.specs.States.{IsSettled, IsCalm};
+ghost use Rattle.model_crashes.specs.Runs.{Run, files_of, IsReached, IsAmid, IsOneOf, new_run, after_begun, after_commit};
+ghost use Rattle.store_phases.specs.Stores.{IsStore};
+
+use crate::phases::{make_clean, store};
+use backend_files::{FileFault, FileRead};
+use intent_journal::{Journal, JournalFault, JournalRefused};
+use journal_codec::FileText;
+use kdb_outside::{Disk, Failed, FileName};
+use key_meta::List;
+use std::alloc::Global;
+
+/// Opens the journal of a calm disk. A run begins on the files that this leaves, without a commit.
+pub fn open<D: Disk>(alloc: Global, disk: D) -> Result<Journal<D>, JournalRefused<D>>
+    ensures files { D.tells disk ≡ true → (files : Image) (doubt : Option (List Item)) → IsCalm (D.seen disk) (D.may_leave disk) files doubt
+        → IfOk result (λ _. IsEither files doubt (opened_files (D.seen disk))) }
+    ensures opened { D.tells disk ≡ true → (files : Image) (doubt : Option (List Item)) → IsCalm (D.seen disk) (D.may_leave disk) files doubt
+        → IfOk result (λ journal. IsStore D.Disk journal.disk journal (new_run (opened_files (D.seen disk)) (D.faults disk) (opened_doubt (D.seen disk)))) }
+    ensures own { D.tells disk ≡ true → (files : Image) (doubt : Option (List Item)) → IsCalm (D.seen disk) (D.may_leave disk) files doubt
+        → SameFiles files (opened_files (D.seen disk)) → IfOk result (λ journal. IsStore D.Disk journal.disk journal (new_run files (D.faults disk) doubt)) }
+    ensures calm { D.tells disk ≡ true → (files : Image) (doubt : Option (List Item)) → IsCalm (D.seen disk) (D.may_leave disk) files doubt
+        → (at : ℕ) → fault_of result ≡ Some (JournalFault.BadJournal at) → ⊥ }
+    ensures any_moment { D.tells disk ≡ true → (files : Image) (doubt : Option (List Item)) → IsCalm (D.seen disk) (D.may_leave disk) files doubt
+        → LeavesOnly D.Disk disk (disk_of result) (HasOnly (IsEither files doubt)) }
+    ensures goes { GoesOn D.Disk disk (disk_of result) }
+    ensures cause { fault_of result ≡ Some JournalFault.DiskFault → HasRisen (D.faults disk) (D.faults (disk_of result)) }
+{
+    Journal::open(alloc, disk)
+}
+
+/// Stores an entry of the run. From `Ok` on every crash leaves it; after `Err` at most one entry is in doubt.
+pub fn commit<D: Disk>(
+    journal: &mut Journal<D>,
+    encoded: &[u8],
+    files: List<FileText>,
+) -> Result<(), Failed>
+    requires entry { IsEntry files }
+    requires encoded { encoded.now ≡ length_bytes (length (spelled files)) ++ spelled files }
+    ensures committed { (opened : D) (run : Run) → IsStore D.Disk opened journal.old run
+        → OnOk result (IsStore D.Disk opened journal.new (after_commit run files)) }
+    ensures failed { (opened : D) (run : Run) → IsStore D.Disk opened journal.old run
+        → OnErr result ((later : Option (List Item)) × IsOneOf later run.doubt files × IsStore D.Disk opened journal.new (after_begun run files later)) }
+    ensures any_moment { (opened : D) (run : Run) → IsStore D.Disk opened journal.old run
+        → LeavesOnly D.Disk journal.old.disk journal.new.disk (IsAmid (files_of run) run.doubt files) }
+    ensures goes { GoesOn D.Disk journal.old.disk journal.new.disk }
+    ensures cause { HasCause (D.faults journal.old.disk) (D.faults journal.new.disk) result }
+{
+    store(journal, encoded, files)
+}
+
+/// A file, read whole. Where no fault came since the run began, it is as the run's commits leave it.
+pub fn read<D: Disk>(
+    journal: &mut Journal<D>,
+    alloc: Global,
+    file: &FileName,
+) -> Result<FileRead, FileFault>
+    ensures told { (opened : D) (run : Run) → IsStore D.Disk opened journal.old run → ¬ HasRisen run.faults (D.faults journal.old.disk)
+        → ¬ IsOwnFile file.now → IfOk result (IsWhole (files_of run file.now)) }
+    ensures short { IfOk result IsShort }
+    ensures store { (opened : D) (run : Run) → IsStore D.Disk opened journal.old run → IsStore D.Disk opened journal.new run }
+    ensures reads { OnlyReads D.Disk journal.old.disk journal.new.disk }
+    ensures cause { result ≡ Err FileFault.DiskFault → HasRisen (D.faults journal.old.disk) (D.faults journal.new.disk) }
+{
+    journal.read_file(alloc, file)
+}
+
+/// Ends the run, and gives the disk back. A failure is no refusal: what is stored stays so.
+pub fn close<D: Disk>(journal: Journal<D>) -> D
+    ensures always { (opened : D) (run : Run) → IsStore D.Disk opened journal run
+        → LeavesOnly D.Disk opened result (IsReached run.files run.commits run.begun) }
+    ensures now { (opened : D) (run : Run) → IsStore D.Disk opened journal run
+        → EveryImage (D.may_leave result) (HasOnly (IsEither (files_of run) run.doubt)) }
+    ensures settled { (opened : D) (run : Run) → IsStore D.Disk opened journal run → ¬ HasRisen (D.faults journal.disk) (D.faults result)
+        → IsSettled (D.may_leave result) (files_of run) }
+    ensures goes { GoesOn D.Disk journal.disk result }
+{
+    let mut journal = journal;
+    let _ = make_clean(&mut journal);
+    journal.into_disk()
+}
