@@ -13,9 +13,9 @@ use Rattle.mounted_files.specs.declared.files.MountedFile.{MountedFile}
 use Rattle.mounted_files.specs.declared.refusals.GetFault.{GetFault}
 use Rattle.mounted_files.specs.declared.refusals.GetFault.TheVariants as faults
 use Rattle.kdb_tool.specs.Answer.{Answer, done, refused}
-use Rattle.kdb_tool.specs.Lines.{line_of_mount}
-use Rattle.kdb_tool.specs.Request.{Action}
-use Rattle.kdb_tool.specs.Commands.{parent_of}
+use Rattle.tool_commands.specs.Lines.{line_of_mount}
+use Rattle.tool_words.specs.Request.{Action}
+use Rattle.tool_commands.specs.Commands.{parent_of}
 use Rattle.kdb_tool.specs.Answers.{AnswersGot, file_told, line_of_get, owner_in}
 use Rattle.mounted_files.proofs.PointLemmas.{points-of_mounts}
 

@@ -7,9 +7,11 @@ use Rattle.mounted_files.specs.Getting.{got}
 use Rattle.mounted_files.specs.declared.files.MountedFile.{MountedFile}
 use Rattle.mounted_files.specs.declared.refusals.GetFault.{GetFault}
 use Rattle.mounted_files.specs.declared.refusals.OpenRefusal.{OpenRefusal}
-use Rattle.kdb_tool.specs.Request.{Action, Question, Mounts, FileOf, On, Request, Refuses, Bars, Asks, request}
+use Rattle.tool_words.specs.Request.{Action, Question, Mounts, FileOf, On, Request, Refuses, Bars, Asks}
+use Rattle.tool_words.specs.Rows.{request}
 use Rattle.kdb_tool.specs.Answer.{Answer}
-use Rattle.kdb_tool.specs.Commands.{Step, Tells, Sets, parent_of, step_of}
+use Rattle.tool_commands.specs.Step.{Step, Tells, Sets}
+use Rattle.tool_commands.specs.Commands.{parent_of, step_of}
 use Rattle.kdb_tool.specs.Answers.{AnswersStep, AnswersGot, AnswersIn, AnswersOpened, AnswersOver, AnswersRequest, Answers, answer_by}
 use Rattle.kdb_tool.proofs.StatesOnce.{IsMade, Opens-once}
 use Rattle.kdb_tool.proofs.VerdictOnce.{Verdict-once}

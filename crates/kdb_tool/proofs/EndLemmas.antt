@@ -1,23 +1,27 @@
 -- How a run ends, from the answer that was worked out and what became of it on out and err.
-use Rattle.std.specs.Prelude.{◌≡◌, ◌≢◌, ℕ, ◌⊎◌, nat_eq, true, false, zero, suc, List, [], ◌++◌, length, take, Option, Some, None, Result, Ok, Err, IfOk}
+use Rattle.std.specs.Prelude.{◌≡◌, ◌≢◌, ℕ, ◌⊎◌, zero, suc, List, [], ◌++◌, length, take, Option, Some, None, Result, Ok, Err, IfOk}
 use Rattle.std.proofs.Common.{refl, sym, ap, ◌∙◌, subst, inl, inr, arith}
-use Rattle.std.proofs.lemmas.Bool.Decides.{eqb_tells}
 use Rattle.std.proofs.Math.Seq.{take-length}
 use Rattle.kdb_tool.specs.declared.answers.Answer as code
 use Rattle.kdb_tool.specs.declared.answers.Stop.{Stop}
 use Rattle.kdb_tool.specs.declared.answers.Stop.TheVariants as stops
-use Rattle.kdb_tool.specs.Lines.{disk_fault, out_of_memory}
-use Rattle.kdb_tool.specs.Answer.{Report, Answer, Texts, warned, KeepsUnnamed, LeavesFiles}
-use Rattle.kdb_tool.specs.Request.{Request, Refuses, Bars, Asks}
+use Rattle.tool_commands.specs.Lines.{disk_fault}
+use Rattle.tool_words.specs.Lines.{out_of_memory}
+use Rattle.tool_words.specs.Uses.{barred}
+use Rattle.tool_commands.specs.Report.{Report, warned}
+use Rattle.kdb_tool.specs.Answer.{Answer, Texts, KeepsUnnamed, LeavesFiles}
+use Rattle.tool_words.specs.Request.{Request, Refuses, Bars, Asks}
 use Rattle.kdb_tool.specs.Answers.{Answers}
-use Rattle.kdb_tool.specs.AnswerView.{report_of, answer_of}
-use Rattle.kdb_tool.specs.Untold.{IsStatusOf, AnswersUntold}
+use Rattle.tool_commands.specs.StepView.{report_of}
+use Rattle.kdb_tool.specs.AnswerView.{answer_of}
+use Rattle.kdb_tool.specs.Untold.{IsStatusOf, AsksStore, AnswersUntold}
 use Rattle.kdb_tool.specs.Work.{Leaves, Stores}
 use Rattle.kdb_tool.specs.Ending.{ending}
 use Rattle.kdb_tool.specs.Lasting.{Lasts, SparesUnnamed}
 use Rattle.kdb_outside.specs.SinkChange.{SinkChange as Change}
 use Rattle.kdb_tool.specs.Outcome.{Failed, Gives, Gains, GainsFront, Delivers, Whole, OutFails, ErrFails}
-use Rattle.kdb_tool.specs.Ends.{IsAnswered, EndsAsAnswered, GivesAnswer, EndsByWords, EndsWithoutMemory, EndsInFault, FaultCause, OfDisk, OfOut, OfErr, LeftBy, Unwritten, Left}
+use Rattle.tool_commands.specs.Report.{IsAnswered}
+use Rattle.kdb_tool.specs.Ends.{EndsAsAnswered, LosesSink, EndsRefused, Refused, NoMemory, SinkFails, EndsByWords, EndsWithoutMemory, EndsInFault, FaultCause, OfDisk, OfOut, OfErr, LeftBy, Unwritten, Left}
 use Rattle.kdb_tool.proofs.AnswersOnce.{Answers-once}
 
 not_fault : (status : ℕ) → status ≡ 70 → status ≢ 74
@@ -37,22 +41,36 @@ answered (Err stops.Memory) words before after status out err answers leaves del
 answered (Err stops.DiskFault) words before after status out err answers leaves delivers =
     λ is. absurd (is.1 (whole (warned 74 disk_fault) status out err delivers is.1).status_is)
 
-by_request : (asked : Request) (answer : Answer) (status : ℕ) (out err : Change) → AnswersUntold asked answer → (status ≢ 74 → Gives answer.report status out err) → EndsByWords asked status out err
-by_request (Refuses code text) answer status out err is gives = λ answered. subst (λ (a : Answer). Gives a.report status out err) is (gives answered.1)
-by_request (Bars by name) answer status out err is gives = λ answered. subst (λ (a : Answer). Gives a.report status out err) is (gives answered.1)
-by_request (Asks question) answer status out err is gives = λ answered. subst (IsStatusOf question) (sym (gives answered.1).status_is) is
+-- refused words: what became of their line
+refused : (report : Report) (status : ℕ) (out err : Change) → Delivers report status out err → EndsRefused report status out err
+refused report status out err (Whole gives) = Refused gives
+refused report status out err (OutFails loses) = SinkFails (loses.status_is, inl loses.out_failed)
+refused report status out err (ErrFails loses) = SinkFails (loses.status_is, inr loses.err_failed)
 
-stopped_by : (asked : Request) (code : ℕ) (answer : Report) (status : ℕ) (out err : Change) → (IsAnswered status → ⊥) → EndsByWords asked status out err
-stopped_by (Refuses number text) code answer status out err never = λ answered. absurd (never answered)
-stopped_by (Bars by name) code answer status out err never = λ answered. absurd (never answered)
-stopped_by (Asks question) code answer status out err never = λ answered. absurd (never answered)
+without_answer : (report : Report) (status : ℕ) (out err : Change) → Delivers (warned 70 out_of_memory) status out err → EndsRefused report status out err
+without_answer report status out err (Whole gives) = NoMemory gives.status_is
+without_answer report status out err (OutFails loses) = SinkFails (loses.status_is, inl loses.out_failed)
+without_answer report status out err (ErrFails loses) = SinkFails (loses.status_is, inr loses.err_failed)
 
-pub by_words : (r : Result code.Answer Stop) (asked : Request) (status : ℕ) (out err : Change) → IfOk r (λ answer. AnswersUntold asked (answer_of answer)) → Delivers (ending r) status out err → EndsByWords asked status out err
-by_words (Ok answer) asked status out err untold delivers = by_request asked (answer_of answer) status out err untold (whole (report_of answer.report) status out err delivers)
-by_words (Err stops.Memory) asked status out err untold delivers =
-    stopped_by asked 70 (warned 70 out_of_memory) status out err (λ is. is.0 (whole (warned 70 out_of_memory) status out err delivers is.1).status_is)
-by_words (Err stops.DiskFault) asked status out err untold delivers =
-    stopped_by asked 74 (warned 74 disk_fault) status out err (λ is. is.1 (whole (warned 74 disk_fault) status out err delivers is.1).status_is)
+by_request : (asked : Request) (answer : Answer) (status : ℕ) (out err : Change) → AnswersUntold asked answer → Delivers answer.report status out err → EndsByWords asked status out err
+by_request (Refuses code text) answer status out err is delivers = refused (warned code text) status out err (subst (λ (a : Answer). Delivers a.report status out err) is delivers)
+by_request (Bars by name) answer status out err is delivers = refused (warned 2 (barred by name)) status out err (subst (λ (a : Answer). Delivers a.report status out err) is delivers)
+by_request (Asks question) answer status out err is delivers = λ answered. subst (IsStatusOf question) (sym (whole answer.report status out err delivers answered.1).status_is) is
+
+stopped_by : (asked : Request) (status : ℕ) (out err : Change) → Delivers (warned 70 out_of_memory) status out err → EndsByWords asked status out err
+stopped_by (Refuses code text) status out err delivers = without_answer (warned code text) status out err delivers
+stopped_by (Bars by name) status out err delivers = without_answer (warned 2 (barred by name)) status out err delivers
+stopped_by (Asks question) status out err delivers = λ answered. absurd (answered.0 (whole (warned 70 out_of_memory) status out err delivers answered.1).status_is)
+
+failed_by : (asked : Request) (status : ℕ) (out err : Change) → AsksStore asked → Delivers (warned 74 disk_fault) status out err → EndsByWords asked status out err
+failed_by (Refuses code text) status out err asks delivers = absurd asks
+failed_by (Bars by name) status out err asks delivers = absurd asks
+failed_by (Asks question) status out err asks delivers = λ answered. absurd (answered.1 (whole (warned 74 disk_fault) status out err delivers answered.1).status_is)
+
+pub by_words : (r : Result code.Answer Stop) (asked : Request) (status : ℕ) (out err : Change) → IfOk r (λ answer. AnswersUntold asked (answer_of answer)) → (r ≡ Err stops.DiskFault → AsksStore asked) → Delivers (ending r) status out err → EndsByWords asked status out err
+by_words (Ok answer) asked status out err untold asks delivers = by_request asked (answer_of answer) status out err untold delivers
+by_words (Err stops.Memory) asked status out err untold asks delivers = stopped_by asked status out err delivers
+by_words (Err stops.DiskFault) asked status out err untold asks delivers = failed_by asked status out err (asks refl) delivers
 
 -- what is gained whole or as a front of nothing is gained as a front
 front-whole : (before now : Option (List ℕ)) (bytes : List ℕ) → Gains before now bytes → GainsFront before now bytes
@@ -112,12 +130,12 @@ one_of_three disk_failed status out err (OfErr risen) no_disk no_out no_err = no
 pub complete : (disk_failed : Type 0) (status : ℕ) (out err : Change) → EndsInFault disk_failed status out err → (disk_failed → ⊥) → (Failed out → ⊥) → (Failed err → ⊥) → status ≢ 74
 complete disk_failed status out err ends no_disk no_out no_err = λ e. one_of_three disk_failed status out err (ends e) no_disk no_out no_err
 
--- at want of memory the files are as they were
-pub unwritten : (r : Result code.Answer Stop) (words : List (List ℕ)) (before after : List ℕ → List ℕ) (status : ℕ) (out err : Change) → IfOk r (λ answer. IsAnswered answer.report.status) → Leaves words r before after → Delivers (ending r) status out err → status ≡ 70 → after ≡ before
-unwritten (Ok answer) words before after status out err own leaves delivers e =
+-- at want of memory the disk was only read
+pub unwritten : (only_read : Type 0) (r : Result code.Answer Stop) (status : ℕ) (out err : Change) → IfOk r (λ answer. IsAnswered answer.report.status) → (r ≡ Err stops.Memory → only_read) → Delivers (ending r) status out err → status ≡ 70 → only_read
+unwritten only_read (Ok answer) status out err own reads delivers e =
     absurd (own.0 (sym (whole (report_of answer.report) status out err delivers (not_fault status e)).status_is ∙ e))
-unwritten (Err stops.Memory) words before after status out err own leaves delivers e = leaves
-unwritten (Err stops.DiskFault) words before after status out err own leaves delivers e =
+unwritten only_read (Err stops.Memory) status out err own reads delivers e = reads refl
+unwritten only_read (Err stops.DiskFault) status out err own reads delivers e =
     absurd (not_fault status e (whole (warned 74 disk_fault) status out err delivers (not_fault status e)).status_is)
 
 same_files : (before after : List ℕ → List ℕ) → after ≡ before → (texts : Texts) → KeepsUnnamed texts before after
@@ -131,20 +149,28 @@ others (Ok made) words before after answers leaves = λ answer other.
 others (Err stops.Memory) words before after answers leaves = λ answer other. same_files before after leaves answer.stored
 others (Err stops.DiskFault) words before after answers leaves = leaves
 
--- so where it stores nothing, they are all as they were
-pub untouched : (stored : Texts) (before after : List ℕ → List ℕ) → stored ≡ [] → KeepsUnnamed stored before after → after ≡ before
-untouched stored before after nothing keeps = λ i file. subst (λ texts. KeepsUnnamed texts before after) nothing keeps file refl i
+-- how a status came of a report: it is the report's, or a sink failed
+ended : (report : Report) (status : ℕ) (out err : Change) → Delivers report status out err → (status ≡ report.status) ⊎ LosesSink status out err
+ended report status out err (Whole gives) = inl gives.status_is
+ended report status out err (OutFails loses) = inr (loses.status_is, inl loses.out_failed)
+ended report status out err (ErrFails loses) = inr (loses.status_is, inr loses.err_failed)
 
--- the files behind a run without a fault
-pub left : (words : List (List ℕ)) (before after : List ℕ → List ℕ) (status : ℕ) (out err : Change) → EndsAsAnswered words before after status out err → (status ≡ 70 → after ≡ before) → status ≢ 74 → LeftBy words before after status
-left words before after status out err ends same no_fault = by_test (eqb_tells status 70)
-  where
-    from_answer : GivesAnswer words before after status out err → LeftBy words before after status
-    from_answer given = Left given.answer given.answers given.gives.status_is given.leaves
+-- nothing was to be put on out, so that it is err that failed
+without_out : (status : ℕ) (out err : Change) → Delivers (warned 70 out_of_memory) status out err → (status ≡ 70) ⊎ ((status ≡ 74) × Failed err)
+without_out status out err (Whole gives) = inl gives.status_is
+without_out status out err (OutFails loses) = absurd (loses.some refl)
+without_out status out err (ErrFails loses) = inr (loses.status_is, loses.err_failed)
 
-    by_test : ((nat_eq status 70 ≡ true) × (status ≡ 70)) ⊎ ((nat_eq status 70 ≡ false) × (status ≢ 70)) → LeftBy words before after status
-    by_test (inl is) = Unwritten is.1 (same is.1)
-    by_test (inr is_not) = from_answer (ends (is_not.1, no_fault))
+-- what a run without a fault of the disk leaves
+pub left : (disk_failed only_read : Type 0) (r : Result code.Answer Stop) (words : List (List ℕ)) (before after : List ℕ → List ℕ) (leaves : List ℕ → List ℕ → Type 0) (status : ℕ) (out err : Change)
+    → IfOk r (λ answer. Answers words before (answer_of answer)) → Leaves words r before after → IfOk r (λ answer. Lasts answer.stored leaves) → (r ≡ Err stops.Memory → only_read) → (r ≡ Err stops.DiskFault → disk_failed) → Delivers (ending r) status out err
+    → (disk_failed → ⊥) → LeftBy words before after leaves only_read status out err
+left disk_failed only_read (Ok answer) words before after leaves status out err answers stored lasts reads cause delivers no_disk =
+    Left (answer_of answer) answers stored lasts (ended (report_of answer.report) status out err delivers)
+left disk_failed only_read (Err stops.Memory) words before after leaves status out err answers stored lasts reads cause delivers no_disk =
+    Unwritten (reads refl) (without_out status out err delivers)
+left disk_failed only_read (Err stops.DiskFault) words before after leaves status out err answers stored lasts reads cause delivers no_disk =
+    absurd (no_disk (cause refl))
 
 -- what storing an answer did to the files
 pub Leaves-stored : (words : List (List ℕ)) (answer : code.Answer) (r : Result code.Answer Stop) (before after : List ℕ → List ℕ) → Answers words before (answer_of answer) → IfOk r (λ given. given ≡ answer) → Stores answer r before after → Leaves words r before after

@@ -1,15 +1,8 @@
--- What a command answers: its status, the bytes that it puts on out, those on err, and the files that get other bytes.
--- (This project's own.)
+-- What a command answers: what it tells, and the files that get other bytes. (This project's own.)
 use Rattle.std.specs.Prelude.{◌≡◌, ℕ, Bool, false, List, []}
 use Rattle.std.specs.List.{AllByRecursion, list_any}
 use Rattle.general_words.specs.Texts.{is_text}
-use Rattle.kdb_tool.specs.Lines.{line}
-
--- what a run tells: its status, and what it puts on out and on err
-pub record Report : Type 0 where
-  pub status : ℕ
-  pub out : List ℕ
-  pub err : List ℕ
+use Rattle.tool_commands.specs.Report.{Report, told, warned}
 
 -- files by their names, with the bytes that they get
 abbrev pub Texts : Type 0
@@ -19,14 +12,6 @@ Texts = List (List ℕ × List ℕ)
 pub record Answer : Type 0 where
   pub report : Report
   pub stored : Texts
-
--- the command was done, and puts this on out
-abbrev pub told : List ℕ → Report
-told out = record { status = 0; out = out; err = [] }
-
--- the command was refused, with one line on err
-abbrev pub warned : ℕ → List ℕ → Report
-warned status text = record { status = status; out = []; err = line text }
 
 -- it tells this and changes no file
 abbrev pub tells : Report → Answer

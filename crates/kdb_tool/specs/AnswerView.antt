@@ -1,18 +1,7 @@
--- Reports, steps and answers as the code has them, seen as what they are. (This project's own.)
-use Rattle.std.specs.Prelude.{string_bytes}
+-- Answers as the code has them, seen as what they are. (This project's own.)
+use Rattle.tool_commands.specs.StepView.{report_of}
 use Rattle.kdb_tool.specs.declared.answers.Answer as code_answer
-use Rattle.kdb_tool.specs.declared.reports.Report as code_report
-use Rattle.kdb_tool.specs.declared.steps.Step as code_step
-use Rattle.kdb_tool.specs.declared.steps.Step.TheVariants as code_steps
-use Rattle.kdb_tool.specs.Answer.{Report, Answer}
-use Rattle.kdb_tool.specs.Commands.{Step, Tells, Sets}
-
-abbrev pub report_of : code_report.Report → Report
-report_of report = record { status = report.status; out = string_bytes report.out; err = string_bytes report.err }
-
-abbrev pub seen_step : code_step.Step → Step
-seen_step (code_steps.Tells report) = Tells (report_of report)
-seen_step (code_steps.Sets keys out) = Sets keys (string_bytes out)
+use Rattle.kdb_tool.specs.Answer.{Answer}
 
 abbrev pub answer_of : code_answer.Answer → Answer
 answer_of answer = record { report = report_of answer.report; stored = answer.stored }

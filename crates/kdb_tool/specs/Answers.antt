@@ -17,11 +17,14 @@ use Rattle.mounted_files.specs.declared.refusals.OpenRefusal.{OpenRefusal}
 use Rattle.mounted_files.specs.declared.refusals.OpenRefusal.TheVariants as refusals
 use Rattle.mounted_files.specs.declared.verdicts.Verdict.{Verdict}
 use Rattle.mounted_files.specs.declared.verdicts.Verdict.TheVariants.{ValueTooLong, FileTooLarge, NotStorable, BadTable, DatabaseFull, Same, Stores}
-use Rattle.kdb_tool.specs.Lines.{too_long, bad_file, too_heavy, bad_table, value_too_long, file_too_large, not_storable, database_full, not_found, out_of_memory, line_of_mount}
+use Rattle.tool_commands.specs.Lines.{too_long, bad_file, too_heavy, bad_table, value_too_long, file_too_large, not_storable, database_full, not_found, line_of_mount}
+use Rattle.tool_words.specs.Lines.{out_of_memory}
 use Rattle.kdb_tool.specs.Answer.{Answer, tells, done, stores, refused}
-use Rattle.kdb_tool.specs.Uses.{barred}
-use Rattle.kdb_tool.specs.Request.{Action, Question, Mounts, FileOf, On, Request, Refuses, Bars, Asks, request}
-use Rattle.kdb_tool.specs.Commands.{Step, Tells, Sets, parent_of, step_of}
+use Rattle.tool_words.specs.Uses.{barred}
+use Rattle.tool_words.specs.Request.{Action, Question, Mounts, FileOf, On, Request, Refuses, Bars, Asks}
+use Rattle.tool_words.specs.Rows.{request}
+use Rattle.tool_commands.specs.Step.{Step, Tells, Sets}
+use Rattle.tool_commands.specs.Commands.{parent_of, step_of}
 
 -- the answer that a verdict on a set gives, with what is put out where nothing is refused
 abbrev pub answer_by : Verdict → List ℕ → Answer

@@ -3,9 +3,10 @@ use Rattle.std.specs.Prelude.{Result, Ok, Err}
 use Rattle.kdb_tool.specs.declared.answers.Answer as code
 use Rattle.kdb_tool.specs.declared.answers.Stop.{Stop}
 use Rattle.kdb_tool.specs.declared.answers.Stop.TheVariants as stops
-use Rattle.kdb_tool.specs.Lines.{disk_fault, out_of_memory}
-use Rattle.kdb_tool.specs.Answer.{Report, warned}
-use Rattle.kdb_tool.specs.AnswerView.{report_of}
+use Rattle.tool_commands.specs.Lines.{disk_fault}
+use Rattle.tool_words.specs.Lines.{out_of_memory}
+use Rattle.tool_commands.specs.Report.{Report, warned}
+use Rattle.tool_commands.specs.StepView.{report_of}
 
 -- the line that tells why there is no answer, with its status
 abbrev pub stopped : Stop → Report

@@ -1,17 +1,16 @@
 -- How a run ends, as the top call says it. (This project's own.)
-use Rattle.std.specs.Prelude.{◌≡◌, ◌≢◌, ℕ, List}
-use Rattle.kdb_tool.specs.Lines.{disk_fault, out_of_memory, line, write_fault}
-use Rattle.kdb_tool.specs.Uses.{barred}
-use Rattle.kdb_tool.specs.Answer.{Answer, warned, LeavesFiles}
-use Rattle.kdb_tool.specs.Request.{Request, Refuses, Bars, Asks}
+use Rattle.std.specs.Prelude.{◌≡◌, ◌⊎◌, ℕ, List}
+use Rattle.tool_commands.specs.Lines.{disk_fault, line, write_fault}
+use Rattle.tool_words.specs.Lines.{out_of_memory}
+use Rattle.tool_words.specs.Uses.{barred}
+use Rattle.kdb_tool.specs.Answer.{Answer, LeavesFiles}
+use Rattle.tool_commands.specs.Report.{IsAnswered, Report, warned}
+use Rattle.tool_words.specs.Request.{Request, Refuses, Bars, Asks}
 use Rattle.kdb_tool.specs.Answers.{Answers}
+use Rattle.kdb_tool.specs.Lasting.{Lasts}
 use Rattle.kdb_tool.specs.Untold.{IsStatusOf}
 use Rattle.kdb_outside.specs.SinkChange.{SinkChange as Change}
 use Rattle.kdb_tool.specs.Outcome.{Failed, Gives, Gains}
-
--- a run that ended neither in want of memory nor in a fault
-abbrev pub IsAnswered : ℕ → Type 0
-IsAnswered status = (status ≢ 70) × (status ≢ 74)
 
 -- an answer to a command line was given, and the files are those that it leaves
 pub record GivesAnswer (words : List (List ℕ)) (before after : List ℕ → List ℕ) (status : ℕ) (out err : Change) : Type 0 where
@@ -23,10 +22,20 @@ pub record GivesAnswer (words : List (List ℕ)) (before after : List ℕ → Li
 abbrev pub EndsAsAnswered : List (List ℕ) → (List ℕ → List ℕ) → (List ℕ → List ℕ) → ℕ → Change → Change → Type 0
 EndsAsAnswered words before after status out err = IsAnswered status → GivesAnswer words before after status out err
 
--- words that are refused are answered so; a question to the store ends with its own statuses alone
+-- a sink failed, so that the status is that of a fault
+abbrev pub LosesSink : ℕ → Change → Change → Type 0
+LosesSink status out err = (status ≡ 74) × (Failed out ⊎ Failed err)
+
+-- words that are refused end a run so: it told the line, memory was wanting, or a sink failed
+pub data EndsRefused (report : Report) (status : ℕ) (out err : Change) : Type 0 where
+  Refused : Gives report status out err → EndsRefused report status out err
+  NoMemory : status ≡ 70 → EndsRefused report status out err
+  SinkFails : LosesSink status out err → EndsRefused report status out err
+
+-- words that ask the store for nothing decide how a run ends; a question to the store ends with its own statuses alone
 abbrev pub EndsByWords : Request → ℕ → Change → Change → Type 0
-EndsByWords (Refuses code text) status out err = IsAnswered status → Gives (warned code text) status out err
-EndsByWords (Bars by name) status out err = IsAnswered status → Gives (warned 2 (barred by name)) status out err
+EndsByWords (Refuses code text) status out err = EndsRefused (warned code text) status out err
+EndsByWords (Bars by name) status out err = EndsRefused (warned 2 (barred by name)) status out err
 EndsByWords (Asks question) status out err = IsAnswered status → IsStatusOf question status
 
 abbrev pub EndsWithoutMemory : ℕ → Change → Change → Type 0
@@ -41,7 +50,8 @@ pub data FaultCause (disk_failed : Type 0) (status : ℕ) (out err : Change) : T
 abbrev pub EndsInFault : Type 0 → ℕ → Change → Change → Type 0
 EndsInFault disk_failed status out err = status ≡ 74 → FaultCause disk_failed status out err
 
--- the files behind a run without a fault: at want of memory they are as they were, and else those that its answer leaves
-pub data LeftBy (words : List (List ℕ)) (before after : List ℕ → List ℕ) (status : ℕ) : Type 0 where
-  Unwritten : status ≡ 70 → after ≡ before → LeftBy words before after status
-  Left : (answer : Answer) → Answers words before answer → status ≡ answer.report.status → LeavesFiles answer.stored before after → LeftBy words before after status
+-- what a run leaves that had no fault of the disk, whatever becomes of out and err: in want of memory it only read, and else the
+-- files are those of its answer and outlast a crash
+pub data LeftBy (words : List (List ℕ)) (before after : List ℕ → List ℕ) (leaves : List ℕ → List ℕ → Type 0) (only_read : Type 0) (status : ℕ) (out err : Change) : Type 0 where
+  Unwritten : only_read → (status ≡ 70) ⊎ ((status ≡ 74) × Failed err) → LeftBy words before after leaves only_read status out err
+  Left : (answer : Answer) → Answers words before answer → LeavesFiles answer.stored before after → Lasts answer.stored leaves → (status ≡ answer.report.status) ⊎ LosesSink status out err → LeftBy words before after leaves only_read status out err

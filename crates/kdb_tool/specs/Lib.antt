@@ -1,10 +1,5 @@
-pub mod Lines
-pub mod Uses
-pub mod Request
-pub mod RequestView
 pub mod Answer
 pub mod Lasting
-pub mod Commands
 pub mod AnswerView
 pub mod Answers
 pub mod Untold

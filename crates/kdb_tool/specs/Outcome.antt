@@ -1,10 +1,10 @@
 -- How a run ends: what out and err have gained, and where a fault came from. (This project's own.)
-use Rattle.std.specs.Prelude.{◌≡◌, ℕ, List, ◌++◌, Option, Some, IfSome}
+use Rattle.std.specs.Prelude.{◌≡◌, ◌≢◌, ℕ, List, [], ◌++◌, Option, Some, IfSome}
 use Rattle.kdb_outside.specs.Bytes.{HoldsFront}
 use Rattle.kdb_outside.specs.Faults.{HasRisen}
 use Rattle.kdb_outside.specs.SinkChange.{SinkChange as Change}
-use Rattle.kdb_tool.specs.Lines.{line, write_fault}
-use Rattle.kdb_tool.specs.Answer.{Report}
+use Rattle.tool_commands.specs.Lines.{line, write_fault}
+use Rattle.tool_commands.specs.Report.{Report}
 
 -- a sink that tells its bytes has gained these
 abbrev pub Gains : Option (List ℕ) → Option (List ℕ) → List ℕ → Type 0
@@ -24,8 +24,9 @@ pub record Gives (report : Report) (status : ℕ) (out err : Change) : Type 0 wh
   pub out_gains : Gains out.held_before out.held_now report.out
   pub err_gains : Gains err.held_before err.held_now report.err
 
--- out failed, has gained a front of what it was given, and err tells so
+-- out failed, has gained a front of what it was given, which was something, and err tells so
 pub record LosesOut (text : List ℕ) (status : ℕ) (out err : Change) : Type 0 where
+  pub some : text ≢ []
   pub out_failed : Failed out
   pub status_is : status ≡ 74
   pub out_front : GainsFront out.held_before out.held_now text

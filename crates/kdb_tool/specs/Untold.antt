@@ -1,29 +1,28 @@
--- What is known of an answer over a disk that tells nothing. (This project's own.)
-use Rattle.std.specs.Prelude.{◌≡◌, ◌⊎◌, ℕ}
+-- What is known of an answer whatever a disk tells. (This project's own.)
+use Rattle.std.specs.Prelude.{◌≡◌, ℕ, List, [], ◌∷◌}
+use Rattle.tool_words.specs.Request.{Question, Mounts, FileOf, On, Request, Refuses, Bars, Asks}
+use Rattle.tool_words.specs.Uses.{barred}
+use Rattle.tool_commands.specs.Commands.{row_of}
+use Rattle.tool_commands.specs.Report.{IsEnd}
 use Rattle.kdb_tool.specs.Answer.{Answer, refused}
-use Rattle.kdb_tool.specs.Request.{Action, Get, Set, Remove, Names, GetMeta, SetMeta, MetaNames, Bring, MountFile, Unmount, Question, Mounts, FileOf, On, Request, Refuses, Bars, Asks}
-use Rattle.kdb_tool.specs.Uses.{barred}
 
--- the statuses of an action that reached the files
-abbrev pub IsStatusOfAction : Action → ℕ → Type 0
-IsStatusOfAction Get status = (status ≡ 0) ⊎ (status ≡ 5) ⊎ (status ≡ 11)
-IsStatusOfAction (Set value) status = (status ≡ 0) ⊎ (status ≡ 5)
-IsStatusOfAction (Remove extent) status = (status ≡ 0) ⊎ (status ≡ 5) ⊎ (status ≡ 11)
-IsStatusOfAction Names status = (status ≡ 0) ⊎ (status ≡ 5)
-IsStatusOfAction (GetMeta meta) status = (status ≡ 0) ⊎ (status ≡ 5) ⊎ (status ≡ 11)
-IsStatusOfAction (SetMeta meta text) status = (status ≡ 0) ⊎ (status ≡ 5)
-IsStatusOfAction MetaNames status = (status ≡ 0) ⊎ (status ≡ 5) ⊎ (status ≡ 11)
-IsStatusOfAction (Bring way extent to) status = (status ≡ 0) ⊎ (status ≡ 2) ⊎ (status ≡ 5) ⊎ (status ≡ 11)
-IsStatusOfAction (MountFile file kind) status = (status ≡ 0) ⊎ (status ≡ 5)
-IsStatusOfAction Unmount status = (status ≡ 0) ⊎ (status ≡ 5)
+-- the statuses that a question to the store may end with, beside 0 and 5
+abbrev pub own_statuses : Question → List ℕ
+own_statuses Mounts = []
+own_statuses (FileOf name) = 11 ∷ []
+own_statuses (On name action) = (row_of name action).statuses
 
--- the statuses of a question that reached the files
+-- a question to the store ends so
 abbrev pub IsStatusOf : Question → ℕ → Type 0
-IsStatusOf Mounts status = (status ≡ 0) ⊎ (status ≡ 5)
-IsStatusOf (FileOf name) status = (status ≡ 0) ⊎ (status ≡ 5) ⊎ (status ≡ 11)
-IsStatusOf (On name action) status = IsStatusOfAction action status
+IsStatusOf question status = IsEnd (own_statuses question) status
 
--- of a request: all where the words are refused or name a key that can't be used so, and else a status
+-- words ask the store for something
+abbrev pub AsksStore : Request → Type 0
+AsksStore (Refuses status text) = ⊥
+AsksStore (Bars by name) = ⊥
+AsksStore (Asks question) = Unit {0}
+
+-- of a request: all where it asks the store for nothing, and else a status
 abbrev pub AnswersUntold : Request → Answer → Type 0
 AnswersUntold (Refuses status text) answer = answer ≡ refused status text
 AnswersUntold (Bars by name) answer = answer ≡ refused 2 (barred by name)

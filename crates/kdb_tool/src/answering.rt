@@ -1,28 +1,22 @@
 //! The answer to a question over the mounted files.
-ghost use Rattle.std.specs.Prelude.{◌≡◌, ◌≢◌, ◌++◌, ◌∷◌, [], IfOk, OnOk, string_bytes};
+ghost use Rattle.std.specs.Prelude.{◌≡◌, ◌≢◌, ℕ, List, ◌++◌, ◌∷◌, [], IfOk, OnOk, string_bytes};
 ghost use Rattle.std.specs.List.{flat_map};
 ghost use Rattle.std.specs.Option.{option_copied, option_map};
 ghost use Rattle.mounted_files.specs.Getting.{got};
-ghost use Rattle.kdb_tool.specs.AnswerView.{answer_of, seen_step};
+ghost use Rattle.kdb_tool.specs.AnswerView.{answer_of};
+ghost use Rattle.tool_commands.specs.StepView.{seen_step};
 ghost use Rattle.mounted_files.specs.declared.refusals.GetFault.TheVariants.{Memory as OutOfMemory};
 ghost use Rattle.mounted_files.specs.declared.refusals.OpenRefusal.TheVariants.{Memory as NoMemory};
 ghost use Rattle.kdb_tool.specs.Answer.{done, refused};
+ghost use Rattle.tool_commands.specs.Report.{IsEnd};
+ghost use Rattle.tool_commands.specs.Step.{TellsEnd};
+ghost use Rattle.kdb_tool.specs.Untold.{IsStatusOf};
 ghost use Rattle.kdb_tool.specs.Answers.{AnswersOpened, AnswersIn, AnswersGot, AnswersStep, AnswersSet, IsRefusedBy, answer_by, file_told, mounts_told, owner_in, line_of_get, line_of_opening};
-ghost use Rattle.kdb_tool.specs.Commands.{parent_of};
-ghost use Rattle.kdb_tool.specs.Lines.{line_of_mount, not_found};
-ghost use Rattle.kdb_tool.specs.RequestView.{action_of, question_of};
+ghost use Rattle.tool_commands.specs.Commands.{parent_of, row_of};
+ghost use Rattle.tool_commands.specs.Lines.{line_of_mount, not_found};
+ghost use Rattle.tool_words.specs.RequestView.{action_of, question_of};
 
 use crate::answers::{Answer, refuse, stores, tells};
-use crate::commands::{parent_of, step};
-use crate::places::own_point;
-use crate::reports::{tell, warn_not_found};
-use crate::requests::{Action, Question};
-use crate::status::REFUSED;
-use crate::steps::Step;
-use crate::store_lines::{
-    bad_file, bad_table, database_full, file_too_large, not_storable, too_heavy, too_long,
-    value_too_long,
-};
 use all_formats::AllFormats;
 use kdb_outside::FileName;
 use kdb_text::shown;
@@ -32,6 +26,11 @@ use key_set::KeySet;
 use mount_table::Mount;
 use mounted_files::{GetFault, Mounted, OpenRefusal, Verdict};
 use std::alloc::{AllocError, Global};
+use tool_commands::{
+    REFUSED, Step, bad_file, bad_table, database_full, file_too_large, not_storable, own_point,
+    parent_of, step, tell, too_heavy, too_long, value_too_long, warn_not_found,
+};
+use tool_words::{Action, Question};
 
 /// The answer to a question, by what came of the opening.
 pub fn answer_opened(
@@ -39,7 +38,8 @@ pub fn answer_opened(
     opened: Result<Mounted, OpenRefusal>,
     question: Question<'_>,
 ) -> Result<Answer, Memory>
-    ensures { IfOk result (λ answer. AnswersOpened opened (question_of question.entry) (answer_of answer)) }
+    ensures answers { IfOk result (λ answer. AnswersOpened opened (question_of question.entry) (answer_of answer)) }
+    ensures status { IfOk result (λ answer. IsStatusOf (question_of question.entry) answer.report.status) }
 {
     match opened {
         Ok(mounted) => answer_in(alloc, &mounted, question),
@@ -49,7 +49,8 @@ pub fn answer_opened(
 
 /// The answer where the store isn't opened.
 fn refuse_opening(alloc: Global, refusal: OpenRefusal) -> Result<Answer, Memory>
-    ensures { IfOk result (λ answer. IsRefusedBy refusal (answer_of answer)) }
+    ensures refused { IfOk result (λ answer. IsRefusedBy refusal (answer_of answer)) }
+    ensures status { IfOk result (λ answer. answer.report.status ≡ 5) }
 {
     let text = line_of_opening(alloc, &refusal)?;
     refuse(alloc, REFUSED, text.as_str())
@@ -76,7 +77,8 @@ fn line_of_opening(alloc: Global, refusal: &OpenRefusal) -> Result<String, Memor
 
 /// The answer to a question over the mounted files.
 fn answer_in(alloc: Global, mounted: &Mounted, question: Question<'_>) -> Result<Answer, Memory>
-    ensures { IfOk result (λ answer. AnswersIn mounted.now (question_of question.entry) (answer_of answer)) }
+    ensures answers { IfOk result (λ answer. AnswersIn mounted.now (question_of question.entry) (answer_of answer)) }
+    ensures status { IfOk result (λ answer. IsStatusOf (question_of question.entry) answer.report.status) }
 {
     match question {
         Question::Mounts => tell_mounts(alloc, mounted),
@@ -87,7 +89,8 @@ fn answer_in(alloc: Global, mounted: &Mounted, question: Question<'_>) -> Result
 
 /// `mounts`: a line for each mount.
 fn tell_mounts(alloc: Global, mounted: &Mounted) -> Result<Answer, Memory>
-    ensures { IfOk result (λ answer. answer_of answer ≡ mounts_told mounted.now) }
+    ensures told { IfOk result (λ answer. answer_of answer ≡ mounts_told mounted.now) }
+    ensures status { IfOk result (λ answer. answer.report.status ≡ 0) }
 {
     let lines = lines_of_mounts(alloc, mounted)?;
     Ok(tells(alloc, tell(alloc, lines)))
@@ -121,7 +124,8 @@ fn push_line_of_mount(alloc: Global, lines: &mut String, mount: &Mount) -> Resul
 
 /// `file`: the file of the mount that owns a key.
 fn tell_file(alloc: Global, mounted: &Mounted, name: &KeyName) -> Result<Answer, Memory>
-    ensures { IfOk result (λ answer. answer_of answer ≡ file_told name.now (owner_in mounted.now name.now)) }
+    ensures told { IfOk result (λ answer. answer_of answer ≡ file_told name.now (owner_in mounted.now name.now)) }
+    ensures status { IfOk result (λ answer. IsEnd (11 ∷ []) answer.report.status) }
 {
     match owner_in(mounted, name) {
         Some(mount) => tell_name_of(alloc, &mount.file),
@@ -130,7 +134,8 @@ fn tell_file(alloc: Global, mounted: &Mounted, name: &KeyName) -> Result<Answer,
 }
 
 fn tell_name_of(alloc: Global, file: &FileName) -> Result<Answer, Memory>
-    ensures { IfOk result (λ answer. answer_of answer ≡ done (file.now ++ 10 ∷ [])) }
+    ensures told { IfOk result (λ answer. answer_of answer ≡ done (file.now ++ 10 ∷ [])) }
+    ensures status { IfOk result (λ answer. answer.report.status ≡ 0) }
 {
     let file = file.text();
     let out = format!(in alloc; "{file}\n")?;
@@ -138,7 +143,8 @@ fn tell_name_of(alloc: Global, file: &FileName) -> Result<Answer, Memory>
 }
 
 fn refuse_not_found(alloc: Global, name: &KeyName) -> Result<Answer, Memory>
-    ensures { IfOk result (λ answer. answer_of answer ≡ refused 11 (not_found name.now)) }
+    ensures told { IfOk result (λ answer. answer_of answer ≡ refused 11 (not_found name.now)) }
+    ensures status { IfOk result (λ answer. answer.report.status ≡ 11) }
 {
     Ok(tells(alloc, warn_not_found(alloc, name)?))
 }
@@ -161,7 +167,8 @@ fn act(
     name: &KeyName,
     action: Action<'_>,
 ) -> Result<Answer, Memory>
-    ensures { IfOk result (λ answer. AnswersGot mounted.now name.now (action_of action.entry) (got mounted.now (parent_of name.now (action_of action.entry))) (answer_of answer)) }
+    ensures answers { IfOk result (λ answer. AnswersGot mounted.now name.now (action_of action.entry) (got mounted.now (parent_of name.now (action_of action.entry))) (answer_of answer)) }
+    ensures status { IfOk result (λ answer. IsEnd (row_of name.now (action_of action.entry)).statuses answer.report.status) }
 {
     let parent = parent_of(alloc, name, &action)?;
     match mounted.get(alloc, &parent) {
@@ -175,7 +182,8 @@ fn act(
 
 /// The answer where keys can't be got.
 fn refuse_get(alloc: Global, fault: GetFault) -> Result<Answer, Memory>
-    ensures { IfOk result (λ answer. (fault ≢ OutOfMemory) × (answer_of answer ≡ refused 5 (line_of_get fault))) }
+    ensures refused { IfOk result (λ answer. (fault ≢ OutOfMemory) × (answer_of answer ≡ refused 5 (line_of_get fault))) }
+    ensures status { IfOk result (λ answer. answer.report.status ≡ 5) }
 {
     let text = line_of_get(alloc, &fault)?;
     refuse(alloc, REFUSED, text.as_str())
@@ -201,7 +209,8 @@ fn take_step(
     parent: &KeyName,
     step: Step,
 ) -> Result<Answer, Memory>
-    ensures { IfOk result (λ answer. AnswersStep mounted.now parent.now (seen_step step) (answer_of answer)) }
+    ensures answers { IfOk result (λ answer. AnswersStep mounted.now parent.now (seen_step step) (answer_of answer)) }
+    ensures status { (own : List ℕ) → TellsEnd own (seen_step step) → IfOk result (λ answer. IsEnd own answer.report.status) }
 {
     match step {
         Step::Tells(report) => Ok(tells(alloc, report)),
@@ -217,7 +226,8 @@ fn set_keys(
     keys: &KeySet,
     out: String,
 ) -> Result<Answer, Memory>
-    ensures { IfOk result (λ answer. AnswersSet mounted.now parent.now keys.now (string_bytes out) (answer_of answer)) }
+    ensures answers { IfOk result (λ answer. AnswersSet mounted.now parent.now keys.now (string_bytes out) (answer_of answer)) }
+    ensures status { (own : List ℕ) → IfOk result (λ answer. IsEnd own answer.report.status) }
 {
     let verdict = mounted.judge(alloc, &AllFormats, parent, keys)?;
     answer_by(alloc, verdict, out)
@@ -225,7 +235,8 @@ fn set_keys(
 
 /// The answer that a verdict on a set gives.
 fn answer_by(alloc: Global, verdict: Verdict, out: String) -> Result<Answer, Memory>
-    ensures { IfOk result (λ answer. answer_of answer ≡ answer_by verdict (string_bytes out)) }
+    ensures answers { IfOk result (λ answer. answer_of answer ≡ answer_by verdict (string_bytes out)) }
+    ensures status { (own : List ℕ) → IfOk result (λ answer. IsEnd own answer.report.status) }
 {
     match verdict {
         Verdict::Same { .. } => Ok(tells(alloc, tell(alloc, out))),

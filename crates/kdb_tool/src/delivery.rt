@@ -1,5 +1,5 @@
 //! Puts an answer on out and err. A fault of either turns the status into that of a fault.
-ghost use Rattle.std.specs.Prelude.{◌≤◌, OnOk, OnErr};
+ghost use Rattle.std.specs.Prelude.{◌≤◌, ◌≢◌, [], OnOk, OnErr};
 ghost use Rattle.kdb_outside.specs.Faults.{HasRisen};
 ghost use Rattle.kdb_outside.specs.SinkChange.{change_of};
 ghost use Rattle.kdb_tool.specs.Outcome.{Delivers, Gains, GainsFront};
@@ -7,8 +7,8 @@ ghost use Rattle.kdb_tool.specs.Delivery.{Tells};
 ghost use Rattle.kdb_tool.specs.Ending.{ending, stopped};
 
 use crate::answers::{Answer, Stop};
-use crate::status::{FAULT, OUT_OF_MEMORY, Status};
 use kdb_outside::{Failed, Sink};
+use tool_commands::{FAULT, OUT_OF_MEMORY, Status};
 
 /// Puts a line on err, where there is one, and ends with the status.
 fn tell<E: Sink>(status: Status, line: &str, err: &mut E) -> Status
@@ -28,6 +28,7 @@ fn tell<E: Sink>(status: Status, line: &str, err: &mut E) -> Status
 fn put_out<K: Sink>(text: &str, out: &mut K) -> Result<(), Failed>
     ensures whole { OnOk result (Gains (K.held out.old) (K.held out.new) text.now) }
     ensures front { GainsFront (K.held out.old) (K.held out.new) text.now }
+    ensures some { OnErr result (text.now ≢ []) }
     ensures cause { OnErr result (HasRisen (K.faults out.old) (K.faults out.new)) }
     ensures later { K.faults out.old ≤ K.faults out.new }
 {

@@ -7,32 +7,21 @@ ghost use Rattle.kdb_tool.specs.Answers.{Answers};
 
 mod answering;
 mod answers;
-mod asking;
-mod commands;
 mod delivery;
-mod extents;
-mod meta_names;
 mod opening;
-mod options;
-mod places;
-mod refusing;
-mod reports;
-mod requests;
-mod status;
-mod steps;
-mod store_lines;
 mod storing;
 mod tool;
-mod uses;
-mod verbs;
-mod ways;
-mod words;
 mod work;
 
-pub use status::Status;
 pub use tool::run;
+pub use tool_commands::Status;
 
 /// A command line has one answer over the files of a store.
 pub fn words_have_one_answer()
     ensures { (words : List (List ℕ)) (files : List ℕ → List ℕ) (a b : Answer) → Answers words files a → Answers words files b → a ≡ b }
+{}
+
+/// A command line has an answer over all files, whatever its words and the bytes of the files.
+pub fn words_have_an_answer()
+    ensures { (words : List (List ℕ)) (files : List ℕ → List ℕ) → (answer : Answer) × Answers words files answer }
 {}

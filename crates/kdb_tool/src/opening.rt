@@ -9,10 +9,10 @@ ghost use Rattle.mounted_files.specs.Files.{AreStates};
 ghost use Rattle.mounted_files.specs.Opening.{IsOpened, MakesTable, Opens};
 
 use crate::answers::Stop;
-use crate::places::own_file;
 use all_formats::AllFormats;
 use backend_files::{FileRead, read_file};
 use kdb_outside::{Disk, FileName};
+use key_meta::Memory;
 use mount_table::MountTable;
 use mounted_files::{Mounted, OpenRefusal, Opening, read_table_file};
 use std::alloc::Global;
@@ -90,4 +90,14 @@ fn add_next<D: Disk>(
     let read = read_file(alloc, disk, &mount.file)?;
     opening.add(alloc, &AllFormats, &read)?;
     Ok(())
+}
+
+/// The file of the table's own keys.
+fn own_file(alloc: Global) -> Result<FileName, Memory>
+    ensures { IfOk result (λ file. file ≡ own_mount.file) }
+{
+    match FileName::new(alloc, "elektra.ecf")? {
+        Some(file) => Ok(file),
+        None => unreachable!(),
+    }
 }

@@ -1,5 +1,5 @@
 //! Files that are replaced in place, one after the other. A fault may leave one torn, and those behind it as they were.
-ghost use Rattle.std.specs.Prelude.{◌≡◌, T, true, List, OnOk};
+ghost use Rattle.std.specs.Prelude.{◌≡◌, T, true, List, [], IsOk, OnOk};
 ghost use Rattle.std.specs.Cmp.Lexicographic.{slice_cmp};
 ghost use Rattle.std.specs.FinMap.{is_sorted};
 ghost use Rattle.std.specs.Ordering.{nat_cmp};
@@ -16,6 +16,8 @@ use key_meta::List;
 /// Replaces files, whose names stand in their order, each once.
 pub fn replace_all<D: Disk>(disk: &mut D, texts: &[(FileName, List<u8>)]) -> Result<(), Failed>
     requires { T (is_sorted (slice_cmp nat_cmp) texts.now) }
+    ensures nothing { texts.now ≡ [] → disk.new ≡ disk.old }
+    ensures done { texts.now ≡ [] → IsOk result }
     ensures left { D.tells disk.old ≡ true → OnOk result (LeavesFiles texts.now (D.seen disk.old) (D.seen disk.new)) }
     ensures others { D.tells disk.old ≡ true → KeepsUnnamed texts.now (D.seen disk.old) (D.seen disk.new) }
     ensures lasting { D.tells disk.old ≡ true → OnOk result (Lasts texts.now (D.may_leave disk.new)) }

@@ -1,21 +1,23 @@
 //! The top call. The whole answer is made before anything is stored or put out.
 ghost use Rattle.std.specs.Prelude.{◌≡◌, ◌≢◌, ◌≤◌, [], true};
 ghost use Rattle.kdb_outside.specs.Faults.{HasRisen};
-ghost use Rattle.kdb_outside.specs.Frames.{GoesOn};
+ghost use Rattle.kdb_outside.specs.Frames.{GoesOn, OnlyReads};
 ghost use Rattle.kdb_outside.specs.SinkChange.{change_of};
 ghost use Rattle.kdb_tool.specs.Answer.{Answer, KeepsUnnamed};
 ghost use Rattle.kdb_tool.specs.Answers.{Answers};
-ghost use Rattle.kdb_tool.specs.Request.{request};
+ghost use Rattle.tool_words.specs.Rows.{request};
 ghost use Rattle.kdb_tool.specs.Outcome.{GainsFront};
-ghost use Rattle.kdb_tool.specs.Ends.{IsAnswered, EndsAsAnswered, EndsByWords, EndsWithoutMemory, EndsInFault, LeftBy};
+ghost use Rattle.tool_commands.specs.Report.{IsAnswered};
+ghost use Rattle.kdb_tool.specs.Ends.{EndsAsAnswered, EndsByWords, EndsWithoutMemory, EndsInFault, LeftBy};
 ghost use Rattle.kdb_tool.specs.Lasting.{Lasts, SparesUnnamed};
+ghost use Rattle.kdb_tool.specs.Untold.{AsksStore};
 
 use crate::delivery::finish;
-use crate::status::Status;
 use crate::work::carry_out;
 use kdb_outside::{Disk, Gate, Sink, Source};
 use key_meta::Text;
 use std::alloc::Global;
+use tool_commands::Status;
 
 /// Carries out a command line, whose words come without the program's name, and gives the disk back.
 pub fn run<S: Source, K: Sink, E: Sink, D: Disk + Send, G: Gate + Sync>(
@@ -30,8 +32,9 @@ pub fn run<S: Source, K: Sink, E: Sink, D: Disk + Send, G: Gate + Sync>(
     // The status, out, err and the files are those of the answer.
     ensures answered { D.tells disk ≡ true → EndsAsAnswered words.now (D.seen disk) (D.seen result.1) result.0 (change_of K.Sink out.old out.new) (change_of E.Sink err.old err.new) }
 
-    // Words that ask for nothing decide alone, whatever the disk does.
+    // Words that ask for nothing decide alone, whatever the disk does, and leave the disk alone.
     ensures words { EndsByWords (request words.now) result.0 (change_of K.Sink out.old out.new) (change_of E.Sink err.old err.new) }
+    ensures unasked { (AsksStore (request words.now) → ⊥) → result.1 ≡ disk }
 
     // However the run ends, out has gained a front of what the answer puts there.
     ensures prefix { D.tells disk ≡ true → (answer : Answer) → Answers words.now (D.seen disk) answer → GainsFront (K.held out.old) (K.held out.new) answer.report.out }
@@ -45,14 +48,14 @@ pub fn run<S: Source, K: Sink, E: Sink, D: Disk + Send, G: Gate + Sync>(
     // So without a fault the run ends with the answer's status, or in want of memory.
     ensures complete { (HasRisen (D.faults disk) (D.faults result.1) → ⊥) → (HasRisen (K.faults out.old) (K.faults out.new) → ⊥) → (HasRisen (E.faults err.old) (E.faults err.new) → ⊥) → result.0 ≢ 74 }
 
-    // Without a fault the files are those that the answer leaves, and at want of memory as they were.
-    ensures files { D.tells disk ≡ true → (HasRisen (D.faults disk) (D.faults result.1) → ⊥) → (HasRisen (K.faults out.old) (K.faults out.new) → ⊥) → (HasRisen (E.faults err.old) (E.faults err.new) → ⊥) → LeftBy words.now (D.seen disk) (D.seen result.1) result.0 }
+    // Without a fault of the disk what the answer stores is stored and outlasts a crash, whatever becomes of out and err.
+    ensures files { D.tells disk ≡ true → (HasRisen (D.faults disk) (D.faults result.1) → ⊥) → LeftBy words.now (D.seen disk) (D.seen result.1) (D.may_leave result.1) (OnlyReads D.Disk disk result.1) result.0 (change_of K.Sink out.old out.new) (change_of E.Sink err.old err.new) }
 
     // Want of memory never comes behind a write.
-    ensures unwritten { D.tells disk ≡ true → result.0 ≡ 70 → D.seen result.1 ≡ D.seen disk }
+    ensures unwritten { result.0 ≡ 70 → OnlyReads D.Disk disk result.1 }
 
-    // Where the answer stores nothing, the files are as they were, whatever fails.
-    ensures untouched { D.tells disk ≡ true → (answer : Answer) → Answers words.now (D.seen disk) answer → answer.stored ≡ [] → D.seen result.1 ≡ D.seen disk }
+    // Where the answer stores nothing, nothing is written, whatever fails.
+    ensures untouched { D.tells disk ≡ true → (answer : Answer) → Answers words.now (D.seen disk) answer → answer.stored ≡ [] → OnlyReads D.Disk disk result.1 }
 
     // No file but those that the answer stores is ever changed, whatever fails.
     ensures others { D.tells disk ≡ true → (answer : Answer) → Answers words.now (D.seen disk) answer → KeepsUnnamed answer.stored (D.seen disk) (D.seen result.1) }

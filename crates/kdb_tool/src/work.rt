@@ -1,27 +1,25 @@
 //! The work that a command line asks for: the files are read, the answer is made whole, and then it is stored.
-ghost use Rattle.std.specs.Prelude.{◌≡◌, true, IfOk, Err};
+ghost use Rattle.std.specs.Prelude.{◌≡◌, ◌≢◌, true, [], IsOk, IfOk, Err};
 ghost use Rattle.kdb_outside.specs.Faults.{HasRisen};
 ghost use Rattle.kdb_outside.specs.Frames.{GoesOn, OnlyReads};
 ghost use Rattle.kdb_tool.specs.Answer as wanted;
 ghost use Rattle.kdb_tool.specs.AnswerView.{answer_of};
 ghost use Rattle.kdb_tool.specs.Answers.{Answers, AnswersOver};
-ghost use Rattle.kdb_tool.specs.Ends.{IsAnswered};
+ghost use Rattle.tool_commands.specs.Report.{IsAnswered};
 ghost use Rattle.kdb_tool.specs.Lasting.{Lasts, SparesUnnamed};
-ghost use Rattle.kdb_tool.specs.Request.{request};
-ghost use Rattle.kdb_tool.specs.RequestView.{question_of};
-ghost use Rattle.kdb_tool.specs.Untold.{AnswersUntold, IsStatusOf};
+ghost use Rattle.tool_words.specs.Rows.{request};
+ghost use Rattle.tool_words.specs.RequestView.{question_of};
+ghost use Rattle.kdb_tool.specs.Untold.{AnswersUntold, AsksStore, IsStatusOf};
 ghost use Rattle.kdb_tool.specs.Work.{Leaves, Stores};
 
 use crate::answering::answer_opened;
-use crate::answers::{Answer, Stop};
+use crate::answers::{Answer, Stop, refuse_name, refuse_words};
 use crate::opening::open;
-use crate::refusing::{refuse_name, refuse_words};
-use crate::requests::{Question, Request};
 use crate::storing::replace_all;
-use crate::words::read_words;
 use kdb_outside::Disk;
 use key_meta::Text;
 use std::alloc::Global;
+use tool_words::{Question, Request, read_words};
 
 /// The answer to a question over the files of a disk. Nothing is written.
 fn answer_question<D: Disk>(
@@ -44,6 +42,8 @@ fn answer_question<D: Disk>(
 fn work_out<D: Disk>(alloc: Global, words: &[Text], disk: &mut D) -> Result<Answer, Stop>
     ensures told { D.tells disk.old ≡ true → IfOk result (λ answer. Answers words.now (D.seen disk.old) (answer_of answer)) }
     ensures untold { IfOk result (λ answer. AnswersUntold (request words.now) (answer_of answer)) }
+    ensures asked { result ≡ Err Stop.DiskFault → AsksStore (request words.now) }
+    ensures unasked { (AsksStore (request words.now) → ⊥) → disk.new ≡ disk.old }
     ensures own { IfOk result (λ answer. IsAnswered answer.report.status) }
     ensures cause { result ≡ Err Stop.DiskFault → HasRisen (D.faults disk.old) (D.faults disk.new) }
     ensures reads { OnlyReads D.Disk disk.old disk.new }
@@ -58,6 +58,9 @@ fn work_out<D: Disk>(alloc: Global, words: &[Text], disk: &mut D) -> Result<Answ
 /// Stores what an answer stores.
 fn store<D: Disk>(answer: Answer, disk: &mut D) -> Result<Answer, Stop>
     ensures given { IfOk result (λ given. given ≡ answer) }
+    ensures memory { result ≢ Err Stop.Memory }
+    ensures nothing { answer.stored ≡ [] → disk.new ≡ disk.old }
+    ensures done { answer.stored ≡ [] → IsOk result }
     ensures stores { D.tells disk.old ≡ true → Stores answer result (D.seen disk.old) (D.seen disk.new) }
     ensures lasting { D.tells disk.old ≡ true → IfOk result (λ given. Lasts given.stored (D.may_leave disk.new)) }
     ensures spared { D.tells disk.old ≡ true → SparesUnnamed answer.stored (D.may_leave disk.old) (D.may_leave disk.new) }
@@ -74,8 +77,12 @@ fn store<D: Disk>(answer: Answer, disk: &mut D) -> Result<Answer, Stop>
 pub fn carry_out<D: Disk>(alloc: Global, words: &[Text], disk: &mut D) -> Result<Answer, Stop>
     ensures told { D.tells disk.old ≡ true → IfOk result (λ answer. Answers words.now (D.seen disk.old) (answer_of answer)) }
     ensures untold { IfOk result (λ answer. AnswersUntold (request words.now) (answer_of answer)) }
+    ensures asked { result ≡ Err Stop.DiskFault → AsksStore (request words.now) }
+    ensures unasked { (AsksStore (request words.now) → ⊥) → disk.new ≡ disk.old }
     ensures own { IfOk result (λ answer. IsAnswered answer.report.status) }
     ensures cause { result ≡ Err Stop.DiskFault → HasRisen (D.faults disk.old) (D.faults disk.new) }
+    ensures memory { result ≡ Err Stop.Memory → OnlyReads D.Disk disk.old disk.new }
+    ensures untouched { D.tells disk.old ≡ true → (answer : wanted.Answer) → Answers words.now (D.seen disk.old) answer → answer.stored ≡ [] → OnlyReads D.Disk disk.old disk.new }
     ensures leaves { D.tells disk.old ≡ true → Leaves words.now result (D.seen disk.old) (D.seen disk.new) }
     ensures lasting { D.tells disk.old ≡ true → IfOk result (λ answer. Lasts answer.stored (D.may_leave disk.new)) }
     ensures spared { D.tells disk.old ≡ true → (answer : wanted.Answer) → Answers words.now (D.seen disk.old) answer → SparesUnnamed answer.stored (D.may_leave disk.old) (D.may_leave disk.new) }

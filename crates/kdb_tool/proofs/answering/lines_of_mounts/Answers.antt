@@ -2,7 +2,7 @@
 use Rattle.std.proofs.Common.{◌≡◌, ◌++◌, arith, length, take, ap, sym, ◌∙◌}
 use Rattle.std.proofs.Math.Seq.{take-length}
 use Rattle.std.specs.List.{flat_map}
-use Rattle.kdb_tool.specs.Lines.{line_of_mount}
+use Rattle.tool_commands.specs.Lines.{line_of_mount}
 use Rattle.kdb_tool.proofs.AnswerLemmas.{lines-of-mounts}
 use Rattle.general_words.proofs.Lists.{flat_map-more}
 use Rattle.kdb_tool.proofs.answering.lines_of_mounts.Goals as goal

@@ -1,7 +1,7 @@
 -- The lines of the mounts so far.
 use Rattle.std.proofs.Common.{◌≡◌, take, string_bytes}
 use Rattle.std.specs.List.{flat_map}
-use Rattle.kdb_tool.specs.Lines.{line_of_mount}
+use Rattle.tool_commands.specs.Lines.{line_of_mount}
 use Rattle.kdb_tool.proofs.answering.lines_of_mounts.Given as goal
 
 abbrev pub invariant-loop-i : goal.invariant-loop-i

@@ -1,4 +1,4 @@
-use Rattle.std.proofs.Common.{◌≡◌, ◌+◌, [], length, take, drop, arith, add-one, sym, ap, ◌∙◌, subst}
+use Rattle.std.proofs.Common.{◌≡◌, ◌+◌, ◌<◌, ℕ, List, [], length, take, drop, arith, add-one, sym, ap, ◌∙◌, subst}
 use Rattle.std.proofs.Math.Seq.{take-length}
 use Rattle.std.proofs.lemmas.List.{drop_all}
 use Rattle.kdb_outside.specs.Files.{ChangesTo}
@@ -36,6 +36,7 @@ loop-text-preserved g c =
     let i = c.loop-text.text-index in
     let text = c.text-item.result in
     record {
+      first = λ none. absurd (omega (arith, none));
       goes = GoesOn-then g.D.Disk c.args.disk.now c.loop-text.disk c.replace.new.disk c.loop-text.invariant.goes c.replace.ensures.goes;
       leaves = λ tells.
           let told = c.loop-text.invariant.goes.tells ∙ tells in
@@ -70,3 +71,21 @@ returns-clause-lasting g c = λ tells.
     let leaves = g.D.Disk.may_leave c.loop-text.disk in
     let at_end : c.loop-text.text-index ≡ length texts = omega (arith, c.loop-text-test.false, c.loop-text.auto.text-index-end) in
     subst (λ ts. Lasts ts leaves) (ap (λ n. take n texts) at_end ∙ take-length texts) (c.loop-text.invariant.lasts tells)
+
+-- no text is there to be stored
+none_within : (texts : List (List ℕ × List ℕ)) (i : ℕ) → texts ≡ [] → i < length texts → ⊥
+none_within texts i nothing within =
+    let none : length texts ≡ 0 = ap length nothing in
+    absurd (omega (arith, none, within))
+
+pub returns-in_err-replace-clause-nothing : goal.returns-in_err-replace-clause-nothing
+returns-in_err-replace-clause-nothing g c = λ nothing. absurd (none_within c.args.texts.now c.loop-text.text-index nothing c.loop-text-test.true)
+
+pub returns-in_err-replace-clause-done : goal.returns-in_err-replace-clause-done
+returns-in_err-replace-clause-done g c = λ nothing. absurd (none_within c.args.texts.now c.loop-text.text-index nothing c.loop-text-test.true)
+
+pub returns-clause-nothing : goal.returns-clause-nothing
+returns-clause-nothing g c = λ nothing.
+    let none : length c.args.texts.now ≡ 0 = ap length nothing in
+    let at_start : c.loop-text.text-index ≡ 0 = omega (arith, none, c.loop-text.auto.text-index-end) in
+    c.loop-text.invariant.first at_start

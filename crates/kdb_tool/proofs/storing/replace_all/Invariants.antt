@@ -9,6 +9,7 @@ abbrev pub invariant-loop-text : goal.invariant-loop-text
 invariant-loop-text g l =
     let seen = g.D.Disk.seen in
     record {
+      first : l.text-index ≡ 0 → l.disk ≡ l.initial.disk;
       goes : GoesOn g.D.Disk l.initial.disk l.disk;
       leaves : g.D.Disk.tells l.initial.disk ≡ true → (after : List ℕ → List ℕ) → LeavesFiles (drop l.text-index l.texts) (seen l.disk) after → LeavesFiles l.texts (seen l.initial.disk) after;
       keeps : g.D.Disk.tells l.initial.disk ≡ true → (after : List ℕ → List ℕ) → KeepsUnnamed (drop l.text-index l.texts) (seen l.disk) after → KeepsUnnamed l.texts (seen l.initial.disk) after;

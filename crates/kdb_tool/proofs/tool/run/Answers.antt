@@ -1,6 +1,7 @@
 use Rattle.kdb_outside.specs.Faults.{HasRisen}
-use Rattle.kdb_tool.specs.Request.{request}
-use Rattle.kdb_tool.proofs.EndLemmas.{answered, by_words, prefix, without_memory, in_fault, complete, unwritten, others, untouched, left, lasting}
+use Rattle.kdb_outside.specs.Frames.{OnlyReads}
+use Rattle.tool_words.specs.Rows.{request}
+use Rattle.kdb_tool.proofs.EndLemmas.{answered, by_words, prefix, without_memory, in_fault, complete, unwritten, others, left, lasting}
 use Rattle.kdb_tool.proofs.tool.run.Goals as goal
 
 pub returns-clause-answered : goal.returns-clause-answered
@@ -9,7 +10,7 @@ returns-clause-answered g c = λ tells.
 
 pub returns-clause-words : goal.returns-clause-words
 returns-clause-words g c =
-    by_words c.carry_out-answer.result (request c.args.words.now) c.finish-status.result _ _ c.carry_out-answer.ensures.untold c.finish-status.ensures.finished
+    by_words c.carry_out-answer.result (request c.args.words.now) c.finish-status.result _ _ c.carry_out-answer.ensures.untold c.carry_out-answer.ensures.asked c.finish-status.ensures.finished
 
 pub returns-clause-prefix : goal.returns-clause-prefix
 returns-clause-prefix g c = λ tells.
@@ -28,20 +29,18 @@ returns-clause-complete g c =
     complete (HasRisen (g.D.Disk.faults c.args.disk) (g.D.Disk.faults c.carry_out-answer.new.disk)) c.finish-status.result _ _ (returns-clause-fault g c)
 
 pub returns-clause-unwritten : goal.returns-clause-unwritten
-returns-clause-unwritten g c = λ tells.
-    unwritten c.carry_out-answer.result c.args.words.now (g.D.Disk.seen c.args.disk) (g.D.Disk.seen c.carry_out-answer.new.disk) c.finish-status.result _ _ c.carry_out-answer.ensures.own (c.carry_out-answer.ensures.leaves tells) c.finish-status.ensures.finished
+returns-clause-unwritten g c =
+    unwritten (OnlyReads g.D.Disk c.args.disk c.carry_out-answer.new.disk) c.carry_out-answer.result c.finish-status.result _ _ c.carry_out-answer.ensures.own c.carry_out-answer.ensures.memory c.finish-status.ensures.finished
 
 pub returns-clause-others : goal.returns-clause-others
 returns-clause-others g c = λ tells.
     others c.carry_out-answer.result c.args.words.now (g.D.Disk.seen c.args.disk) (g.D.Disk.seen c.carry_out-answer.new.disk) (c.carry_out-answer.ensures.told tells) (c.carry_out-answer.ensures.leaves tells)
 
-pub returns-clause-untouched : goal.returns-clause-untouched
-returns-clause-untouched g c = λ tells answer answers nothing.
-    untouched answer.stored (g.D.Disk.seen c.args.disk) (g.D.Disk.seen c.carry_out-answer.new.disk) nothing (returns-clause-others g c tells answer answers)
-
 pub returns-clause-files : goal.returns-clause-files
-returns-clause-files g c = λ tells no_disk no_out no_err.
-    left c.args.words.now (g.D.Disk.seen c.args.disk) (g.D.Disk.seen c.carry_out-answer.new.disk) c.finish-status.result _ _ (returns-clause-answered g c tells) (returns-clause-unwritten g c tells) (returns-clause-complete g c no_disk no_out no_err)
+returns-clause-files g c = λ tells.
+    left (HasRisen (g.D.Disk.faults c.args.disk) (g.D.Disk.faults c.carry_out-answer.new.disk)) (OnlyReads g.D.Disk c.args.disk c.carry_out-answer.new.disk) c.carry_out-answer.result c.args.words.now
+    (g.D.Disk.seen c.args.disk) (g.D.Disk.seen c.carry_out-answer.new.disk) (g.D.Disk.may_leave c.carry_out-answer.new.disk) c.finish-status.result _ _
+    (c.carry_out-answer.ensures.told tells) (c.carry_out-answer.ensures.leaves tells) (c.carry_out-answer.ensures.lasting tells) c.carry_out-answer.ensures.memory c.carry_out-answer.ensures.cause c.finish-status.ensures.finished
 
 pub returns-clause-lasting : goal.returns-clause-lasting
 returns-clause-lasting g c = λ tells.

@@ -1,8 +1,14 @@
-use Rattle.std.proofs.Common.{subst, ◌∙◌}
+use Rattle.std.proofs.Common.{subst, sym, ap, ◌∙◌}
+use Rattle.kdb_outside.specs.Frames.{OnlyReads}
 use Rattle.kdb_outside.proofs.Frames.{GoesOn-then, OnlyReads-goes_on}
 use Rattle.kdb_tool.specs.AnswerView.{answer_of}
 use Rattle.kdb_tool.specs.Work.{Stores}
+use Rattle.kdb_tool.specs.declared.answers.Stop.TheVariants as stops
+use Rattle.tool_words.specs.Rows.{request}
+use Rattle.kdb_tool.specs.Answer.{Answer}
+use Rattle.kdb_tool.proofs.AnswersOnce.{Answers-once}
 use Rattle.kdb_tool.proofs.EndLemmas.{Leaves-stored, spares-stored}
+use Rattle.kdb_tool.proofs.UntoldLemmas.{stored_by, stores_nothing, not_failed}
 use Rattle.kdb_tool.proofs.LastingLemmas.{spares-kept}
 use Rattle.kdb_tool.proofs.work.carry_out.Goals as goal
 
@@ -24,3 +30,17 @@ pub returns-clause-goes : goal.returns-clause-goes
 returns-clause-goes g c =
     let read = OnlyReads-goes_on g.D.Disk c.args.disk.now c.work_out.new.disk c.work_out.ensures.reads in
     GoesOn-then g.D.Disk c.args.disk.now c.work_out.new.disk c.store.new.disk read c.store.ensures.goes
+
+pub returns-clause-asked : goal.returns-clause-asked
+returns-clause-asked g c = λ failed.
+    stored_by (request c.args.words.now) (answer_of c.in_ok-answer.answer) c.in_ok-answer.ensures.untold (λ nothing. absurd (not_failed c.store.result stops.DiskFault (c.store.ensures.done nothing) failed))
+
+pub returns-clause-unasked : goal.returns-clause-unasked
+returns-clause-unasked g c = λ unasked.
+    c.store.ensures.nothing (stores_nothing (request c.args.words.now) (answer_of c.in_ok-answer.answer) c.in_ok-answer.ensures.untold unasked) ∙ c.work_out.ensures.unasked unasked
+
+pub returns-clause-untouched : goal.returns-clause-untouched
+returns-clause-untouched g c = λ tells answer answers nothing.
+    let made = answer_of c.in_ok-answer.answer in
+    let same = Answers-once c.args.words.now (g.D.Disk.seen c.args.disk.now) made answer (c.in_ok-answer.ensures.told tells) answers in
+    subst (OnlyReads g.D.Disk c.args.disk.now) (sym (c.store.ensures.nothing (ap (λ (a : Answer). a.stored) same ∙ nothing))) c.work_out.ensures.reads

@@ -1,0 +1,5 @@
+use Rattle.kdb_tool.proofs.AnswersExist.{Answers-exists}
+use Rattle.kdb_tool.proofs.words_have_an_answer.Goals as goal
+
+pub returns : goal.returns
+returns c = Answers-exists

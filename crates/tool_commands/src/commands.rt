@@ -1,0 +1,55 @@
+//! What each command makes of the keys that it got.
+ghost use Rattle.std.specs.Prelude.{◌≡◌, IfOk};
+ghost use Rattle.tool_commands.specs.Step.{TellsEnd};
+ghost use Rattle.tool_commands.specs.StepView.{seen_step};
+ghost use Rattle.tool_commands.specs.Commands.{parent_of, row_of, step_of};
+ghost use Rattle.tool_words.specs.RequestView.{action_of};
+
+mod metadata;
+mod mounting;
+mod trees;
+mod values;
+
+use crate::commands::metadata::{get_meta, list_meta, set_meta};
+use crate::commands::mounting::{mount, unmount};
+use crate::commands::trees::{bring, list, remove};
+use crate::commands::values::{get, set};
+use crate::places::{every_key, own_point};
+use crate::steps::Step;
+use key_meta::Memory;
+use key_name::KeyName;
+use key_set::KeySet;
+use std::alloc::Global;
+use tool_words::Action;
+
+/// The parent whose keys a command gets, and sets where it sets any.
+pub fn parent_of(alloc: Global, name: &KeyName, action: &Action<'_>) -> Result<KeyName, Memory>
+    ensures { IfOk result (λ parent. parent ≡ parent_of name.now (action_of action.now)) }
+{
+    match action {
+        Action::Set(_) | Action::Remove(_) | Action::Names | Action::SetMeta(_, _) => name.copy(),
+        Action::Get | Action::GetMeta(_) | Action::MetaNames | Action::Bring { .. } => {
+            Ok(every_key(alloc))
+        }
+        Action::MountFile { .. } | Action::Unmount => own_point(alloc),
+    }
+}
+
+/// What an action on a key makes of the keys that it got.
+pub fn step(alloc: Global, name: &KeyName, action: Action<'_>, keys: KeySet) -> Result<Step, Memory>
+    ensures step { IfOk result (λ step. seen_step step ≡ step_of keys name.now (action_of action.entry)) }
+    ensures status { IfOk result (λ step. TellsEnd (row_of name.now (action_of action.entry)).statuses (seen_step step)) }
+{
+    match action {
+        Action::Get => get(alloc, name, &keys),
+        Action::Set(value) => set(alloc, name, value, keys),
+        Action::Remove(extent) => remove(alloc, name, extent, keys),
+        Action::Names => list(alloc, name, &keys),
+        Action::GetMeta(meta) => get_meta(alloc, name, meta.as_str(), &keys),
+        Action::SetMeta(meta, text) => set_meta(alloc, name, &meta, text, keys),
+        Action::MetaNames => list_meta(alloc, name, &keys),
+        Action::Bring { way, extent, to } => bring(alloc, name, way, extent, &to, keys),
+        Action::MountFile { file, kind } => mount(alloc, name, file, kind, keys),
+        Action::Unmount => unmount(alloc, name, keys),
+    }
+}

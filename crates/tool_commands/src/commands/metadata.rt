@@ -1,0 +1,130 @@
+//! The commands on the metadata of keys.
+ghost use Rattle.std.specs.Prelude.{◌≡◌, ◌++◌, ◌∷◌, [], IfOk, OnOk, string_bytes};
+ghost use Rattle.std.specs.FinMap as map;
+ghost use Rattle.std.specs.List.{flat_map};
+ghost use Rattle.std.specs.Option.{option_map};
+ghost use Rattle.key_set.specs.EntryView.{entry_of};
+ghost use Rattle.model_maps.specs.Entry.{plain_entry, with_meta};
+ghost use Rattle.tool_commands.specs.Report.{IsOneOf};
+ghost use Rattle.tool_commands.specs.StepView.{report_of, seen_step};
+ghost use Rattle.tool_commands.specs.Step.{Tells, TellsEnd};
+ghost use Rattle.tool_commands.specs.Commands.Metadata.{text_got, meta_got, with_text, meta_set_in, meta_listed};
+
+use crate::reports::{Report, tell, warn_no_metadata, warn_not_found};
+use crate::steps::{Step, set_silently};
+use key_meta::{Memory, Meta, Text};
+use key_name::KeyName;
+use key_set::{Entry, KeySet};
+use std::alloc::Global;
+use tool_words::MetaName;
+
+/// `meta-get`: a metadata text of a key and a line feed.
+pub fn get_meta(alloc: Global, name: &KeyName, meta: &str, keys: &KeySet) -> Result<Step, Memory>
+    ensures step { IfOk result (λ step. seen_step step ≡ Tells (meta_got name.now meta.now (map.get keys.now name.now))) }
+    ensures status { IfOk result (λ step. TellsEnd (11 ∷ []) (seen_step step)) }
+{
+    match keys.lookup(name) {
+        Some(entry) => Ok(Step::Tells(get_text(alloc, meta, &entry.meta)?)),
+        None => Ok(Step::Tells(warn_not_found(alloc, name)?)),
+    }
+}
+
+/// A text of metadata and a line feed.
+fn get_text(alloc: Global, meta: &str, metadata: &Meta) -> Result<Report, Memory>
+    ensures text { IfOk result (λ report. report_of report ≡ text_got meta.now (map.get metadata.now meta.now)) }
+    ensures status { IfOk result (λ report. IsOneOf (0 ∷ 11 ∷ []) report.status) }
+{
+    match metadata.get(meta) {
+        Some(text) => {
+            let out = format!(in alloc; "{text}\n")?;
+            Ok(tell(alloc, out))
+        }
+        None => warn_no_metadata(alloc, meta),
+    }
+}
+
+/// `meta-set`: the key gets a metadata text and keeps its value. A missing key is made with the empty value.
+pub fn set_meta(
+    alloc: Global,
+    name: &KeyName,
+    meta: &MetaName<'_>,
+    text: &str,
+    keys: KeySet,
+) -> Result<Step, Memory>
+    ensures step { IfOk result (λ step. seen_step step ≡ meta_set_in keys name.now meta.now text.now) }
+    ensures status { IfOk result (λ step. TellsEnd ([]) (seen_step step)) }
+{
+    let entry = with_text(alloc, keys.lookup(name), meta, text)?;
+    let mut keys = keys;
+    let _ = keys.append(name.copy()?, entry)?;
+    Ok(set_silently(alloc, keys))
+}
+
+/// An entry with one more metadata text. A missing one gets the empty value.
+fn with_text(
+    alloc: Global,
+    former: Option<&Entry>,
+    meta: &MetaName<'_>,
+    text: &str,
+) -> Result<Entry, Memory>
+    ensures { IfOk result (λ made. entry_of made ≡ with_text (option_map (λ entry. entry_of entry.now) former.entry) meta.now text.now) }
+{
+    match former {
+        Some(entry) => set_text(entry.copy()?, meta, text),
+        None => set_text(empty_entry(alloc)?, meta, text),
+    }
+}
+
+/// An entry with the empty value and no metadata.
+fn empty_entry(alloc: Global) -> Result<Entry, Memory>
+    ensures { IfOk result (λ made. entry_of made ≡ plain_entry []) }
+{
+    Ok(Entry {
+        value: Text::new(alloc, "")?,
+        meta: Meta::new(alloc),
+    })
+}
+
+/// Sets a metadata text of an entry.
+fn set_text(entry: Entry, meta: &MetaName<'_>, text: &str) -> Result<Entry, Memory>
+    ensures { IfOk result (λ made. entry_of made ≡ with_meta (entry_of entry) meta.now text.now) }
+{
+    let mut entry = entry;
+    let _ = entry.meta.set(meta.as_str(), text)?;
+    Ok(entry)
+}
+
+/// `meta-ls`: a line for each metadata name of a key.
+pub fn list_meta(alloc: Global, name: &KeyName, keys: &KeySet) -> Result<Step, Memory>
+    ensures step { IfOk result (λ step. seen_step step ≡ Tells (meta_listed name.now (map.get keys.now name.now))) }
+    ensures status { IfOk result (λ step. TellsEnd (11 ∷ []) (seen_step step)) }
+{
+    match keys.lookup(name) {
+        Some(entry) => {
+            let lines = lines_of_meta(alloc, &entry.meta)?;
+            Ok(Step::Tells(tell(alloc, lines)))
+        }
+        None => Ok(Step::Tells(warn_not_found(alloc, name)?)),
+    }
+}
+
+/// The names of metadata, each with a line feed.
+fn lines_of_meta(alloc: Global, metadata: &Meta) -> Result<String, Memory>
+    ensures { IfOk result (λ lines. string_bytes lines ≡ flat_map (λ item. item.0 ++ 10 ∷ []) (map.entries metadata.now)) }
+{
+    let mut lines = String::new(alloc);
+    for i in 0..metadata.len() {
+        let Some((name, _)) = metadata.at(i) else {
+            unreachable!()
+        };
+        push_line(&mut lines, name)?;
+    }
+    Ok(lines)
+}
+
+fn push_line(lines: &mut String, text: &str) -> Result<(), Memory>
+    ensures { OnOk result (string_bytes lines.new ≡ string_bytes lines.old ++ (text.now ++ 10 ∷ [])) }
+{
+    lines.push_str(text)?;
+    lines.push('\n')
+}

@@ -1,0 +1,99 @@
+//! The commands on the values of keys.
+ghost use Rattle.std.specs.Prelude.{◌≡◌, ℕ, List, ◌++◌, ◌∷◌, [], IfOk, string_bytes};
+ghost use Rattle.std.specs.FinMap as map;
+ghost use Rattle.std.specs.Option.{option_map};
+ghost use Rattle.key_set.specs.EntryView.{entry_of};
+ghost use Rattle.tool_commands.specs.StepView.{seen_step};
+ghost use Rattle.tool_commands.specs.Report.{told};
+ghost use Rattle.tool_commands.specs.Step.{Tells, TellsEnd};
+ghost use Rattle.tool_commands.specs.Commands.Values.{got, set_in, with_value, printed_set};
+ghost use Rattle.tool_commands.specs.Lines.{created, set_to};
+
+use crate::reports::{tell, warn_not_found};
+use crate::steps::Step;
+use kdb_text::{quoted, shown};
+use key_meta::{Memory, Meta, Text};
+use key_name::KeyName;
+use key_set::{Entry, KeySet};
+use std::alloc::Global;
+
+/// `get`: the value and a line feed.
+pub fn get(alloc: Global, name: &KeyName, keys: &KeySet) -> Result<Step, Memory>
+    ensures step { IfOk result (λ step. seen_step step ≡ Tells (got name.now (map.get keys.now name.now))) }
+    ensures status { IfOk result (λ step. TellsEnd (11 ∷ []) (seen_step step)) }
+{
+    match keys.lookup(name) {
+        Some(entry) => found(alloc, &entry.value),
+        None => Ok(Step::Tells(warn_not_found(alloc, name)?)),
+    }
+}
+
+fn found(alloc: Global, value: &Text) -> Result<Step, Memory>
+    ensures step { IfOk result (λ step. seen_step step ≡ Tells (told (value.now ++ 10 ∷ []))) }
+    ensures status { (own : List ℕ) → IfOk result (λ step. TellsEnd (own) (seen_step step)) }
+{
+    let value = value.as_str();
+    let out = format!(in alloc; "{value}\n")?;
+    Ok(Step::Tells(tell(alloc, out)))
+}
+
+/// `set`: the key gets a value and keeps its metadata.
+pub fn set(alloc: Global, name: &KeyName, value: &str, keys: KeySet) -> Result<Step, Memory>
+    ensures step { IfOk result (λ step. seen_step step ≡ set_in keys name.now value.now) }
+    ensures status { IfOk result (λ step. TellsEnd ([]) (seen_step step)) }
+{
+    let former = keys.lookup(name);
+    let entry = with_value(alloc, former, value)?;
+    let out = printed_set(alloc, former, name, value)?;
+    let mut keys = keys;
+    let _ = keys.append(name.copy()?, entry)?;
+    Ok(Step::Sets { keys, out })
+}
+
+/// An entry with another value. A missing one had no metadata.
+fn with_value(alloc: Global, former: Option<&Entry>, value: &str) -> Result<Entry, Memory>
+    ensures { IfOk result (λ made. entry_of made ≡ with_value (option_map (λ entry. entry_of entry.now) former.entry) value.now) }
+{
+    match former {
+        Some(entry) => Ok(Entry {
+            value: Text::new(alloc, value)?,
+            meta: entry.meta.copy()?,
+        }),
+        None => Ok(Entry {
+            value: Text::new(alloc, value)?,
+            meta: Meta::new(alloc),
+        }),
+    }
+}
+
+/// What `set` prints, by what the key had.
+fn printed_set(
+    alloc: Global,
+    former: Option<&Entry>,
+    name: &KeyName,
+    value: &str,
+) -> Result<String, Memory>
+    ensures { IfOk result (λ out. string_bytes out ≡ printed_set (option_map (λ entry. entry_of entry.now) former.entry) name.now value.now) }
+{
+    match former {
+        Some(_) => set_to(alloc, value),
+        None => created(alloc, name, value),
+    }
+}
+
+/// What `set` prints of a key that wasn't there.
+fn created(alloc: Global, name: &KeyName, value: &str) -> Result<String, Memory>
+    ensures { IfOk result (λ out. string_bytes out ≡ created name.now value.now) }
+{
+    let name = shown(alloc, name)?;
+    let value = quoted(alloc, value)?;
+    format!(in alloc; "Create a new key {name} with string {value}\n")
+}
+
+/// What `set` prints of a key that was there.
+fn set_to(alloc: Global, value: &str) -> Result<String, Memory>
+    ensures { IfOk result (λ out. string_bytes out ≡ set_to value.now) }
+{
+    let value = quoted(alloc, value)?;
+    format!(in alloc; "Set string to {value}\n")
+}

@@ -1,0 +1,21 @@
+//! What each command makes of the keys that it got, and the lines that it puts on out and err.
+#![tactic(auto)]
+
+mod commands;
+mod places;
+mod refusing;
+mod reports;
+mod status;
+mod steps;
+mod store_lines;
+
+pub use commands::{parent_of, step};
+pub use places::own_point;
+pub use refusing::{warn_of_name, warn_of_words};
+pub use reports::{Report, tell, warn, warn_not_found};
+pub use status::{FAULT, OUT_OF_MEMORY, REFUSED, Status};
+pub use steps::Step;
+pub use store_lines::{
+    bad_file, bad_table, database_full, file_too_large, not_storable, too_heavy, too_long,
+    value_too_long,
+};

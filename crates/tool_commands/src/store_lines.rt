@@ -1,0 +1,86 @@
+//! The lines of what a store refuses.
+ghost use Rattle.std.specs.Prelude.{◌≡◌, ◌≢◌, IfOk, OnOk, string_bytes};
+ghost use Rattle.tool_commands.specs.Lines.{too_long, bad_file, too_heavy, bad_table, value_too_long, file_too_large, not_storable, database_full, bad_entry};
+ghost use Rattle.mount_table.specs.declared.faults.TableFault.TheVariants.{Memory as OutOfMemory};
+
+use kdb_text::{quoted, shown};
+use key_meta::Memory;
+use key_name::KeyName;
+use mount_table::TableFault;
+use std::alloc::{AllocError, Global};
+
+pub fn too_long(alloc: Global, mount: &KeyName, bytes: u64) -> Result<String, Memory>
+    ensures { IfOk result (λ text. string_bytes text ≡ too_long mount.now bytes) }
+{
+    let mount = shown(alloc, mount)?;
+    format!(in alloc; "C01100 too-long {mount} {bytes}")
+}
+
+pub fn bad_file(alloc: Global, mount: &KeyName, line: u64) -> Result<String, Memory>
+    ensures { IfOk result (λ text. string_bytes text ≡ bad_file mount.now line) }
+{
+    let mount = shown(alloc, mount)?;
+    format!(in alloc; "C03100 bad-file {mount} {line}")
+}
+
+pub fn too_heavy(alloc: Global, mount: &KeyName, weight: u64) -> Result<String, Memory>
+    ensures { IfOk result (λ text. string_bytes text ≡ too_heavy mount.now weight) }
+{
+    let mount = shown(alloc, mount)?;
+    format!(in alloc; "C01100 too-heavy {mount} {weight}")
+}
+
+pub fn value_too_long(alloc: Global, name: &KeyName, bytes: u64) -> Result<String, Memory>
+    ensures { IfOk result (λ text. string_bytes text ≡ value_too_long name.now bytes) }
+{
+    let name = shown(alloc, name)?;
+    format!(in alloc; "C01100 value-too-long {name} {bytes}")
+}
+
+/// The amount is a weight, or a length in bytes.
+pub fn file_too_large(alloc: Global, mount: &KeyName, amount: u64) -> Result<String, Memory>
+    ensures { IfOk result (λ text. string_bytes text ≡ file_too_large mount.now amount) }
+{
+    let mount = shown(alloc, mount)?;
+    format!(in alloc; "C01100 file-too-large {mount} {amount}")
+}
+
+pub fn not_storable(alloc: Global, mount: &KeyName, key: &KeyName) -> Result<String, Memory>
+    ensures { IfOk result (λ text. string_bytes text ≡ not_storable mount.now key.now) }
+{
+    let mount = shown(alloc, mount)?;
+    let key = shown(alloc, key)?;
+    format!(in alloc; "C03200 not-storable {mount} {key}")
+}
+
+pub fn database_full(alloc: Global, weight: u64) -> Result<String, Memory>
+    ensures { IfOk result (λ text. string_bytes text ≡ database_full weight) }
+{
+    format!(in alloc; "C01100 database-full {weight}")
+}
+
+/// What is wrong with a mount table. Want of memory has no such line.
+pub fn bad_table(alloc: Global, fault: &TableFault) -> Result<String, Memory>
+    ensures text { IfOk result (λ text. string_bytes text ≡ bad_table fault.now) }
+    ensures memory { OnOk result (fault.now ≢ OutOfMemory) }
+{
+    match fault {
+        TableFault::BadMountpoint { entry } => bad_entry(alloc, "bad-mountpoint", entry.as_str()),
+        TableFault::NoPath { entry } => bad_entry(alloc, "no-path", entry.as_str()),
+        TableFault::BadPath { entry } => bad_entry(alloc, "bad-path", entry.as_str()),
+        TableFault::UnknownPlugin { entry } => bad_entry(alloc, "unknown-plugin", entry.as_str()),
+        TableFault::FileTwice { entry } => bad_entry(alloc, "file-twice", entry.as_str()),
+        TableFault::TooMany { count } => format!(in alloc; "C03200 bad-table too-many {count}"),
+        TableFault::AlreadyMounted { entry } => bad_entry(alloc, "already-mounted", entry.as_str()),
+        TableFault::NotMounted { entry } => bad_entry(alloc, "not-mounted", entry.as_str()),
+        TableFault::Memory => Err(AllocError),
+    }
+}
+
+/// What is wrong with an entry of a mount table.
+fn bad_entry(alloc: Global, cause: &str, entry: &str) -> Result<String, Memory>
+    ensures { IfOk result (λ text. string_bytes text ≡ bad_entry cause.now entry.now) }
+{
+    let entry = quoted(alloc, entry)?;
+    format!(in alloc; "C03200 bad-table {cause} {entry}")
+}

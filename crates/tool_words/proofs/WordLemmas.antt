@@ -1,0 +1,79 @@
+-- Where the first of some words stands, and what words in a row ask for.
+use Rattle.std.specs.Prelude.{◌≡◌, ◌≢◌, ℕ, Bool, true, false, nat_lt, not, cond, List, length, Option, Some, None}
+use Rattle.std.proofs.Common.{refl, ap, ◌∙◌, arith}
+use Rattle.std.specs.List.{position, position_or_len}
+use Rattle.std.proofs.lemmas.Bool.{ltb-false}
+use Rattle.tool_words.specs.Lines.{argument, no_name}
+use Rattle.tool_words.specs.Request.{Request, Refuses, Asks, On, MountFile, is_meta, on_meta, on_name, on_name_for, unnamed, asks, asks_to_mount}
+use Rattle.tool_words.specs.RequestView.{text_of_fault}
+use Rattle.tool_words.specs.declared.uses.Use.{Use}
+use Rattle.tool_words.specs.declared.uses.Use.TheVariants.{Writes}
+use Rattle.kdb_outside.specs.Kind.{kind_of}
+use Rattle.key_name.specs.Refused.{IsRefusal}
+use Rattle.key_name.specs.declared.faults.NameFault.{NameFault}
+use Rattle.key_name.specs.declared.faults.NameFault.TheVariants as faults
+use Rattle.model_names.specs.Name.{Name}
+use Rattle.model_names.specs.Refuses.{Refusal, refusal_of}
+use Rattle.model_names.specs.Spells.{Spells}
+use Rattle.model_names.proofs.NameOfLemmas.{name_of-spelled, name_of-refused}
+use Rattle.kdb_outside.specs.declared.kinds.Kind.{Kind}
+use Rattle.kdb_outside.specs.declared.kinds.Kind.TheVariants.{Dump}
+use Rattle.std.proofs.lemmas.List.Sums.{prefix_len-le-length}
+
+-- the place of the first that passes is the count of those before it
+pub count-at : {X : Type 0} (p : X → Bool) (xs : List X) (at : ℕ) → position p xs ≡ Some at → at ≡ position_or_len p xs
+count-at p xs at is = by_test (nat_lt (position_or_len p xs) (length xs)) is
+  where
+    by_test : (b : Bool) → cond b (Some (position_or_len p xs)) None ≡ Some at → at ≡ position_or_len p xs
+    by_test true is = cc
+    by_test false is = absurd cc
+
+-- where none passes, all are before it
+pub count-all : {X : Type 0} (p : X → Bool) (xs : List X) → position p xs ≡ None → length xs ≡ position_or_len p xs
+count-all p xs is = by_test (nat_lt (position_or_len p xs) (length xs)) refl is
+  where
+    by_test : (b : Bool) → nat_lt (position_or_len p xs) (length xs) ≡ b → cond b (Some (position_or_len p xs)) None ≡ None → length xs ≡ position_or_len p xs
+    by_test true within is = absurd cc
+    by_test false past is = omega (arith, ltb-false (position_or_len p xs) (length xs) past, prefix_len-le-length (λ x. not (p x)) xs)
+
+-- a metadata name behind a name that is tested first
+pub asks_of_meta : (by : Use) (text word : List ℕ) (asked : Name → Request) → is_meta word ≡ true → on_name_for by text (λ name. on_meta word (asked name)) ≡ on_name_for by text asked
+asks_of_meta by text word asked is = ap (λ b. on_name_for by text (λ name. cond b (asked name) (Refuses 2 (argument word)))) is
+
+pub refuses_meta : (by : Use) (text word : List ℕ) (asked : Name → Request) → is_meta word ≡ false → on_name_for by text (λ name. on_meta word (asked name)) ≡ on_name_for by text (λ _. Refuses 2 (argument word))
+refuses_meta by text word asked is = ap (λ b. on_name_for by text (λ name. cond b (asked name) (Refuses 2 (argument word)))) is
+
+-- what mounting asks for, by the word of a format that may be left out
+pub mounts_as_dump : (file name : List ℕ) (plugin : Option (List ℕ)) → plugin ≡ None → asks_to_mount file name plugin ≡ asks Writes (MountFile file Dump) name
+mounts_as_dump file name plugin is = ap (asks_to_mount file name) is
+
+pub mounts_as : (file name word : List ℕ) (plugin : Option (List ℕ)) (kind : Kind) → plugin ≡ Some word → kind_of word ≡ Some kind → asks_to_mount file name plugin ≡ asks Writes (MountFile file kind) name
+mounts_as file name word plugin kind is known =
+    ap (asks_to_mount file name) is
+    ∙ ap (λ found. on_name_for Writes name (λ at. elim found [ None ↦ Refuses 2 (argument word) | Some format ↦ Asks (On at (MountFile file format)) ])) known
+
+pub refuses_kind : (file name word : List ℕ) (plugin : Option (List ℕ)) → plugin ≡ Some word → kind_of word ≡ None → asks_to_mount file name plugin ≡ on_name_for Writes name (λ _. Refuses 2 (argument word))
+refuses_kind file name word plugin is unknown =
+    ap (asks_to_mount file name) is
+    ∙ ap (λ found. on_name_for Writes name (λ at. elim found [ None ↦ Refuses 2 (argument word) | Some format ↦ Asks (On at (MountFile file format)) ])) unknown
+
+-- ---- words that are to be names
+
+pub on_name-named : (word : List ℕ) (name : Name) (asked : Name → Request) → Spells word name → on_name word asked ≡ asked name
+on_name-named word name asked spells =
+    ap (λ found. elim found [ Some n ↦ asked n | None ↦ unnamed word ]) (name_of-spelled word name spells)
+
+refused_as : (word : List ℕ) (refusal : Refusal) (asked : Name → Request) → refusal_of word ≡ Some refusal → on_name word asked ≡ Refuses 2 (no_name refusal)
+refused_as word refusal asked is =
+    ap (λ found. elim found [ Some n ↦ asked n | None ↦ unnamed word ]) (name_of-refused word refusal is)
+    ∙ ap (λ found. elim found [ Some r ↦ Refuses 2 (no_name r) | None ↦ Refuses 2 (argument word) ]) is
+
+pub on_name-refused : (word : List ℕ) (fault : NameFault) (asked : Name → Request) → fault ≢ faults.Memory → IsRefusal word fault → on_name word asked ≡ Refuses 2 (text_of_fault fault)
+on_name-refused word faults.NoNamespace asked other is = refused_as word _ asked is
+on_name-refused word faults.UnknownNamespace asked other is = refused_as word _ asked is
+on_name-refused word faults.NoSlash asked other is = refused_as word _ asked is
+on_name-refused word (faults.BadEscape at) asked other is = refused_as word _ asked is
+on_name-refused word (faults.BadArray at) asked other is = refused_as word _ asked is
+on_name-refused word (faults.Nul at) asked other is = refused_as word _ asked is
+on_name-refused word (faults.TooLong bytes) asked other is = refused_as word _ asked is
+on_name-refused word faults.Memory asked other is = absurd (other refl)

@@ -1,0 +1,5 @@
+pub mod Lines
+pub mod Uses
+pub mod Request
+pub mod Rows
+pub mod RequestView

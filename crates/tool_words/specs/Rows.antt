@@ -1,0 +1,43 @@
+-- The commands, a row each: a word, and what the words behind it ask for by its options, its arguments and the names that it
+-- takes. (This project's own.)
+use Rattle.std.specs.Prelude.{ℕ, List, [], ◌∷◌, codes, if◌then◌else◌}
+use Rattle.general_words.specs.Texts.{is_text}
+use Rattle.tool_words.specs.declared.uses.Use.TheVariants.{Looks, Writes}
+use Rattle.tool_words.specs.declared.ways.Way.TheVariants.{Copies, Moves}
+use Rattle.tool_words.specs.Lines.{no_command, unknown_command}
+use Rattle.tool_words.specs.Request.{Get, Set, Remove, Names, GetMeta, SetMeta, MetaNames, Unmount, Mounts, FileOf, On, Request, Refuses, Asks, plain, extended, on_none, on_one, on_two, on_three, on_two_or_three, on_name, on_name_for, on_meta, asks, asks_to_bring, asks_to_mount}
+
+-- a command's word, and what the words behind it ask for
+pub record Row : Type 0 where
+  pub word : List ℕ
+  pub asks_for : List (List ℕ) → Request
+
+abbrev row : List ℕ → (List (List ℕ) → Request) → Row
+row word asks_for = record { word = word; asks_for = asks_for }
+
+abbrev pub rows : List Row
+rows =
+    row (codes "get") (plain (on_one (asks Looks Get)))
+    ∷ row (codes "set") (plain (on_two (λ word value. asks Writes (Set value) word)))
+    ∷ row (codes "rm") (extended (λ extent. on_one (asks Writes (Remove extent))))
+    ∷ row (codes "ls") (plain (on_one (λ word. on_name word (λ name. Asks (On name Names)))))
+    ∷ row (codes "meta-get") (plain (on_two (λ word meta. on_name_for Looks word (λ name. on_meta meta (Asks (On name (GetMeta meta)))))))
+    ∷ row (codes "meta-set") (plain (on_three (λ word meta text. on_name_for Writes word (λ name. on_meta meta (Asks (On name (SetMeta meta text)))))))
+    ∷ row (codes "meta-ls") (plain (on_one (asks Looks MetaNames)))
+    ∷ row (codes "cp") (extended (λ extent. on_two (asks_to_bring Copies extent)))
+    ∷ row (codes "mv") (extended (λ extent. on_two (asks_to_bring Moves extent)))
+    ∷ row (codes "mount") (plain (on_two_or_three asks_to_mount))
+    ∷ row (codes "umount") (plain (on_one (asks Writes Unmount)))
+    ∷ row (codes "mounts") (plain (on_none (Asks Mounts)))
+    ∷ row (codes "file") (plain (on_one (λ word. on_name_for Writes word (λ name. Asks (FileOf name)))))
+    ∷ []
+
+-- what the words behind a command's word ask for
+abbrev pub asked_by : List Row → List ℕ → List (List ℕ) → Request
+asked_by [] word words = Refuses 4 (unknown_command word)
+asked_by (row ∷ others) word words = if is_text word row.word then row.asks_for words else asked_by others word words
+
+-- the words of a command line, without the program's name
+abbrev pub request : List (List ℕ) → Request
+request [] = Refuses 4 no_command
+request (word ∷ words) = asked_by rows word words

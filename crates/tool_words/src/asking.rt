@@ -1,0 +1,150 @@
+//! What is asked for by words that are to be names.
+ghost use Rattle.std.specs.Prelude.{IfOk};
+ghost use Rattle.std.specs.Option.{option_map};
+ghost use Rattle.tool_words.specs.Request as asked;
+ghost use Rattle.tool_words.specs.Request.{on_name, on_name_for, asks, asks_to_bring, asks_to_mount};
+ghost use Rattle.tool_words.specs.Lines.{argument};
+ghost use Rattle.tool_words.specs.RequestView.{IsRead, IsSeenAs, action_of};
+ghost use Rattle.tool_words.specs.declared.uses.Use.TheVariants.{Writes};
+
+use crate::extents::Extent;
+use crate::requests::{Action, Named, Question, Refusal, Request};
+use crate::uses::{Use, bars};
+use crate::ways::Way;
+use kdb_outside::Kind;
+use key_meta::Memory;
+use key_name::{KeyName, NameFault};
+use std::alloc::{AllocError, Global};
+
+/// A word that is to be a name.
+fn read_any_name<'a>(alloc: Global, word: &'a str) -> Result<Named<'a>, Memory>
+    ensures { IfOk result (IsRead (on_name word.now)) }
+{
+    match KeyName::parse(alloc, word) {
+        Ok(name) => Ok(Named::Is(name)),
+        Err(fault) => match fault {
+            NameFault::Memory => Err(AllocError),
+            _ => Ok(Named::IsNone(Request::Refuses(Refusal::NoName(fault)))),
+        },
+    }
+}
+
+/// A word that is to be a name which can be used so.
+fn read_name<'a>(alloc: Global, word: &'a str, by: Use) -> Result<Named<'a>, Memory>
+    ensures { IfOk result (IsRead (on_name_for by word.now)) }
+{
+    match read_any_name(alloc, word)? {
+        Named::Is(name) => {
+            if bars(by, name.namespace()) {
+                Ok(Named::IsNone(Request::Bars { by, name }))
+            } else {
+                Ok(Named::Is(name))
+            }
+        }
+        Named::IsNone(request) => Ok(Named::IsNone(request)),
+    }
+}
+
+/// An action on the key that a word is to name.
+pub fn ask<'a>(
+    alloc: Global,
+    word: &'a str,
+    by: Use,
+    action: Action<'a>,
+) -> Result<Request<'a>, Memory>
+    ensures { IfOk result (λ read. IsSeenAs read (asks by (action_of action.entry) word.now)) }
+{
+    match read_name(alloc, word, by)? {
+        Named::Is(name) => Ok(Request::Asks(Question::On { name, action })),
+        Named::IsNone(request) => Ok(request),
+    }
+}
+
+/// An action on the key that a word is to name, whatever its namespace.
+pub fn ask_any<'a>(alloc: Global, word: &'a str, action: Action<'a>) -> Result<Request<'a>, Memory>
+    ensures { IfOk result (λ read. IsSeenAs read (on_name word.now (λ name. asked.Asks (asked.On name (action_of action.entry))))) }
+{
+    match read_any_name(alloc, word)? {
+        Named::Is(name) => Ok(Request::Asks(Question::On { name, action })),
+        Named::IsNone(request) => Ok(request),
+    }
+}
+
+/// The file of the key that a word is to name.
+pub fn ask_for_file<'a>(alloc: Global, word: &'a str) -> Result<Request<'a>, Memory>
+    ensures { IfOk result (λ read. IsSeenAs read (on_name_for Writes word.now (λ name. asked.Asks (asked.FileOf name)))) }
+{
+    match read_name(alloc, word, Use::Writes)? {
+        Named::Is(name) => Ok(Request::Asks(Question::FileOf(name))),
+        Named::IsNone(request) => Ok(request),
+    }
+}
+
+/// A file is mounted at the name that a word is to spell, in the format of another word.
+pub fn ask_to_mount<'a>(
+    alloc: Global,
+    file: &'a str,
+    name: &'a str,
+    plugin: Option<&'a str>,
+) -> Result<Request<'a>, Memory>
+    ensures { IfOk result (λ read. IsSeenAs read (asks_to_mount file.now name.now (option_map (λ word. word.now) plugin.entry))) }
+{
+    let Some(word) = plugin else {
+        let kind = Kind::Dump;
+        return ask(alloc, name, Use::Writes, Action::MountFile { file, kind });
+    };
+    match Kind::of(word) {
+        Some(kind) => ask(alloc, name, Use::Writes, Action::MountFile { file, kind }),
+        None => refuse_argument(alloc, name, Use::Writes, word),
+    }
+}
+
+/// Keys are brought from the name that a word spells to that of another word.
+pub fn ask_to_bring<'a>(
+    alloc: Global,
+    from: &'a str,
+    to: &'a str,
+    way: Way,
+    extent: Extent,
+) -> Result<Request<'a>, Memory>
+    ensures { IfOk result (λ read. IsSeenAs read (asks_to_bring way extent from.now to.now)) }
+{
+    match read_name(alloc, from, Use::Writes)? {
+        Named::Is(name) => ask_to_bring_key(alloc, name, to, way, extent),
+        Named::IsNone(request) => Ok(request),
+    }
+}
+
+/// A key is brought to the name that a word is to spell.
+fn ask_to_bring_key<'a>(
+    alloc: Global,
+    name: KeyName,
+    to: &'a str,
+    way: Way,
+    extent: Extent,
+) -> Result<Request<'a>, Memory>
+    ensures { IfOk result (λ read. IsSeenAs read (on_name_for Writes to.now (λ other. asked.Asks (asked.On name (asked.Bring way extent other))))) }
+{
+    match read_name(alloc, to, Use::Writes)? {
+        Named::Is(to) => {
+            let action = Action::Bring { way, extent, to };
+            Ok(Request::Asks(Question::On { name, action }))
+        }
+        Named::IsNone(request) => Ok(request),
+    }
+}
+
+/// A word is no metadata name, or no format's word. What is wrong with the name before it is told first.
+pub fn refuse_argument<'a>(
+    alloc: Global,
+    name: &'a str,
+    by: Use,
+    word: &'a str,
+) -> Result<Request<'a>, Memory>
+    ensures { IfOk result (λ read. IsSeenAs read (on_name_for by name.now (λ _. asked.Refuses 2 (argument word.now)))) }
+{
+    match read_name(alloc, name, by)? {
+        Named::Is(_name) => Ok(Request::Refuses(Refusal::NoArgument(word))),
+        Named::IsNone(request) => Ok(request),
+    }
+}

@@ -1,0 +1,195 @@
+//! What the words of a command line ask for.
+ghost use Rattle.std.specs.Prelude.{IfOk};
+ghost use Rattle.tool_words.specs.Request as asked;
+ghost use Rattle.tool_words.specs.Request.{plain, extended, on_none, on_one, on_two, on_three, on_two_or_three, on_name, on_name_for, on_meta, asks, asks_to_bring, asks_to_mount};
+ghost use Rattle.tool_words.specs.Rows.{asked_by, request, rows};
+ghost use Rattle.tool_words.specs.RequestView.{IsSeenAs, action_of};
+ghost use Rattle.tool_words.specs.declared.uses.Use.TheVariants.{Looks, Writes};
+
+use crate::asking::{ask, ask_any, ask_for_file, ask_to_bring, ask_to_mount, refuse_argument};
+use crate::extents::Extent;
+use crate::meta_names::MetaName;
+use crate::options::{extended_arguments, none, one, plain_arguments, three, two, two_or_three};
+use crate::requests::{Action, Question, Refusal, Request};
+use crate::uses::Use;
+use crate::ways::Way;
+use key_meta::{Memory, Text};
+use std::alloc::Global;
+
+/// Reads the words, which come without the program's name.
+pub fn read_words(alloc: Global, words: &[Text]) -> Result<Request<'_>, Memory>
+    ensures { IfOk result (λ read. IsSeenAs read (request words.now)) }
+{
+    match words {
+        [] => Ok(Request::Refuses(Refusal::NoCommand)),
+        [command, words @ ..] => read_behind(alloc, command.as_str(), words),
+    }
+}
+
+/// Reads the words behind a command's word.
+fn read_behind<'a>(
+    alloc: Global,
+    command: &'a str,
+    words: &'a [Text],
+) -> Result<Request<'a>, Memory>
+    ensures { IfOk result (λ read. IsSeenAs read (asked_by rows command.now words.now)) }
+{
+    match command {
+        "get" => read_one(alloc, words, Use::Looks, Action::Get),
+        "set" => read_name_and_value(alloc, words),
+        "rm" => read_removal(alloc, words),
+        "ls" => read_listing(alloc, words),
+        "meta-get" => read_meta(alloc, words),
+        "meta-set" => read_meta_and_text(alloc, words),
+        "meta-ls" => read_one(alloc, words, Use::Looks, Action::MetaNames),
+        "cp" => read_bringing(alloc, words, Way::Copies),
+        "mv" => read_bringing(alloc, words, Way::Moves),
+        "mount" => read_mounting(alloc, words),
+        "umount" => read_one(alloc, words, Use::Writes, Action::Unmount),
+        "mounts" => read_none(alloc, words),
+        "file" => read_file_name(alloc, words),
+        _ => Ok(Request::Refuses(Refusal::UnknownCommand(command))),
+    }
+}
+
+/// The words behind a command that takes a name and no option.
+fn read_one<'a>(
+    alloc: Global,
+    words: &'a [Text],
+    by: Use,
+    action: Action<'a>,
+) -> Result<Request<'a>, Memory>
+    ensures { IfOk result (λ read. IsSeenAs read (plain (on_one (asks by (action_of action.entry))) words.now)) }
+{
+    let Some(arguments) = plain_arguments(alloc, words)? else {
+        return Ok(Request::Refuses(Refusal::OptionsRefused));
+    };
+    let Some(name) = one(&arguments) else {
+        return Ok(Request::Refuses(Refusal::OptionsRefused));
+    };
+    ask(alloc, name, by, action)
+}
+
+/// The words behind `set`.
+fn read_name_and_value<'a>(alloc: Global, words: &'a [Text]) -> Result<Request<'a>, Memory>
+    ensures { IfOk result (λ read. IsSeenAs read (plain (on_two (λ word value. asks Writes (asked.Set value) word)) words.now)) }
+{
+    let Some(arguments) = plain_arguments(alloc, words)? else {
+        return Ok(Request::Refuses(Refusal::OptionsRefused));
+    };
+    let Some((name, value)) = two(&arguments) else {
+        return Ok(Request::Refuses(Refusal::OptionsRefused));
+    };
+    ask(alloc, name, Use::Writes, Action::Set(value))
+}
+
+/// The words behind `rm`.
+fn read_removal<'a>(alloc: Global, words: &'a [Text]) -> Result<Request<'a>, Memory>
+    ensures { IfOk result (λ read. IsSeenAs read (extended (λ extent. on_one (asks Writes (asked.Remove extent))) words.now)) }
+{
+    let Some((extent, arguments)) = extended_arguments(alloc, words)? else {
+        return Ok(Request::Refuses(Refusal::OptionsRefused));
+    };
+    let Some(name) = one(&arguments) else {
+        return Ok(Request::Refuses(Refusal::OptionsRefused));
+    };
+    ask(alloc, name, Use::Writes, Action::Remove(extent))
+}
+
+/// The words behind `meta-get`.
+fn read_meta<'a>(alloc: Global, words: &'a [Text]) -> Result<Request<'a>, Memory>
+    ensures { IfOk result (λ read. IsSeenAs read (plain (on_two (λ word meta. on_name_for Looks word (λ name. on_meta meta (asked.Asks (asked.On name (asked.GetMeta meta)))))) words.now)) }
+{
+    let Some(arguments) = plain_arguments(alloc, words)? else {
+        return Ok(Request::Refuses(Refusal::OptionsRefused));
+    };
+    let Some((name, word)) = two(&arguments) else {
+        return Ok(Request::Refuses(Refusal::OptionsRefused));
+    };
+    match MetaName::new(word) {
+        Some(meta) => ask(alloc, name, Use::Looks, Action::GetMeta(meta)),
+        None => refuse_argument(alloc, name, Use::Looks, word),
+    }
+}
+
+/// The words behind `meta-set`.
+fn read_meta_and_text<'a>(alloc: Global, words: &'a [Text]) -> Result<Request<'a>, Memory>
+    ensures { IfOk result (λ read. IsSeenAs read (plain (on_three (λ word meta text. on_name_for Writes word (λ name. on_meta meta (asked.Asks (asked.On name (asked.SetMeta meta text)))))) words.now)) }
+{
+    let Some(arguments) = plain_arguments(alloc, words)? else {
+        return Ok(Request::Refuses(Refusal::OptionsRefused));
+    };
+    let Some((name, word, text)) = three(&arguments) else {
+        return Ok(Request::Refuses(Refusal::OptionsRefused));
+    };
+    match MetaName::new(word) {
+        Some(meta) => ask(alloc, name, Use::Writes, Action::SetMeta(meta, text)),
+        None => refuse_argument(alloc, name, Use::Writes, word),
+    }
+}
+
+/// The words behind `cp` and `mv`.
+fn read_bringing<'a>(alloc: Global, words: &'a [Text], way: Way) -> Result<Request<'a>, Memory>
+    ensures { IfOk result (λ read. IsSeenAs read (extended (λ extent. on_two (asks_to_bring way extent)) words.now)) }
+{
+    let Some((extent, arguments)) = extended_arguments(alloc, words)? else {
+        return Ok(Request::Refuses(Refusal::OptionsRefused));
+    };
+    let Some((from, to)) = two(&arguments) else {
+        return Ok(Request::Refuses(Refusal::OptionsRefused));
+    };
+    ask_to_bring(alloc, from, to, way, extent)
+}
+
+/// The words behind `ls`.
+fn read_listing<'a>(alloc: Global, words: &'a [Text]) -> Result<Request<'a>, Memory>
+    ensures { IfOk result (λ read. IsSeenAs read (plain (on_one (λ word. on_name word (λ name. asked.Asks (asked.On name asked.Names)))) words.now)) }
+{
+    let Some(arguments) = plain_arguments(alloc, words)? else {
+        return Ok(Request::Refuses(Refusal::OptionsRefused));
+    };
+    let Some(name) = one(&arguments) else {
+        return Ok(Request::Refuses(Refusal::OptionsRefused));
+    };
+    ask_any(alloc, name, Action::Names)
+}
+
+/// The words behind `mount`.
+fn read_mounting<'a>(alloc: Global, words: &'a [Text]) -> Result<Request<'a>, Memory>
+    ensures { IfOk result (λ read. IsSeenAs read (plain (on_two_or_three asks_to_mount) words.now)) }
+{
+    let Some(arguments) = plain_arguments(alloc, words)? else {
+        return Ok(Request::Refuses(Refusal::OptionsRefused));
+    };
+    let Some((file, name, plugin)) = two_or_three(&arguments) else {
+        return Ok(Request::Refuses(Refusal::OptionsRefused));
+    };
+    ask_to_mount(alloc, file, name, plugin)
+}
+
+/// The words behind `mounts`.
+fn read_none<'a>(alloc: Global, words: &'a [Text]) -> Result<Request<'a>, Memory>
+    ensures { IfOk result (λ read. IsSeenAs read (plain (on_none (asked.Asks asked.Mounts)) words.now)) }
+{
+    let Some(arguments) = plain_arguments(alloc, words)? else {
+        return Ok(Request::Refuses(Refusal::OptionsRefused));
+    };
+    if none(&arguments) {
+        Ok(Request::Asks(Question::Mounts))
+    } else {
+        Ok(Request::Refuses(Refusal::OptionsRefused))
+    }
+}
+
+/// The words behind `file`.
+fn read_file_name<'a>(alloc: Global, words: &'a [Text]) -> Result<Request<'a>, Memory>
+    ensures { IfOk result (λ read. IsSeenAs read (plain (on_one (λ word. on_name_for Writes word (λ name. asked.Asks (asked.FileOf name)))) words.now)) }
+{
+    let Some(arguments) = plain_arguments(alloc, words)? else {
+        return Ok(Request::Refuses(Refusal::OptionsRefused));
+    };
+    let Some(name) = one(&arguments) else {
+        return Ok(Request::Refuses(Refusal::OptionsRefused));
+    };
+    ask_for_file(alloc, name)
+}
