@@ -10,3 +10,6 @@ pub mod PointLemmas
 pub mod GetLemmas
 pub mod SeenLemmas
 pub mod WriteLemmas
+pub mod OneOpening
+pub mod OneVerdict
+pub mod SomeOpening
