@@ -13,3 +13,6 @@ pub mod WriteLemmas
 pub mod OneOpening
 pub mod OneVerdict
 pub mod SomeOpening
+pub mod PlaceLemmas
+pub mod BegunLemmas
+pub mod OpeningLemmas

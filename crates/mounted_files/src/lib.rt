@@ -25,5 +25,4 @@ pub use laws::{a_set_has_one_verdict, files_have_one_opening};
 pub use mounted::Mounted;
 pub use opening::Opening;
 pub use refusals::{GetFault, OpenRefusal};
-pub use table_file::read_table_file;
 pub use verdicts::Verdict;
