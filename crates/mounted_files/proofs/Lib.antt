@@ -10,3 +10,9 @@ pub mod PointLemmas
 pub mod GetLemmas
 pub mod SeenLemmas
 pub mod WriteLemmas
+pub mod OneOpening
+pub mod OneVerdict
+pub mod SomeOpening
+pub mod PlaceLemmas
+pub mod BegunLemmas
+pub mod OpeningLemmas

@@ -16,7 +16,7 @@ use Rattle.mounted_files.specs.declared.holding.Holding.TheVariants.{Keys, Bad}
 use Rattle.mounted_files.proofs.WholeLemmas.{over-append}
 
 -- an element of a longer list stands in the list, or is the last
-last_or_before : {A : Type 0} (xs : List A) (x y : A) (i : ℕ) → slice_get (xs ++ x ∷ []) i ≡ Some y → (slice_get xs i ≡ Some y) ⊎ ((i ≡ length xs) × (x ≡ y))
+pub last_or_before : {A : Type 0} (xs : List A) (x y : A) (i : ℕ) → slice_get (xs ++ x ∷ []) i ≡ Some y → (slice_get xs i ≡ Some y) ⊎ ((i ≡ length xs) × (x ≡ y))
 last_or_before [] x y zero e = inr (refl, cc)
 last_or_before [] x y (suc i) e = absurd cc
 last_or_before (z ∷ xs) x y zero e = inl e

@@ -9,7 +9,7 @@ use Rattle.mounted_files.specs.declared.files.FileState.{FileState}
 use Rattle.mounted_files.specs.declared.files.FileState.TheVariants.{Good, Bad}
 use Rattle.mounted_files.specs.declared.files.MountedFile.{MountedFile}
 
-mounts-from : (sum : ℕ) (files : List MountedFile) → over (λ file. file.mount) (weighed_from sum files) ≡ over (λ file. file.mount) files
+pub mounts-from : (sum : ℕ) (files : List MountedFile) → over (λ file. file.mount) (weighed_from sum files) ≡ over (λ file. file.mount) files
 mounts-from sum [] = refl
 mounts-from sum (file ∷ files) = ap (λ l. file.mount ∷ l) (mounts-from (sum + added_weight (weighed_file sum file)) files)
 
@@ -17,7 +17,7 @@ mounts-from sum (file ∷ files) = ap (λ l. file.mount ∷ l) (mounts-from (sum
 pub weighed-mounts : (files : List MountedFile) → over (λ file. file.mount) (weighed files) ≡ over (λ file. file.mount) files
 weighed-mounts files = mounts-from (own_weight files) files
 
-short-behind : (sum : ℕ) (state : FileState) → HasShortShadow state → HasShortShadow (weighed_behind sum state)
+pub short-behind : (sum : ℕ) (state : FileState) → HasShortShadow state → HasShortShadow (weighed_behind sum state)
 short-behind sum (Good visible shadow) short = by (nat_lt heaviest_map (sum + weight visible))
   where
     by : (b : Bool) → HasShortShadow (cond b (Bad (TooHeavy (saturated (sum + weight visible)))) (Good visible shadow))
@@ -25,10 +25,6 @@ short-behind sum (Good visible shadow) short = by (nat_lt heaviest_map (sum + we
     by false = short
 short-behind sum (Bad cause) short = tt
 
-short-from : (sum : ℕ) (files : List MountedFile) → HaveShortShadows files → HaveShortShadows (weighed_from sum files)
-short-from sum [] short = tt
-short-from sum (file ∷ files) short = (short-behind _ file.state short.0, short-from (sum + added_weight (weighed_file sum file)) files short.1)
-
--- shadows stay short
-pub weighed-short : (files : List MountedFile) → HaveShortShadows files → HaveShortShadows (weighed files)
-weighed-short files short = short-from (own_weight files) files short
+-- so does weighing one file
+pub weighed_file-short : (sum : ℕ) (file : MountedFile) → HasShortShadow file.state → HasShortShadow (weighed_file sum file).state
+weighed_file-short sum file short = short-behind _ file.state short

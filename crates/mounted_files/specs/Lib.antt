@@ -14,4 +14,6 @@ pub mod Holding
 pub mod Written
 pub mod Refusing
 pub mod Begun
+pub mod Begins
+pub mod OwnPlace
 pub mod MountedView

@@ -1,5 +1,5 @@
 -- What the files of a store mean at an opening. (After Elektra's page on mounting; the limits are this project's own.)
-use Rattle.std.specs.Prelude.{◌≡◌, ℕ, List, Result, Ok, Err, map as over}
+use Rattle.std.specs.Prelude.{◌≡◌, ◌≢◌, ℕ, List, Result, Ok, Err, map as over}
 use Rattle.kdb_outside.specs.declared.kinds.Kind.TheVariants.{Dump}
 use Rattle.model_maps.specs.KeyMap.{KeyMap}
 use Rattle.mount_table.specs.Points.{own_point}
@@ -37,3 +37,8 @@ pub record IsOpened (Reads : Reading) (IsBad : Badness) (bytes_of : List ℕ →
 abbrev pub Opens : Reading → Badness → (List ℕ → List ℕ) → Result (List MountedFile) OpenRefusal → Type 0
 Opens Reads IsBad bytes_of (Ok files) = IsOpened Reads IsBad bytes_of files
 Opens Reads IsBad bytes_of (Err why) = RefusesOpening Reads IsBad (bytes_of own_mount.file) why
+
+-- an opening that isn't left off for want of memory
+abbrev pub IsMade : Result (List MountedFile) OpenRefusal → Type 0
+IsMade (Ok files) = Unit {0}
+IsMade (Err why) = why ≢ refusal.Memory

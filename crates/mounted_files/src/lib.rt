@@ -7,6 +7,7 @@ mod changes;
 mod files;
 mod holding;
 mod judging;
+mod laws;
 mod mounted;
 mod opening;
 mod owned;
@@ -20,8 +21,8 @@ mod writing;
 
 pub use causes::Cause;
 pub use files::{FileState, MountedFile};
+pub use laws::{a_set_has_one_verdict, files_have_one_opening};
 pub use mounted::Mounted;
 pub use opening::Opening;
 pub use refusals::{GetFault, OpenRefusal};
-pub use table_file::read_table_file;
 pub use verdicts::Verdict;

@@ -4,11 +4,9 @@ ghost use Rattle.key_set.specs.WithAll.{with_all};
 ghost use Rattle.mounted_files.specs.Getting.{fault_in, fault_of, got, visible_of, Gets, IsFaultIn};
 ghost use Rattle.mounted_files.specs.Judging.{IsVerdict};
 ghost use Rattle.mounted_files.specs.Short.{HaveShortShadows};
-ghost use Rattle.mounted_files.specs.Weighed.{weighed};
 
 use crate::judging::{early_refusal, late_verdict};
 use crate::setting::{changes_of, weight_after};
-use crate::weighing::weigh_all;
 use crate::writing::{Writing, write_all};
 use crate::{Cause, FileState, GetFault, MountedFile, Verdict};
 use key_meta::Memory;
@@ -45,14 +43,12 @@ impl Model for Mounted {
 }
 
 impl Mounted {
-    /// The files of a table's mounts, weighed together.
+    /// The files of a table's mounts.
     pub(crate) fn new(table: MountTable, files: Vec<MountedFile>) -> Mounted
         requires table { over (λ file. file.mount) files.items ≡ table }
         requires short { HaveShortShadows files.items }
-        ensures { result ≡ weighed files.items }
+        ensures { result ≡ files.items }
     {
-        let mut files = files;
-        weigh_all(&mut files);
         Mounted { table, files }
     }
 

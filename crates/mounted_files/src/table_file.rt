@@ -3,8 +3,11 @@ ghost use Rattle.std.specs.Prelude.{◌≡◌, MatchResult, IfOk, ℕ, List, Ok}
 ghost use Rattle.backend_files.specs.WholeFile.{IsWhole};
 ghost use Rattle.mount_table.specs.Points.{own_point};
 ghost use Rattle.mount_table.specs.Table.{table_of};
-ghost use Rattle.mounted_files.specs.Opening.{MakesTable, RefusesOpening};
+ghost use Rattle.kdb_outside.specs.declared.kinds.Kind.TheVariants.{Dump};
+ghost use Rattle.mounted_files.specs.Files.{Holds};
+ghost use Rattle.mounted_files.specs.Opening.{RefusesOpening};
 ghost use Rattle.mounted_files.specs.Refusing.{RefusesTable, IsRefusalOf};
+ghost use Rattle.mounted_files.specs.Short.{AreShort};
 
 use crate::holding::{Holding, read_holding};
 use crate::{Cause, OpenRefusal};
@@ -17,18 +20,29 @@ use mount_table::{MountTable, TableFault};
 use std::alloc::{AllocError, Global};
 use storage_api::Formats;
 
-/// The table that the keys of `elektra.ecf` make, given what that file gave. `TooLong` and `BadFile` come where the file is too long or holds no
-/// keys, and `BadTable` where its keys make no table.
+/// The keys that the table's own file holds, under whole names, and the table that they make.
+#[derive(Debug, Drop)]
+pub struct TableFile {
+    pub table: MountTable,
+    pub keys: KeySet,
+}
+
+/// The table that the keys of `elektra.ecf` make, and these keys, given what that file gave.
 pub fn read_table_file<F: Formats>(
     alloc: Global,
     formats: &F,
     own: &FileRead,
-) -> Result<MountTable, OpenRefusal>
-    ensures { (bytes : List ℕ) → IsWhole bytes own.now → MatchResult result (λ table. MakesTable F.reads bytes (Ok table)) (RefusesOpening F.reads F.is_bad_at bytes) }
+) -> Result<TableFile, OpenRefusal>
+    ensures read { (bytes : List ℕ) → IsWhole bytes own.now → MatchResult result (λ read. Holds F.reads own_point Dump bytes read.keys) (RefusesOpening F.reads F.is_bad_at bytes) }
+    ensures table { IfOk result (λ read. table_of read.keys ≡ Ok read.table) }
+    ensures short { IfOk result (λ read. AreShort read.keys) }
 {
     let point = own_point(alloc)?;
     match read_holding(alloc, formats, &point, Kind::Dump, own)? {
-        Holding::Keys { keys } => table_of(alloc, &keys),
+        Holding::Keys { keys } => match table_of(alloc, &keys) {
+            Ok(table) => Ok(TableFile { table, keys }),
+            Err(refusal) => Err(refusal),
+        },
         Holding::Bad { cause } => Err(refusal_of(cause)),
     }
 }

@@ -1,40 +1,18 @@
 //! The visible keys of all mounts together have a limit: a mount that goes over it is bad.
-ghost use Rattle.std.specs.Prelude.{◌≡◌, ◌+◌, ◌≤◌, if◌then◌else◌, Some, None};
+ghost use Rattle.std.specs.Prelude.{◌≡◌, ◌+◌, ◌≤◌};
 ghost use Rattle.general_words.specs.Saturated.{saturated};
 ghost use Rattle.model_names.specs.Order.{name_eq};
 ghost use Rattle.model_maps.specs.KeyMap.{heaviest_map};
 ghost use Rattle.mount_table.specs.Points.{own_point};
-ghost use Rattle.mounted_files.specs.Weighed.{added_weight, own_weight, visible_weight, weighed, weighed_behind, weighed_file};
+ghost use Rattle.mounted_files.specs.Weighed.{added_weight, visible_weight, weighed_behind, weighed_file};
 
 use crate::{Cause, FileState, MountedFile};
 use key_name::{KeyName, Namespace};
 use key_set::HEAVIEST_MAP;
 
-/// Makes bad each file that is too heavy: the table's own file is weighed first, and then the others in their order.
-pub fn weigh_all(files: &mut [MountedFile])
-    ensures { files.new ≡ weighed files.old }
-{
-    let mut sum = own_weight(files);
-    for i in 0..files.len() {
-        sum = weigh(&mut files[i], sum);
-    }
-}
-
-/// What the table's own file weighs, unless it is too heavy by itself.
-fn own_weight(files: &[MountedFile]) -> u64
-    ensures is { result ≡ own_weight files.now }
-    ensures limit { result ≤ heaviest_map }
-{
-    for file in files {
-        if is_own_point(&file.mount.at) {
-            return weight_behind(0, &file.state);
-        }
-    }
-    0
-}
-
-/// Makes a file bad that is too heavy behind others, and answers what it and the others weigh.
-fn weigh(file: &mut MountedFile, sum: u64) -> u64
+/// Makes a file bad that is too heavy behind others, and answers what it and the others weigh. The table's own file is weighed behind none, and
+/// has been counted before.
+pub fn weigh(file: &mut MountedFile, sum: u64) -> u64
     requires { sum ≤ heaviest_map }
     ensures file { file.new ≡ weighed_file sum file.old }
     ensures sum { result ≡ sum + added_weight file.new }
@@ -49,7 +27,7 @@ fn weigh(file: &mut MountedFile, sum: u64) -> u64
 }
 
 /// Makes a state bad that is too heavy behind others, and answers what it weighs.
-fn weigh_state(state: &mut FileState, sum: u64) -> u64
+pub fn weigh_state(state: &mut FileState, sum: u64) -> u64
     requires { sum ≤ heaviest_map }
     ensures state { state.new ≡ weighed_behind sum state.old }
     ensures weight { result ≡ visible_weight state.new }
@@ -61,20 +39,6 @@ fn weigh_state(state: &mut FileState, sum: u64) -> u64
         *state = FileState::Bad {
             cause: Cause::TooHeavy { weight: all },
         };
-        0
-    } else {
-        weight
-    }
-}
-
-/// What a state weighs behind others, unless it is too heavy.
-fn weight_behind(sum: u64, state: &FileState) -> u64
-    requires { sum ≤ heaviest_map }
-    ensures weight { result ≡ visible_weight (weighed_behind sum state.now) }
-    ensures limit { result ≤ heaviest_map }
-{
-    let weight = visible_weight(state);
-    if sum.saturating_add(weight) > HEAVIEST_MAP {
         0
     } else {
         weight

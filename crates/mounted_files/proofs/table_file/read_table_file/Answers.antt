@@ -18,12 +18,11 @@ use Rattle.mounted_files.specs.declared.refusals.OpenRefusal.TheVariants.{TooLon
 use Rattle.mounted_files.proofs.table_file.read_table_file.Goals as goal
 
 module _ (Reads : Reading) (IsBad : Badness) (bytes : List ℕ) where
-  from_keys : (keys : KeyMap) (made : Result (List Mount) OpenRefusal) → Holds Reads own_point Dump bytes keys → MatchResult made (λ table. table_of keys ≡ Ok table) (RefusesTable (table_of keys)) → MatchResult made (λ table. MakesTable Reads bytes (Ok table)) (RefusesOpening Reads IsBad bytes)
-  from_keys keys (Ok table) holds is = record { keys = keys; holds = holds; is = is }
-  from_keys keys (Err (BadTable fault)) holds is = record { keys = keys; holds = holds; is = is }
-  from_keys keys (Err Memory) holds is = tt
-  from_keys keys (Err (TooLong n)) holds is = absurd is
-  from_keys keys (Err (BadFile line)) holds is = absurd is
+  from_table : (keys : KeyMap) (refusal : OpenRefusal) → Holds Reads own_point Dump bytes keys → RefusesTable (table_of keys) refusal → RefusesOpening Reads IsBad bytes refusal
+  from_table keys (BadTable fault) holds is = record { keys = keys; holds = holds; is = is }
+  from_table keys Memory holds is = tt
+  from_table keys (TooLong n) holds is = absurd is
+  from_table keys (BadFile line) holds is = absurd is
 
   from_cause : (why : Cause) (refusal : OpenRefusal) → IsRefusalOf why refusal → IsCause Reads IsBad own_point Dump bytes why → RefusesOpening Reads IsBad bytes refusal
   from_cause (cause.TooLong n) refusal is bad = subst (λ (r : OpenRefusal). RefusesOpening Reads IsBad bytes r) (sym is) bad
@@ -34,16 +33,20 @@ module _ (Reads : Reading) (IsBad : Badness) (bytes : List ℕ) where
   held : (point : Name) (found holding : Holding) → point ≡ own_point → found ≡ holding → IsHolding Reads IsBad point Dump bytes found → IsHolding Reads IsBad own_point Dump bytes holding
   held point found holding point_is is holds = subst (λ (h : Holding). IsHolding Reads IsBad own_point Dump bytes h) is (subst (λ (p : Name). IsHolding Reads IsBad p Dump bytes found) point_is holds)
 
-pub returns-in-Keys : goal.returns-in-Keys
-returns-in-Keys g c bytes is_whole =
+pub returns-in-Ok-clause-read : goal.returns-in-Ok-clause-read
+returns-in-Ok-clause-read g c bytes is_whole =
+    held g.F.Formats.reads g.F.Formats.is_bad_at bytes c.in_ok-point.point c.in_ok-keys.field-0 _ c.in_ok-point.ensures c.in-Keys.is (c.in_ok-keys.ensures.is bytes is_whole)
+
+pub returns-in-Keys-clause-read : goal.returns-in-Keys-clause-read
+returns-in-Keys-clause-read g c bytes is_whole =
     let Reads = g.F.Formats.reads in
     let IsBad = g.F.Formats.is_bad_at in
-    from_keys Reads IsBad bytes c.in-Keys.keys c.table_of.result
+    from_table Reads IsBad bytes c.in-Keys.keys c.in-Err.refusal
     (held Reads IsBad bytes c.in_ok-point.point c.in_ok-keys.field-0 _ c.in_ok-point.ensures c.in-Keys.is (c.in_ok-keys.ensures.is bytes is_whole))
-    c.table_of.ensures
+    c.in-Err.ensures
 
-pub returns : goal.returns
-returns g c bytes is_whole =
+pub returns-clause-read : goal.returns-clause-read
+returns-clause-read g c bytes is_whole =
     let Reads = g.F.Formats.reads in
     let IsBad = g.F.Formats.is_bad_at in
     from_cause Reads IsBad bytes c.in-Bad.cause c.refusal_of.result c.refusal_of.ensures

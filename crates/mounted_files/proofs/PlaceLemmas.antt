@@ -1,0 +1,140 @@
+-- The table's own mount is one of its mounts, at one place.
+use Rattle.std.proofs.Common.{◌≡◌, ◌≢◌, ◌⊎◌, ℕ, zero, suc, ◌+◌, ◌<◌, ◌≤◌, Bool, true, false, not, ◌&&◌, nat_le, cond, List, [], ◌∷◌, ◌++◌, length, get_or, map as over, fold, filter, slice_get, Option, Some, None, Result, Ok, Err, inl, inr, refl, sym, ap, subst, ◌∙◌, arith}
+use Rattle.std.specs.FinMap as map
+use Rattle.std.specs.FinMap.{FinMap}
+use Rattle.std.specs.FinMap.Entries.{find}
+use Rattle.std.specs.List.Sorted.{IsStrictlySortedBy}
+use Rattle.std.specs.Option.{option_map}
+use Rattle.std.specs.Ordering.{eq_by_cmp, is_eq}
+use Rattle.std.proofs.lemmas.Bool.{and_parts, cases_lt}
+use Rattle.std.proofs.lemmas.Cmp.{eq_by_cmp_equiv}
+use Rattle.std.proofs.lemmas.List.Sums.{fold-append}
+use Rattle.std.proofs.lemmas.Map.Keys.{Less-from_sorted}
+use Rattle.std.proofs.lemmas.Option.{slice_get_within, slice_get-map, get_or_from_slice_get, same_Some}
+use Rattle.general_words.proofs.Lists.{at_place}
+use Rattle.general_words.proofs.Lookups.{tied_or_not, get-elsewhere}
+use Rattle.general_words.proofs.Maps.{get-insert_same}
+use Rattle.key_name.specs.Comparing.{name_ties}
+use Rattle.general_words.specs.Texts.{is_text}
+use Rattle.model_names.specs.Below.{is_at_or_below}
+use Rattle.model_names.specs.Name.{Name, Part}
+use Rattle.model_names.specs.Namespaces.{has_files}
+use Rattle.model_names.specs.Order.{name_cmp, name_eq}
+use Rattle.model_names.specs.Spelling.{spelling}
+use Rattle.model_names.proofs.OrderLemmas.{name_cmp_total, name_cmp-IsAntisymmetric}
+use Rattle.model_maps.specs.KeyMap.{KeyMap}
+use Rattle.mount_table.specs.Entries.{entries_of}
+use Rattle.mount_table.specs.Points.{longest_point, own_point}
+use Rattle.mount_table.specs.Reading.{mount_of, next_mount, is_taken, mounts_from}
+use Rattle.mount_table.specs.Table.{by_point, in_order, limited, own_mount, remaining, remains, root_mounts, table_of}
+use Rattle.mount_table.specs.declared.entries.MountEntry.{MountEntry}
+use Rattle.mount_table.specs.declared.faults.TableFault.{TableFault}
+use Rattle.mount_table.specs.declared.faults.TableFault.TheVariants.{TooMany}
+use Rattle.mount_table.specs.declared.mounts.Mount.{Mount}
+use Rattle.mount_table.proofs.TableLemmas.{IsPoint-from, from_then, mount_of-next, ok_is, point_of-mount}
+use Rattle.mounted_files.specs.OwnPlace.{HasOwn}
+
+pub name_eq-same : (a b : Name) → name_eq a b ≡ true → a ≡ b
+name_eq-same a b equal = same (tied_or_not {R = name_cmp} name_cmp-IsAntisymmetric a b)
+  where
+    same : (eq_by_cmp name_cmp a b ≡ false) ⊎ ((eq_by_cmp name_cmp a b ≡ true) × (a ≡ b)) → a ≡ b
+    same (inl differ) = absurd (let both = sym differ ∙ (sym (name_ties a b) ∙ equal) in cc)
+    same (inr tied) = tied.1
+
+pub own-name_eq : (point : Name) → point ≡ own_point → name_eq point own_point ≡ true
+own-name_eq point is = ap (λ (p : Name). name_eq p own_point) is ∙ (name_ties own_point own_point ∙ (eq_by_cmp_equiv name_cmp_total).refl own_point)
+
+-- a point stands at one place
+pub one_place : (points : List Name) (point : Name) (i j : ℕ) → IsStrictlySortedBy name_cmp points → slice_get points i ≡ Some point → slice_get points j ≡ Some point → i ≡ j
+one_place points point i j sorted at_i at_j = by (cases_lt i j) (cases_lt j i)
+  where
+    apart : (k n : ℕ) → k < n → slice_get points k ≡ Some point → slice_get points n ≡ Some point → ⊥
+    apart k n lt at_k at_n =
+        let less = Less-from_sorted name_cmp points k n point sorted lt (slice_get_within points n point at_n) in
+        let itself = (eq_by_cmp_equiv name_cmp_total).refl point in
+        let one = get_or_from_slice_get points k point point at_k in
+        let other = get_or_from_slice_get points n point point at_n in
+        let told = ap is_eq (sym less ∙ (ap (λ p. name_cmp p (get_or points n point)) one ∙ ap (name_cmp point) other)) in
+        absurd (let both = told ∙ itself in cc)
+
+    by : (i < j) ⊎ (j ≤ i) → (j < i) ⊎ (i ≤ j) → i ≡ j
+    by (inl lt) other = absurd (apart i j lt at_i at_j)
+    by (inr le) (inl lt) = absurd (apart j i lt at_j at_i)
+    by (inr le) (inr ge) = omega (arith, le, ge)
+
+-- what is found among entries stands among them
+find-place : {X : Type 0} (q : Name) (es : List (Name × X)) (v : X) → find name_cmp q es ≡ Some v → (i : ℕ) × (slice_get (over (λ e. e.1) es) i ≡ Some v)
+find-place q [] v found = absurd cc
+find-place q (e ∷ es) v found = by (find-place q es v) (eq_by_cmp name_cmp q e.0) found
+  where
+    by : (find name_cmp q es ≡ Some v → (i : ℕ) × (slice_get (over (λ e. e.1) es) i ≡ Some v)) → (b : Bool) → cond b (Some e.1) (find name_cmp q es) ≡ Some v → (i : ℕ) × (slice_get (over (λ e. e.1) (e ∷ es)) i ≡ Some v)
+    by rest true here = (0, here)
+    by rest false there = let found = rest there in (suc found.0, found.1)
+
+-- the own mount is found under its point
+abbrev IsFound : List Mount → Type 0
+IsFound mounts = map.get (by_point mounts) own_point ≡ Some own_mount
+
+by_point-snoc : (mounts : List Mount) (mount : Mount) → by_point (mounts ++ mount ∷ []) ≡ map.insert (by_point mounts) mount.at mount
+by_point-snoc mounts mount = fold-append (λ (table : FinMap name_cmp Mount) (m : Mount). map.insert table m.at m) map.empty mounts (mount ∷ [])
+
+found-more : (mounts : List Mount) (mount : Mount) → IsFound mounts → own_point ≢ mount.at → IsFound (mounts ++ mount ∷ [])
+found-more mounts mount found other =
+    ap (λ table. map.get table own_point) (by_point-snoc mounts mount) ∙ (get-elsewhere name_cmp_total name_cmp-IsAntisymmetric (by_point mounts) mount.at mount own_point other ∙ found)
+
+-- no entry has the own point
+not_own : (taken : List ℕ → Bool) (text : Part) (said : MountEntry) (mount : Mount) → next_mount taken text said ≡ Ok mount → own_point ≢ mount.at
+not_own taken text said mount next same =
+    let is = (IsPoint-from text mount.at (point_of-mount text said mount (mount_of-next taken text said mount next))).is in
+    let apart = not (is_at_or_below own_point mount.at) in
+    let spelled = is_text (spelling mount.at) text in
+    let tests = and_parts (has_files mount.at.namespace) (nat_le (length text) longest_point && (spelled && apart)) is in
+    let more = and_parts (nat_le (length text) longest_point) (spelled && apart) tests.1 in
+    let last = and_parts spelled apart more.1 in
+    let below : not (is_at_or_below own_point own_point) ≡ true = subst (λ (p : Name). not (is_at_or_below own_point p) ≡ true) (sym same) last.1 in
+    let wrong : false ≡ true = below in cc
+
+found-all : (mounts : List Mount) (entries : List (Part × MountEntry)) (all : List Mount) → IsFound mounts → mounts_from mounts entries ≡ Ok all → IsFound all
+found-all mounts [] all found is = subst IsFound (ok_is mounts all is) found
+found-all mounts (entry ∷ entries) all found is =
+    let next = from_then (next_mount (is_taken mounts) entry.0 entry.1) (λ mount. mounts_from (mounts ++ mount ∷ []) entries) all is in
+    found-all (mounts ++ next.0 ∷ []) entries all (found-more mounts next.0 found (not_own (is_taken mounts) entry.0 entry.1 next.0 next.1)) next.2
+
+pub own-there : (keys : KeyMap) (mounts : List Mount) → table_of keys ≡ Ok mounts → HasOwn mounts
+own-there keys mounts is =
+    let entries = entries_of keys in
+    let made = from_then (mounts_from (remaining entries) (map.entries entries)) (λ all. limited (in_order all)) mounts is in
+    let first : IsFound (remaining entries) = ap (λ table. map.get table own_point) (by_point-snoc (filter (remains entries) root_mounts) own_mount) ∙ get-insert_same name_cmp_total (by_point (filter (remains entries) root_mounts)) own_point own_mount in
+    let found = found-all (remaining entries) (map.entries entries) made.0 first made.1 in
+    let place = find-place own_point (map.entries (by_point made.0)) own_mount (sym (map.get-entries (by_point made.0) own_point) ∙ found) in
+    record { place = place.0; is = subst (λ ms. slice_get ms place.0 ≡ Some own_mount) (kept (in_order made.0) _ made.2) place.1 }
+  where
+    kept : (all : List Mount) (b : Bool) → cond b (Err (TooMany (length all))) (Ok all) ≡ Ok mounts → all ≡ mounts
+    kept all true e = absurd cc
+    kept all false e = ok_is all mounts e
+
+-- ---- the search for its place
+
+module _ (table : List Mount) (points : List Name) (told : points ≡ over (λ (mount : Mount). mount.at) table) (i : ℕ) (point : Name) (within : i < length points) (read : point ≡ get_or points i point) where
+  there : slice_get points i ≡ Some point
+  there = sym (at_place points i point within read)
+
+  point_at : (j : ℕ) → slice_get table j ≡ Some own_mount → slice_get points j ≡ Some own_point
+  point_at j at_j = ap (λ ps. slice_get ps j) told ∙ (slice_get-map (λ (mount : Mount). mount.at) table j ∙ ap (option_map (λ (mount : Mount). mount.at)) at_j)
+
+  -- a mount at the own point is the own mount
+  pub own-found : HasOwn table → IsStrictlySortedBy name_cmp points → name_eq point own_point ≡ true → slice_get table i ≡ Some own_mount
+  own-found has sorted is =
+      let same = one_place points own_point i has.place sorted (there ∙ ap Some (name_eq-same point own_point is)) (point_at has.place has.is) in
+      ap (slice_get table) same ∙ has.is
+
+  -- at another point it doesn't stand
+  pub own-later : name_eq point own_point ≡ false → ((j : ℕ) → slice_get table j ≡ Some own_mount → i ≤ j) → (j : ℕ) → slice_get table j ≡ Some own_mount → i + 1 ≤ j
+  own-later other before j at_j = by (cases_lt i j)
+    where
+      by : (i < j) ⊎ (j ≤ i) → i + 1 ≤ j
+      by (inl lt) = omega (arith, lt)
+      by (inr le) =
+          let i_is : i ≡ j = omega (arith, le, before j at_j) in
+          let point_is = same_Some point own_point (sym there ∙ (ap (slice_get points) i_is ∙ point_at j at_j)) in
+          absurd (let both = sym other ∙ own-name_eq point point_is in cc)

@@ -1,0 +1,47 @@
+-- The own file is put back at its place among the others.
+use Rattle.std.proofs.Common.{◌≡◌, ℕ, List, length, take, map as over, sym, ap, subst, ◌∙◌, arith}
+use Rattle.std.specs.List.{insert, remove}
+use Rattle.std.proofs.lemmas.List.{take_all}
+use Rattle.std.proofs.lemmas.Option.{same_Some}
+use Rattle.mount_table.specs.Table.{own_mount}
+use Rattle.mount_table.specs.declared.mounts.Mount.{Mount}
+use Rattle.mounted_files.specs.Begins.{Begins}
+use Rattle.mounted_files.specs.Begun.{Begun, others}
+use Rattle.mounted_files.specs.declared.files.FileState.{FileState}
+use Rattle.mounted_files.specs.declared.files.MountedFile.{MountedFile}
+use Rattle.mounted_files.proofs.BegunLemmas.{insert-remove, over-insert}
+use Rattle.mounted_files.proofs.OpeningLemmas.{is-opened}
+use Rattle.mounted_files.proofs.opening.Opening.mounted.Goals as goal
+
+-- the own file, put in, under a mount that was found there
+put_in : (files new : List MountedFile) (place : ℕ) (own : FileState) (mount found : Mount) → mount ≡ found → found ≡ own_mount → new ≡ insert files place (record { mount = mount; state = own }) → new ≡ insert files place (record { mount = own_mount; state = own })
+put_in files new place own mount found copied is made = made ∙ ap (λ m. insert files place (record { mount = m; state = own })) (copied ∙ is)
+
+-- the files are those of all others
+all_others : (table : List Mount) (place : ℕ) (files : List MountedFile) → over (λ (file : MountedFile). file.mount) files ≡ take (length files) (remove table place) → length files ≡ length (remove table place) → over (λ (file : MountedFile). file.mount) files ≡ remove table place
+all_others table place files first counted = first ∙ take_all (length files) (remove table place) (omega (arith, counted))
+
+pub new-requires-clause-table : goal.new-requires-clause-table
+new-requires-clause-table g c =
+    let table = c.self.inside.table in
+    let place = c.self.inside.place in
+    let files = c.self.inside.files.items in
+    let counted = subst (λ (b : Begun). length b.files ≡ length (others b)) (sym c.self.view_is) c.requires in
+    let put = put_in files c.insert.new.self.items place c.self.inside.own c.in_ok-copy.field-0 c.in-Some.mount.now c.in_ok-copy.ensures (same_Some c.in-Some.mount.now own_mount (c.in-Some.ensures ∙ c.self.invariant.place)) c.in_ok-insert.ensures.items in
+    ap (over (λ (file : MountedFile). file.mount)) put
+    ∙ (over-insert (λ (file : MountedFile). file.mount) files place (record { mount = own_mount; state = c.self.inside.own })
+    ∙ (ap (λ ms. insert ms place own_mount) (all_others table place files c.self.invariant.table counted)
+    ∙ insert-remove table place own_mount c.self.invariant.place))
+
+pub returns : goal.returns
+returns g c = λ bytes_of begins.
+    let table = c.self.inside.table in
+    let place = c.self.inside.place in
+    let own = c.self.inside.own in
+    let files = c.self.inside.files.items in
+    let begun : Begun = record { table = table; place = place; own = own; files = files } in
+    let counted = subst (λ (b : Begun). length b.files ≡ length (others b)) (sym c.self.view_is) c.requires in
+    let put = put_in files c.insert.new.self.items place own c.in_ok-copy.field-0 c.in-Some.mount.now c.in_ok-copy.ensures (same_Some c.in-Some.mount.now own_mount (c.in-Some.ensures ∙ c.self.invariant.place)) c.in_ok-insert.ensures.items in
+    is-opened g.F.Formats.reads g.F.Formats.is_bad_at bytes_of begun
+    (subst (λ (b : Begun). Begins g.F.Formats.reads g.F.Formats.is_bad_at bytes_of b) (sym c.self.view_is) begins)
+    c.self.invariant.place c.self.invariant.ascending (all_others table place files c.self.invariant.table counted) c.new.result (c.new.ensures ∙ put)
