@@ -1,0 +1,5 @@
+pub mod OrderLemmas
+pub mod JoinLemmas
+pub mod ChunkLemmas
+pub mod PlaceLemmas
+pub mod SplitLemmas
