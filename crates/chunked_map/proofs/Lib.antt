@@ -3,3 +3,4 @@ pub mod JoinLemmas
 pub mod ChunkLemmas
 pub mod PlaceLemmas
 pub mod SplitLemmas
+pub mod RangeLemmas

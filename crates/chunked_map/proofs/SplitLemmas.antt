@@ -5,7 +5,7 @@ use Rattle.std.specs.FinMap.Entries.{below_all, put}
 use Rattle.std.specs.List.{insert, remove_range}
 use Rattle.std.specs.declared.cmp.Ordering.{Ordering}
 use Rattle.std.proofs.lemmas.List.{take-append-drop, take_all, drop_all, length-take-le, length-drop}
-use Rattle.chunked_map.specs.Chunks.{joined, AreChunks, IsChunkOf, all_before, in_place, halved}
+use Rattle.chunked_map.specs.Chunks.{joined, AreChunks, IsChunkOf, all_before, in_place, parted}
 use Rattle.std.specs.Cmp.{IsTotalOrder}
 use Rattle.std.specs.FinMap.{find}
 use Rattle.std.specs.Option.{is_some, option_copied}
@@ -45,27 +45,39 @@ module _ {A : Type 0} where
   two (c ∷ cs) (suc at) a b lt = ap (λ ds. c ∷ ds) (two cs at a b (omega arith))
 
 -- the back of a chunk, taken out of it and put behind what is left
-pub halved_is : {A : Type 0} (cs : List (List A)) (at : ℕ) (c a b : List A) (n : ℕ) → at < length cs → c ≡ get_or cs at c → n ≡ length (get_or cs at [])
-    → a ≡ remove_range c 32 n → b ≡ slice_range c 32 n → insert (set cs at a) (at + 1) b ≡ halved cs at
-halved_is cs at c a b n lt is len front back =
+pub parted_is : {A : Type 0} (cs : List (List A)) (at k : ℕ) (c a b : List A) (n : ℕ) → at < length cs → c ≡ get_or cs at c → n ≡ length (get_or cs at [])
+    → a ≡ remove_range c k n → b ≡ slice_range c k n → insert (set cs at a) (at + 1) b ≡ parted cs at k
+parted_is cs at k c a b n lt is len front back =
     let one = is ∙ same_default cs at c [] lt in
     let whole : length c ≡ n = ap length one ∙ sym len in
-    let left : a ≡ take 32 (get_or cs at []) = front ∙ ap (λ es. take 32 c ++ es) (drop_all n c (omega arith)) ∙ no_more (take 32 c) ∙ ap (take 32) one in
-    let m = length-drop 32 c in
-    let right : b ≡ drop 32 (get_or cs at []) = back ∙ take_all (n - 32) (drop 32 c) (omega arith) ∙ ap (drop 32) one in
+    let left : a ≡ take k (get_or cs at []) = front ∙ ap (λ es. take k c ++ es) (drop_all n c (omega arith)) ∙ no_more (take k c) ∙ ap (take k) one in
+    let m = length-drop k c in
+    let right : b ≡ drop k (get_or cs at []) = back ∙ take_all (n - k) (drop k c) (omega arith) ∙ ap (drop k) one in
     let next : at + 1 ≡ suc at = omega arith in
-    ap (λ k. insert (set cs at a) k b) next ∙ two cs at a b lt ∙ (λ i. in_place cs at (left i ∷ right i ∷ []))
+    ap (λ j. insert (set cs at a) j b) next ∙ two cs at a b lt ∙ (λ i. in_place cs at (left i ∷ right i ∷ []))
 
 module _ {K X : Type 0} (R : K → K → Ordering) (cs : List (List (K × X))) (at : ℕ) (lt : at < length cs) where
   -- the chunk that is cut, and its two halves
   abbrev pub cut_one : List (K × X)
   cut_one = get_or cs at []
 
-  pub joined_halved : joined (halved cs at) ≡ joined cs
-  joined_halved =
-      joined-in_place cs at (take 32 cut_one ∷ drop 32 cut_one ∷ [])
-      ∙ ap (λ es. joined (take at cs) ++ (es ++ joined (drop (suc at) cs))) (ap (λ es. take 32 cut_one ++ es) (no_more (drop 32 cut_one)) ∙ take-append-drop 32 cut_one)
+  pub joined_parted : (n : ℕ) → joined (parted cs at n) ≡ joined cs
+  joined_parted n =
+      joined-in_place cs at (take n cut_one ∷ drop n cut_one ∷ [])
+      ∙ ap (λ es. joined (take at cs) ++ (es ++ joined (drop (suc at) cs))) (ap (λ es. take n cut_one ++ es) (no_more (drop n cut_one)) ∙ take-append-drop n cut_one)
       ∙ sym (joined_at cs at [] lt)
+
+  pub parted_are : AreChunks R cs → (n : ℕ) → 0 < n → n < length cut_one → length cs < 2 ^ 57 → AreChunks R (parted cs at n)
+  parted_are are n some fewer room =
+      let few = (sized_at cs at [] lt are.sizes).few in
+      let front = length-take-le n cut_one (omega arith) in
+      let back = length-drop n cut_one in
+      let more = length_two cs at (take n cut_one) (drop n cut_one) lt in
+      record {
+        sorted = subst (λ es. T (is_sorted R es)) (sym (joined_parted n)) are.sorted;
+        sizes = sized-in_place cs at (take n cut_one ∷ drop n cut_one ∷ []) are.sizes (record { some = omega arith; few = omega arith }, (record { some = omega arith; few = omega arith }, tt));
+        count = omega arith;
+      }
 
   module _ (are : AreChunks R cs) (full : 64 ≤ length cut_one) where
     pub front_few : length (take 32 cut_one) ≡ 32
@@ -74,39 +86,31 @@ module _ {K X : Type 0} (R : K → K → Ordering) (cs : List (List (K × X))) (
     pub back_few : length (drop 32 cut_one) ≡ 32
     back_few = let few = (sized_at cs at [] lt are.sizes).few in let n = length-drop 32 cut_one in omega arith
 
-    pub halved_are : length cs < 2 ^ 57 → AreChunks R (halved cs at)
-    halved_are room =
-        let front = front_few in
-        let back = back_few in
-        let n = length_two cs at (take 32 cut_one) (drop 32 cut_one) lt in
-        record {
-          sorted = subst (λ es. T (is_sorted R es)) (sym joined_halved) are.sorted;
-          sizes = sized-in_place cs at (take 32 cut_one ∷ drop 32 cut_one ∷ []) are.sizes (record { some = omega arith; few = omega arith }, (record { some = omega arith; few = omega arith }, tt));
-          count = omega arith;
-        }
+    pub halved_are : length cs < 2 ^ 57 → AreChunks R (parted cs at 32)
+    halved_are room = parted_are are 32 (omega arith) (omega arith) room
 
     module _ (q : K) (v : X) where
-      pub front_room : length (put R q v (get_or (halved cs at) at [])) ≤ 64
+      pub front_room : length (put R q v (get_or (parted cs at 32) at [])) ≤ 64
       front_room =
           let front = front_few in
           let more = length-put R q v (take 32 cut_one) in
           subst (λ es. length (put R q v es) ≤ 64) (sym (first_of cs at (take 32 cut_one) (drop 32 cut_one ∷ []) [] lt)) (omega arith)
 
-      pub back_room : length (put R q v (get_or (halved cs at) (suc at) [])) ≤ 64
+      pub back_room : length (put R q v (get_or (parted cs at 32) (suc at) [])) ≤ 64
       back_room =
           let back = back_few in
           let more = length-put R q v (drop 32 cut_one) in
           subst (λ es. length (put R q v es) ≤ 64) (sym (second_of cs at (take 32 cut_one) (drop 32 cut_one) [] lt)) (omega arith)
 
   module _ (q : K) (place : IsChunkOf R cs q at) where
-    pub front_place : T (below_all R q (joined (drop (suc at) (halved cs at)))) → IsChunkOf R (halved cs at) q at
+    pub front_place : T (below_all R q (joined (drop (suc at) (parted cs at 32)))) → IsChunkOf R (parted cs at 32) q at
     front_place behind = record {
       within = let n = length_two cs at (take 32 cut_one) (drop 32 cut_one) lt in omega arith;
       before = subst (λ es. T (all_before R q (joined es))) (sym (take_same cs at (take 32 cut_one ∷ drop 32 cut_one ∷ []) lt)) place.before;
       behind = behind;
     }
 
-    pub back_place : T (all_before R q (joined (take (suc at) (halved cs at)))) → IsChunkOf R (halved cs at) q (suc at)
+    pub back_place : T (all_before R q (joined (take (suc at) (parted cs at 32)))) → IsChunkOf R (parted cs at 32) q (suc at)
     back_place before = record {
       within = let n = length_two cs at (take 32 cut_one) (drop 32 cut_one) lt in omega arith;
       before = before;
@@ -129,7 +133,7 @@ module _ {K X : Type 0} (R : K → K → Ordering) (cs : List (List (K × X))) (
       subst (λ es. length (put R q v es) ≤ 64) (is ∙ same_default cs at c [] lt) (omega arith)
 
 -- the half of a chunk into which a key belongs
-module _ {K X : Type 0} (R : K → K → Ordering) (o : IsTotalOrder R) (q : K) (cs ds : List (List (K × X))) (at : ℕ) (lt : at < length cs) (place : IsChunkOf R cs q at) (are : AreChunks R ds) (e : ds ≡ halved cs at) (c : List (K × X)) (is : c ≡ get_or ds at c) where
+module _ {K X : Type 0} (R : K → K → Ordering) (o : IsTotalOrder R) (q : K) (cs ds : List (List (K × X))) (at : ℕ) (lt : at < length cs) (place : IsChunkOf R cs q at) (are : AreChunks R ds) (e : ds ≡ parted cs at 32) (c : List (K × X)) (is : c ≡ get_or ds at c) where
   pub within_halves : suc at < length ds
   within_halves = let n = length_two cs at (take 32 (get_or cs at [])) (drop 32 (get_or cs at [])) lt in let m = ap length e in omega arith
 

@@ -35,6 +35,6 @@ pub record IsChunkOf {K X : Type 0} (R : K → K → Ordering) (chunks : List (L
 abbrev pub in_place : {A : Type 0} → List A → ℕ → List A → List A
 in_place chunks at others = take at chunks ++ (others ++ drop (suc at) chunks)
 
--- chunks with the one at a place cut in two
-abbrev pub halved : {A : Type 0} → List (List A) → ℕ → List (List A)
-halved chunks at = in_place chunks at (take 32 (slice_index_or chunks at []) ∷ drop 32 (slice_index_or chunks at []) ∷ [])
+-- chunks with the one at a place cut in two, behind its first n entries
+abbrev pub parted : {A : Type 0} → List (List A) → ℕ → ℕ → List (List A)
+parted chunks at n = in_place chunks at (take n (slice_index_or chunks at []) ∷ drop n (slice_index_or chunks at []) ∷ [])

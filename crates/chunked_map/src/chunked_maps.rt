@@ -1,13 +1,15 @@
 //! A map over chunks of entries.
-ghost use Rattle.std.specs.Prelude.{◌≡◌, [], T, length, not, None, IfOk, OnOk, OnErr};
+ghost use Rattle.std.specs.Prelude.{◌≡◌, ◌≤◌, [], T, length, not, None, IfOk, OnOk, OnErr, slice_get, slice_range};
 ghost use Rattle.std.specs.FinMap.{find, is_sorted};
 ghost use Rattle.std.specs.FinMap.Entries.{put, where_key};
-ghost use Rattle.std.specs.Option.{option_copied};
+ghost use Rattle.std.specs.Option.{option_copied, option_map};
+ghost use Rattle.std.specs.List.{remove_range};
 ghost use Rattle.std.specs.Ordering.{eq_by_cmp};
 ghost use Rattle.chunked_map.specs.Chunks.{joined};
 
 use crate::chunks::{chunk_of, count_in, home_of, open_chunk, put_in, remove_in, room_in};
 use crate::iters::ChunkedIter;
+use crate::ranges::{place_in, take_chunks};
 use sorted_map::SortedMap;
 use std::alloc::{AllocError, Global};
 use std::marker::Model;
@@ -15,7 +17,7 @@ use std::marker::Model;
 /// A value for each of some keys, in the order of the keys.
 #[derive(Debug, Drop)]
 pub struct ChunkedMap<K: Ord, V> {
-    chunks: Vec<SortedMap<K, V>>,
+    pub(crate) chunks: Vec<SortedMap<K, V>>,
 }
 
 impl<K: Ord, V> Model for ChunkedMap<K, V> {
@@ -48,6 +50,22 @@ impl<K: Ord, V> ChunkedMap<K, V> {
         ensures sorted { T (is_sorted K.cmp self.now) }
     {
         count_in(&self.chunks)
+    }
+
+    /// The key and the value at a place in the order of the keys.
+    pub fn at(&self, i: usize) -> Option<(&K, &V)>
+        ensures at { option_map (λ entry. (entry.0.now, entry.1.now)) result ≡ slice_get self.now i }
+        ensures sorted { T (is_sorted K.cmp self.now) }
+    {
+        if i >= self.len() {
+            return None;
+        }
+        let (chunk, place) = place_in(&self.chunks, i);
+        if chunk < self.chunks.len() {
+            self.chunks[chunk].at(place)
+        } else {
+            None
+        }
     }
 
     /// The value of a key.
@@ -104,5 +122,18 @@ impl<K: Ord + Drop, V: Drop> ChunkedMap<K, V> {
         } else {
             None
         }
+    }
+
+    /// Takes out the entries from one place up to another.
+    pub fn take_range(&mut self, from: usize, to: usize) -> Result<ChunkedMap<K, V>, AllocError>
+        requires order { from ≤ to }
+        requires bounds { to ≤ length self.old }
+        ensures taken { IfOk result (λ taken. taken ≡ slice_range self.old from to) }
+        ensures ok { OnOk result (self.new ≡ remove_range self.old from to) }
+        ensures err { OnErr result (self.new ≡ self.old) }
+        ensures sorted { T (is_sorted K.cmp self.old) }
+    {
+        let chunks = take_chunks(&mut self.chunks, from, to)?;
+        Ok(ChunkedMap { chunks })
     }
 }

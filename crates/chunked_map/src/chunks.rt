@@ -4,7 +4,7 @@ ghost use Rattle.std.specs.FinMap.{find, is_sorted};
 ghost use Rattle.std.specs.FinMap.Entries.{below_all, put, where_key};
 ghost use Rattle.std.specs.List.{AllByRecursion};
 ghost use Rattle.std.specs.Ordering.{eq_by_cmp};
-ghost use Rattle.chunked_map.specs.Chunks.{joined, IsSized, AreChunks, all_before, IsChunkOf, halved};
+ghost use Rattle.chunked_map.specs.Chunks.{joined, IsSized, AreChunks, all_before, IsChunkOf, parted};
 
 use sorted_map::SortedMap;
 use std::alloc::AllocError;
@@ -89,14 +89,15 @@ pub fn open_chunk<K: Ord + Drop, V: Drop>(
     Ok(())
 }
 
-/// Cuts a chunk in two. Its memory is taken first.
-fn split_in<K: Ord + Drop, V: Drop>(
+/// Cuts a chunk in two, behind its first n entries. Its memory is taken first.
+pub fn split_in<K: Ord + Drop, V: Drop>(
     chunks: &mut Vec<SortedMap<K, V>>,
     at: usize,
+    n: usize,
 ) -> Result<(), AllocError>
     requires within { at < length chunks.old.items }
-    requires long { 32 ≤ length (slice_index_or chunks.old.items at []) }
-    ensures ok { OnOk result (chunks.new.items ≡ halved chunks.old.items at) }
+    requires inside { n ≤ length (slice_index_or chunks.old.items at []) }
+    ensures ok { OnOk result (chunks.new.items ≡ parted chunks.old.items at n) }
     ensures err { OnErr result (chunks.new.items ≡ chunks.old.items) }
     ensures count { OnOk result (length chunks.old.items < 2 ^ 57) }
 {
@@ -105,7 +106,7 @@ fn split_in<K: Ord + Drop, V: Drop>(
     }
     chunks.reserve(1)?;
     let len = chunks[at].len();
-    let back = chunks[at].take_range(CHUNK_SIZE / 2, len)?;
+    let back = chunks[at].take_range(n, len)?;
     match chunks.insert(at + 1, back) {
         Ok(()) => Ok(()),
         Err(_) => unreachable!(),
@@ -130,7 +131,7 @@ pub fn room_in<K: Ord + Drop, V: Drop>(
     if chunks[at].len() < CHUNK_SIZE || chunks[at].get(key).is_some() {
         return Ok(at);
     }
-    split_in(chunks, at)?;
+    split_in(chunks, at, CHUNK_SIZE / 2)?;
     if is_past(&chunks[at], key) {
         return Ok(at + 1);
     }

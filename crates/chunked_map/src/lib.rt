@@ -5,6 +5,9 @@
 mod chunked_maps;
 mod chunks;
 mod iters;
+mod ranges;
+#[cfg(test)]
+mod tests;
 
 pub use chunked_maps::ChunkedMap;
 pub use iters::ChunkedIter;

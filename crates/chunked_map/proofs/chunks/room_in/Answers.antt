@@ -3,7 +3,7 @@ use Rattle.std.proofs.Common.{◌≡◌, ◌+◌, ◌≤◌, suc, [], sym, ap, �
 use Rattle.std.specs.FinMap.Entries.{put}
 use Rattle.chunked_map.specs.Chunks.{joined, AreChunks}
 use Rattle.chunked_map.proofs.JoinLemmas.{same_default}
-use Rattle.chunked_map.proofs.SplitLemmas.{joined_halved, halved_are, front_room, back_room, room_left, room_there, in_front, in_back}
+use Rattle.chunked_map.proofs.SplitLemmas.{joined_parted, halved_are, front_room, back_room, room_left, room_there, in_front, in_back}
 use Rattle.chunked_map.proofs.chunks.room_in.Goals as goal
 use Rattle.chunked_map.proofs.chunks.room_in.Goals.{then-len-lt-CHUNK_SIZE-via-then-len-lt-CHUNK_SIZE, then-len-lt-CHUNK_SIZE-via-else-len-lt-CHUNK_SIZE+then-is_some}
 
@@ -22,7 +22,7 @@ returns-then-len-lt-CHUNK_SIZE-clause-room g c value =
     ]
 
 pub returns-then-is_past-clause-same : goal.returns-then-is_past-clause-same
-returns-then-is_past-clause-same g c = ap joined c.in_ok-split_in.ensures.ok ∙ joined_halved g.K.Ord.cmp c.args.chunks.now.items c.args.at c.requires.within
+returns-then-is_past-clause-same g c = ap joined c.in_ok-split_in.ensures.ok ∙ joined_parted g.K.Ord.cmp c.args.chunks.now.items c.args.at c.requires.within 32
 
 pub returns-then-is_past-clause-chunks : goal.returns-then-is_past-clause-chunks
 returns-then-is_past-clause-chunks g c =
@@ -49,7 +49,7 @@ returns-then-is_past-clause-room g c value =
     (subst (λ ds. length (put R c.args.key.now value (get_or ds (suc c.args.at) [])) ≤ 64) (sym c.in_ok-split_in.ensures.ok) (back_room R cs c.args.at c.requires.within c.requires.chunks (omega arith) c.args.key.now value))
 
 pub returns-clause-same : goal.returns-clause-same
-returns-clause-same g c = ap joined c.in_ok-split_in.ensures.ok ∙ joined_halved g.K.Ord.cmp c.args.chunks.now.items c.args.at c.requires.within
+returns-clause-same g c = ap joined c.in_ok-split_in.ensures.ok ∙ joined_parted g.K.Ord.cmp c.args.chunks.now.items c.args.at c.requires.within 32
 
 pub returns-clause-chunks : goal.returns-clause-chunks
 returns-clause-chunks g c =
