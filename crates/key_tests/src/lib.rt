@@ -2,6 +2,8 @@
 #![tactic(auto)]
 
 #[cfg(test)]
+mod chunked_maps;
+#[cfg(test)]
 mod key_lists;
 #[cfg(test)]
 mod key_sets;

@@ -1,0 +1,6 @@
+pub mod OrderLemmas
+pub mod JoinLemmas
+pub mod ChunkLemmas
+pub mod PlaceLemmas
+pub mod SplitLemmas
+pub mod RangeLemmas

@@ -1,0 +1,150 @@
+-- Chunks with one cut in two.
+use Rattle.std.proofs.Common.{◌≡◌, ℕ, zero, suc, ◌+◌, ◌<◌, ◌≤◌, ◌^◌, ◌-◌, T, List, [], ◌∷◌, ◌++◌, length, take, drop, get_or, set, slice_range, Bor, Option, Some, None, true, refl, sym, ap, ◌∙◌, subst, arith}
+use Rattle.std.specs.FinMap.{is_sorted}
+use Rattle.std.specs.FinMap.Entries.{below_all, put}
+use Rattle.std.specs.List.{insert, remove_range}
+use Rattle.std.specs.declared.cmp.Ordering.{Ordering}
+use Rattle.std.proofs.lemmas.List.{take-append-drop, take_all, drop_all, length-take-le, length-drop}
+use Rattle.chunked_map.specs.Chunks.{joined, AreChunks, IsChunkOf, all_before, in_place, parted}
+use Rattle.std.specs.Cmp.{IsTotalOrder}
+use Rattle.std.specs.FinMap.{find}
+use Rattle.std.specs.Option.{is_some, option_copied}
+use Rattle.chunked_map.proofs.OrderLemmas.{length-put, length-put_there}
+use Rattle.chunked_map.proofs.ChunkLemmas.{before_more, sorted_here}
+use Rattle.chunked_map.proofs.JoinLemmas.{joined-in_place, joined_at, no_more, sized-in_place, sized_at, same_default}
+
+module _ {A : Type 0} where
+  pub take_same : (cs : List A) (at : ℕ) (others : List A) → at < length cs → take at (in_place cs at others) ≡ take at cs
+  take_same [] at others lt = absurd (omega arith)
+  take_same (c ∷ cs) zero others lt = refl
+  take_same (c ∷ cs) (suc at) others lt = ap (λ ds. c ∷ ds) (take_same cs at others (omega arith))
+
+  pub drop_two : (cs : List A) (at : ℕ) (a b : A) → at < length cs → drop (suc (suc at)) (in_place cs at (a ∷ b ∷ [])) ≡ drop (suc at) cs
+  drop_two [] at a b lt = absurd (omega arith)
+  drop_two (c ∷ cs) zero a b lt = refl
+  drop_two (c ∷ cs) (suc at) a b lt = drop_two cs at a b (omega arith)
+
+  pub first_of : (cs : List A) (at : ℕ) (a : A) (others : List A) (d : A) → at < length cs → get_or (in_place cs at (a ∷ others)) at d ≡ a
+  first_of [] at a others d lt = absurd (omega arith)
+  first_of (c ∷ cs) zero a others d lt = refl
+  first_of (c ∷ cs) (suc at) a others d lt = first_of cs at a others d (omega arith)
+
+  pub second_of : (cs : List A) (at : ℕ) (a b : A) (d : A) → at < length cs → get_or (in_place cs at (a ∷ b ∷ [])) (suc at) d ≡ b
+  second_of [] at a b d lt = absurd (omega arith)
+  second_of (c ∷ cs) zero a b d lt = refl
+  second_of (c ∷ cs) (suc at) a b d lt = second_of cs at a b d (omega arith)
+
+  pub length_two : (cs : List A) (at : ℕ) (a b : A) → at < length cs → length (in_place cs at (a ∷ b ∷ [])) ≡ suc (length cs)
+  length_two [] at a b lt = absurd (omega arith)
+  length_two (c ∷ cs) zero a b lt = refl
+  length_two (c ∷ cs) (suc at) a b lt = ap suc (length_two cs at a b (omega arith))
+
+  two : (cs : List A) (at : ℕ) (a b : A) → at < length cs → insert (set cs at a) (suc at) b ≡ in_place cs at (a ∷ b ∷ [])
+  two [] at a b lt = absurd (omega arith)
+  two (c ∷ cs) zero a b lt = refl
+  two (c ∷ cs) (suc at) a b lt = ap (λ ds. c ∷ ds) (two cs at a b (omega arith))
+
+-- the back of a chunk, taken out of it and put behind what is left
+pub parted_is : {A : Type 0} (cs : List (List A)) (at k : ℕ) (c a b : List A) (n : ℕ) → at < length cs → c ≡ get_or cs at c → n ≡ length (get_or cs at [])
+    → a ≡ remove_range c k n → b ≡ slice_range c k n → insert (set cs at a) (at + 1) b ≡ parted cs at k
+parted_is cs at k c a b n lt is len front back =
+    let one = is ∙ same_default cs at c [] lt in
+    let whole : length c ≡ n = ap length one ∙ sym len in
+    let left : a ≡ take k (get_or cs at []) = front ∙ ap (λ es. take k c ++ es) (drop_all n c (omega arith)) ∙ no_more (take k c) ∙ ap (take k) one in
+    let m = length-drop k c in
+    let right : b ≡ drop k (get_or cs at []) = back ∙ take_all (n - k) (drop k c) (omega arith) ∙ ap (drop k) one in
+    let next : at + 1 ≡ suc at = omega arith in
+    ap (λ j. insert (set cs at a) j b) next ∙ two cs at a b lt ∙ (λ i. in_place cs at (left i ∷ right i ∷ []))
+
+module _ {K X : Type 0} (R : K → K → Ordering) (cs : List (List (K × X))) (at : ℕ) (lt : at < length cs) where
+  -- the chunk that is cut, and its two halves
+  abbrev pub cut_one : List (K × X)
+  cut_one = get_or cs at []
+
+  pub joined_parted : (n : ℕ) → joined (parted cs at n) ≡ joined cs
+  joined_parted n =
+      joined-in_place cs at (take n cut_one ∷ drop n cut_one ∷ [])
+      ∙ ap (λ es. joined (take at cs) ++ (es ++ joined (drop (suc at) cs))) (ap (λ es. take n cut_one ++ es) (no_more (drop n cut_one)) ∙ take-append-drop n cut_one)
+      ∙ sym (joined_at cs at [] lt)
+
+  pub parted_are : AreChunks R cs → (n : ℕ) → 0 < n → n < length cut_one → length cs < 2 ^ 57 → AreChunks R (parted cs at n)
+  parted_are are n some fewer room =
+      let few = (sized_at cs at [] lt are.sizes).few in
+      let front = length-take-le n cut_one (omega arith) in
+      let back = length-drop n cut_one in
+      let more = length_two cs at (take n cut_one) (drop n cut_one) lt in
+      record {
+        sorted = subst (λ es. T (is_sorted R es)) (sym (joined_parted n)) are.sorted;
+        sizes = sized-in_place cs at (take n cut_one ∷ drop n cut_one ∷ []) are.sizes (record { some = omega arith; few = omega arith }, (record { some = omega arith; few = omega arith }, tt));
+        count = omega arith;
+      }
+
+  module _ (are : AreChunks R cs) (full : 64 ≤ length cut_one) where
+    pub front_few : length (take 32 cut_one) ≡ 32
+    front_few = length-take-le 32 cut_one (omega arith)
+
+    pub back_few : length (drop 32 cut_one) ≡ 32
+    back_few = let few = (sized_at cs at [] lt are.sizes).few in let n = length-drop 32 cut_one in omega arith
+
+    pub halved_are : length cs < 2 ^ 57 → AreChunks R (parted cs at 32)
+    halved_are room = parted_are are 32 (omega arith) (omega arith) room
+
+    module _ (q : K) (v : X) where
+      pub front_room : length (put R q v (get_or (parted cs at 32) at [])) ≤ 64
+      front_room =
+          let front = front_few in
+          let more = length-put R q v (take 32 cut_one) in
+          subst (λ es. length (put R q v es) ≤ 64) (sym (first_of cs at (take 32 cut_one) (drop 32 cut_one ∷ []) [] lt)) (omega arith)
+
+      pub back_room : length (put R q v (get_or (parted cs at 32) (suc at) [])) ≤ 64
+      back_room =
+          let back = back_few in
+          let more = length-put R q v (drop 32 cut_one) in
+          subst (λ es. length (put R q v es) ≤ 64) (sym (second_of cs at (take 32 cut_one) (drop 32 cut_one) [] lt)) (omega arith)
+
+  module _ (q : K) (place : IsChunkOf R cs q at) where
+    pub front_place : T (below_all R q (joined (drop (suc at) (parted cs at 32)))) → IsChunkOf R (parted cs at 32) q at
+    front_place behind = record {
+      within = let n = length_two cs at (take 32 cut_one) (drop 32 cut_one) lt in omega arith;
+      before = subst (λ es. T (all_before R q (joined es))) (sym (take_same cs at (take 32 cut_one ∷ drop 32 cut_one ∷ []) lt)) place.before;
+      behind = behind;
+    }
+
+    pub back_place : T (all_before R q (joined (take (suc at) (parted cs at 32)))) → IsChunkOf R (parted cs at 32) q (suc at)
+    back_place before = record {
+      within = let n = length_two cs at (take 32 cut_one) (drop 32 cut_one) lt in omega arith;
+      before = before;
+      behind = subst (λ es. T (below_all R q (joined es))) (sym (drop_two cs at (take 32 cut_one) (drop 32 cut_one) lt)) place.behind;
+    }
+
+-- a chunk that is not full has room for a key, and so has one that has it
+module _ {K X : Type 0} (R : K → K → Ordering) (cs : List (List (K × X))) (at : ℕ) (lt : at < length cs) (q : K) (v : X) (c : List (K × X)) (is : c ≡ get_or cs at c) where
+  pub room_left : length c < 64 → length (put R q v (get_or cs at [])) ≤ 64
+  room_left few =
+      let more = length-put R q v c in
+      subst (λ es. length (put R q v es) ≤ 64) (is ∙ same_default cs at c [] lt) (omega arith)
+
+  pub room_there : (o : IsTotalOrder R) → AreChunks R cs → (r : Option (Bor X)) → is_some r ≡ true → option_copied r ≡ find R q c → T (is_sorted R c) → length (put R q v (get_or cs at [])) ≤ 64
+  room_there o are None some found sorted = absurd cc
+  room_there o are (Some w) some found sorted =
+      let few = (sized_at cs at c lt are.sizes).few in
+      let len = ap length is in
+      let same = length-put_there R q v w.now c o sorted (sym found) in
+      subst (λ es. length (put R q v es) ≤ 64) (is ∙ same_default cs at c [] lt) (omega arith)
+
+-- the half of a chunk into which a key belongs
+module _ {K X : Type 0} (R : K → K → Ordering) (o : IsTotalOrder R) (q : K) (cs ds : List (List (K × X))) (at : ℕ) (lt : at < length cs) (place : IsChunkOf R cs q at) (are : AreChunks R ds) (e : ds ≡ parted cs at 32) (c : List (K × X)) (is : c ≡ get_or ds at c) where
+  pub within_halves : suc at < length ds
+  within_halves = let n = length_two cs at (take 32 (get_or cs at [])) (drop 32 (get_or cs at [])) lt in let m = ap length e in omega arith
+
+  pub in_front : ((es : List (K × X)) → T (is_sorted R (c ++ es)) → T (below_all R q es)) → IsChunkOf R ds q at
+  in_front larger =
+      let within = within_halves in
+      let behind = larger (joined (drop (suc at) ds)) (sorted_here R q o ds are at c (omega arith) is) in
+      subst (λ ds. IsChunkOf R ds q at) (sym e) (front_place R cs at lt q place (subst (λ ds. T (below_all R q (joined (drop (suc at) ds)))) e behind))
+
+  pub in_back : (n : ℕ) → n ≡ suc at → T (all_before R q c) → IsChunkOf R ds q n
+  in_back n next past =
+      let within = within_halves in
+      let before = before_more R q o ds are at c (omega arith) is (suc at) refl past in
+      subst (λ n. IsChunkOf R ds q n) (sym next) (subst (λ ds. IsChunkOf R ds q (suc at)) (sym e) (back_place R cs at lt q place (subst (λ ds. T (all_before R q (joined (take (suc at) ds)))) e before)))

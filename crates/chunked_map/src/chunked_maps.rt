@@ -1,0 +1,139 @@
+//! A map over chunks of entries.
+ghost use Rattle.std.specs.Prelude.{◌≡◌, ◌≤◌, [], T, length, not, None, IfOk, OnOk, OnErr, slice_get, slice_range};
+ghost use Rattle.std.specs.FinMap.{find, is_sorted};
+ghost use Rattle.std.specs.FinMap.Entries.{put, where_key};
+ghost use Rattle.std.specs.Option.{option_copied, option_map};
+ghost use Rattle.std.specs.List.{remove_range};
+ghost use Rattle.std.specs.Ordering.{eq_by_cmp};
+ghost use Rattle.chunked_map.specs.Chunks.{joined};
+
+use crate::chunks::{chunk_of, count_in, home_of, open_chunk, put_in, remove_in, room_in};
+use crate::iters::ChunkedIter;
+use crate::ranges::{place_in, take_chunks};
+use sorted_map::SortedMap;
+use std::alloc::{AllocError, Global};
+use std::marker::Model;
+
+/// A value for each of some keys, in the order of the keys.
+#[derive(Debug, Drop)]
+pub struct ChunkedMap<K: Ord, V> {
+    pub(crate) chunks: Vec<SortedMap<K, V>>,
+}
+
+impl<K: Ord, V> Model for ChunkedMap<K, V> {
+    ghost use Rattle.std.specs.Prelude.{List};
+    ghost use Rattle.chunked_map.specs.Chunks.{joined, AreChunks};
+
+    ghost Value = { List (K × V) };
+
+    ghost view = { λ m. joined m.chunks.items };
+
+    ghost invariant = { λ m. AreChunks K.cmp m.chunks.items };
+}
+
+impl<K: Ord, V> ChunkedMap<K, V> {
+    pub fn new(alloc: Global) -> ChunkedMap<K, V>
+        ensures { result ≡ [] }
+    {
+        ChunkedMap {
+            chunks: Vec::new(alloc),
+        }
+    }
+
+    pub fn allocator(&self) -> Global {
+        *self.chunks.allocator()
+    }
+
+    /// How many entries there are.
+    pub fn len(&self) -> usize
+        ensures len { result ≡ length self.now }
+        ensures sorted { T (is_sorted K.cmp self.now) }
+    {
+        count_in(&self.chunks)
+    }
+
+    /// The key and the value at a place in the order of the keys.
+    pub fn at(&self, i: usize) -> Option<(&K, &V)>
+        ensures at { option_map (λ entry. (entry.0.now, entry.1.now)) result ≡ slice_get self.now i }
+        ensures sorted { T (is_sorted K.cmp self.now) }
+    {
+        if i >= self.len() {
+            return None;
+        }
+        let (chunk, place) = place_in(&self.chunks, i);
+        if chunk < self.chunks.len() {
+            self.chunks[chunk].at(place)
+        } else {
+            None
+        }
+    }
+
+    /// The value of a key.
+    pub fn get(&self, key: &K) -> Option<&V>
+        ensures found { option_copied result ≡ find K.cmp key.now self.now }
+        ensures sorted { T (is_sorted K.cmp self.now) }
+    {
+        let at = chunk_of(&self.chunks, key);
+        if at < self.chunks.len() {
+            self.chunks[at].get(key)
+        } else {
+            None
+        }
+    }
+
+    /// The entries, in the order of their keys.
+    pub fn iter(&self) -> ChunkedIter<'_, K, V>
+        ensures all { result ≡ self.now }
+        ensures sorted { T (is_sorted K.cmp self.now) }
+    {
+        ChunkedIter {
+            rest: &[],
+            chunks: &self.chunks,
+        }
+    }
+}
+
+impl<K: Ord + Drop, V: Drop> ChunkedMap<K, V> {
+    /// Gives a key a value, and answers the value that it had. A key that is there stays, and the one passed in is dropped.
+    pub fn insert(&mut self, key: K, value: V) -> Result<Option<V>, AllocError>
+        ensures former { IfOk result (λ former. former ≡ find K.cmp key self.old) }
+        ensures ok { OnOk result (self.new ≡ put K.cmp key value self.old) }
+        ensures err { OnErr result (self.new ≡ self.old) }
+        ensures sorted { T (is_sorted K.cmp self.old) }
+    {
+        let at = home_of(&self.chunks, &key);
+        if at == self.chunks.len() {
+            open_chunk(&mut self.chunks, key, value)?;
+            return Ok(None);
+        }
+        let at = room_in(&mut self.chunks, at, &key)?;
+        put_in(&mut self.chunks, at, key, value)
+    }
+
+    /// Takes a key out, and answers the value that it had.
+    pub fn remove(&mut self, key: &K) -> Option<V>
+        ensures former { result ≡ find K.cmp key.now self.old }
+        ensures removed { self.new ≡ where_key K.cmp (λ k. not (eq_by_cmp K.cmp key.now k)) self.old }
+        ensures sorted { T (is_sorted K.cmp self.old) }
+    {
+        let at = chunk_of(&self.chunks, key);
+        if at < self.chunks.len() {
+            remove_in(&mut self.chunks, at, key)
+        } else {
+            None
+        }
+    }
+
+    /// Takes out the entries from one place up to another.
+    pub fn take_range(&mut self, from: usize, to: usize) -> Result<ChunkedMap<K, V>, AllocError>
+        requires order { from ≤ to }
+        requires bounds { to ≤ length self.old }
+        ensures taken { IfOk result (λ taken. taken ≡ slice_range self.old from to) }
+        ensures ok { OnOk result (self.new ≡ remove_range self.old from to) }
+        ensures err { OnErr result (self.new ≡ self.old) }
+        ensures sorted { T (is_sorted K.cmp self.old) }
+    {
+        let chunks = take_chunks(&mut self.chunks, from, to)?;
+        Ok(ChunkedMap { chunks })
+    }
+}
