@@ -8,6 +8,8 @@ mod measuring;
 mod names;
 mod owners;
 mod parsing;
+mod part_list;
+mod plain;
 mod raw_parts;
 mod refusing;
 mod spelling;
