@@ -4,6 +4,7 @@
 mod arrays;
 mod cutting;
 mod faults;
+mod glob;
 mod measuring;
 mod names;
 mod owners;

@@ -6,6 +6,7 @@ ghost use Rattle.std.specs.Option.{option_map};
 ghost use Rattle.std.specs.Ordering.{nat_cmp};
 ghost use Rattle.model_names.specs.declared.namespaces.Namespace.TheVariants.{Cascading};
 ghost use Rattle.model_names.specs.Below.{IsBelow, IsBelowOrSame, is_at_or_below};
+ghost use Rattle.model_names.specs.Glob.{HasGlob, MatchesGlob};
 ghost use Rattle.model_names.specs.Name.{rank};
 ghost use Rattle.model_names.specs.Order.{name_cmp, name_eq};
 ghost use Rattle.model_names.specs.Refuses.{refusal_of};
@@ -21,6 +22,7 @@ ghost use Rattle.key_name.specs.Refused.{IsRefusal, IsChildRefusal};
 ghost use Rattle.general_words.specs.Saturated.{saturated};
 
 use crate::arrays::is_misspelled;
+use crate::glob::{have_hole, match_parts};
 use crate::measuring::{path_len, spelled_len};
 use crate::parsing::{cut_namespace, parts_of};
 use crate::part_list::PartList;
@@ -258,6 +260,20 @@ impl KeyName {
         ensures { option_map (λ part. part.now) result ≡ slice_get self.now.parts (length self.now.parts - 1) }
     {
         self.parts.get(self.parts.len().saturating_sub(1))
+    }
+
+    /// Whether it matches a pattern part by part, whatever the namespaces.
+    pub fn matches_glob(&self, pattern: &KeyName) -> bool
+        ensures { Decides result (MatchesGlob self.now.parts pattern.now.parts) }
+    {
+        match_parts(&self.parts, &pattern.parts)
+    }
+
+    /// Whether some part stands for others.
+    pub fn has_glob(&self) -> bool
+        ensures { Decides result (HasGlob self.now.parts) }
+    {
+        have_hole(&self.parts)
     }
 
     /// How many bytes the path has with the parts of another behind its own.
