@@ -12,6 +12,7 @@ use Rattle.model_names.proofs.RefusesLemmas.{refusal_of-spelled}
 use Rattle.key_name.specs.Refused.{IsRefusal}
 use Rattle.key_name.specs.declared.faults.NameFault.{NameFault}
 use Rattle.key_name.specs.declared.faults.NameFault.TheVariants as faults
+use Rattle.key_name.proofs.NameOfLemmas.{refusal_is}
 use Rattle.dump_storage.specs.Texts.{SpellsNothing}
 
 -- what stands behind a slash is a text where both are
@@ -23,14 +24,7 @@ refused_spells : (text : List ℕ) (refusal : Refusal) (name : Name) → refusal
 refused_spells text refusal name refused spells = let none = refusal_of-spelled text name spells in absurd cc
 
 pub SpellsNothing-refused : (text : List ℕ) (fault : NameFault) → IsRefusal (47 ∷ text) fault → fault ≢ faults.Memory → SpellsNothing text
-SpellsNothing-refused text faults.NoNamespace refused other name = refused_spells (47 ∷ text) _ name refused
-SpellsNothing-refused text faults.UnknownNamespace refused other name = refused_spells (47 ∷ text) _ name refused
-SpellsNothing-refused text faults.NoSlash refused other name = refused_spells (47 ∷ text) _ name refused
-SpellsNothing-refused text (faults.BadEscape at) refused other name = refused_spells (47 ∷ text) _ name refused
-SpellsNothing-refused text (faults.BadArray at) refused other name = refused_spells (47 ∷ text) _ name refused
-SpellsNothing-refused text (faults.Nul at) refused other name = refused_spells (47 ∷ text) _ name refused
-SpellsNothing-refused text (faults.TooLong bytes) refused other name = refused_spells (47 ∷ text) _ name refused
-SpellsNothing-refused text faults.Memory refused other name = absurd (other refl)
+SpellsNothing-refused text fault refused other name = let refusal = refusal_is _ fault other refused in refused_spells (47 ∷ text) refusal.0 name refusal.1
 
 -- a text with a slash before it spells a cascading name
 pub Spells-cascading : (text : List ℕ) (name : Name) → Spells (47 ∷ text) name → name.namespace ≡ Cascading

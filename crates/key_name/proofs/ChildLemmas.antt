@@ -1,9 +1,10 @@
 -- A part that is spelled well, is free of NUL and leaves the path short enough makes a name behind another.
-use Rattle.std.proofs.Common.{◌≡◌, ◌+◌, ◌≤◌, Bool, true, false, ltb, not, ◌==◌, ◌&&◌, List, [], ◌∷◌, ◌++◌, length, drop, Option, Some, None, refl, sym, ap, ◌∙◌, inr, arith}
+use Rattle.std.proofs.Common.{◌≡◌, ℕ, ◌≤◌, Bool, true, false, ltb, not, ◌==◌, ◌&&◌, List, [], ◌∷◌, ◌++◌, length, None, refl, ap, ◌∙◌, arith}
 use Rattle.std.specs.List.{position}
 use Rattle.std.specs.Option.{option_map, option_or}
 use Rattle.std.specs.Str.{IsUtf8}
 use Rattle.std.proofs.lemmas.Bool.{cond-false, false_from_ne_true, ltb-true}
+use Rattle.general_words.specs.Saturated.{saturated}
 use Rattle.model_names.specs.declared.namespaces.Namespace.{Namespace}
 use Rattle.model_names.specs.ArrayPart.{is_array_like, is_canonical}
 use Rattle.model_names.specs.Name.{Name, Part}
@@ -34,3 +35,7 @@ IsName-child m n parts part above utf8 spelled no_nul limit = record {
 pub child_refusal-none : (name : Name) (part : Part) → is_misspelled part ≡ false → position (λ b. b == 0) part ≡ None → length (path (child_of name part)) ≤ longest_path → child_refusal name part ≡ None
 child_refusal-none name part spelled no_nul limit =
     cond-false _ _ _ spelled ∙ ap (λ nul. option_or (option_map Nul nul) (too_long_path (child_of name part))) no_nul ∙ cond-false (ltb longest_path (length (path (child_of name part)))) _ _ (false_from_ne_true _ (λ long. let over = ltb-true longest_path (length (path (child_of name part))) long in omega arith))
+
+-- a length that is given as it is, since it is not beyond the type's end
+pub saturated_short : (bytes given : ℕ) → given ≡ saturated bytes → given ≤ longest_path → given ≡ bytes
+saturated_short bytes given e short = omega arith

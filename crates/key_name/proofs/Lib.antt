@@ -8,3 +8,5 @@ pub mod MeasureLemmas
 pub mod ChildLemmas
 pub mod OwnerLemmas
 pub mod NameOfLemmas
+pub mod PartListLemmas
+pub mod PlainLemmas

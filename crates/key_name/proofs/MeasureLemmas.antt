@@ -1,15 +1,14 @@
 -- How long spelled parts and paths are: what a count adds, and that no path that a text leads to is too long to be counted.
-use Rattle.std.proofs.Common.{◌≡◌, ◌≢◌, ℕ, ◌+◌, ◌-◌, ◌*◌, ◌^◌, ◌<◌, ◌≤◌, Bool, true, false, cond, ◌==◌, ◌||◌, List, [], ◌∷◌, ◌++◌, length, get_or, take, drop, replicate, ltb, map, codes, Option, Some, option_and_then, inl, inr, refl, sym, ap, subst, ◌∙◌, arith, length-append}
+use Rattle.std.proofs.Common.{◌≡◌, ◌≢◌, ℕ, ◌+◌, ◌-◌, ◌*◌, ◌<◌, ◌≤◌, Bool, true, false, cond, ◌==◌, ◌||◌, List, [], ◌∷◌, ◌++◌, length, get_or, take, drop, replicate, ltb, map, codes, Option, Some, option_and_then, inl, inr, refl, sym, ap, subst, ◌∙◌, arith, length-append}
 use Rattle.std.specs.List.{AllByRecursion, flat_map}
 use Rattle.std.specs.Option.{option_map}
 use Rattle.std.proofs.lemmas.Bool.{cond_both, cond-true, cond-false, ne_eqb, or_from, cases_Bool, and_parts, ltb-true}
 use Rattle.std.proofs.lemmas.List.{map-append, take-map, take_more, take-append-drop, length-replicate}
-use Rattle.model_names.specs.declared.namespaces.Namespace.{Namespace}
 use Rattle.model_names.specs.Name.{Part}
 use Rattle.model_names.specs.ArrayPart.{is_array_like, canonical_part, digits_of, part_of_digits}
 use Rattle.model_names.specs.RawParts.{raw_parts}
 use Rattle.general_words.specs.Texts.{is_text}
-use Rattle.model_names.specs.Spelling.{escaped, spelled, is_reserved, path_of_parts, word_of}
+use Rattle.model_names.specs.Spelling.{escaped, spelled, is_reserved, path_of_parts}
 use Rattle.model_names.specs.Spells.{Move, Adds, Stays, GoesUp, meaning, moved, part_of_text, walked, unescaped}
 use Rattle.model_names.proofs.EscapeLemmas.{IsUnescaped, flat_map-escaped-same}
 use Rattle.model_names.proofs.NameLemmas.{spelled-text}
@@ -19,7 +18,7 @@ use Rattle.model_names.proofs.RefusesLemmas.{from_map, from_and_then, branch_tak
 use Rattle.general_words.proofs.Texts.{other_text, same_text}
 use Rattle.model_names.proofs.ArrayLemmas.{are_digits-like, canonical_part-from, is_array_like-part_of_digits}
 use Rattle.key_name.proofs.ArrayLemmas.{array_ordinary, digits_fit}
-use Rattle.key_name.proofs.WellFormedLemmas.{slashed, length-slashed-append}
+use Rattle.key_name.proofs.WellFormedLemmas.{slashed, length-all_escaped-least, length-slashed-append}
 use Rattle.general_words.proofs.Lists.{some_is}
 
 -- ---- one part
@@ -45,13 +44,6 @@ by_spelling part n one more text =
     cond_both (length part == 0) (codes "%") (cond (is_reserved part) (92 ∷ part) (flat_map escaped part)) (λ bytes. length bytes ≤ n)
     (λ _. omega (arith, one))
     (λ _. cond_both (is_reserved part) (92 ∷ part) (flat_map escaped part) (λ bytes. length bytes ≤ n) (λ _. omega (arith, more)) (λ _. text))
-
-length-escaped-least : (b : ℕ) → 1 ≤ length (escaped b)
-length-escaped-least b = cond_both ((b == 92) || (b == 47)) (92 ∷ b ∷ []) (b ∷ []) (λ bytes. 1 ≤ length bytes) (λ _. omega arith) (λ _. omega arith)
-
-length-all_escaped-least : (part : Part) → length part ≤ length (flat_map escaped part)
-length-all_escaped-least [] = omega arith
-length-all_escaped-least (b ∷ part) = omega (arith, length-escaped-least b, length-all_escaped-least part, length-append (escaped b) (flat_map escaped part))
 
 -- bytes that none is added to are as they are
 pub escaped_as_it_is : (part : Part) → length (flat_map escaped part) ≡ length part → flat_map escaped part ≡ part
@@ -176,12 +168,11 @@ pub length-slashed-path : (parts : List Part) → length (slashed parts) ≤ len
 length-slashed-path [] = omega arith
 length-slashed-path (part ∷ parts) = omega arith
 
--- the path that a text leads to can be counted
-pub path_can_be_counted : (namespace : Namespace) (text path : List ℕ) (parts : List Part) → text ≡ word_of namespace ++ 47 ∷ path → length text < 2 ^ 63 → walked [] (raw_parts path) ≡ Some parts → length (path_of_parts parts) < 2 ^ 64
-path_can_be_counted namespace text path parts cut short leads =
+-- the path that another leads to can be counted
+pub path_can_be_counted : (path : List ℕ) (parts : List Part) → walked [] (raw_parts path) ≡ Some parts → length (path_of_parts parts) ≤ 2 * length path + 3
+path_can_be_counted path parts leads =
     let raws = ap length (slashed-raw_parts false path) in
-    let whole = ap length cut in
-    omega (arith, short, whole, length-append (word_of namespace) (47 ∷ path), raws, walked_length [] (raw_parts path) parts leads, length-path parts)
+    omega (arith, raws, walked_length [] (raw_parts path) parts leads, length-path parts)
 
 -- ---- counting
 

@@ -1,5 +1,5 @@
 -- A text's first refusal, by what the code finds.
-use Rattle.std.proofs.Common.{◌≡◌, ◌≢◌, ℕ, ◌+◌, ◌-◌, ◌<◌, ◌≤◌, false, eqb, ◌==◌, List, [], ◌∷◌, ◌++◌, length, map, Some, None, refl, sym, ap, ap₂, ◌∙◌, arith, length-append}
+use Rattle.std.proofs.Common.{◌≡◌, ◌≢◌, ℕ, ◌+◌, ◌<◌, ◌≤◌, false, eqb, ◌==◌, List, [], ◌∷◌, ◌++◌, length, map, Some, None, refl, sym, ap, ap₂, ◌∙◌}
 use Rattle.std.specs.List.{position, position_or_len, before_first, after_first}
 use Rattle.std.specs.Str.{IsUtf8}
 use Rattle.std.proofs.lemmas.Bool.{cond-true, cond-false, ne_eqb, lt-ltb}
@@ -56,20 +56,14 @@ texts-places (raw ∷ raws) = ap (λ rest. raw.text.now ∷ rest) (texts-places 
 -- raw parts with the places that they have in a text
 pub record AreOf (text path : List ℕ) (namespace : Namespace) (raws : List Raw) : Type 0 where
   pub cut : text ≡ word_of namespace ++ 47 ∷ path
-  pub places : with_places raws ≡ placed (length text - length path) (raw_parts path)
+  pub places : with_places raws ≡ placed (length (word_of namespace) + 1) (raw_parts path)
 
 pub texts-of : (text path : List ℕ) (namespace : Namespace) (raws : List Raw) → AreOf text path namespace raws → texts raws ≡ raw_parts path
-texts-of text path namespace raws h = texts-places raws ∙ ap (map (λ (p : ℕ × List ℕ). p.1)) h.places ∙ placed-texts (length text - length path) (raw_parts path)
-
-pub places-of : (text path : List ℕ) (namespace : Namespace) (raws : List Raw) → AreOf text path namespace raws → with_places raws ≡ placed (length (word_of namespace) + 1) (raw_parts path)
-places-of text path namespace raws h =
-    let long = ap length h.cut ∙ length-append (word_of namespace) (47 ∷ path) in
-    let place : length text - length path ≡ length (word_of namespace) + 1 = omega arith in
-    h.places ∙ ap (λ place. placed place (raw_parts path)) place
+texts-of text path namespace raws h = texts-places raws ∙ ap (map (λ (p : ℕ × List ℕ). p.1)) h.places ∙ placed-texts (length (word_of namespace) + 1) (raw_parts path)
 
 pub refusal_of-raws : (text path : List ℕ) (namespace : Namespace) (raws : List Raw) → AreOf text path namespace raws → refusal_of text ≡ first_refusal (first_some bad_escape (with_places raws)) (first_some bad_array (with_places raws)) (position (λ b. b == 0) text) (too_long (raw_parts path))
 refusal_of-raws text path namespace raws h =
-    refusal_of-behind namespace path text h.cut ∙ ap (λ parts. first_refusal (first_some bad_escape parts) (first_some bad_array parts) (position (λ b. b == 0) text) (too_long (raw_parts path))) (sym (places-of text path namespace raws h))
+    refusal_of-behind namespace path text h.cut ∙ ap (λ parts. first_refusal (first_some bad_escape parts) (first_some bad_array parts) (position (λ b. b == 0) text) (too_long (raw_parts path))) (sym h.places)
 
 pub refusal_of-escape : (text path : List ℕ) (namespace : Namespace) (raws : List Raw) (at : ℕ) → AreOf text path namespace raws → first_some bad_escape (with_places raws) ≡ Some at → refusal_of text ≡ Some (BadEscape at)
 unfolding first_refusal
@@ -92,10 +86,9 @@ refusal_of-nul text path namespace raws at h sound bad = refusal_of-raws text pa
 
 leads-of : (text path : List ℕ) (namespace : Namespace) (raws : List Raw) → AreOf text path namespace raws → IsSound raws → (parts : List Part) × (walked [] (raw_parts path) ≡ Some parts)
 leads-of text path namespace raws h sound =
-    let places = places-of text path namespace raws h in
     walked-fine (length (word_of namespace) + 1) (raw_parts path) [] (record {
-      escapes = ap (first_some bad_escape) (sym places) ∙ sound.escapes;
-      arrays = ap (first_some bad_array) (sym places) ∙ sound.arrays;
+      escapes = ap (first_some bad_escape) (sym h.places) ∙ sound.escapes;
+      arrays = ap (first_some bad_array) (sym h.places) ∙ sound.arrays;
     })
 
 -- what a walk finds where there is something to find

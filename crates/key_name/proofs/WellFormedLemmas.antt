@@ -1,27 +1,38 @@
 -- Names made of the parts of well-formed names are well formed, and how long their paths are.
-use Rattle.std.proofs.Common.{◌≡◌, ℕ, Bool, true, Some, ◌+◌, ◌-◌, ◌<◌, ◌≤◌, List, [], ◌∷◌, ◌++◌, length, drop, take, map, sym, ap, subst, ◌∙◌, arith, length-append, length-drop}
-use Rattle.std.specs.Cmp.Derive.Mapped.{pointwise-map}
-use Rattle.std.specs.Cmp.Lexicographic.{pointwise}
-use Rattle.std.specs.List.{AllByRecursion, flat_map, starts_with}
-use Rattle.std.proofs.lemmas.Bool.{cond-true}
-use Rattle.std.proofs.lemmas.List.{take_all, length-map, take-append-drop, take-map, drop-map}
+use Rattle.std.proofs.Common.{◌≡◌, ◌≢◌, ℕ, true, cond, codes, ◌==◌, ◌||◌, ◌+◌, ◌<◌, ◌≤◌, List, [], ◌∷◌, ◌++◌, length, drop, take, refl, sym, ap, subst, ◌∙◌, arith, length-append}
+use Rattle.std.specs.List.{AllByRecursion, flat_map}
+use Rattle.std.proofs.lemmas.Bool.{cond_both, eqb-false}
+use Rattle.std.proofs.lemmas.List.{append-nil, take-append-drop}
 use Rattle.std.proofs.lemmas.List.Concat.{flat_map-append}
 use Rattle.model_names.specs.declared.namespaces.Namespace.{Namespace}
 use Rattle.model_names.specs.declared.namespaces.Namespace.TheVariants.{Cascading}
-use Rattle.model_names.specs.Below.{is_at_or_below}
+use Rattle.model_names.specs.Below.{IsBelow, is_at_or_below}
 use Rattle.model_names.specs.Name.{Name, Part}
-use Rattle.model_names.specs.Spelling.{path_of_parts, spelled}
-use Rattle.model_names.specs.Spells.{longest_path}
+use Rattle.model_names.specs.Spelling.{escaped, is_reserved, path_of_parts, spelled}
 use Rattle.model_names.specs.WellFormed.{IsName, IsPart}
 use Rattle.model_names.proofs.BelowLemmas.{at_or_below-rest}
-use Rattle.model_names.proofs.PartLemmas.{all_append, all_back}
-use Rattle.key_name.specs.Joining.{joined, way_to}
+use Rattle.model_names.proofs.PartLemmas.{all_back}
+use Rattle.key_name.specs.Joining.{joined}
 
 -- a slash and the spelling of each part
 abbrev pub slashed : List Part → List ℕ
 slashed parts = flat_map (λ p. 47 ∷ spelled p) parts
 
 -- ---- lengths
+
+length-escaped-least : (b : ℕ) → 1 ≤ length (escaped b)
+length-escaped-least b = cond_both ((b == 92) || (b == 47)) (92 ∷ b ∷ []) (b ∷ []) (λ bytes. 1 ≤ length bytes) (λ _. omega arith) (λ _. omega arith)
+
+pub length-all_escaped-least : (part : Part) → length part ≤ length (flat_map escaped part)
+length-all_escaped-least [] = omega arith
+length-all_escaped-least (b ∷ part) = omega (arith, length-escaped-least b, length-all_escaped-least part, length-append (escaped b) (flat_map escaped part))
+
+-- each part is spelled in some bytes
+length-spelled-least : (part : Part) → 1 ≤ length (spelled part)
+length-spelled-least part =
+    cond_both (length part == 0) (codes "%") (cond (is_reserved part) (92 ∷ part) (flat_map escaped part)) (λ bytes. 1 ≤ length bytes)
+    (λ _. omega arith)
+    (λ filled. let some = eqb-false (length part) 0 filled in cond_both (is_reserved part) (92 ∷ part) (flat_map escaped part) (λ bytes. 1 ≤ length bytes) (λ _. omega arith) (λ _. omega (arith, some, length-all_escaped-least part)))
 
 pub path_some : (parts : List Part) → 0 < length (path_of_parts parts)
 path_some [] = omega arith
@@ -44,23 +55,41 @@ IsName-drop m n parts k h =
     let same = ap (λ p. length (path_of_parts p)) whole in
     record { parts = all_back IsPart (take k parts) (drop k parts) (subst (λ (p : List Part). AllByRecursion IsPart p) (sym whole) h.parts); limit = omega (arith, h.limit) }
 
-pub IsName-append : (m n k : Namespace) (front back : List Part) → IsName (record { namespace = m; parts = front }) → IsName (record { namespace = n; parts = back }) → length (path_of_parts (front ++ back)) ≤ longest_path → IsName (record { namespace = k; parts = front ++ back })
-IsName-append m n k front back p q limit = record { parts = all_append IsPart front back p.parts q.parts; limit = limit }
-
 -- ---- below
-
--- what stands behind the first items, seen through a map
-pub map-rest : {X Y : Type 0} (f : X → Y) (items : List X) (k : ℕ) → map f (take (length items - k) (drop k items)) ≡ drop k (map f items)
-map-rest f items k = ap (map f) (take_all (length items - k) (drop k items) (omega (arith, length-drop k items))) ∙ sym (drop-map f k items)
-
-pub starts_with-map : {X Y : Type 0} (f : X → Y) (eq : Y → Y → Bool) (xs ys : List X) → starts_with eq (map f xs) (map f ys) ≡ starts_with (λ a b. eq (f a) (f b)) xs ys
-starts_with-map f eq xs ys = ap (λ n. pointwise eq (map f ys) (take n (map f xs))) (length-map ys f) ∙ ap (pointwise eq (map f ys)) (take-map f (length ys) xs) ∙ pointwise-map f eq ys (take (length ys) xs)
-
-pub way_to-some : (above name : Name) → is_at_or_below above name ≡ true → way_to above name ≡ Some (record { namespace = Cascading; parts = drop (length above.parts) name.parts })
-way_to-some above name e = cond-true (is_at_or_below above name) _ _ e
 
 -- a name at or below another is that one with the rest behind it
 pub joined-way : (above name : Name) → is_at_or_below above name ≡ true → joined above (record { namespace = Cascading; parts = drop (length above.parts) name.parts }) ≡ name
 joined-way above name e =
     let rest = at_or_below-rest above name e in
     λ i. record { namespace = sym rest.0 i; parts = sym rest.1 i }
+
+-- ---- how long the rest of a path is
+
+-- what the lengths of paths say of a list and a front of it that isn't empty
+pub record HasBytesBehind (front rest whole : List Part) : Type 0 where
+  pub none : length (path_of_parts whole) ≡ length (path_of_parts front) → length (path_of_parts rest) ≡ 1
+  pub some : length (path_of_parts whole) ≢ length (path_of_parts front) → length (path_of_parts whole) ≡ length (path_of_parts front) + length (path_of_parts rest)
+
+bytes_behind : (front rest : List Part) → 0 < length front → HasBytesBehind front rest (front ++ rest)
+bytes_behind [] rest some = absurd (omega arith)
+bytes_behind (part ∷ front) [] some =
+    let same = ap (λ parts. length (path_of_parts parts)) (append-nil (part ∷ front)) in
+    record { none = λ _. refl; some = λ other. absurd (other same) }
+bytes_behind (part ∷ front) (next ∷ rest) some = record {
+  none = λ same. absurd (omega (arith, same, length-slashed-append (part ∷ front) (next ∷ rest), path_some (next ∷ rest)));
+  some = λ _. omega (arith, length-slashed-append (part ∷ front) (next ∷ rest));
+}
+
+pub bytes_of_rest : (above name : Name) → is_at_or_below above name ≡ true → 0 < length above.parts → HasBytesBehind above.parts (drop (length above.parts) name.parts) name.parts
+bytes_of_rest above name e some =
+    let rest = drop (length above.parts) name.parts in
+    subst (HasBytesBehind above.parts rest) (sym (at_or_below-rest above name e).1) (bytes_behind above.parts rest some)
+
+longer : (front more : List Part) → more ≢ [] → length (path_of_parts front) < length (path_of_parts (front ++ more))
+longer front [] some = absurd (some refl)
+longer [] (part ∷ more) some = omega (arith, length-spelled-least part, length-append (47 ∷ spelled part) (slashed more))
+longer (first ∷ front) (part ∷ more) some = omega (arith, length-slashed-append (first ∷ front) (part ∷ more), path_some (part ∷ more))
+
+-- a name below another has the longer path
+pub below_is_longer : (name above : Name) → IsBelow name above → length (path_of_parts above.parts) < length (path_of_parts name.parts)
+below_is_longer name above below = let same = ap (λ parts. length (path_of_parts parts)) below.parts in omega (arith, same, longer above.parts below.more below.some_more)

@@ -7,5 +7,7 @@ pub mod Comparing
 pub mod Joining
 pub mod KeyName
 pub mod Owner
+pub mod PartList
+pub mod Plain
 pub mod Raws
 pub mod Refused

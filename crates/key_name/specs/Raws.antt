@@ -1,5 +1,5 @@
 -- Raw parts as the code has them: with their places, and cut off a text one by one.
-use Rattle.std.specs.Prelude.{◌≡◌, ℕ, suc, Bool, not, ◌&&◌, ◌==◌, if◌then◌else◌, List, [], ◌∷◌, ◌++◌, map}
+use Rattle.std.specs.Prelude.{ℕ, suc, Bool, not, ◌&&◌, ◌==◌, if◌then◌else◌, List, [], ◌∷◌, ◌++◌, map}
 use Rattle.model_names.specs.declared.namespaces.Namespace.{Namespace}
 use Rattle.model_names.specs.Spelling.{word_of}
 use Rattle.key_name.specs.declared.raw_parts.Raw.{Raw}
@@ -18,6 +18,6 @@ with_places raws = map (λ raw. (raw.at, raw.text.now)) raws
 abbrev pub texts : List Raw → List (List ℕ)
 texts raws = map (λ raw. raw.text.now) raws
 
--- a text is a namespace's word, a slash, and a path behind it
-abbrev pub EndsIn : List ℕ → List ℕ → Type 0
-EndsIn text path = (namespace : Namespace) × (text ≡ word_of namespace ++ 47 ∷ path)
+-- the text of a path behind a namespace's word and the first slash
+abbrev pub text_behind : Namespace → List ℕ → List ℕ
+text_behind namespace path = word_of namespace ++ 47 ∷ path

@@ -30,6 +30,16 @@ pub fn is_misspelled(part: &str) -> bool
     }
 }
 
+/// Whether a part is an item of an array.
+pub fn is_array_part(part: &str) -> bool
+    ensures { result ≡ (is_array_like part.now && is_canonical part.now) }
+{
+    match array_digits(part) {
+        Some(digits) => is_canonical(part, digits),
+        None => false,
+    }
+}
+
 /// The digits of a part that looks like an array's: `#`, then only underscores, then one or more digits.
 pub fn array_digits(part: &str) -> Option<&str>
     ensures none { IfNone result (is_array_like part.now ≡ false) }

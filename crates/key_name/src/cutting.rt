@@ -1,5 +1,6 @@
 //! What stands behind a text's first slash is cut into raw parts.
-ghost use Rattle.std.specs.Prelude.{◌≡◌, ◌+◌, ◌-◌, ◌≤◌, ◌∷◌, [], IfOk, IfSome, length, false, not, ◌&&◌, ◌==◌};
+ghost use Rattle.std.specs.Prelude.{◌≡◌, ◌+◌, ◌-◌, ◌<◌, ◌≤◌, ◌∷◌, [], IfOk, IfSome, length, false, not, ◌&&◌, ◌==◌};
+ghost use Rattle.std.specs.List.{slice_split};
 ghost use Rattle.std.specs.Option.{option_map_or};
 ghost use Rattle.model_names.specs.RawParts.{raw_parts};
 ghost use Rattle.model_names.specs.Refuses.{placed};
@@ -9,16 +10,16 @@ use crate::Memory;
 use crate::raw_parts::Raw;
 use std::alloc::Global;
 
-/// The raw parts of a path, which is the end of a text.
-pub fn cut<'a>(alloc: Global, text: &'a str, path: &'a str) -> Result<Vec<Raw<'a>>, Memory>
-    requires { length path.now ≤ length text.now }
-    ensures { IfOk result (λ raws. with_places raws.items ≡ placed (length text.now - length path.now) (raw_parts path.now)) }
+/// The raw parts of a path at the end of a text, of which the length is given.
+pub fn cut<'a>(alloc: Global, end: usize, path: &'a str) -> Result<Vec<Raw<'a>>, Memory>
+    requires { length path.now ≤ end }
+    ensures { IfOk result (λ raws. with_places raws.items ≡ placed (end - length path.now) (raw_parts path.now)) }
 {
     let mut raws = Vec::new(alloc);
     let mut rest = Some(path);
     while let Some(left) = rest {
         let (raw, behind) = cut_first(left);
-        let at = text.len() - left.len();
+        let at = end - left.len();
         raws.push(Raw { at, text: raw })?;
         rest = behind;
     }
@@ -58,4 +59,16 @@ pub fn is_bare(is_escaped: bool, byte: u8, wanted: u8) -> bool
     ensures { result ≡ (not is_escaped && (byte == wanted)) }
 {
     !is_escaped && byte == wanted
+}
+
+/// What stands before the first of some letter in a text, and what stands behind it.
+pub fn cut_at(text: &str, letter: char) -> (&str, Option<&str>)
+    requires { letter < 128 }
+    ensures parts { slice_split (λ b. b == letter) text.now ≡ result.0.now ∷ option_map_or (λ rest. slice_split (λ b. b == letter) rest.now) result.1 [] }
+    ensures behind { IfSome result.1 (λ rest. length rest.now < length text.now) }
+{
+    match text.split_once(letter) {
+        Some((part, rest)) => (part, Some(rest)),
+        None => (text, None),
+    }
 }

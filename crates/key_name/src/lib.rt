@@ -4,10 +4,13 @@
 mod arrays;
 mod cutting;
 mod faults;
+mod glob;
 mod measuring;
 mod names;
 mod owners;
 mod parsing;
+mod part_list;
+mod plain;
 mod raw_parts;
 mod refusing;
 mod spelling;

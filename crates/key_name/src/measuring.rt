@@ -1,7 +1,6 @@
 //! How many bytes canonical spellings have, without spelling them.
 ghost use Rattle.std.specs.Prelude.{◌≡◌, ◌+◌, ◌<◌, ◌≤◌, ◌^◌, [], ◌∷◌, ◌++◌, length, map, string_bytes};
 ghost use Rattle.std.specs.List.{flat_map};
-ghost use Rattle.general_words.specs.Saturated.{saturated};
 ghost use Rattle.model_names.specs.Spelling.{escaped, spelled, path_of_parts};
 
 /// How many bytes the path of some parts has.
@@ -19,34 +18,8 @@ pub fn path_len(parts: &[String]) -> usize
     bytes
 }
 
-/// How many bytes the path of some parts has with others behind them.
-pub fn joined_len(front: &[String], back: &[String]) -> usize
-    requires { length (path_of_parts (map (λ part. string_bytes part) front.now)) + length (path_of_parts (map (λ part. string_bytes part) back.now)) < 2 ^ 64 }
-    ensures { result ≡ length (path_of_parts (map (λ part. string_bytes part) front.now ++ map (λ part. string_bytes part) back.now)) }
-{
-    if front.is_empty() {
-        return path_len(back);
-    }
-    if back.is_empty() {
-        return path_len(front);
-    }
-    path_len(front) + path_len(back)
-}
-
-/// How many bytes the path of some parts has with one more behind them. A length beyond the type's end is given as its last
-/// value.
-pub fn child_len(parts: &[String], part: &str) -> usize
-    requires { length (path_of_parts (map (λ part. string_bytes part) parts.now)) < 2 ^ 64 }
-    ensures { result ≡ saturated (length (path_of_parts (map (λ part. string_bytes part) parts.now ++ part.now ∷ []))) }
-{
-    let own = spelled_len(part).saturating_add(1);
-    if parts.is_empty() {
-        return own;
-    }
-    path_len(parts).saturating_add(own)
-}
-
-fn spelled_len(part: &str) -> usize
+/// How many bytes a spelled part has.
+pub fn spelled_len(part: &str) -> usize
     ensures { result ≡ length (spelled part.now) }
 {
     match part {

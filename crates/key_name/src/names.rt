@@ -1,31 +1,37 @@
 //! A key's name, seen by contracts as its namespace and its parts.
-ghost use Rattle.std.specs.Prelude.{◌≡◌, ◌≤◌, ◌-◌, ◌∷◌, ◌++◌, IfSome, Some, [], length, None, IfErr, IfOk, OnOk, slice_get, map, nat_eq, string_bytes, refl};
+ghost use Rattle.std.specs.Prelude.{◌≡◌, ◌<◌, ◌≤◌, ◌+◌, ◌-◌, ◌^◌, ◌∷◌, ◌++◌, IfSome, Some, [], drop, length, None, IfErr, IfOk, OnOk, slice_get, nat_eq, string_bytes, refl, true};
 ghost use Rattle.std.specs.Bool.{Decides};
 ghost use Rattle.std.specs.Cmp.{partial_equiv_from_equiv, partial_order_from_agreeing_total};
 ghost use Rattle.std.specs.Option.{option_map};
 ghost use Rattle.std.specs.Ordering.{nat_cmp};
 ghost use Rattle.model_names.specs.declared.namespaces.Namespace.TheVariants.{Cascading};
 ghost use Rattle.model_names.specs.Below.{IsBelow, IsBelowOrSame, is_at_or_below};
+ghost use Rattle.model_names.specs.Glob.{HasGlob, MatchesGlob};
 ghost use Rattle.model_names.specs.Name.{rank};
 ghost use Rattle.model_names.specs.Order.{name_cmp, name_eq};
 ghost use Rattle.model_names.specs.Refuses.{refusal_of};
 ghost use Rattle.model_names.specs.Spells.{Spells, longest_path};
-ghost use Rattle.model_names.specs.Spelling.{path, spelling};
+ghost use Rattle.model_names.specs.Spelling.{path, path_of_parts, spelling};
 ghost use Rattle.model_names.specs.WellFormed.{IsName};
 ghost use Rattle.model_names.proofs.OrderLemmas.{name_cmp_total};
 ghost use Rattle.key_name.specs.Children.{child_of, child_refusal};
 ghost use Rattle.key_name.specs.Comparing.{name_eq_equiv, name_ties};
 ghost use Rattle.key_name.specs.Joining.{joined, way_to, IsTooLong};
+ghost use Rattle.key_name.specs.Raws.{text_behind};
 ghost use Rattle.key_name.specs.Refused.{IsRefusal, IsChildRefusal};
+ghost use Rattle.general_words.specs.Saturated.{saturated};
 
 use crate::arrays::is_misspelled;
-use crate::measuring::{child_len, joined_len, path_len};
+use crate::glob::{have_hole, match_parts};
+use crate::measuring::{path_len, spelled_len};
 use crate::parsing::{cut_namespace, parts_of};
+use crate::part_list::PartList;
+use crate::plain::plain_parts;
 use crate::refusing::first_nul;
 use crate::spelling::{push_path, word};
 use crate::{Memory, NameFault};
 use model_names::Namespace;
-use std::alloc::{Allocator, Global};
+use std::alloc::Global;
 use std::cmp::Ordering;
 use std::marker::Model;
 
@@ -36,7 +42,9 @@ const LONGEST_PATH: usize = 4096;
 #[derive(Debug, Drop)]
 pub struct KeyName {
     namespace: Namespace,
-    parts: Vec<String>,
+    // the length of its path
+    path_bytes: u16,
+    parts: PartList,
 }
 
 impl Model for KeyName {
@@ -59,12 +67,20 @@ impl KeyName {
         ensures refused { IfErr result (λ fault. IsRefusal text.now fault) }
     {
         let (namespace, path) = cut_namespace(text)?;
-        let parts = parts_of(alloc, text, path)?;
-        let bytes = path_len(&parts);
-        if bytes > LONGEST_PATH {
-            return Err(NameFault::TooLong { bytes });
+        name_behind(alloc, namespace, path)
+    }
+
+    /// The name that a text spells with a slash before it, or the first refusal of that text.
+    pub fn parse_relative(alloc: Global, text: &str) -> Result<KeyName, NameFault>
+        ensures spelled { IfOk result (λ name. Spells (47 ∷ text.now) name) }
+        ensures accepted { OnOk result (refusal_of (47 ∷ text.now) ≡ None) }
+        ensures refused { IfErr result (λ fault. IsRefusal (47 ∷ text.now) fault) }
+    {
+        // with its slash it would be longer than a text may be
+        if text.len() == isize::MAX as usize {
+            return Err(NameFault::Memory);
         }
-        Ok(KeyName { namespace, parts })
+        name_behind(alloc, Namespace::Cascading, text)
     }
 
     /// The canonical spelling, which spells this name.
@@ -72,7 +88,8 @@ impl KeyName {
         ensures canonical { IfOk result (λ text. string_bytes text ≡ spelling self.now) }
         ensures spells { IfOk result (λ text. Spells (string_bytes text) self.now) }
     {
-        let mut text = String::from_str(*self.parts.allocator(), word(self.namespace))?;
+        let mut text = String::with_capacity(self.parts.allocator(), self.text_bytes())?;
+        text.push_str(word(self.namespace))?;
         push_path(&mut text, &self.parts)?;
         Ok(text)
     }
@@ -90,7 +107,8 @@ impl KeyName {
     {
         Ok(KeyName {
             namespace,
-            parts: copy_of(*self.parts.allocator(), &self.parts)?,
+            path_bytes: self.path_bytes,
+            parts: self.parts.copy()?,
         })
     }
 
@@ -101,14 +119,33 @@ impl KeyName {
         ensures limit { OnOk result (length (path (joined self.now relative.now)) ≤ longest_path) }
         ensures err { IfErr result (λ fault. IsTooLong (joined self.now relative.now) fault) }
     {
-        let bytes = joined_len(&self.parts, &relative.parts);
+        let bytes = self.joined_bytes(relative);
         if bytes > LONGEST_PATH {
             return Err(NameFault::TooLong { bytes });
         }
         Ok(KeyName {
             namespace: self.namespace,
-            parts: joined_parts(*self.parts.allocator(), &self.parts, &relative.parts)?,
+            path_bytes: bytes as u16,
+            parts: self.parts.joined(&relative.parts)?,
         })
+    }
+
+    /// A name with the parts of this one, which is a cascading name, behind its own. Where it is a root, the parts are not
+    /// copied.
+    pub fn joined_onto(self, point: &KeyName) -> Result<KeyName, NameFault>
+        requires cascading { self.namespace ≡ Cascading }
+        ensures ok { IfOk result (λ name. name ≡ joined point.now self) }
+        ensures limit { OnOk result (length (path (joined point.now self)) ≤ longest_path) }
+        ensures err { IfErr result (λ fault. IsTooLong (joined point.now self) fault) }
+    {
+        if point.parts.is_empty() {
+            return Ok(KeyName {
+                namespace: point.namespace,
+                path_bytes: self.path_bytes,
+                parts: self.parts,
+            });
+        }
+        point.join(&self)
     }
 
     /// This name with a part behind its own. The part is taken as it is, without escapes.
@@ -126,13 +163,14 @@ impl KeyName {
         if let Some(at) = first_nul(part) {
             return Err(NameFault::Nul { at });
         }
-        let bytes = child_len(&self.parts, part);
+        let bytes = self.child_bytes(part);
         if bytes > LONGEST_PATH {
             return Err(NameFault::TooLong { bytes });
         }
         Ok(KeyName {
             namespace: self.namespace,
-            parts: with_part(*self.parts.allocator(), &self.parts, part)?,
+            path_bytes: bytes as u16,
+            parts: self.parts.with_part(part)?,
         })
     }
 
@@ -141,21 +179,25 @@ impl KeyName {
         ensures way { IfOk result (λ found. found ≡ way_to above.now self.now) }
         ensures back { IfOk result (λ found. IfSome found (λ way. joined above.now way ≡ self.now)) }
     {
-        if !self.is_below_or_same(above) {
+        if !same_namespace(self.namespace, above.namespace) {
             return Ok(None);
         }
-        let rest = &self.parts[above.len()..];
-        Ok(Some(KeyName {
-            namespace: Namespace::Cascading,
-            parts: copy_of(*self.parts.allocator(), rest)?,
-        }))
+        match self.parts.behind(&above.parts)? {
+            Some(parts) => Ok(Some(KeyName {
+                namespace: Namespace::Cascading,
+                path_bytes: self.bytes_behind(above),
+                parts,
+            })),
+            None => Ok(None),
+        }
     }
 
     /// Whether it stands below another name, in one namespace.
     pub fn is_below(&self, above: &KeyName) -> bool
         ensures { Decides result (IsBelow self.now above.now) }
     {
-        self.len() > above.len() && self.is_below_or_same(above)
+        // a name below another has the longer path
+        self.path_bytes > above.path_bytes && self.is_below_or_same(above)
     }
 
     /// Whether it is another name, or stands below it.
@@ -172,7 +214,8 @@ impl KeyName {
     {
         KeyName {
             namespace,
-            parts: Vec::new(alloc),
+            path_bytes: 1,
+            parts: PartList::new(alloc),
         }
     }
 
@@ -195,7 +238,7 @@ impl KeyName {
         ensures bytes { result ≡ length (path self.now) }
         ensures limit { result ≤ longest_path }
     {
-        path_len(&self.parts)
+        self.path_bytes as usize
     }
 
     /// How many bytes its canonical spelling has.
@@ -209,20 +252,66 @@ impl KeyName {
     pub fn part(&self, i: usize) -> Option<&str>
         ensures { option_map (λ part. part.now) result ≡ slice_get self.now.parts i }
     {
-        match self.parts.get(i) {
-            Some(part) => Some(part.as_str()),
-            None => None,
-        }
+        self.parts.get(i)
     }
 
     /// The last part, unescaped. A root has none.
     pub fn base_name(&self) -> Option<&str>
         ensures { option_map (λ part. part.now) result ≡ slice_get self.now.parts (length self.now.parts - 1) }
     {
-        match self.parts.last() {
-            Some(part) => Some(part.as_str()),
-            None => None,
+        self.parts.get(self.parts.len().saturating_sub(1))
+    }
+
+    /// Whether it matches a pattern part by part, whatever the namespaces.
+    pub fn matches_glob(&self, pattern: &KeyName) -> bool
+        ensures { Decides result (MatchesGlob self.now.parts pattern.now.parts) }
+    {
+        match_parts(&self.parts, &pattern.parts)
+    }
+
+    /// Whether some part stands for others.
+    pub fn has_glob(&self) -> bool
+        ensures { Decides result (HasGlob self.now.parts) }
+    {
+        have_hole(&self.parts)
+    }
+
+    /// How many bytes the path has with the parts of another behind its own.
+    fn joined_bytes(&self, relative: &KeyName) -> usize
+        ensures { result ≡ length (path (joined self.now relative.now)) }
+    {
+        if self.parts.is_empty() {
+            return relative.path_bytes();
         }
+        if relative.parts.is_empty() {
+            return self.path_bytes();
+        }
+        self.path_bytes() + relative.path_bytes()
+    }
+
+    /// How many bytes the path has with a part behind its own. A length beyond the type's end is given as its last value.
+    fn child_bytes(&self, part: &str) -> usize
+        ensures { result ≡ saturated (length (path (child_of self.now part.now))) }
+    {
+        let own = spelled_len(part).saturating_add(1);
+        if self.parts.is_empty() {
+            return own;
+        }
+        self.path_bytes().saturating_add(own)
+    }
+
+    /// How many bytes the path of the parts has that stand behind those of a name at or above this one.
+    fn bytes_behind(&self, above: &KeyName) -> u16
+        requires { is_at_or_below above.now self.now ≡ true }
+        ensures { result ≡ length (path_of_parts (drop (length above.now.parts) self.now.parts)) }
+    {
+        if above.parts.is_empty() {
+            return self.path_bytes;
+        }
+        if self.path_bytes == above.path_bytes {
+            return 1;
+        }
+        self.path_bytes - above.path_bytes
     }
 }
 
@@ -279,33 +368,51 @@ fn same_namespace(left: Namespace, right: Namespace) -> bool
     left == right
 }
 
-/// The same texts again.
-fn copy_of(alloc: Global, parts: &[String]) -> Result<Vec<String>, Memory>
-    ensures { IfOk result (λ copied. map (λ part. string_bytes part) copied.items ≡ map (λ part. string_bytes part) parts.now) }
+/// The name of a path behind a namespace's word, or the first refusal of the whole text.
+fn name_behind(alloc: Global, namespace: Namespace, path: &str) -> Result<KeyName, NameFault>
+    requires { length path.now + 1 < 2 ^ 63 }
+    ensures spelled { IfOk result (λ name. Spells (text_behind namespace path.now) name) }
+    ensures accepted { OnOk result (refusal_of (text_behind namespace path.now) ≡ None) }
+    ensures refused { IfErr result (λ fault. IsRefusal (text_behind namespace path.now) fault) }
 {
-    let mut copied = Vec::with_capacity(alloc, parts.len())?;
-    for part in parts {
-        copied.push(part.clone()?)?;
+    match plain_name(alloc, namespace, path)? {
+        Some(name) => Ok(name),
+        None => read_name(alloc, namespace, path),
     }
-    Ok(copied)
 }
 
-/// The texts of two lists, one list behind the other.
-fn joined_parts(alloc: Global, front: &[String], back: &[String]) -> Result<Vec<String>, Memory>
-    ensures { IfOk result (λ all. map (λ part. string_bytes part) all.items ≡ map (λ part. string_bytes part) front.now ++ map (λ part. string_bytes part) back.now) }
+/// The name of a plain path of no more bytes than a path may have.
+fn plain_name(alloc: Global, namespace: Namespace, path: &str) -> Result<Option<KeyName>, Memory>
+    ensures { IfOk result (λ found. IfSome found (λ name. Spells (text_behind namespace path.now) name)) }
 {
-    let mut all = copy_of(alloc, front)?;
-    for part in back {
-        all.push(part.clone()?)?;
+    if path.len() >= LONGEST_PATH {
+        return Ok(None);
     }
-    Ok(all)
+    match plain_parts(alloc, path)? {
+        Some(parts) => Ok(Some(KeyName {
+            namespace,
+            path_bytes: path.len() as u16 + 1,
+            parts,
+        })),
+        None => Ok(None),
+    }
 }
 
-/// The texts of a list, and one more behind them.
-fn with_part(alloc: Global, parts: &[String], part: &str) -> Result<Vec<String>, Memory>
-    ensures { IfOk result (λ all. map (λ part. string_bytes part) all.items ≡ map (λ part. string_bytes part) parts.now ++ part.now ∷ []) }
+/// The name of any path, by its raw parts.
+fn read_name(alloc: Global, namespace: Namespace, path: &str) -> Result<KeyName, NameFault>
+    requires { length path.now + 1 < 2 ^ 63 }
+    ensures spelled { IfOk result (λ name. Spells (text_behind namespace path.now) name) }
+    ensures accepted { OnOk result (refusal_of (text_behind namespace path.now) ≡ None) }
+    ensures refused { IfErr result (λ fault. IsRefusal (text_behind namespace path.now) fault) }
 {
-    let mut all = copy_of(alloc, parts)?;
-    all.push(String::from_str(alloc, part)?)?;
-    Ok(all)
+    let parts = parts_of(alloc, namespace, path)?;
+    let bytes = path_len(&parts);
+    if bytes > LONGEST_PATH {
+        return Err(NameFault::TooLong { bytes });
+    }
+    Ok(KeyName {
+        namespace,
+        path_bytes: bytes as u16,
+        parts: PartList::from_texts(alloc, &parts)?,
+    })
 }

@@ -5,12 +5,13 @@ ghost use Rattle.model_names.specs.RawParts.{raw_parts};
 ghost use Rattle.model_names.specs.Refuses.{namespace_of_word};
 ghost use Rattle.model_names.specs.Spelling.{word_of};
 ghost use Rattle.model_names.specs.Spells.{walked};
-ghost use Rattle.key_name.specs.Raws.{EndsIn};
+ghost use Rattle.key_name.specs.Raws.{text_behind};
 ghost use Rattle.key_name.specs.Refused.{IsRefusal};
 
 use crate::NameFault;
 use crate::cutting::cut;
 use crate::refusing::{first_bad_array, first_bad_escape, first_nul};
+use crate::spelling::word;
 use crate::walking::walk;
 use model_names::Namespace;
 use std::alloc::Global;
@@ -35,23 +36,23 @@ pub fn cut_namespace(text: &str) -> Result<(Namespace, &str), NameFault>
     }
 }
 
-/// The parts that the path at the end of a text leads to. The first fault of the text is told, where it is not the length of
-/// its path.
-pub fn parts_of(alloc: Global, text: &str, path: &str) -> Result<Vec<String>, NameFault>
-    requires cut { EndsIn text.now path.now }
+/// The parts that the path behind a namespace's word leads to. The first fault of the whole text is told, where it is not the
+/// length of its path.
+pub fn parts_of(alloc: Global, namespace: Namespace, path: &str) -> Result<Vec<String>, NameFault>
     ensures leads { IfOk result (λ parts. walked [] (raw_parts path.now) ≡ Some (map (λ part. string_bytes part) parts.items)) }
-    ensures no_nul { OnOk result (position (λ b. b == 0) text.now ≡ None) }
-    ensures refused { IfErr result (λ fault. IsRefusal text.now fault) }
+    ensures no_nul { OnOk result (position (λ b. b == 0) (text_behind namespace path.now) ≡ None) }
+    ensures refused { IfErr result (λ fault. IsRefusal (text_behind namespace path.now) fault) }
 {
-    let raws = cut(alloc, text, path)?;
+    let lead = word(namespace).len() + 1;
+    let raws = cut(alloc, lead + path.len(), path)?;
     if let Some(at) = first_bad_escape(&raws) {
         return Err(NameFault::BadEscape { at });
     }
     if let Some(at) = first_bad_array(&raws) {
         return Err(NameFault::BadArray { at });
     }
-    if let Some(at) = first_nul(text) {
-        return Err(NameFault::Nul { at });
+    if let Some(at) = first_nul(path) {
+        return Err(NameFault::Nul { at: lead + at });
     }
     Ok(walk(alloc, &raws)?)
 }

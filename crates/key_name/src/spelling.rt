@@ -5,6 +5,7 @@ ghost use Rattle.model_names.specs.Spelling.{word_of, escaped, spelled, path_of_
 
 use crate::Memory;
 use crate::measuring::escapes;
+use crate::part_list::PartList;
 use model_names::Namespace;
 
 /// What stands before the first slash of a name.
@@ -23,13 +24,13 @@ pub fn word(namespace: Namespace) -> &'static str
 }
 
 /// Appends a slash before each spelled part, and one slash where there is none.
-pub fn push_path(text: &mut String, parts: &[String]) -> Result<(), Memory>
-    ensures { OnOk result (string_bytes text.new ≡ string_bytes text.old ++ path_of_parts (map (λ part. string_bytes part) parts.now)) }
+pub fn push_path(text: &mut String, parts: &PartList) -> Result<(), Memory>
+    ensures { OnOk result (string_bytes text.new ≡ string_bytes text.old ++ path_of_parts parts.now) }
 {
     if parts.is_empty() {
         return text.push('/');
     }
-    for part in parts {
+    for part in parts.iter() {
         text.push('/')?;
         push_spelled(text, part)?;
     }

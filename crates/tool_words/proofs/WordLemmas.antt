@@ -69,11 +69,11 @@ refused_as word refusal asked is =
     ∙ ap (λ found. elim found [ Some r ↦ Refuses 2 (no_name r) | None ↦ Refuses 2 (argument word) ]) is
 
 pub on_name-refused : (word : List ℕ) (fault : NameFault) (asked : Name → Request) → fault ≢ faults.Memory → IsRefusal word fault → on_name word asked ≡ Refuses 2 (text_of_fault fault)
-on_name-refused word faults.NoNamespace asked other is = refused_as word _ asked is
-on_name-refused word faults.UnknownNamespace asked other is = refused_as word _ asked is
-on_name-refused word faults.NoSlash asked other is = refused_as word _ asked is
-on_name-refused word (faults.BadEscape at) asked other is = refused_as word _ asked is
-on_name-refused word (faults.BadArray at) asked other is = refused_as word _ asked is
-on_name-refused word (faults.Nul at) asked other is = refused_as word _ asked is
-on_name-refused word (faults.TooLong bytes) asked other is = refused_as word _ asked is
+on_name-refused word faults.NoNamespace asked other is = refused_as word _ asked (is other)
+on_name-refused word faults.UnknownNamespace asked other is = refused_as word _ asked (is other)
+on_name-refused word faults.NoSlash asked other is = refused_as word _ asked (is other)
+on_name-refused word (faults.BadEscape at) asked other is = refused_as word _ asked (is other)
+on_name-refused word (faults.BadArray at) asked other is = refused_as word _ asked (is other)
+on_name-refused word (faults.Nul at) asked other is = refused_as word _ asked (is other)
+on_name-refused word (faults.TooLong bytes) asked other is = refused_as word _ asked (is other)
 on_name-refused word faults.Memory asked other is = absurd (other refl)

@@ -7,8 +7,8 @@ use Rattle.key_name.proofs.cutting.cut.Given as goal
 
 abbrev pub invariant-loop-rest : goal.invariant-loop-rest
 invariant-loop-rest l = record {
-  within : IfSome l.rest (λ left. length left.now ≤ length l.text);
-  so_far : with_places l.raws.items ++ option_map_or (λ left. placed (length l.text - length left.now) (raw_parts left.now)) l.rest [] ≡ placed (length l.text - length l.fn.path) (raw_parts l.fn.path);
+  within : IfSome l.rest (λ left. length left.now ≤ l.end);
+  so_far : with_places l.raws.items ++ option_map_or (λ left. placed (l.end - length left.now) (raw_parts left.now)) l.rest [] ≡ placed (l.end - length l.fn.path) (raw_parts l.fn.path);
 }
 
 abbrev pub decreases-loop-rest : goal.decreases-loop-rest

@@ -1,35 +1,34 @@
-use Rattle.std.proofs.Common.{◌≡◌, List, length, map, string_bytes, drop, Some, true, sym, ap, ap₂, subst, ◌∙◌}
+use Rattle.std.proofs.Common.{◌≡◌, List, nat_eq, length, drop, true, sym, ap, ap₂, subst, ◌∙◌}
+use Rattle.std.proofs.lemmas.Bool.{and_from}
 use Rattle.model_names.specs.declared.namespaces.Namespace.TheVariants.{Cascading}
 use Rattle.model_names.specs.Below.{is_at_or_below}
-use Rattle.model_names.specs.Name.{Part}
+use Rattle.model_names.specs.Name.{Name, Part, rank}
+use Rattle.model_names.specs.Spelling.{path_of_parts}
 use Rattle.model_names.specs.WellFormed.{IsName}
 use Rattle.key_name.specs.Joining.{joined}
-use Rattle.key_name.specs.KeyName.{name_of}
-use Rattle.key_name.proofs.WellFormedLemmas.{IsName-drop, map-rest, way_to-some, joined-way}
+use Rattle.key_name.proofs.PlainLemmas.{if_found}
+use Rattle.key_name.proofs.WellFormedLemmas.{IsName-drop, joined-way}
 use Rattle.key_name.proofs.names.KeyName.relative_to.Goals as goal
 
 -- the parts that are left
-rest_is : (c : goal.In_ok-copy_of) → map (λ part. string_bytes part) c.in_ok-copy_of.field-0.items ≡ drop (length c.args.above.now.parts) (name_of c.self.inside).parts
+rest_is : (c : goal.After-bytes_behind) → c.in-Some.parts ≡ drop (length c.args.above.now.parts) c.args.self.now.parts
 rest_is c =
-    c.in_ok-copy_of.ensures ∙ map-rest (λ part. string_bytes part) c.deref.result.now c.len.result ∙ ap₂ (λ k items. drop k (map (λ part. string_bytes part) items)) c.len.ensures.parts c.deref.ensures.value
+    let found = if_found _ _ _ (sym c.in-Some.is ∙ c.in_ok-parts.ensures) in
+    found.1 ∙ ap₂ (λ (above : Name) (name : Name). drop (length above.parts) name.parts) c.above.view_is c.self.view_is
+
+-- the name is at or below the other
+test_is : (c : goal.After-bytes_behind) → is_at_or_below c.args.above.now c.args.self.now ≡ true
+test_is c =
+    let found = if_found _ _ _ (sym c.in-Some.is ∙ c.in_ok-parts.ensures) in
+    rw (← c.self.view_is, ← c.above.view_is) (and_from (nat_eq (rank c.self.inside.namespace) (rank c.above.inside.namespace)) _ (sym c.same_namespace.ensures ∙ c.if-not-same_namespace.false) found.0)
 
 pub invariant_of-result : goal.invariant_of-result
 invariant_of-result c =
-    let name = name_of c.self.inside in
-    subst (λ (parts : List Part). IsName (record { namespace = Cascading; parts = parts })) (sym (rest_is c)) (IsName-drop name.namespace Cascading name.parts (length c.args.above.now.parts) c.self.invariant)
+    let name = subst (λ (name : Name). IsName name) c.self.view_is c.self.invariant.name in
+    record {
+      name = subst (λ (parts : List Part). IsName (record { namespace = Cascading; parts = parts })) (sym (rest_is c)) (IsName-drop c.args.self.now.namespace Cascading c.args.self.now.parts (length c.args.above.now.parts) name);
+      bytes = c.bytes_behind.ensures ∙ ap (λ (parts : List Part). length (path_of_parts parts)) (sym (rest_is c));
+    }
 
--- the name is at or below the other
-test_is : (c : goal.In_ok-copy_of) → is_at_or_below c.args.above.now (name_of c.self.inside) ≡ true
-test_is c = ap (is_at_or_below c.args.above.now) c.self.view_is ∙ sym c.is_below_or_same.ensures.test ∙ c.if-not-is_below_or_same.false
-
-pub returns-clause-way : goal.returns-clause-way
-returns-clause-way c =
-    let above = c.args.above.now in
-    let name = name_of c.self.inside in
-    rw (← c.self.view_is) (ap (λ parts. Some (record { namespace = Cascading; parts = parts })) (rest_is c) ∙ sym (way_to-some above name (test_is c)))
-
-pub returns-clause-back : goal.returns-clause-back
-returns-clause-back c =
-    let above = c.args.above.now in
-    let name = name_of c.self.inside in
-    rw (← c.self.view_is) (ap (λ parts. joined above (record { namespace = Cascading; parts = parts })) (rest_is c) ∙ joined-way above name (test_is c))
+pub returns-in-Some-clause-back : goal.returns-in-Some-clause-back
+returns-in-Some-clause-back c = ap (λ (parts : List Part). joined c.args.above.now (record { namespace = Cascading; parts = parts })) (rest_is c) ∙ joined-way c.args.above.now c.args.self.now (test_is c)

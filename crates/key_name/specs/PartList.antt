@@ -1,0 +1,33 @@
+-- The parts of a name in one text: each stands behind a NUL, which no part has. (After Elektra's unescaped names.)
+use Rattle.std.specs.Prelude.{◌≡◌, ℕ, ◌<◌, Bool, true, ◌==◌, List, [], ◌∷◌, drop, string_bytes}
+use Rattle.std.specs.List.{AllByRecursion, flat_map, slice_split}
+use Rattle.model_names.specs.Name.{Part}
+use Rattle.key_name.specs.declared.part_list.PartList.TheInside.{Inside}
+
+-- a part has no NUL
+abbrev pub HasNoNul : Part → Type 0
+HasNoNul part = AllByRecursion (λ b. 0 < b) part
+
+-- parts, each behind a NUL
+abbrev pub behind_nuls : List Part → List ℕ
+behind_nuls parts = flat_map (λ part. 0 ∷ part) parts
+
+-- what stands between the NULs of a text
+abbrev pub between_nuls : List ℕ → List Part
+between_nuls bytes = slice_split (λ b. b == 0) bytes
+
+-- the parts of a text in which each is behind a NUL
+abbrev pub parts_in : List ℕ → List Part
+parts_in bytes = drop 1 (between_nuls bytes)
+
+abbrev pub parts_of : Inside → List Part
+parts_of inside = parts_in (string_bytes inside.text)
+
+-- nothing stands in the text but its parts
+abbrev pub HasPartsAlone : Inside → Type 0
+HasPartsAlone inside = string_bytes inside.text ≡ behind_nuls (parts_of inside)
+
+-- bytes are none, or begin with the NUL of a part
+abbrev pub begins_part : List ℕ → Bool
+begins_part [] = true
+begins_part (b ∷ bytes) = b == 0
