@@ -1,0 +1,4 @@
+pub mod CutLemmas
+pub mod Reading
+pub mod Walking
+pub mod Lookups

@@ -1,0 +1,7 @@
+-- No line feed was passed.
+use Rattle.std.proofs.Common.{ℕ, ◌≢◌, take}
+use Rattle.std.specs.List.{AllByRecursion}
+use Rattle.file_lines.proofs.lines.first_line.Given as goal
+
+abbrev pub invariant-loop-at : goal.invariant-loop-at
+invariant-loop-at l = AllByRecursion (λ b. b ≢ 10) (take l.at l.bytes)

@@ -1,0 +1,8 @@
+pub mod WordCuts
+pub mod PartLemmas
+pub mod CommentUtf8
+pub mod CommentWalk
+pub mod ChildNames
+pub mod WeighedLemmas
+pub mod HostLemmas
+pub mod HoldingTests

@@ -1,0 +1,2 @@
+pub mod TrimLemmas
+pub mod KeyLemmas

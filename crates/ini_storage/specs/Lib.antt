@@ -1,0 +1,4 @@
+pub mod Held
+pub mod MeaningView
+pub mod Steps
+pub mod SideView
