@@ -1,4 +1,4 @@
-//! The tool over real files.
+//! The tool over real files. Runs over a disk in memory are cases of `kdb_cases`.
 use disk_real::RealDisk;
 use kdb_outside::{MemSink, OpenGate, SureSource};
 use kdb_tool::run;
@@ -7,14 +7,8 @@ use std::alloc::Global;
 use std::test::Fail;
 use std::{env, fs, process};
 
-mod commands;
-mod crashes;
 mod many;
 mod mounted;
-mod order;
-mod refusals;
-mod sizes;
-mod tool_runs;
 
 const ONE_KEY: &[u8] = b"kdbOpen 2\n$key string 4 1\nsw/a\n1\n$end\n";
 
