@@ -99,6 +99,18 @@ fn choices_differ(
     Ok(false)
 }
 
+/// Whether a choice leaves these bytes, on a disk that counts its calls anew.
+fn leaves(
+    alloc: Global,
+    user: &FileName,
+    stop_after: u64,
+    choice: u64,
+    bytes: &[u8],
+) -> Result<bool, Fail> {
+    let disk = left_after(alloc, user, stop_after, choice)?;
+    Ok(disk.bytes(user) == bytes && disk.calls() == 0)
+}
+
 #[test]
 fn a_crash_leaves_what_may_be_left(rt: HostRuntime) -> Result<(), Fail> {
     let user = name(rt.alloc(), "user.ecf")?;
@@ -117,12 +129,10 @@ fn a_crash_leaves_what_may_be_left(rt: HostRuntime) -> Result<(), Fail> {
             least,
             most,
         };
-        assert!(rt; every_choice_holds(rt.alloc(), &user, row, 10)?);
-        let disk = left_after(rt.alloc(), &user, stop_after, 0)?;
-        assert_eq!(rt; disk.bytes(&user), synced);
-        let disk = left_after(rt.alloc(), &user, stop_after, 1)?;
-        assert_eq!(rt; disk.bytes(&user), whole);
-        assert_eq!(rt; disk.calls(), 0);
+        let alloc = rt.alloc();
+        assert!(rt; every_choice_holds(alloc, &user, row, 10)?);
+        assert!(rt; leaves(alloc, &user, stop_after, 0, synced)?);
+        assert!(rt; leaves(alloc, &user, stop_after, 1, whole)?);
     }
     Ok(())
 }
