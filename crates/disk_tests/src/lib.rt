@@ -1,15 +1,12 @@
 //! Tests of the public calls of the outside, of disks, files and the journal: of what no contract says, each call with ample memory.
+//! Calls of a disk in memory, names of files and bodies of entries are cases of `kdb_cases`.
 #![tactic(auto)]
 
 mod crashes;
 #[cfg(test)]
 mod file_names;
 #[cfg(test)]
-mod journal_bodies;
-#[cfg(test)]
 mod journals;
-#[cfg(test)]
-mod kinds;
 #[cfg(test)]
 mod mem_disks;
 #[cfg(test)]
@@ -18,8 +15,6 @@ mod mem_sinks;
 mod mem_sources;
 #[cfg(test)]
 mod readers;
-#[cfg(test)]
-mod whole_files;
 #[cfg(test)]
 mod writers;
 

@@ -1,6 +1,6 @@
 //! What the disk gives at concrete files and calls.
 use disk_memory::MemDisk;
-use kdb_outside::{Disk, Failed, FileName, Memory};
+use kdb_outside::{Disk, FileName};
 use std::alloc::Global;
 use std::test::Fail;
 
@@ -25,64 +25,6 @@ fn make(disk: &mut MemDisk, file: &FileName, change: Change) -> Result<bool, Fai
         _ => return Err("it begins within the file")?,
     };
     Ok(outcome == Ok(()))
-}
-
-#[test]
-fn keeps_two_files_apart(rt: HostRuntime) -> Result<(), Fail> {
-    let user = name(rt.alloc(), "user.ecf")?;
-    let other = name(rt.alloc(), "system.ecf")?;
-    let files = vec![in rt.alloc(); (user.copy()?, b"abc".to_vec(rt.alloc())?)]?;
-    let mut disk = MemDisk::new(rt.alloc(), files, Vec::new(rt.alloc()), None)?;
-    let rows: [(&FileName, Change, &[u8], &[u8]); 9] = [
-        (&user, Change::Write(1, b"XYZ"), b"aXYZ", b""),
-        (&other, Change::Cut(0), b"aXYZ", b""),
-        (&other, Change::Write(0, b"12345"), b"aXYZ", b"12345"),
-        (&user, Change::Write(1, b"-"), b"a-YZ", b"12345"),
-        (&other, Change::Cut(3), b"a-YZ", b"123"),
-        (&user, Change::Cut(0), b"", b"123"),
-        (&user, Change::Sync, b"", b"123"),
-        (&user, Change::Write(0, b"q"), b"q", b"123"),
-        (&other, Change::Write(3, b""), b"q", b"123"),
-    ];
-    for (file, change, user_bytes, other_bytes) in rows {
-        assert!(rt; make(&mut disk, file, change)?);
-        assert_eq!(rt; disk.bytes(&user), user_bytes);
-        assert_eq!(rt; disk.bytes(&other), other_bytes);
-    }
-    let mut buf = [b'.'; 3];
-    assert_eq!(rt; disk.length(&other), Ok(3));
-    assert_eq!(rt; disk.read_at(&other, 1, &mut buf), Ok(2));
-    assert_eq!(rt; &buf, b"23.");
-    assert_eq!(rt; disk.read_at(&user, 7, &mut buf), Ok(0));
-    assert_eq!(rt; disk.calls(), 12);
-    Ok(())
-}
-
-#[test]
-fn fails_the_listed_calls_and_those_after_the_last(rt: HostRuntime) -> Result<(), Fail> {
-    let user = name(rt.alloc(), "user.ecf")?;
-    let other = name(rt.alloc(), "system.ecf")?;
-    assert!(rt; user != other);
-    let files = vec![in rt.alloc();
-        (user.copy()?, b"ab".to_vec(rt.alloc())?),
-        (other.copy()?, b"12".to_vec(rt.alloc())?),
-    ]?;
-    let mut disk = MemDisk::new(rt.alloc(), files, vec![in rt.alloc(); 2, 3]?, Some(6))?;
-    let mut buf = [b'.'; 2];
-    assert_eq!(rt; disk.length(&user), Ok(2));
-    assert_eq!(rt; disk.sync(&user), Err(Failed));
-    assert_eq!(rt; disk.read_at(&other, 0, &mut buf), Err(Failed));
-    assert_eq!(rt; disk.read_at(&other, 0, &mut buf), Ok(2));
-    assert_eq!(rt; &buf, b"12");
-    assert_eq!(rt; disk.sync(&user), Ok(()));
-    assert_eq!(rt; disk.length(&other), Ok(2));
-    assert_eq!(rt; disk.length(&other), Err(Failed));
-    assert_eq!(rt; disk.write_at(&user, 0, b"c"), Err(Failed));
-    assert_eq!(rt; disk.cut(&other, 0), Err(Failed));
-    assert_eq!(rt; disk.bytes(&user), b"ab".as_slice());
-    assert_eq!(rt; disk.bytes(&other), b"12".as_slice());
-    assert_eq!(rt; disk.calls(), 9);
-    Ok(())
 }
 
 /// The disk that a crash with this choice leaves of a file of `abcd` after so many of four calls.
@@ -157,6 +99,18 @@ fn choices_differ(
     Ok(false)
 }
 
+/// Whether a choice leaves these bytes, on a disk that counts its calls anew.
+fn leaves(
+    alloc: Global,
+    user: &FileName,
+    stop_after: u64,
+    choice: u64,
+    bytes: &[u8],
+) -> Result<bool, Fail> {
+    let disk = left_after(alloc, user, stop_after, choice)?;
+    Ok(disk.bytes(user) == bytes && disk.calls() == 0)
+}
+
 #[test]
 fn a_crash_leaves_what_may_be_left(rt: HostRuntime) -> Result<(), Fail> {
     let user = name(rt.alloc(), "user.ecf")?;
@@ -175,12 +129,10 @@ fn a_crash_leaves_what_may_be_left(rt: HostRuntime) -> Result<(), Fail> {
             least,
             most,
         };
-        assert!(rt; every_choice_holds(rt.alloc(), &user, row, 10)?);
-        let disk = left_after(rt.alloc(), &user, stop_after, 0)?;
-        assert_eq!(rt; disk.bytes(&user), synced);
-        let disk = left_after(rt.alloc(), &user, stop_after, 1)?;
-        assert_eq!(rt; disk.bytes(&user), whole);
-        assert_eq!(rt; disk.calls(), 0);
+        let alloc = rt.alloc();
+        assert!(rt; every_choice_holds(alloc, &user, row, 10)?);
+        assert!(rt; leaves(alloc, &user, stop_after, 0, synced)?);
+        assert!(rt; leaves(alloc, &user, stop_after, 1, whole)?);
     }
     Ok(())
 }

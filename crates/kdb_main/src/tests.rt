@@ -1,4 +1,4 @@
-//! The tool over real files.
+//! The tool over real files, and what mounted files mean. Runs over a disk in memory are cases of `kdb_cases`.
 use disk_real::RealDisk;
 use kdb_outside::{MemSink, OpenGate, SureSource};
 use kdb_tool::run;
@@ -7,14 +7,7 @@ use std::alloc::Global;
 use std::test::Fail;
 use std::{env, fs, process};
 
-mod commands;
-mod crashes;
-mod many;
 mod mounted;
-mod order;
-mod refusals;
-mod sizes;
-mod tool_runs;
 
 const ONE_KEY: &[u8] = b"kdbOpen 2\n$key string 4 1\nsw/a\n1\n$end\n";
 
@@ -36,63 +29,69 @@ fn texts(alloc: Global, words: &[&str]) -> Result<Vec<Text>, Fail> {
     Ok(texts)
 }
 
+/// What comes of words over a folder: the status, out and err.
+fn told(rt: HostRuntime, place: &str, words: &[&str]) -> Result<String, Fail> {
+    let mut out = MemSink::new(rt.alloc(), Vec::new(rt.alloc()));
+    let mut err = MemSink::new(rt.alloc(), Vec::new(rt.alloc()));
+    let mut input = SureSource::new(Vec::new(rt.alloc()));
+    let words = texts(rt.alloc(), words)?;
+    let disk = RealDisk::new(rt, place)?;
+    let (ended, _) = run(
+        rt.alloc(),
+        &words,
+        &mut input,
+        &mut out,
+        &mut err,
+        disk,
+        &OpenGate,
+    );
+    let status = ended.code();
+    let out = str::from_utf8(out.bytes())?;
+    let err = str::from_utf8(err.bytes())?;
+    Ok(format!(in rt.alloc(); "{status} out {out:?} err {err:?}")?)
+}
+
 #[test]
 fn prints_what_the_files_of_a_folder_hold(rt: HostRuntime) -> Result<(), Fail> {
     let place = folder(rt, "get")?;
     let file = format!(in rt.alloc(); "{place}/user.ecf")?;
-    let rows: [(&[u8], &[&str], u8, &str, &str); 8] = [
-        (ONE_KEY, &["get", "user:/sw/a"], 0, "1\n", ""),
+    let rows: [(&[u8], &[&str], &str); 8] = [
+        (ONE_KEY, &["get", "user:/sw/a"], r#"0 out "1\n" err """#),
         (
             ONE_KEY,
             &["get", "user:/sw/none"],
-            11,
-            "",
-            "kdb: not found: user:/sw/none\n",
+            r#"11 out "" err "kdb: not found: user:/sw/none\n""#,
         ),
         (
             ONE_KEY,
             &["get", "system:/sw/a"],
-            11,
-            "",
-            "kdb: not found: system:/sw/a\n",
+            r#"11 out "" err "kdb: not found: system:/sw/a\n""#,
         ),
-        (ONE_KEY, &[], 4, "", "kdb: no command\n"),
-        (ONE_KEY, &["frob"], 4, "", "kdb: unknown command frob\n"),
-        (ONE_KEY, &["get"], 1, "", "kdb: options refused\n"),
+        (ONE_KEY, &[], r#"4 out "" err "kdb: no command\n""#),
+        (
+            ONE_KEY,
+            &["frob"],
+            r#"4 out "" err "kdb: unknown command frob\n""#,
+        ),
+        (
+            ONE_KEY,
+            &["get"],
+            r#"1 out "" err "kdb: options refused\n""#,
+        ),
         (
             b"",
             &["get", "user:/sw/a"],
-            11,
-            "",
-            "kdb: not found: user:/sw/a\n",
+            r#"11 out "" err "kdb: not found: user:/sw/a\n""#,
         ),
         (
             b"x",
             &["get", "user:/sw/a"],
-            5,
-            "",
-            "kdb: C03100 bad-file user:/ 1\n",
+            r#"5 out "" err "kdb: C03100 bad-file user:/ 1\n""#,
         ),
     ];
-    for (bytes, words, status, out_text, err_text) in rows {
+    for (bytes, words, want) in rows {
         fs::write(&rt, file.as_str(), bytes)?;
-        let mut out = MemSink::new(rt.alloc(), Vec::new(rt.alloc()));
-        let mut err = MemSink::new(rt.alloc(), Vec::new(rt.alloc()));
-        let mut input = SureSource::new(Vec::new(rt.alloc()));
-        let words = texts(rt.alloc(), words)?;
-        let disk = RealDisk::new(rt, place.as_str())?;
-        let (ended, _) = run(
-            rt.alloc(),
-            &words,
-            &mut input,
-            &mut out,
-            &mut err,
-            disk,
-            &OpenGate,
-        );
-        assert_eq!(rt; ended.code(), status, "{err_text}");
-        assert_eq!(rt; out.bytes(), out_text.as_bytes(), "{err_text}");
-        assert_eq!(rt; err.bytes(), err_text.as_bytes(), "{err_text}");
+        assert_eq!(rt; told(rt, place.as_str(), words)?.as_str(), want);
     }
     fs::remove_dir_all(&rt, place.as_str())?;
     Ok(())

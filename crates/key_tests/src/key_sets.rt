@@ -1,6 +1,6 @@
 //! Sets by examples.
 
-use key_meta::{Meta, Text};
+use key_meta::{Memory, Meta, Text};
 use key_name::KeyName;
 use key_set::{Entry, KeySet, the_keys_set_last_are_found};
 use std::alloc::Global;
@@ -12,28 +12,36 @@ fn name(alloc: Global, text: &str) -> Result<KeyName, Fail> {
     Ok(KeyName::parse(alloc, text)?)
 }
 
-fn entry(alloc: Global, value: &str) -> Result<Entry, Fail> {
+fn entry(alloc: Global, value: &str) -> Result<Entry, Memory> {
     Ok(Entry {
         value: Text::new(alloc, value)?,
         meta: Meta::new(alloc),
     })
 }
 
+/// Puts a key, and gives back whether its name had an entry.
+fn put(alloc: Global, set: &mut KeySet, text: &str, value: &str) -> Result<bool, Fail> {
+    let name = name(alloc, text)?;
+    let former = set.append(name, entry(alloc, value)?)?;
+    Ok(former.is_some())
+}
+
 fn set_of(alloc: Global, texts: &[&str]) -> Result<KeySet, Fail> {
     let mut set = KeySet::new(alloc);
     for text in texts {
-        set.append(name(alloc, text)?, entry(alloc, text)?)?;
+        let _ = put(alloc, &mut set, text, text)?;
     }
     Ok(set)
 }
 
-fn names_of(alloc: Global, set: &KeySet) -> Result<String, Fail> {
-    let mut texts = String::new(alloc);
-    for (name, _) in set.iter() {
-        texts.push_str(&name.text()?)?;
-        texts.push(' ')?;
+/// The names with their values and how many metadata they have.
+fn told(alloc: Global, set: &KeySet) -> Result<String, Memory> {
+    let mut all = String::new(alloc);
+    for (name, entry) in set.iter() {
+        let (name, value, count) = (name.text()?, entry.value.as_str(), entry.meta.len());
+        all.push_str(&format!(in alloc; "{name}={value} {count} ")?)?;
     }
-    Ok(texts)
+    Ok(all)
 }
 
 #[test]
@@ -43,106 +51,115 @@ fn stands_in_name_order_whatever_order_the_keys_come_in(rt: HostRuntime) -> Resu
         ["spec:/z", "user:/a", "user:/a/b", "user:/a-b"],
         ["user:/a/b", "spec:/z", "user:/a-b", "user:/a"],
     ];
+    let want = "spec:/z=spec:/z 0 user:/a=user:/a 0 user:/a/b=user:/a/b 0 user:/a-b=user:/a-b 0 ";
     for row in rows {
         let set = set_of(rt.alloc(), &row)?;
-        assert_eq!(rt;
-            names_of(rt.alloc(), &set)?.as_str(),
-            "spec:/z user:/a user:/a/b user:/a-b "
-        );
-        assert_eq!(rt; set.len(), 4);
-        let values = [(0, Some("spec:/z")), (2, Some("user:/a/b")), (4, None)];
-        for (place, value) in values {
-            let found = set.at(place).map(|key| key.1.value.as_str());
-            assert_eq!(rt; found, value);
-        }
+        assert_eq!(rt; told(rt.alloc(), &set)?.as_str(), want);
     }
     Ok(())
 }
 
-#[test]
-fn cuts_a_name_and_what_is_below_it(rt: HostRuntime) -> Result<(), Fail> {
-    let alloc = rt.alloc();
+/// What is copied of a name, what is cut, and what is left.
+fn cut_of(alloc: Global) -> Result<String, Fail> {
     let mut set = set_of(alloc, &["user:/a-b", "user:/a/b", "user:/a", "spec:/z"])?;
     let at = name(alloc, "user:/a")?;
     let copied = set.below(&at)?;
     let taken = set.cut(&at)?;
-    assert_eq!(rt; names_of(alloc, &copied)?.as_str(), "user:/a user:/a/b ");
-    assert_eq!(rt; names_of(alloc, &taken)?.as_str(), "user:/a user:/a/b ");
-    assert_eq!(rt; names_of(alloc, &set)?.as_str(), "spec:/z user:/a-b ");
-    let former = set.append(name(alloc, "user:/a-b")?, entry(alloc, "again")?)?;
-    assert_eq!(rt;
-        former.as_ref().map(|e| e.value.as_str()),
-        Some("user:/a-b")
-    );
-    assert_eq!(rt; set.cut(&at)?.len(), 0);
-    assert_eq!(rt; set.len(), 2);
+    let again = set.cut(&at)?;
+    let (copied, taken) = (told(alloc, &copied)?, told(alloc, &taken)?);
+    let (again, left) = (told(alloc, &again)?, told(alloc, &set)?);
+    Ok(format!(in alloc; "{copied}| {taken}| {again}| {left}")?)
+}
+
+#[test]
+fn cuts_a_name_and_what_is_below_it(rt: HostRuntime) -> Result<(), Fail> {
+    let want =
+        "user:/a=user:/a 0 user:/a/b=user:/a/b 0 | user:/a=user:/a 0 user:/a/b=user:/a/b 0 | | spec:/z=spec:/z 0 user:/a-b=user:/a-b 0 ";
+    assert_eq!(rt; cut_of(rt.alloc())?.as_str(), want);
     Ok(())
+}
+
+/// A set that got another one's keys, and an empty one's.
+fn united(alloc: Global) -> Result<KeySet, Fail> {
+    let mut set = set_of(alloc, &["user:/a", "user:/b", "user:/d"])?;
+    let mut other = set_of(alloc, &["user:/c"])?;
+    let _ = put(alloc, &mut other, "user:/b", "again")?;
+    set.append_all(other)?;
+    set.append_all(KeySet::new(alloc))?;
+    let mut copied = KeySet::new(alloc);
+    copied.append_all(set)?;
+    Ok(copied)
 }
 
 #[test]
 fn takes_the_keys_of_another_set(rt: HostRuntime) -> Result<(), Fail> {
     the_keys_set_last_are_found();
-    let alloc = rt.alloc();
-    let mut set = set_of(alloc, &["user:/a", "user:/b", "user:/d"])?;
-    let mut other = set_of(alloc, &["user:/c"])?;
-    other.append(name(alloc, "user:/b")?, entry(alloc, "again")?)?;
-    set.append_all(other)?;
-    set.append_all(KeySet::new(alloc))?;
-    let mut copied = KeySet::new(alloc);
-    copied.append_all(set)?;
-    assert_eq!(rt;
-        names_of(alloc, &copied)?.as_str(),
-        "user:/a user:/b user:/c user:/d "
-    );
-    let found = copied.lookup(&name(alloc, "user:/b")?);
-    assert_eq!(rt; found.map(|e| e.value.as_str()), Some("again"));
+    let set = united(rt.alloc())?;
+    let want = "user:/a=user:/a 0 user:/b=again 0 user:/c=user:/c 0 user:/d=user:/d 0 ";
+    assert_eq!(rt; told(rt.alloc(), &set)?.as_str(), want);
     Ok(())
+}
+
+/// A copy of a set with one key, whose key then is removed from the set itself.
+fn copied(alloc: Global) -> Result<(KeySet, bool, bool), Fail> {
+    let mut key = entry(alloc, "value")?;
+    let _ = key.meta.set("order", "7")?;
+    let mut set = KeySet::new(alloc);
+    let at = name(alloc, "user:/a")?;
+    let _ = set.append(at.copy()?, key.copy()?)?;
+    let copied = set.copy()?;
+    let removed = set.remove(&at).is_some();
+    let again = set.remove(&at).is_some();
+    Ok((copied, removed, again))
 }
 
 #[test]
 fn copies_values_and_metadata(rt: HostRuntime) -> Result<(), Fail> {
-    let alloc = rt.alloc();
-    let mut key = entry(alloc, "value")?;
-    key.meta.set("order", "7")?;
-    let mut set = KeySet::new(alloc);
-    set.append(name(alloc, "user:/a")?, key.copy()?)?;
-    let copied = set.copy()?;
-    let at = name(alloc, "user:/a")?;
-    let removed = set.remove(&at);
-    assert_eq!(rt; removed.as_ref().map(|e| e.value.as_str()), Some("value"));
-    assert!(rt; set.lookup(&at).is_none());
-    assert!(rt; set.remove(&at).is_none());
-    let found = copied.lookup(&at);
-    assert_eq!(rt; found.map(|e| e.value.as_str()), Some("value"));
-    assert_eq!(rt; found.and_then(|e| e.meta.get("order")), Some("7"));
+    let (set, removed, again) = copied(rt.alloc())?;
+    assert_eq!(rt; (removed, again), (true, false));
+    assert_eq!(rt; told(rt.alloc(), &set)?.as_str(), "user:/a=value 1 ");
     Ok(())
+}
+
+/// So many keys, rising, falling or mixed. The stride is a prime that doesn't divide their number.
+fn many(alloc: Global, count: u32, order: u32) -> Result<KeySet, Fail> {
+    let mut set = KeySet::new(alloc);
+    for step in 0..count {
+        let number = match order {
+            0 => step,
+            1 => count.saturating_sub(1).saturating_sub(step),
+            _ => step.wrapping_mul(7_919).checked_rem(count).unwrap_or(0),
+        };
+        let text = format!(in alloc; "user:/key/{number}")?;
+        let _ = put(alloc, &mut set, &text, &text)?;
+    }
+    Ok(set)
+}
+
+/// How many of the keys are found by their names, each with its own value.
+fn found(alloc: Global, set: &KeySet, count: u32) -> Result<u32, Fail> {
+    let mut found = 0u32;
+    for number in 0..count {
+        let text = format!(in alloc; "user:/key/{number}")?;
+        let at = name(alloc, &text)?;
+        if set
+            .lookup(&at)
+            .is_some_and(|entry| entry.value.as_str() == text.as_str())
+        {
+            found = found.saturating_add(1);
+        }
+    }
+    Ok(found)
 }
 
 #[test]
 fn finds_each_of_ten_thousand_keys(rt: HostRuntime) -> Result<(), Fail> {
     let alloc = rt.alloc();
     for order in 0..3u32 {
-        let mut set = KeySet::new(alloc);
-        for step in 0..10_000u32 {
-            let number = match order {
-                0 => step,
-                1 => 9_999 - step,
-                _ => step * 7_919 % 10_000,
-            };
-            let text = format!(in alloc; "user:/key/{number}")?;
-            assert!(rt;
-                set.append(name(alloc, &text)?, entry(alloc, &text)?)?
-                    .is_none()
-            );
-        }
-        assert_eq!(rt; set.len(), 10_000);
-        for number in 0..10_000u32 {
-            let text = format!(in alloc; "user:/key/{number}")?;
-            let found = set.lookup(&name(alloc, &text)?).map(|e| e.value.as_str());
-            assert_eq!(rt; found, Some(text.as_str()));
-        }
-        assert_eq!(rt; set.cut(&name(alloc, "user:/key")?)?.len(), 10_000);
-        assert_eq!(rt; set.len(), 0);
+        let mut set = many(alloc, 10_000, order)?;
+        assert_eq!(rt; (set.len(), found(alloc, &set, 10_000)?), (10_000, 10_000));
+        let taken = set.cut(&name(alloc, "user:/key")?)?;
+        assert_eq!(rt; (taken.len(), set.len()), (10_000, 0));
     }
     Ok(())
 }
@@ -155,20 +172,33 @@ fn weighs_nothing_while_it_is_empty(rt: HostRuntime) -> Result<(), Fail> {
     Ok(())
 }
 
+/// Whether a set of two keys equals one with these names, of which the last has another value, or metadata, if so asked.
+fn equals(alloc: Global, names: &[&str], value: &str, has_meta: bool) -> Result<bool, Fail> {
+    let set = set_of(alloc, &["user:/a", "spec:/z"])?;
+    let mut other = set_of(alloc, names)?;
+    let mut key = entry(alloc, value)?;
+    if has_meta {
+        let _ = key.meta.set("order", "1")?;
+    }
+    let at = name(alloc, "spec:/z")?;
+    if other.lookup(&at).is_some() {
+        let _ = other.append(at, key)?;
+    }
+    Ok(set == other)
+}
+
 #[test]
 fn sets_are_equal_by_their_names_values_and_metadata(rt: HostRuntime) -> Result<(), Fail> {
-    let alloc = rt.alloc();
-    let set = set_of(alloc, &["user:/a", "spec:/z"])?;
-    assert!(rt; set == set_of(alloc, &["spec:/z", "user:/a"])?);
-    assert!(rt; set != set_of(alloc, &["user:/a"])?);
-    assert!(rt; set != set_of(alloc, &["user:/a", "user:/z"])?);
-    let mut other = set_of(alloc, &["user:/a"])?;
-    other.append(name(alloc, "spec:/z")?, entry(alloc, "another value")?)?;
-    assert!(rt; set != other);
-    let mut meta = Meta::new(alloc);
-    meta.set("order", "1")?;
-    let value = Text::new(alloc, "spec:/z")?;
-    other.append(name(alloc, "spec:/z")?, Entry { value, meta })?;
-    assert!(rt; set != other);
+    let both: &[&str] = &["spec:/z", "user:/a"];
+    let rows: [(&[&str], &str, bool, bool); 5] = [
+        (both, "spec:/z", false, true),
+        (&["user:/a"], "spec:/z", false, false),
+        (&["user:/a", "user:/z"], "spec:/z", false, false),
+        (both, "another value", false, false),
+        (both, "spec:/z", true, false),
+    ];
+    for (names, value, has_meta, same) in rows {
+        assert_eq!(rt; equals(rt.alloc(), names, value, has_meta)?, same);
+    }
     Ok(())
 }

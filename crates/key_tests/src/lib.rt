@@ -1,4 +1,5 @@
 //! Tests of the public calls of names, texts, metadata and key sets: of what no contract says, each call with ample memory.
+//! Tables of names and shown texts are cases of `kdb_cases`.
 #![tactic(auto)]
 
 #[cfg(test)]
@@ -13,10 +14,6 @@ mod lists;
 mod metadata;
 #[cfg(test)]
 mod names;
-#[cfg(test)]
-mod owners;
-#[cfg(test)]
-mod shown_texts;
 #[cfg(test)]
 mod sorted_maps;
 #[cfg(test)]

@@ -1,52 +1,81 @@
 //! Metadata by examples.
 
-use key_meta::{Meta, Text};
-use std::alloc::{AllocError, Global};
+use key_meta::{Memory, Meta, Text};
+use std::alloc::Global;
 use std::test::Fail;
 
-fn meta_of(alloc: Global, items: &[(&str, &str)]) -> Result<Meta, AllocError> {
+type Items<'a> = &'a [(&'a str, &'a str)];
+
+fn meta_of(alloc: Global, items: Items<'_>) -> Result<Meta, Memory> {
     let mut meta = Meta::new(alloc);
     for (name, text) in items {
-        if name.len() > 0 && name.len() <= 4096 {
-            meta.set(name, text)?;
-        }
+        put(&mut meta, name, text)?;
     }
     Ok(meta)
 }
 
+fn put(meta: &mut Meta, name: &str, text: &str) -> Result<(), Memory> {
+    if name.len() > 0 && name.len() <= 4096 {
+        meta.set(name, text)?;
+    }
+    Ok(())
+}
+
+/// The items by their places.
+fn placed(alloc: Global, meta: &Meta) -> Result<String, Memory> {
+    let mut all = String::new(alloc);
+    for i in 0..meta.len().saturating_add(1) {
+        match meta.at(i) {
+            Some((name, text)) => all.push_str(&format!(in alloc; "{name}={text} ")?)?,
+            None => all.push_str("end")?,
+        }
+    }
+    Ok(all)
+}
+
 #[test]
 fn stands_in_the_order_of_its_names(rt: HostRuntime) -> Result<(), Fail> {
-    let meta = meta_of(
-        rt.alloc(),
-        &[("b", "2"), ("array", "0"), ("B", "1"), ("b", "3")],
-    )?;
-    assert_eq!(rt; meta.len(), 3);
-    assert_eq!(rt; meta.at(0), Some(("B", "1")));
-    assert_eq!(rt; meta.at(1), Some(("array", "0")));
-    assert_eq!(rt; meta.at(2), Some(("b", "3")));
-    assert_eq!(rt; meta.at(3), None);
+    let items = &[("b", "2"), ("array", "0"), ("B", "1"), ("b", "3")];
+    let meta = meta_of(rt.alloc(), items)?;
+    assert_eq!(rt; placed(rt.alloc(), &meta)?.as_str(), "B=1 array=0 b=3 end");
     Ok(())
+}
+
+/// What a change of the one item gives back, and what a copy that was made before still has.
+fn changed_and_removed(alloc: Global) -> Result<String, Memory> {
+    let mut meta = meta_of(alloc, &[("order", "1")])?;
+    let former = meta.set("order", "2")?;
+    let copied = meta.copy()?;
+    let removed = meta.remove("order");
+    let again = meta.remove("order");
+    let former = former.as_ref().map(Text::as_str);
+    let removed = removed.as_ref().map(Text::as_str);
+    let (left, kept, other) = (meta.len(), copied.get("order"), copied.get("orde"));
+    let gone = again.is_none();
+    format!(in alloc; "{former:?} {removed:?} {gone} {left} {kept:?} {other:?}")
 }
 
 #[test]
 fn gives_back_the_text_that_a_name_had(rt: HostRuntime) -> Result<(), Fail> {
-    let mut meta = meta_of(rt.alloc(), &[("order", "1")])?;
-    let former = meta.set("order", "2")?;
-    assert_eq!(rt; former.as_ref().map(Text::as_str), Some("1"));
-    let copied = meta.copy()?;
-    assert_eq!(rt; meta.get("order"), Some("2"));
-    assert_eq!(rt; meta.get("orde"), None);
-    let removed = meta.remove("order");
-    assert_eq!(rt; removed.as_ref().map(Text::as_str), Some("2"));
-    assert!(rt; meta.remove("order").is_none());
-    assert_eq!(rt; meta.len(), 0);
-    assert_eq!(rt; copied.get("order"), Some("2"));
+    let want = r#"Some("1") Some("2") true 0 Some("2") None"#;
+    assert_eq!(rt; changed_and_removed(rt.alloc())?.as_str(), want);
     Ok(())
+}
+
+/// The texts of the array `check`, each with a blank behind it.
+fn array_of(alloc: Global, items: Items<'_>) -> Result<String, Memory> {
+    let meta = meta_of(alloc, items)?;
+    let mut all = String::new(alloc);
+    for text in meta.array("check")?.into_vec() {
+        all.push_str(text.as_str())?;
+        all.push(' ')?;
+    }
+    Ok(all)
 }
 
 #[test]
 fn an_array_ends_at_its_first_hole(rt: HostRuntime) -> Result<(), Fail> {
-    let rows: [(&[(&str, &str)], &str); 5] = [
+    let rows: [(Items<'_>, &str); 5] = [
         (&[], ""),
         (
             &[("check/#0", "a"), ("check/#1", "b"), ("check/#3", "d")],
@@ -64,42 +93,51 @@ fn an_array_ends_at_its_first_hole(rt: HostRuntime) -> Result<(), Fail> {
         (&[("check/#_0", "no"), ("check#0", "no"), ("/#0", "no")], ""),
     ];
     for (items, want) in rows {
-        let meta = meta_of(rt.alloc(), items)?;
-        let texts = meta.array("check")?;
-        let mut all = String::new(rt.alloc());
-        for text in texts.as_slice() {
-            all.push_str(text.as_str())?;
-            all.push(' ')?;
-        }
-        assert_eq!(rt; all.as_str(), want);
+        assert_eq!(rt; array_of(rt.alloc(), items)?.as_str(), want);
     }
     Ok(())
 }
 
-#[test]
-fn an_array_goes_on_past_nine(rt: HostRuntime) -> Result<(), Fail> {
-    let mut meta = Meta::new(rt.alloc());
-    for index in 0..10 {
-        let name = format!(in rt.alloc(); "a/#{index}")?;
-        if name.len() > 0 && name.len() <= 4096 {
-            meta.set(&name, "one digit")?;
-        }
+/// The name of an item below 10,000.
+fn item(alloc: Global, index: u64) -> Result<String, Memory> {
+    let underscores = match index {
+        0..=9 => "",
+        10..=99 => "_",
+        100..=999 => "__",
+        _ => "___",
+    };
+    format!(in alloc; "a/#{underscores}{index}")
+}
+
+/// How many items an array has that was given so many, one behind a hole, and one under no canonical name.
+fn items_of_array(alloc: Global, count: u64) -> Result<usize, Memory> {
+    let mut meta = Meta::new(alloc);
+    for index in 0..count {
+        put(&mut meta, &item(alloc, index)?, "x")?;
     }
-    meta.set("a/#_10", "two digits")?;
-    meta.set("a/#11", "no canonical name")?;
-    let texts = meta.array("a")?;
-    assert_eq!(rt; texts.as_slice().len(), 11);
-    assert_eq!(rt;
-        texts.as_slice().last().map(Text::as_str),
-        Some("two digits")
-    );
+    put(&mut meta, "a/#___9999", "behind a hole")?;
+    put(&mut meta, "a/#11", "no canonical name")?;
+    Ok(meta.array("a")?.as_slice().len())
+}
+
+#[test]
+fn an_array_goes_on_past_nine_and_past_a_hundred(rt: HostRuntime) -> Result<(), Fail> {
+    for (count, items) in [(10, 10), (11, 11), (100, 100), (101, 101), (1_001, 1_001)] {
+        assert_eq!(rt; items_of_array(rt.alloc(), count)?, items);
+    }
     Ok(())
+}
+
+/// Whether some items are two, and whether they are none.
+fn compared(alloc: Global, items: Items<'_>) -> Result<(bool, bool), Memory> {
+    let meta = meta_of(alloc, &[("order", "1"), ("array", "#1")])?;
+    let other = meta_of(alloc, items)?;
+    Ok((meta == other, other.is_empty()))
 }
 
 #[test]
 fn metadata_are_equal_by_their_names_and_texts(rt: HostRuntime) -> Result<(), Fail> {
-    let meta = meta_of(rt.alloc(), &[("order", "1"), ("array", "#1")])?;
-    let rows: [(&[(&str, &str)], bool); 5] = [
+    let rows: [(Items<'_>, bool); 5] = [
         (&[("array", "#1"), ("order", "1")], true),
         (&[("array", "#1"), ("order", "2")], false),
         (&[("array", "#1"), ("ordered", "1")], false),
@@ -107,9 +145,8 @@ fn metadata_are_equal_by_their_names_and_texts(rt: HostRuntime) -> Result<(), Fa
         (&[], false),
     ];
     for (items, same) in rows {
-        let other = meta_of(rt.alloc(), items)?;
-        assert_eq!(rt; meta == other, same);
-        assert_eq!(rt; other.is_empty(), items.len() == 0);
+        let want = (same, items.is_empty());
+        assert_eq!(rt; compared(rt.alloc(), items)?, want);
     }
     Ok(())
 }

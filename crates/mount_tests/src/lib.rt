@@ -1,11 +1,6 @@
-//! Tests of the public calls of formats, parts and mount tables: of what no contract says, each call with ample memory.
+//! Tests of the public calls of formats: of what no contract says, each call with ample memory. Dumps, parts and mount
+//! tables are cases of `kdb_cases`.
 #![tactic(auto)]
 
 #[cfg(test)]
-mod dumps;
-#[cfg(test)]
 mod formats;
-#[cfg(test)]
-mod parts;
-#[cfg(test)]
-mod tables;

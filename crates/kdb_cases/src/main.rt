@@ -1,0 +1,30 @@
+//! Reads files of cases, and prints each line of them with what came of it.
+#![tactic(auto)]
+
+mod bodies;
+mod calls;
+mod cases;
+mod dumps;
+mod names;
+mod notation;
+mod runs;
+mod sets;
+mod starts;
+mod tables;
+mod texts;
+
+use cases::Cases;
+use std::{env, fs, io};
+
+fn main(rt: HostRuntime) -> io::Result<()> {
+    for path in env::args(&rt)?.skip(1) {
+        let text = fs::read_to_string(&rt, path.as_str())?;
+        let mut cases = Cases::new(rt.alloc());
+        for line in text.lines() {
+            let answer = cases.answer_to(line)?;
+            println!(rt; "{line}")?;
+            print!(rt; "{answer}")?;
+        }
+    }
+    Ok(())
+}

@@ -1,0 +1,204 @@
+//! Runs of the tool over a disk in memory, and calls of the disk itself.
+
+use crate::calls;
+use crate::notation::{bytes_of, shown, text_of};
+use crate::starts::Start;
+use disk_memory::MemDisk;
+use kdb_outside::{FileName, MemSink, OpenGate, SureSource};
+use kdb_tool::run;
+use key_meta::{Memory, Text};
+use std::alloc::Global;
+
+/// A disk, what it begins with, and what the last run put on out.
+#[derive(Drop)]
+pub struct Runs {
+    alloc: Global,
+    start: Start,
+    disk: Option<MemDisk>,
+    given: Vec<u8>,
+    input: Vec<u8>,
+    out_failing: Option<u64>,
+    err_failing: Option<u64>,
+    out: Vec<u8>,
+}
+
+impl Runs {
+    pub fn new(alloc: Global) -> Runs {
+        Runs {
+            alloc,
+            start: Start::new(alloc),
+            disk: None,
+            given: Vec::new(alloc),
+            input: Vec::new(alloc),
+            out_failing: None,
+            err_failing: None,
+            out: Vec::new(alloc),
+        }
+    }
+
+    /// What comes of a line, if it is one of a disk.
+    pub fn answer_to(&mut self, word: &str, rest: &str) -> Result<Option<String>, Memory> {
+        match word {
+            "disk" => *self = Runs::new(self.alloc),
+            "file" => self.add_file(rest)?,
+            "input" => self.input = bytes_of(self.alloc, rest)?,
+            "fail" => self.fail(rest)?,
+            "stop" => self.start.stop(rest.parse().ok()),
+            "crash" => self.crash(rest.parse().unwrap_or(0))?,
+            "run" => return Ok(Some(self.run(rest)?)),
+            "write" | "cut" | "sync" | "length" | "read" | "whole" => {
+                return Ok(Some(self.call(word, rest)?));
+            }
+            _ => return self.look(word, rest),
+        }
+        Ok(Some(String::new(self.alloc)))
+    }
+
+    /// What is to be seen of the disk, or of what the last run put on out.
+    fn look(&mut self, word: &str, rest: &str) -> Result<Option<String>, Memory> {
+        match word {
+            "calls" => {
+                let disk = self.disk()?;
+                let calls = disk.calls();
+                self.disk = Some(disk);
+                Ok(Some(format!(in self.alloc; "  {calls}\n")?))
+            }
+            "show" => Ok(Some(self.show(rest)?)),
+            "kept" => Ok(Some(self.kept(rest)?)),
+            "out" => {
+                let wanted = bytes_of(self.alloc, rest)?;
+                let answer = yes_or_no(wanted.as_slice() == self.out.as_slice());
+                Ok(Some(String::from_str(self.alloc, answer)?))
+            }
+            _ => Ok(None),
+        }
+    }
+
+    /// The disk, which is made where there is none yet. Nothing of it is kept here.
+    fn disk(&mut self) -> Result<MemDisk, Memory> {
+        match self.disk.take() {
+            Some(disk) => Ok(disk),
+            None => self.start.disk(),
+        }
+    }
+
+    fn add_file(&mut self, rest: &str) -> Result<(), Memory> {
+        let (name, text) = rest.split_once(' ').unwrap_or((rest, ""));
+        self.given = bytes_of(self.alloc, text)?;
+        if let Some(name) = FileName::new(self.alloc, name)? {
+            self.start.add(name, self.given.clone()?);
+        }
+        Ok(())
+    }
+
+    /// Lets calls fail: those of the disk that are listed, or one of out or of err.
+    fn fail(&mut self, rest: &str) -> Result<(), Memory> {
+        let (what, listed) = rest.split_once(' ').unwrap_or((rest, ""));
+        match what {
+            "disk" => {
+                let calls = numbers(self.alloc, listed)?;
+                self.start.fail(calls);
+            }
+            "out" => self.out_failing = listed.parse().ok(),
+            _ => self.err_failing = listed.parse().ok(),
+        }
+        Ok(())
+    }
+
+    fn crash(&mut self, choice: u64) -> Result<(), Memory> {
+        let disk = self.disk()?;
+        self.disk = Some(disk.crash(choice)?);
+        Ok(())
+    }
+
+    /// Runs the tool, and tells how it ends.
+    fn run(&mut self, words: &str) -> Result<String, Memory> {
+        let texts = words_of(self.alloc, words)?;
+        let disk = self.disk()?;
+        let mut input = SureSource::new(self.input.clone()?);
+        let mut out = sink(self.alloc, self.out_failing)?;
+        let mut err = sink(self.alloc, self.err_failing)?;
+        let (status, disk) = run(
+            self.alloc, &texts, &mut input, &mut out, &mut err, disk, &OpenGate,
+        );
+        self.disk = Some(disk);
+        self.out = out.bytes().to_vec(self.alloc)?;
+        ended(self.alloc, status.code(), out.bytes(), err.bytes())
+    }
+
+    fn show(&mut self, name: &str) -> Result<String, Memory> {
+        let disk = self.disk()?;
+        let answer = match FileName::new(self.alloc, name)? {
+            Some(name) => shown(self.alloc, disk.bytes(&name))?,
+            None => String::from_str(self.alloc, "no name of a file")?,
+        };
+        self.disk = Some(disk);
+        format!(in self.alloc; "  {answer}\n")
+    }
+
+    /// Whether a file has the bytes of the last line `file`.
+    fn kept(&mut self, name: &str) -> Result<String, Memory> {
+        let disk = self.disk()?;
+        let answer = match FileName::new(self.alloc, name)? {
+            Some(name) => yes_or_no(disk.bytes(&name) == self.given.as_slice()),
+            None => "  no name of a file\n",
+        };
+        self.disk = Some(disk);
+        String::from_str(self.alloc, answer)
+    }
+
+    fn call(&mut self, word: &str, rest: &str) -> Result<String, Memory> {
+        let mut disk = self.disk()?;
+        let answer = calls::answer_to(self.alloc, &mut disk, word, rest)?;
+        self.disk = Some(disk);
+        Ok(answer)
+    }
+}
+
+fn yes_or_no(holds: bool) -> &'static str {
+    if holds { "  yes\n" } else { "  no\n" }
+}
+
+fn sink(alloc: Global, failing: Option<u64>) -> Result<MemSink, Memory> {
+    let mut calls = Vec::new(alloc);
+    if let Some(call) = failing {
+        calls.push(call)?;
+    }
+    Ok(MemSink::new(alloc, calls))
+}
+
+fn numbers(alloc: Global, text: &str) -> Result<Vec<u64>, Memory> {
+    let mut numbers = Vec::new(alloc);
+    for word in text.split(' ') {
+        if let Ok(number) = word.parse() {
+            numbers.push(number)?;
+        }
+    }
+    Ok(numbers)
+}
+
+/// The words of a line. A blank of a word is written `|s`, and a word of no bytes `|e`.
+fn words_of(alloc: Global, text: &str) -> Result<Vec<Text>, Memory> {
+    let mut words = Vec::new(alloc);
+    for word in text.split(' ') {
+        if word.is_empty() {
+            continue;
+        }
+        if let Some(word) = text_of(alloc, word)? {
+            words.push(Text::new(alloc, &word)?)?;
+        }
+    }
+    Ok(words)
+}
+
+/// The status, and the lines of out and err that aren't empty.
+fn ended(alloc: Global, status: u8, out: &[u8], err: &[u8]) -> Result<String, Memory> {
+    let mut answer = format!(in alloc; "  {status}\n")?;
+    for (word, bytes) in [("out", out), ("err", err)] {
+        if !bytes.is_empty() {
+            let text = shown(alloc, bytes)?;
+            answer.push_str(&format!(in alloc; "  {word} {text}\n")?)?;
+        }
+    }
+    Ok(answer)
+}

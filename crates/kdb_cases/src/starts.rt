@@ -1,0 +1,71 @@
+//! What a disk begins with.
+
+use disk_memory::MemDisk;
+use kdb_outside::FileName;
+use key_meta::Memory;
+use std::alloc::Global;
+use std::mem;
+
+/// Two files at most, the calls that fail, and how many go through.
+#[derive(Drop)]
+pub struct Start {
+    alloc: Global,
+    first: Option<(FileName, Vec<u8>)>,
+    second: Option<(FileName, Vec<u8>)>,
+    failing: Vec<u64>,
+    stop_after: Option<u64>,
+}
+
+impl Start {
+    pub fn new(alloc: Global) -> Start {
+        Start {
+            alloc,
+            first: None,
+            second: None,
+            failing: Vec::new(alloc),
+            stop_after: None,
+        }
+    }
+
+    /// Adds a file, as the first or the second.
+    pub fn add(&mut self, name: FileName, bytes: Vec<u8>) {
+        if self.first.is_none() {
+            self.first = Some((name, bytes));
+        } else {
+            self.second = Some((name, bytes));
+        }
+    }
+
+    pub fn fail(&mut self, calls: Vec<u64>) {
+        self.failing = calls;
+    }
+
+    pub fn stop(&mut self, last: Option<u64>) {
+        self.stop_after = last;
+    }
+
+    /// The disk, of which nothing is kept here. Of two files of one name it has the first.
+    pub fn disk(&mut self) -> Result<MemDisk, Memory> {
+        let failing = mem::replace(&mut self.failing, Vec::new(self.alloc));
+        let stop = self.stop_after.take();
+        let alloc = self.alloc;
+        match (self.first.take(), self.second.take()) {
+            (None, _) => MemDisk::new(alloc, Vec::new(alloc), failing, stop),
+            (Some(one), None) => MemDisk::new(alloc, vec![in alloc; one]?, failing, stop),
+            (Some(one), Some(two)) => disk_of_two(alloc, one, two, failing, stop),
+        }
+    }
+}
+
+fn disk_of_two(
+    alloc: Global,
+    one: (FileName, Vec<u8>),
+    two: (FileName, Vec<u8>),
+    failing: Vec<u64>,
+    stop: Option<u64>,
+) -> Result<MemDisk, Memory> {
+    if one.0 == two.0 {
+        return MemDisk::new(alloc, vec![in alloc; one]?, failing, stop);
+    }
+    MemDisk::new(alloc, vec![in alloc; one, two]?, failing, stop)
+}
