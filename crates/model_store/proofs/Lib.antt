@@ -6,3 +6,4 @@ mod Judged
 mod Kept
 mod Committing
 mod Owning
+mod Others

@@ -2,16 +2,30 @@
 //! Definitions for the crates above, with their laws.
 #![tactic(auto)]
 
-ghost use Rattle.std.specs.Prelude.{List};
+mod examples;
+
+ghost use Rattle.std.specs.Prelude.{◌≡◌, ◌≢◌, ℕ, ◌+◌, List, slice_get, Some};
+ghost use Rattle.model_history.specs.History as past;
 ghost use Rattle.model_store.specs.Store.{Store};
 ghost use Rattle.model_store.specs.Events.{Event, Answer};
 ghost use Rattle.model_store.specs.Cores.{Core, first_core, Made};
 ghost use Rattle.model_store.specs.Promise.{Runs, IsOneOwner};
+ghost use Rattle.model_store.specs.Verdicts.{blocking};
+ghost use Rattle.model_store.specs.Worlds.{World, first_world, Meant};
 
+pub use examples::{
+    a_set_without_changes_comes_to_nothing, an_unseen_mount_is_refused_first,
+    the_lowest_blocked_mount_is_told,
+};
 use storage_api::Formats;
 
 /// Whatever is asked in whatever order, by any number of handles: where each call does with what is kept as its contract says,
 /// each answer is the verdict of the definitions, the history is legal, and each record and each prepared set is theirs.
 pub fn a_store_has_one_owner<F: Formats>(_formats: &F)
     ensures { (store : Store) (calls : List (Event × Answer)) (core : Core) → Runs (Made (record { text = F.text; IsStorable = F.is_storable; BreaksAt = F.breaks_at }) store) (first_core store) calls core → IsOneOwner (record { text = F.text; IsStorable = F.is_storable; BreaksAt = F.breaks_at }) store calls core }
+{}
+
+/// The commit that blocks a mount of a handle is another handle's, since an own commit is seen as it is made.
+pub fn only_others_block<F: Formats>(_formats: &F)
+    ensures { (store : Store) (calls : List (Event × Answer)) (world : World) → Runs (Meant (record { text = F.text; IsStorable = F.is_storable; BreaksAt = F.breaks_at }) store) first_world calls world → (r m number : ℕ) (commit : past.Commit) → blocking world.history (world.fronts r) m ≡ Some (number + 1) → slice_get world.history number ≡ Some commit → commit.handle ≢ r }
 {}

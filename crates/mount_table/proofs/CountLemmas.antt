@@ -147,7 +147,7 @@ own_apart = (other_length _ _ (λ e. omega (arith, e)), (other_length _ _ (λ e.
 
 -- ---- the table
 
-is_limited : (all mounts : List Mount) → limited all ≡ Ok mounts → all ≡ mounts
+pub is_limited : (all mounts : List Mount) → limited all ≡ Ok mounts → all ≡ mounts
 is_limited all mounts = by (ltb most_mounts (length all))
   where
     by : (b : Bool) → ◌≡◌ {A = Result (List Mount) TableFault} (cond b (Err (TooMany (length all))) (Ok all)) (Ok mounts) → all ≡ mounts

@@ -6,3 +6,4 @@ pub mod TableLemmas
 pub mod ChangingLemmas
 pub mod FaultLemmas
 pub mod CountLemmas
+pub mod OwnFileLemmas

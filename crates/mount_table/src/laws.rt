@@ -1,6 +1,7 @@
 //! Laws of mount tables.
-ghost use Rattle.std.specs.Prelude.{◌≡◌, ◌+◌, List, length, Ok, Err};
+ghost use Rattle.std.specs.Prelude.{◌≡◌, ℕ, ◌+◌, nat_eq, false, List, length, slice_get, Some, Ok, Err, codes};
 ghost use Rattle.std.specs.FinMap as map;
+ghost use Rattle.std.specs.List.{starts_with};
 ghost use Rattle.model_maps.specs.KeyMap.{KeyMap};
 ghost use Rattle.mount_table.specs.Answers.{IsOfTable};
 ghost use Rattle.mount_table.specs.Entries.{entries_of};
@@ -17,4 +18,10 @@ pub fn a_table_is_refused_for_its_entries_or_their_number()
 /// A table has one mount for each entry, and one for each default mount that remains.
 pub fn a_table_has_a_mount_for_each_entry()
     ensures { (keys : KeyMap) (mounts : List Mount) → table_of keys ≡ Ok mounts → length mounts ≡ length (remaining (entries_of keys)) + length (map.entries (entries_of keys)) }
+{}
+
+/// Each mount of a table has a file of its own, and none of these files has a name that begins with `journal`.
+pub fn the_mounts_of_a_table_have_files_of_their_own()
+    ensures own { (keys : KeyMap) (mounts : List Mount) → table_of keys ≡ Ok mounts → (i j : ℕ) (one other : Mount) → slice_get mounts i ≡ Some one → slice_get mounts j ≡ Some other → one.file ≡ other.file → i ≡ j }
+    ensures free { (keys : KeyMap) (mounts : List Mount) → table_of keys ≡ Ok mounts → (i : ℕ) (mount : Mount) → slice_get mounts i ≡ Some mount → starts_with nat_eq mount.file (codes "journal") ≡ false }
 {}

@@ -1,0 +1,140 @@
+-- A history with one more commit: what it makes of keys, what it weighs, which commit is the first behind a front, and its index.
+use Rattle.std.proofs.Common.{◌≡◌, ℕ, zero, suc, ◌+◌, ◌-◌, ◌<◌, ◌≤◌, Bool, true, false, cond, List, [], ◌∷◌, ◌++◌, length, drop, take, get_or, map, slice_get, Option, Some, None, refl, sym, ap, subst, ◌∙◌, arith, nat_lt, ◌^◌, min, All}
+use Rattle.std.proofs.lemmas.List.{take_all, take-append-le}
+use Rattle.std.proofs.lemmas.Bool.{ltb-true, ltb-false}
+use Rattle.std.proofs.lemmas.List.Elements.{All-push}
+use Rattle.std.proofs.lemmas.List.Sums.{sum_by-append}
+use Rattle.std.proofs.lemmas.Option.{slice_get-map}
+use Rattle.std.specs.List.{position_from}
+use Rattle.std.specs.Option.{option_map}
+use Rattle.general_words.proofs.Lists.{some_is, at_place, take-next}
+use Rattle.model_maps.specs.KeyMap.{KeyMap}
+use Rattle.model_history.specs.Changes as changes
+use Rattle.model_history.specs.Changes.{changed, changed_by}
+use Rattle.model_history.specs.History.{Commit, replay, touches, is_among, first_after, history_weight, weight_of_commit}
+use Rattle.model_history.proofs.HistoryLemmas.{replay-append, first_after-behind, first_after-within, first_after-there}
+use Rattle.commit_log.specs.CommitView.{change_of, commit_of}
+use Rattle.commit_log.specs.Index.{IsIndex, last_of}
+use Rattle.commit_log.specs.declared.commits.Change as code
+use Rattle.commit_log.specs.declared.commits.Commit as logged
+
+-- ---- one more
+
+map-snoc : {A B : Type 0} (f : A → B) (xs : List A) (x : A) → map f (xs ++ x ∷ []) ≡ map f xs ++ f x ∷ []
+map-snoc f [] x = refl
+map-snoc f (y ∷ ys) x = ap (λ zs. f y ∷ zs) (map-snoc f ys x)
+
+changed_by-snoc : (cs : List changes.Change) (c : changes.Change) (keys : KeyMap) → changed_by (cs ++ c ∷ []) keys ≡ changed (changed_by cs keys) c
+changed_by-snoc [] c keys = refl
+changed_by-snoc (d ∷ ds) c keys = changed_by-snoc ds c (changed keys d)
+
+pub make-next : (cs : List code.Change) (i : ℕ) (c : code.Change) (keys : KeyMap) → i < length cs → c ≡ get_or cs i c → changed_by (map change_of (take (i + 1) cs)) keys ≡ changed (changed_by (map change_of (take i cs)) keys) (change_of c)
+make-next cs i c keys lt is =
+    ap (λ xs. changed_by (map change_of xs) keys) (take-next cs i c (at_place cs i c lt is))
+    ∙ ap (λ xs. changed_by xs keys) (map-snoc change_of (take i cs) c)
+    ∙ changed_by-snoc (map change_of (take i cs)) (change_of c) keys
+
+pub replay-next : (cs : List logged.Commit) (i : ℕ) (c : logged.Commit) (keys : KeyMap) → i < length cs → c ≡ get_or cs i c → replay keys (map commit_of (take (i + 1) cs)) ≡ changed_by (map change_of c.changes) (replay keys (map commit_of (take i cs)))
+replay-next cs i c keys lt is =
+    ap (λ xs. replay keys (map commit_of xs)) (take-next cs i c (at_place cs i c lt is))
+    ∙ ap (replay keys) (map-snoc commit_of (take i cs) c)
+    ∙ replay-append keys (map commit_of (take i cs)) (commit_of c ∷ [])
+
+-- ---- the first behind a front
+
+drop-at : {A : Type 0} (xs : List A) (i : ℕ) (x : A) → slice_get xs i ≡ Some x → drop i xs ≡ x ∷ drop (i + 1) xs
+drop-at [] i x there = absurd cc
+drop-at (y ∷ ys) zero x there = ap (λ z. z ∷ ys) (some_is y x there)
+drop-at (y ∷ ys) (suc i) x there = let more : suc (i + 1) ≡ suc i + 1 = omega arith in drop-at ys i x there ∙ ap (λ n. x ∷ drop n (y ∷ ys)) more
+
+module _ (history : List Commit) (mount i : ℕ) (commit : Commit) (there : slice_get history i ≡ Some commit) where
+  pub first_after-here : touches mount commit ≡ true → first_after history mount i ≡ Some (i + 1)
+  first_after-here on = ap (position_from (touches mount) (i + 1)) (drop-at history i commit there) ∙ ap (λ b. cond b (Some (i + 1)) (position_from (touches mount) (i + 1 + 1) (drop (i + 1) history))) on
+
+  pub first_after-next : touches mount commit ≡ false → first_after history mount i ≡ first_after history mount (i + 1)
+  first_after-next off = ap (position_from (touches mount) (i + 1)) (drop-at history i commit there) ∙ ap (λ b. cond b (Some (i + 1)) (position_from (touches mount) (i + 1 + 1) (drop (i + 1) history))) off
+
+-- the commit at a place, as the definitions have it
+pub commit-at : (cs : List logged.Commit) (i : ℕ) (c : logged.Commit) → i < length cs → c ≡ get_or cs i c → slice_get (map commit_of cs) i ≡ Some (commit_of c)
+commit-at cs i c lt is = slice_get-map commit_of cs i ∙ ap (option_map commit_of) (sym (at_place cs i c lt is))
+
+-- ---- the index
+
+found : {A : Type 0} (xs : List A) (i : ℕ) → i < length xs → (x : A) × (slice_get xs i ≡ Some x)
+found [] i lt = absurd (omega arith)
+found (x ∷ xs) zero lt = (x, refl)
+found (x ∷ xs) (suc i) lt = found xs i (omega arith)
+
+-- where the index has a number up to a front, no commit behind the front touches the mount
+pub nothing_behind : (history : List Commit) (last : List ℕ) (mount front : ℕ) → IsIndex history last → last_of last mount ≤ front → first_after history mount front ≡ None
+nothing_behind history last mount front index le = by (first_after history mount front) refl
+  where
+    by : (o : Option ℕ) → first_after history mount front ≡ o → first_after history mount front ≡ None
+    by None is = is
+    by (Some number) is =
+        let behind = first_after-behind history mount front number is in
+        let within = first_after-within history mount front number is in
+        let back : number - 1 + 1 ≡ number = omega arith in
+        let commit = found history (number - 1) (omega arith) in
+        let on = first_after-there history mount front (number - 1) commit.0 (is ∙ ap Some (sym back)) commit.1 in
+        let lt = index mount (number - 1) commit.0 commit.1 on in
+        absurd (omega arith)
+
+get-before : {A : Type 0} (xs : List A) (x y : A) (i : ℕ) → slice_get (xs ++ x ∷ []) i ≡ Some y → i < length xs → slice_get xs i ≡ Some y
+get-before [] x y i there lt = absurd (omega arith)
+get-before (z ∷ zs) x y zero there lt = there
+get-before (z ∷ zs) x y (suc i) there lt = get-before zs x y i there (omega arith)
+
+get-last : {A : Type 0} (xs : List A) (x y : A) (i : ℕ) → slice_get (xs ++ x ∷ []) i ≡ Some y → length xs ≤ i → (i ≡ length xs) × (x ≡ y)
+get-last [] x y zero there le = (refl, some_is x y there)
+get-last [] x y (suc i) there le = absurd cc
+get-last (z ∷ zs) x y zero there le = absurd (omega arith)
+get-last (z ∷ zs) x y (suc i) there le = let rest = get-last zs x y i there (omega arith) in (omega (arith, rest.0), rest.1)
+
+-- a commit that is pushed is the last of the mounts that it touches
+pub index-pushed : (history : List Commit) (commit : Commit) (last new : List ℕ) → IsIndex history last → ((mount : ℕ) → last_of new mount ≡ cond (is_among commit.touched mount) (length history + 1) (last_of last mount)) → IsIndex (history ++ commit ∷ []) new
+index-pushed history commit last new index marked = λ mount at other there on.
+    elim (nat_lt at (length history)) as (λ b. nat_lt at (length history) ≡ b → at < last_of new mount) [
+      | true ↦ λ lt. subst (λ n. at < n) (sym (marked mount)) (older mount at (is_among commit.touched mount) (ltb-true _ _ lt) (index mount at other (get-before history commit other at there (ltb-true _ _ lt)) on))
+      | false ↦ λ le.
+          let here = get-last history commit other at there (ltb-false _ _ le) in
+          let among : is_among commit.touched mount ≡ true = ap (touches mount) here.1 ∙ on in
+          omega (arith, marked mount ∙ ap (λ b. cond b (length history + 1) (last_of last mount)) among, here.0)
+    ] refl
+  where
+    older : (mount at : ℕ) (b : Bool) → at < length history → at < last_of last mount → at < cond b (length history + 1) (last_of last mount)
+    older mount at true lt old = omega arith
+    older mount at false lt old = old
+
+-- what was marked in a slice is what the vector has
+pub written-back : (old new : List ℕ) (n : ℕ) → length new ≡ length old → n ≡ length old → take n (new ++ drop (length new) old) ≡ new
+written-back old new n same is = take-append-le n new (drop (length new) old) (omega arith) ∙ take_all n new (omega arith)
+
+-- ---- weights
+
+pub history_weight-snoc : (history : List Commit) (commit : Commit) → history_weight (history ++ commit ∷ []) ≡ history_weight history + weight_of_commit commit
+history_weight-snoc history commit =
+    let plain : 0 + weight_of_commit commit ≡ weight_of_commit commit = omega arith in
+    sum_by-append weight_of_commit history (commit ∷ []) ∙ ap (λ n. history_weight history + n) plain
+
+pub map-pushed : (cs : List logged.Commit) (c : logged.Commit) → map commit_of (cs ++ c ∷ []) ≡ map commit_of cs ++ commit_of c ∷ []
+map-pushed cs c = map-snoc commit_of cs c
+
+-- a weight that is added within a limit is exact
+pub added : (before one weight told all limit : ℕ) → all ≡ before + one → told ≡ min one (2 ^ 64 - 1) → weight ≡ before → all ≤ limit → limit < 2 ^ 64 - 1 → (weight + told ≡ all) × (weight + told ≤ limit)
+added before one weight told all limit e is same le small = (omega arith, omega arith)
+
+-- ---- places of the index
+
+any_default : (xs : List ℕ) (n d e : ℕ) → n < length xs → get_or xs n d ≡ get_or xs n e
+any_default [] n d e h = absurd (omega arith)
+any_default (x ∷ xs) zero d e h = refl
+any_default (x ∷ xs) (suc n) d e h = any_default xs n d e (omega arith)
+
+pub covered-next : (mounts : List ℕ) (i old new : ℕ) → i < length mounts → old ≤ new → get_or mounts i 0 < new → All (λ m. m < old) (take i mounts) → All (λ m. m < new) (take (i + 1) mounts)
+covered-next mounts i old new lt le one all =
+    subst (All (λ m. m < new)) (sym (take-next mounts i (get_or mounts i 0) (at_place mounts i (get_or mounts i 0) lt (any_default mounts i 0 (get_or mounts i 0) lt))))
+    (All-push (λ m. m < new) (take i mounts) (get_or mounts i 0) (λ k d within. omega (arith, all k d within)) one)
+
+pub covered-all : (mounts : List ℕ) (i n : ℕ) → length mounts ≤ i → All (λ m. m < n) (take i mounts) → All (λ m. m < n) mounts
+covered-all mounts i n le all = subst (All (λ m. m < n)) (take_all i mounts le) all
