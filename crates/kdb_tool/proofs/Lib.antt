@@ -1,12 +1,9 @@
 pub mod StatusLemmas
 pub mod StoringLemmas
 pub mod LastingLemmas
-pub mod StatesOnce
-pub mod VerdictOnce
 pub mod AnswersOnce
 pub mod OpeningsExist
 pub mod AnswersExist
 pub mod UntoldLemmas
 pub mod EndLemmas
 pub mod AnswerLemmas
-pub mod OpeningLemmas

@@ -1,5 +1,5 @@
 -- The own mount put back among the others, and files weighed one after another.
-use Rattle.std.proofs.Common.{◌≡◌, ◌≢◌, ◌⊎◌, ℕ, zero, suc, ◌+◌, ◌<◌, ◌≤◌, nat_lt, Bool, true, false, cond, List, [], ◌∷◌, ◌++◌, length, take, drop, map as over, slice_get, Option, Some, None, inl, inr, refl, sym, ap, subst, ◌∙◌, arith}
+use Rattle.std.proofs.Common.{◌≡◌, ◌⊎◌, ℕ, zero, suc, ◌+◌, ◌<◌, ◌≤◌, nat_lt, true, false, cond, List, [], ◌∷◌, ◌++◌, length, map as over, slice_get, Some, None, inl, inr, refl, sym, ap, ◌∙◌, arith}
 use Rattle.std.specs.List.{insert, remove, sum_by}
 use Rattle.std.specs.Option.{option_or, unwrap_or}
 use Rattle.std.proofs.lemmas.Bool.{cases_lt, cond-true, cond-false, lt-ltb, le-ltb}
@@ -7,8 +7,7 @@ use Rattle.std.proofs.lemmas.List.Sums.{sum_by-cons}
 use Rattle.std.proofs.lemmas.Option.{none-some, same_Some}
 use Rattle.general_words.specs.Searches.{first_some}
 use Rattle.mounted_files.specs.Begun.{number_of}
-use Rattle.mounted_files.specs.Weighed.{added_weight, is_own, own_alone, own_weight, visible_weight, weighed, weighed_behind, weighed_file, weighed_from}
-use Rattle.mounted_files.specs.declared.files.FileState.{FileState}
+use Rattle.mounted_files.specs.Weighed.{added_weight, is_own, own_alone, own_weight, visible_weight, weighed_behind, weighed_file, weighed_from}
 use Rattle.mounted_files.specs.declared.files.MountedFile.{MountedFile}
 
 -- ---- numbers among the others

@@ -1,8 +1,8 @@
 -- How the parts of a verdict make the whole.
-use Rattle.std.proofs.Common.{◌≡◌, ◌⊎◌, ℕ, ◌≤◌, nat_lt, Bool, true, false, cond, List, [], ◌∷◌, filter_map, Option, Some, None, inl, inr, refl, sym, ap, subst, ◌∙◌}
+use Rattle.std.proofs.Common.{◌≡◌, ◌⊎◌, ℕ, ◌≤◌, nat_lt, Bool, true, false, cond, List, [], ◌∷◌, filter_map, Option, Some, None, IsSomeAnd, inl, inr, refl, sym, ap, subst, ◌∙◌}
 use Rattle.std.specs.FinMap as map
 use Rattle.std.specs.List.{AllByRecursion}
-use Rattle.std.specs.Option.{option_map, option_or, unwrap_or}
+use Rattle.std.specs.Option.{option_map, option_or}
 use Rattle.std.proofs.lemmas.Bool.{ltb-false}
 use Rattle.general_words.specs.Saturated.{saturated}
 use Rattle.kdb_outside.specs.declared.kinds.Kind.{Kind}
@@ -12,21 +12,19 @@ use Rattle.model_maps.specs.KeyMap.{KeyMap, weight, heaviest_map}
 use Rattle.set_split.specs.Involved.{involved_in}
 use Rattle.set_split.specs.Parts.{parts_of}
 use Rattle.mounted_files.specs.Files.{points_of}
-use Rattle.mounted_files.specs.Judging.{AreStorable, Breaks, Follows, IsVerdict, bad_table, done, early_refusal, late_verdict, texts_of, too_heavy, too_long}
-use Rattle.mounted_files.specs.Setting.{aside, change_at, changes, first_long_in, weight_after}
+use Rattle.mounted_files.specs.Committing.{done, texts_of}
+use Rattle.mounted_files.specs.Judging.{IsVerdict}
+use Rattle.mounted_files.specs.Preparing.{AreStorable, Breaks, Follows, Prepares, early_refusal, late_refusal, too_heavy}
+use Rattle.mounted_files.specs.Setting.{aside, change_at, changes, weight_after}
 use Rattle.mounted_files.specs.Short.{AreShort}
 use Rattle.mounted_files.specs.Sound.{AreSoundChanges}
-use Rattle.mounted_files.specs.Written.{AreWritable}
+use Rattle.mounted_files.specs.Written.{AreWritable, IsPrepared, prepared_by}
 use Rattle.mounted_files.specs.declared.changes.Change.{Change}
 use Rattle.mounted_files.specs.declared.files.MountedFile.{MountedFile}
 use Rattle.mounted_files.specs.declared.verdicts.Verdict.{Verdict}
 use Rattle.mounted_files.specs.declared.verdicts.Verdict.TheVariants.{FileTooLarge, ValueTooLong}
 use Rattle.mounted_files.proofs.LimitLemmas.{limited-from}
 use Rattle.general_words.proofs.Searches.{none_before, none_behind}
-
--- what is refused early, by what is known of a set
-abbrev pub early_by : List Name → List ℕ → KeyMap → List Change → Option Verdict
-early_by points mounts keys all = option_or (option_map {U = Verdict} (λ (long : Name × ℕ). ValueTooLong long.0 long.1) (first_long_in points mounts keys)) (first_some too_heavy all)
 
 -- nothing is refused early: no text is too long, and no file too heavy
 pub no_long : (o : Option (Name × ℕ)) (p : Option Verdict) → option_or (option_map {U = Verdict} (λ (long : Name × ℕ). ValueTooLong long.0 long.1) o) p ≡ None → o ≡ None
@@ -55,34 +53,50 @@ writable (change ∷ all) sound short light = (
   writable all sound.1 short.1 (none_behind _ _ light),
 )
 
-module _ (files : List MountedFile) (parent : Name) (keys : KeyMap) (points : List Name) (mounts : List ℕ) (all : List Change) (are : points ≡ points_of files) (involved : mounts ≡ involved_in points parent) (made : all ≡ filter_map (change_at files) (parts_of points parent keys)) where
+module _ (text : Kind → KeyMap → List ℕ) (IsStorable : Kind → KeyMap → Type 0) (BreaksAt : Kind → KeyMap → Name → Type 0) (points : List Name) (mounts : List ℕ) (keys : KeyMap) (all : List Change) where
+  -- what may be refused where there is no early refusal
+  abbrev Otherwise : Option Verdict → Type 0
+  Otherwise refusal = IsSomeAnd refusal (Breaks IsStorable BreaksAt all) ⊎ (AreStorable IsStorable all × (refusal ≡ late_refusal text all))
+
+  -- an early refusal is what a prepare refuses
+  pub prepares-early : (refusal : Verdict) → early_refusal points mounts keys all ≡ Some refusal → Prepares text IsStorable BreaksAt points mounts keys all (Some refusal)
+  prepares-early refusal e = subst (λ (o : Option Verdict). Follows o (Some refusal) (Otherwise (Some refusal))) (sym e) refl
+
+  -- so is that a format can't hold some keys
+  pub prepares-breaks : (refusal : Verdict) → early_refusal points mounts keys all ≡ None → Breaks IsStorable BreaksAt all refusal → Prepares text IsStorable BreaksAt points mounts keys all (Some refusal)
+  prepares-breaks refusal e breaks = subst (λ (o : Option Verdict). Follows o (Some refusal) (Otherwise (Some refusal))) (sym e) (inl breaks)
+
+  -- and a late refusal, where there is one
+  pub prepares-late : (late : Option Verdict) (texts : List (List ℕ × List ℕ)) → early_refusal points mounts keys all ≡ None → AreStorable IsStorable all → late ≡ late_refusal text all → texts ≡ map.entries (texts_of text all)
+      → IsPrepared text IsStorable BreaksAt points mounts keys all (prepared_by late texts)
+  prepares-late (Some refusal) texts e storable is texts_are = subst (λ (o : Option Verdict). Follows o (Some refusal) (Otherwise (Some refusal))) (sym e) (inr (storable, is))
+  prepares-late None texts e storable is texts_are = (subst (λ (o : Option Verdict). Follows o None (Otherwise None)) (sym e) (inr (storable, is)), texts_are)
+
+module _ (text : Kind → KeyMap → List ℕ) (IsStorable : Kind → KeyMap → Type 0) (BreaksAt : Kind → KeyMap → Name → Type 0) (files : List MountedFile) (parent : Name) (keys : KeyMap) (points : List Name) (mounts : List ℕ) (all : List Change)
+    (are : points ≡ points_of files) (involved : mounts ≡ involved_in points parent) (made : all ≡ filter_map (change_at files) (parts_of points parent keys)) where
   all_is : all ≡ changes files parent keys
   all_is = made ∙ ap (λ ps. filter_map (change_at files) (parts_of ps parent keys)) are
 
-  early_is : early_by points mounts keys all ≡ early_refusal files parent keys
-  early_is =
-      (λ i. early_by points (involved i) keys (all_is i))
-      ∙ ap (λ ps. early_by ps (involved_in ps parent) keys (changes files parent keys)) are
+  mounts_are : mounts ≡ involved_in (points_of files) parent
+  mounts_are = involved ∙ ap (λ ps. involved_in ps parent) are
 
-  module _ (text : Kind → KeyMap → List ℕ) (IsStorable : Kind → KeyMap → Type 0) (BreaksAt : Kind → KeyMap → Name → Type 0) (verdict : Verdict) where
-    -- an early refusal is the verdict
-    pub verdict-early : early_by points mounts keys all ≡ Some verdict → IsVerdict text IsStorable BreaksAt files parent keys verdict
-    verdict-early e =
-        subst (λ (o : Option Verdict). Follows o verdict (Breaks IsStorable BreaksAt (changes files parent keys) verdict ⊎ (AreStorable IsStorable (changes files parent keys) × (verdict ≡ late_verdict text files parent keys)))) (sym e ∙ early_is) refl
+  there : (refusal : Option Verdict) → Prepares text IsStorable BreaksAt points mounts keys all refusal → Prepares text IsStorable BreaksAt (points_of files) (involved_in (points_of files) parent) keys (changes files parent keys) refusal
+  there refusal prepares =
+      subst (λ (cs : List Change). Prepares text IsStorable BreaksAt (points_of files) (involved_in (points_of files) parent) keys cs refusal) all_is
+      (subst (λ (ms : List ℕ). Prepares text IsStorable BreaksAt (points_of files) ms keys all refusal) mounts_are
+      (subst (λ (ps : List Name). Prepares text IsStorable BreaksAt ps mounts keys all refusal) are prepares))
 
-    -- so is that a format can't hold some keys
-    pub verdict-breaks : early_by points mounts keys all ≡ None → Breaks IsStorable BreaksAt all verdict → IsVerdict text IsStorable BreaksAt files parent keys verdict
-    verdict-breaks e breaks =
-        subst (λ (o : Option Verdict). Follows o verdict (Breaks IsStorable BreaksAt (changes files parent keys) verdict ⊎ (AreStorable IsStorable (changes files parent keys) × (verdict ≡ late_verdict text files parent keys)))) (sym e ∙ early_is)
-        (inl (subst (λ (cs : List Change). Breaks IsStorable BreaksAt cs verdict) all_is breaks))
+  -- what a prepare refuses is the verdict
+  pub verdict-refused : (verdict : Verdict) → Prepares text IsStorable BreaksAt points mounts keys all (Some verdict) → IsVerdict text IsStorable BreaksAt files parent keys verdict
+  verdict-refused verdict prepares = record { refusal = Some verdict; prepares = there (Some verdict) prepares; is = refl }
 
-    -- and what comes of the others
-    pub verdict-late : early_by points mounts keys all ≡ None → AreStorable IsStorable all → (long : Option Verdict) → long ≡ first_some (too_long text) all → (full left : ℕ) → full ≡ saturated (weight_after all files) → left ≡ aside points parent keys → (texts : List (List ℕ × List ℕ)) → texts ≡ map.entries (texts_of text all) → verdict ≡ unwrap_or (option_or long (first_some bad_table all)) (done all full texts left) → IsVerdict text IsStorable BreaksAt files parent keys verdict
-    verdict-late e storable long is_long full left is_full is_left texts are_texts is =
-        subst (λ (o : Option Verdict). Follows o verdict (Breaks IsStorable BreaksAt (changes files parent keys) verdict ⊎ (AreStorable IsStorable (changes files parent keys) × (verdict ≡ late_verdict text files parent keys)))) (sym e ∙ early_is)
-        (inr (
-          subst (λ (cs : List Change). AreStorable IsStorable cs) all_is storable,
-          is
-              ∙ (λ i. unwrap_or (option_or (is_long i) (first_some bad_table all)) (done all (is_full i) (are_texts i) (is_left i)))
-              ∙ (λ i. unwrap_or (option_or (first_some (too_long text) (all_is i)) (first_some bad_table (all_is i))) (done (all_is i) (saturated (weight_after (all_is i) files)) (map.entries (texts_of text (all_is i))) (aside (are i) parent keys))),
-        ))
+  -- and else what a commit makes of the set
+  pub verdict-committed : (verdict : Verdict) (full left : ℕ) (texts : List (List ℕ × List ℕ)) → Prepares text IsStorable BreaksAt points mounts keys all None → texts ≡ map.entries (texts_of text all) → full ≡ saturated (weight_after all files) → left ≡ aside points parent keys
+      → verdict ≡ done all full texts left → IsVerdict text IsStorable BreaksAt files parent keys verdict
+  verdict-committed verdict full left texts prepares texts_are is_full is_left is = record {
+    refusal = None;
+    prepares = there None prepares;
+    is = is
+        ∙ ((λ i. done all (is_full i) (texts_are i) (is_left i))
+        ∙ (λ i. done (all_is i) (saturated (weight_after (all_is i) files)) (map.entries (texts_of text (all_is i))) (aside (are i) parent keys)));
+  }

@@ -1,13 +1,17 @@
 -- A set has one verdict.
-use Rattle.std.specs.Prelude.{◌≡◌, ◌⊎◌, ℕ, zero, List, [], ◌∷◌, ◌++◌, slice_get, Option, Some, None}
+use Rattle.std.specs.Prelude.{◌≡◌, ◌⊎◌, ℕ, zero, List, [], ◌∷◌, ◌++◌, slice_get, Option, Some, None, IsSomeAnd}
 use Rattle.std.specs.List.{AllByRecursion}
+use Rattle.std.specs.Option.{unwrap_or}
 use Rattle.std.proofs.Common.{refl, sym, ap, ap₂, ◌∙◌, subst, inl, inr}
 use Rattle.std.proofs.lemmas.Option.{same_Some}
 use Rattle.kdb_outside.specs.declared.kinds.Kind.{Kind}
 use Rattle.key_name.specs.Joining.{joined}
 use Rattle.model_names.specs.Name.{Name}
 use Rattle.model_maps.specs.KeyMap.{KeyMap}
-use Rattle.mounted_files.specs.Judging.{Breaks, AreStorable, Follows, IsVerdict, early_refusal, late_verdict}
+use Rattle.set_split.specs.Involved.{involved_in}
+use Rattle.mounted_files.specs.Files.{points_of}
+use Rattle.mounted_files.specs.Judging.{IsVerdict, committed}
+use Rattle.mounted_files.specs.Preparing.{AreStorable, Breaks, Follows, Prepares, early_refusal, late_refusal}
 use Rattle.mounted_files.specs.Setting.{changes}
 use Rattle.mounted_files.specs.declared.changes.Change.{Change}
 use Rattle.mounted_files.specs.declared.files.MountedFile.{MountedFile}
@@ -57,24 +61,29 @@ module _ (text : Kind → KeyMap → List ℕ) (IsStorable : Kind → KeyMap →
   not_both : (changed : List Change) (v : Verdict) → Breaks IsStorable BreaksAt changed v → AreStorable IsStorable changed → ⊥
   not_both changed v p can = none_breaks p.before p.change p.behind p.key (subst (AllByRecursion storable) p.stand can) p.breaks
 
-  -- what is left where there is no early refusal
-  abbrev Late : List MountedFile → Name → KeyMap → Verdict → Type 0
-  Late files parent keys verdict =
-      Breaks IsStorable BreaksAt (changes files parent keys) verdict
-      ⊎ (AreStorable IsStorable (changes files parent keys) × (verdict ≡ late_verdict text files parent keys))
+  -- what may be refused where there is no early refusal
+  abbrev Late : List Change → Option Verdict → Type 0
+  Late all refusal = IsSomeAnd refusal (Breaks IsStorable BreaksAt all) ⊎ (AreStorable IsStorable all × (refusal ≡ late_refusal text all))
 
-  late_once : (files : List MountedFile) (parent : Name) (keys : KeyMap) (v w : Verdict) → Late files parent keys v → Late files parent keys w → v ≡ w
-  late_once files parent keys v w (inl a) (inl b) = Breaks-once (changes files parent keys) v w a b
-  late_once files parent keys v w (inl a) (inr b) = absurd (not_both (changes files parent keys) v a b.0)
-  late_once files parent keys v w (inr a) (inl b) = absurd (not_both (changes files parent keys) w b a.0)
-  late_once files parent keys v w (inr a) (inr b) = a.1 ∙ sym b.1
+  late_once : (all : List Change) (r s : Option Verdict) → Late all r → Late all s → r ≡ s
+  late_once all (Some v) (Some w) (inl a) (inl b) = ap Some (Breaks-once all v w a b)
+  late_once all None s (inl a) q = absurd a
+  late_once all r None p (inl b) = absurd b
+  late_once all (Some v) s (inl a) (inr b) = absurd (not_both all v a b.0)
+  late_once all r (Some w) (inr a) (inl b) = absurd (not_both all w b a.0)
+  late_once all r s (inr a) (inr b) = a.1 ∙ sym b.1
+
+  Prepares-once : (points : List Name) (mounts : List ℕ) (keys : KeyMap) (all : List Change) (r s : Option Verdict) → Prepares text IsStorable BreaksAt points mounts keys all r → Prepares text IsStorable BreaksAt points mounts keys all s → r ≡ s
+  Prepares-once points mounts keys all r s p q = by (early_refusal points mounts keys all) p q
+    where
+      by : (early : Option Verdict) → Follows early r (Late all r) → Follows early s (Late all s) → r ≡ s
+      by None p q = late_once all r s p q
+      by (Some refusal) p q = p ∙ sym q
 
   pub Verdict-once : (files : List MountedFile) (parent : Name) (keys : KeyMap) (v w : Verdict) → IsVerdict text IsStorable BreaksAt files parent keys v → IsVerdict text IsStorable BreaksAt files parent keys w → v ≡ w
-  Verdict-once files parent keys v w p q = by_early (early_refusal files parent keys) refl
-    where
-      by_early : (early : Option Verdict) → early_refusal files parent keys ≡ early → v ≡ w
-      by_early None is = late_once files parent keys v w (rw is at p) (rw is at q)
-      by_early (Some refusal) is = (rw is at p) ∙ sym (rw is at q)
+  Verdict-once files parent keys v w p q =
+      let same = Prepares-once (points_of files) (involved_in (points_of files) parent) keys (changes files parent keys) p.refusal q.refusal p.prepares q.prepares in
+      p.is ∙ (ap (λ r. unwrap_or r (committed text files parent keys)) same ∙ sym q.is)
 
 -- for formats that can store a map, or break at a key of it
 module _ (text : Kind → KeyMap → List ℕ) (IsStorable : Kind → KeyMap → Type 0) (BreaksAt : Kind → KeyMap → Name → Type 0)
@@ -102,16 +111,21 @@ module _ (text : Kind → KeyMap → List ℕ) (IsStorable : Kind → KeyMap →
         },
       )
 
-  abbrev Otherwise : List MountedFile → Name → KeyMap → Verdict → Type 0
-  Otherwise files parent keys verdict = Breaks IsStorable BreaksAt (changes files parent keys) verdict ⊎ (AreStorable IsStorable (changes files parent keys) × (verdict ≡ late_verdict text files parent keys))
+  abbrev Otherwise : List Change → Option Verdict → Type 0
+  Otherwise all refusal = IsSomeAnd refusal (Breaks IsStorable BreaksAt all) ⊎ (AreStorable IsStorable all × (refusal ≡ late_refusal text all))
+
+  Prepares-some : (points : List Name) (mounts : List ℕ) (keys : KeyMap) (all : List Change) → (refusal : Option Verdict) × Prepares text IsStorable BreaksAt points mounts keys all refusal
+  Prepares-some points mounts keys all = by (early_refusal points mounts keys all)
+    where
+      by_late : ((verdict : Verdict) × Breaks IsStorable BreaksAt all verdict) ⊎ AreStorable IsStorable all → (refusal : Option Verdict) × Otherwise all refusal
+      by_late (inl b) = (Some b.0, inl b.1)
+      by_late (inr can) = (late_refusal text all, inr (can, refl))
+
+      by : (early : Option Verdict) → (refusal : Option Verdict) × Follows early refusal (Otherwise all refusal)
+      by (Some refusal) = (Some refusal, refl)
+      by None = by_late (Breaks-or_storable all)
 
   pub Verdict-some : (files : List MountedFile) (parent : Name) (keys : KeyMap) → (verdict : Verdict) × IsVerdict text IsStorable BreaksAt files parent keys verdict
-  Verdict-some files parent keys = by_early (early_refusal files parent keys) refl
-    where
-      by_late : ((verdict : Verdict) × Breaks IsStorable BreaksAt (changes files parent keys) verdict) ⊎ AreStorable IsStorable (changes files parent keys) → (verdict : Verdict) × Otherwise files parent keys verdict
-      by_late (inl b) = (b.0, inl b.1)
-      by_late (inr can) = (late_verdict text files parent keys, inr (can, refl))
-
-      by_early : (early : Option Verdict) → early_refusal files parent keys ≡ early → (verdict : Verdict) × IsVerdict text IsStorable BreaksAt files parent keys verdict
-      by_early (Some refusal) is = (refusal, subst (λ early. Follows early refusal (Otherwise files parent keys refusal)) (sym is) refl)
-      by_early None is = let late = by_late (Breaks-or_storable (changes files parent keys)) in (late.0, subst (λ early. Follows early late.0 (Otherwise files parent keys late.0)) (sym is) late.1)
+  Verdict-some files parent keys =
+      let some = Prepares-some (points_of files) (involved_in (points_of files) parent) keys (changes files parent keys) in
+      (unwrap_or some.0 (committed text files parent keys), record { refusal = some.0; prepares = some.1; is = refl })

@@ -1,5 +1,5 @@
 -- One more file joins those that were added, and all of them are what the files mean.
-use Rattle.std.proofs.Common.{◌≡◌, ◌⊎◌, ℕ, ◌+◌, ◌<◌, ◌≤◌, Bool, true, false, cond, List, [], ◌∷◌, ◌++◌, length, map as over, slice_get, Option, Some, Ok, inl, inr, refl, sym, ap, subst, ◌∙◌, arith}
+use Rattle.std.proofs.Common.{◌≡◌, ◌⊎◌, ℕ, ◌+◌, ◌≤◌, Bool, true, false, cond, List, [], ◌∷◌, ◌++◌, length, map as over, slice_get, Some, Ok, inl, inr, refl, sym, ap, subst, ◌∙◌, arith}
 use Rattle.std.specs.List.{insert, sum_by}
 use Rattle.std.specs.List.Sorted.{IsStrictlySortedBy}
 use Rattle.std.specs.Option.{option_map}
@@ -19,7 +19,7 @@ use Rattle.mounted_files.specs.Begins.{Begins}
 use Rattle.mounted_files.specs.Begun.{Begun, number_of, others}
 use Rattle.mounted_files.specs.Files.{AreStates, Badness, Holds, IsState, Reading, points_of}
 use Rattle.mounted_files.specs.Opening.{IsOpened, MakesTable}
-use Rattle.mounted_files.specs.Weighed.{added_weight, is_own, own_weight, visible_weight, weighed, weighed_behind, weighed_file, weighed_from}
+use Rattle.mounted_files.specs.Weighed.{added_weight, is_own, visible_weight, weighed, weighed_behind, weighed_file, weighed_from}
 use Rattle.mounted_files.specs.declared.files.FileState.{FileState}
 use Rattle.mounted_files.specs.declared.files.MountedFile.{MountedFile}
 use Rattle.mounted_files.proofs.BegunLemmas.{insert-remove, length-remove, length-weighed, number_of-other, over-insert, own_weight-insert, slice_get-insert, slice_get-remove, weighed_from-append, weighed_from-insert}

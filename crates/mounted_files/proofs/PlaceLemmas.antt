@@ -1,5 +1,5 @@
 -- The table's own mount is one of its mounts, at one place.
-use Rattle.std.proofs.Common.{◌≡◌, ◌≢◌, ◌⊎◌, ℕ, zero, suc, ◌+◌, ◌<◌, ◌≤◌, Bool, true, false, not, ◌&&◌, nat_le, cond, List, [], ◌∷◌, ◌++◌, length, get_or, map as over, fold, filter, slice_get, Option, Some, None, Result, Ok, Err, inl, inr, refl, sym, ap, subst, ◌∙◌, arith}
+use Rattle.std.proofs.Common.{◌≡◌, ◌≢◌, ◌⊎◌, ℕ, suc, ◌+◌, ◌<◌, ◌≤◌, Bool, true, false, not, ◌&&◌, nat_le, cond, List, [], ◌∷◌, ◌++◌, length, get_or, map as over, filter, slice_get, Some, Ok, Err, inl, inr, sym, ap, subst, ◌∙◌, arith}
 use Rattle.std.specs.FinMap as map
 use Rattle.std.specs.FinMap.{FinMap}
 use Rattle.std.specs.FinMap.Entries.{find}
@@ -25,10 +25,9 @@ use Rattle.model_names.proofs.OrderLemmas.{name_cmp_total, name_cmp-IsAntisymmet
 use Rattle.model_maps.specs.KeyMap.{KeyMap}
 use Rattle.mount_table.specs.Entries.{entries_of}
 use Rattle.mount_table.specs.Points.{longest_point, own_point}
-use Rattle.mount_table.specs.Reading.{mount_of, next_mount, is_taken, mounts_from}
+use Rattle.mount_table.specs.Reading.{next_mount, is_taken, mounts_from}
 use Rattle.mount_table.specs.Table.{by_point, in_order, limited, own_mount, remaining, remains, root_mounts, table_of}
 use Rattle.mount_table.specs.declared.entries.MountEntry.{MountEntry}
-use Rattle.mount_table.specs.declared.faults.TableFault.{TableFault}
 use Rattle.mount_table.specs.declared.faults.TableFault.TheVariants.{TooMany}
 use Rattle.mount_table.specs.declared.mounts.Mount.{Mount}
 use Rattle.mount_table.proofs.TableLemmas.{IsPoint-from, from_then, mount_of-next, ok_is, point_of-mount}

@@ -15,7 +15,8 @@ use Rattle.general_words.specs.Texts.{text_cmp}
 use Rattle.model_maps.specs.KeyMap.{KeyMap}
 use Rattle.general_words.proofs.Lists.{take-next, cut-next}
 use Rattle.general_words.proofs.Maps.{from_sorted-nil}
-use Rattle.mounted_files.specs.Judging.{AreStorable, Breaks, if_too_long, texts_of, too_long}
+use Rattle.mounted_files.specs.Committing.{texts_of}
+use Rattle.mounted_files.specs.Preparing.{AreStorable, Breaks, if_too_long, too_long}
 use Rattle.mounted_files.specs.Written.{AreWritten}
 use Rattle.mounted_files.specs.declared.changes.Change.{Change}
 use Rattle.mounted_files.specs.declared.verdicts.Verdict.{Verdict}

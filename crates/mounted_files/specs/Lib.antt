@@ -7,6 +7,8 @@ pub mod Weighed
 pub mod Opening
 pub mod Getting
 pub mod Setting
+pub mod Preparing
+pub mod Committing
 pub mod Judging
 pub mod Short
 pub mod Sound

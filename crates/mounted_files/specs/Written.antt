@@ -1,5 +1,5 @@
 -- What comes of writing the texts of all changes, as the code has it.
-use Rattle.std.specs.Prelude.{◌≡◌, ℕ, List, Some}
+use Rattle.std.specs.Prelude.{◌≡◌, ℕ, List, Option, Some, None}
 use Rattle.std.specs.List.{AllByRecursion}
 use Rattle.std.specs.FinMap as map
 use Rattle.kdb_outside.specs.declared.kinds.Kind.{Kind}
@@ -10,8 +10,12 @@ use Rattle.model_names.specs.WellFormed.{IsName}
 use Rattle.model_maps.specs.Entry.{Entry}
 use Rattle.model_maps.specs.Limits.{IsLimited}
 use Rattle.model_maps.specs.KeyMap.{KeyMap}
-use Rattle.mounted_files.specs.Judging.{AreStorable, Breaks, texts_of, too_long}
+use Rattle.mounted_files.specs.Committing.{texts_of}
+use Rattle.mounted_files.specs.Preparing.{AreStorable, Breaks, Prepares, too_long}
 use Rattle.mounted_files.specs.declared.changes.Change.{Change}
+use Rattle.mounted_files.specs.declared.preparing.Prepared.{Prepared}
+use Rattle.mounted_files.specs.declared.preparing.Prepared.TheVariants.{Texts, Refused}
+use Rattle.mounted_files.specs.declared.verdicts.Verdict.{Verdict}
 use Rattle.mounted_files.specs.declared.writing.Written.{Written}
 use Rattle.mounted_files.specs.declared.writing.Writing.{Writing}
 use Rattle.mounted_files.specs.declared.writing.Writing.TheVariants as writing
@@ -35,3 +39,13 @@ pub record AreWritten (text : Kind → KeyMap → List ℕ) (IsStorable : Kind �
 abbrev pub IsWriting : (Kind → KeyMap → List ℕ) → (Kind → KeyMap → Type 0) → (Kind → KeyMap → Name → Type 0) → List Change → Writing → Type 0
 IsWriting text IsStorable BreaksAt all (writing.Done written) = AreWritten text IsStorable all written
 IsWriting text IsStorable BreaksAt all (writing.Refused refusal) = Breaks IsStorable BreaksAt all refusal
+
+-- the texts, unless something is refused
+abbrev pub prepared_by : Option Verdict → List (List ℕ × List ℕ) → Prepared
+prepared_by (Some refusal) texts = Refused refusal
+prepared_by None texts = Texts texts
+
+-- what a prepare refuses, or the texts where it refuses nothing
+abbrev pub IsPrepared : (Kind → KeyMap → List ℕ) → (Kind → KeyMap → Type 0) → (Kind → KeyMap → Name → Type 0) → List Name → List ℕ → KeyMap → List Change → Prepared → Type 0
+IsPrepared text IsStorable BreaksAt points mounts keys all (Refused refusal) = Prepares text IsStorable BreaksAt points mounts keys all (Some refusal)
+IsPrepared text IsStorable BreaksAt points mounts keys all (Texts texts) = Prepares text IsStorable BreaksAt points mounts keys all None × (texts ≡ map.entries (texts_of text all))

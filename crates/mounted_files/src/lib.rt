@@ -4,13 +4,14 @@
 mod adding;
 mod causes;
 mod changes;
+mod committing;
 mod files;
 mod holding;
-mod judging;
 mod laws;
 mod mounted;
 mod opening;
 mod owned;
+mod preparing;
 mod refusals;
 mod setting;
 mod table_file;

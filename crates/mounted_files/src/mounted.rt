@@ -5,9 +5,9 @@ ghost use Rattle.mounted_files.specs.Getting.{fault_in, fault_of, got, visible_o
 ghost use Rattle.mounted_files.specs.Judging.{IsVerdict};
 ghost use Rattle.mounted_files.specs.Short.{HaveShortShadows};
 
-use crate::judging::{early_refusal, late_verdict};
+use crate::committing::commit;
+use crate::preparing::{Prepared, prepare};
 use crate::setting::{changes_of, weight_after};
-use crate::writing::{Writing, write_all};
 use crate::{Cause, FileState, GetFault, MountedFile, Verdict};
 use key_meta::Memory;
 use key_name::KeyName;
@@ -99,15 +99,12 @@ impl Mounted {
         let mounts = involved(alloc, points, parent)?;
         let parts = split(alloc, points, parent, keys)?;
         let changes = changes_of(alloc, &self.files, parts.parts.as_slice())?;
-        if let Some(refusal) = early_refusal(points, mounts.as_slice(), keys, &changes)? {
-            return Ok(refusal);
-        }
-        match write_all(alloc, formats, &changes)? {
-            Writing::Done { written } => {
+        match prepare(alloc, formats, points, mounts.as_slice(), keys, &changes)? {
+            Prepared::Texts { files } => {
                 let weight = weight_after(&changes, &self.files);
-                late_verdict(alloc, &changes, weight, written, parts.aside)
+                Ok(commit(&changes, weight, files, parts.aside))
             }
-            Writing::Refused { refusal } => Ok(refusal),
+            Prepared::Refused { refusal } => Ok(refusal),
         }
     }
 }

@@ -6,7 +6,7 @@ ghost use Rattle.key_name.specs.Joining.{joined};
 ghost use Rattle.model_names.specs.declared.namespaces.Namespace.TheVariants.{Cascading};
 ghost use Rattle.model_names.specs.WellFormed.{IsName};
 ghost use Rattle.general_words.specs.Texts.{text_cmp};
-ghost use Rattle.mounted_files.specs.Judging.{if_too_long};
+ghost use Rattle.mounted_files.specs.Preparing.{if_too_long};
 ghost use Rattle.mounted_files.specs.Written.{AreWritable, IsWriting};
 ghost use Rattle.mounted_files.specs.declared.verdicts.Verdict.TheVariants.{NotStorable};
 

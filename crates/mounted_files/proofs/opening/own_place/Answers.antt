@@ -1,5 +1,5 @@
 -- The first mount at the own point is the own mount, and there is one.
-use Rattle.std.proofs.Common.{◌≡◌, ◌<◌, length, map as over, slice_get, ap, sym, ◌∙◌, arith}
+use Rattle.std.proofs.Common.{◌≡◌, ◌<◌, length, ap, sym, ◌∙◌, arith}
 use Rattle.std.proofs.lemmas.List.{length-map}
 use Rattle.std.proofs.lemmas.Option.{slice_get_within}
 use Rattle.mount_table.specs.Table.{own_mount}

@@ -1,14 +1,13 @@
 -- The keys of the file make a table, or refuse the opening as the file does.
-use Rattle.std.proofs.Common.{◌≡◌, ℕ, List, Result, Ok, Err, MatchResult, subst, sym}
+use Rattle.std.proofs.Common.{◌≡◌, ℕ, List, subst, sym}
 use Rattle.kdb_outside.specs.declared.kinds.Kind.TheVariants.{Dump}
 use Rattle.model_names.specs.Name.{Name}
 use Rattle.model_maps.specs.KeyMap.{KeyMap}
 use Rattle.mount_table.specs.Points.{own_point}
 use Rattle.mount_table.specs.Table.{table_of}
-use Rattle.mount_table.specs.declared.mounts.Mount.{Mount}
 use Rattle.mounted_files.specs.Files.{Badness, Holds, IsCause, Reading}
 use Rattle.mounted_files.specs.Holding.{IsHolding}
-use Rattle.mounted_files.specs.Opening.{MakesTable, RefusesOpening}
+use Rattle.mounted_files.specs.Opening.{RefusesOpening}
 use Rattle.mounted_files.specs.Refusing.{IsRefusalOf, RefusesTable}
 use Rattle.mounted_files.specs.declared.causes.Cause.{Cause}
 use Rattle.mounted_files.specs.declared.causes.Cause.TheVariants as cause

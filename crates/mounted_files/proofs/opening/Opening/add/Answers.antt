@@ -1,5 +1,5 @@
 -- The file of the next mount joins those before it, weighed behind them.
-use Rattle.std.proofs.Common.{◌≡◌, ◌+◌, ◌≤◌, ℕ, List, ◌∷◌, [], ◌++◌, length, take, map as over, slice_get, Some, refl, sym, ap, subst, ◌∙◌, arith}
+use Rattle.std.proofs.Common.{◌≡◌, ◌≤◌, ℕ, List, ◌∷◌, [], ◌++◌, length, take, map as over, slice_get, Some, refl, sym, ap, subst, ◌∙◌, arith}
 use Rattle.std.specs.List.{remove, sum_by}
 use Rattle.std.proofs.lemmas.List.Sums.{sum_by_push}
 use Rattle.std.proofs.lemmas.Option.{same_Some}
@@ -10,7 +10,7 @@ use Rattle.mounted_files.specs.Begins.{Begins}
 use Rattle.mounted_files.specs.Begun.{Begun, number_of, others}
 use Rattle.mounted_files.specs.Files.{IsState}
 use Rattle.mounted_files.specs.Short.{HasShortShadow, HaveShortShadows}
-use Rattle.mounted_files.specs.Weighed.{added_weight, visible_weight, weighed_file}
+use Rattle.mounted_files.specs.Weighed.{added_weight}
 use Rattle.mounted_files.specs.declared.files.MountedFile.{MountedFile}
 use Rattle.mounted_files.proofs.BegunLemmas.{slice_get-remove}
 use Rattle.mounted_files.proofs.OpeningLemmas.{begins-more}

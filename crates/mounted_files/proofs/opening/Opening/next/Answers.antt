@@ -1,6 +1,5 @@
 -- The next of the others has its number in the table.
 use Rattle.std.proofs.Common.{◌≡◌, length, slice_get, sym, ap, ◌∙◌, arith}
-use Rattle.std.specs.List.{remove}
 use Rattle.mounted_files.specs.Begun.{Begun, number_of, others}
 use Rattle.mounted_files.proofs.BegunLemmas.{slice_get-remove}
 use Rattle.mounted_files.proofs.opening.Opening.next.Goals as goal

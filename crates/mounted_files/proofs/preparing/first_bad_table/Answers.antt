@@ -1,9 +1,9 @@
 -- The first change that is refused tells the refusal.
 use Rattle.std.proofs.Common.{sym, ◌∙◌}
-use Rattle.mounted_files.specs.Judging.{bad_table}
+use Rattle.mounted_files.specs.Preparing.{bad_table}
 use Rattle.general_words.proofs.Searches.{first_some-found, first_some-next}
 use Rattle.general_words.proofs.Lists.{at_place}
-use Rattle.mounted_files.proofs.judging.first_bad_table.Goals as goal
+use Rattle.mounted_files.proofs.preparing.first_bad_table.Goals as goal
 
 pub returns-in-Some : goal.returns-in-Some
 returns-in-Some c =

@@ -4,12 +4,12 @@ use Rattle.std.proofs.lemmas.Bool.{cond-true, cond-false, lt-ltb, le-ltb}
 use Rattle.general_words.specs.Saturated.{saturated}
 use Rattle.model_names.specs.Name.{Name}
 use Rattle.model_maps.specs.KeyMap.{weight, heaviest_map}
-use Rattle.mounted_files.specs.Judging.{too_heavy}
+use Rattle.mounted_files.specs.Preparing.{too_heavy}
 use Rattle.mounted_files.specs.declared.changes.Change.{Change}
 use Rattle.mounted_files.specs.declared.verdicts.Verdict.TheVariants.{FileTooLarge}
 use Rattle.general_words.proofs.Searches.{first_some-found, first_some-next}
 use Rattle.general_words.proofs.Lists.{at_place}
-use Rattle.mounted_files.proofs.judging.first_too_heavy.Goals as goal
+use Rattle.mounted_files.proofs.preparing.first_too_heavy.Goals as goal
 
 over-limit : (n w : ℕ) → w ≡ saturated n → heaviest_map < w → heaviest_map < n
 over-limit n w is lt = omega arith
