@@ -4,10 +4,12 @@
 
 mod chunked_maps;
 mod chunks;
+mod copies;
 mod iters;
 mod ranges;
 #[cfg(test)]
 mod tests;
 
 pub use chunked_maps::ChunkedMap;
+pub use copies::Copied;
 pub use iters::ChunkedIter;

@@ -1,7 +1,8 @@
 //! A map in chunks beside a sorted one: both have the same entries after each change.
 
-use chunked_map::ChunkedMap;
+use chunked_map::{ChunkedMap, Copied};
 use sorted_map::SortedMap;
+use std::alloc::AllocError;
 use std::test::Fail;
 
 /// A number that looks as if it were drawn by chance, after another one.
@@ -82,5 +83,39 @@ fn takes_out_ranges_at_both_ends(rt: HostRuntime) -> Result<(), Fail> {
             assert_eq!(rt; map.len(), left);
         }
     }
+    Ok(())
+}
+
+/// A number that is copied with its key.
+#[derive(Debug, Drop, PartialEq, Eq)]
+struct Count {
+    number: u64,
+}
+
+impl Copied<u64> for Count {
+    fn copied(key: &u64, value: &Count) -> Result<(u64, Count), AllocError> {
+        let count = Count {
+            number: value.number,
+        };
+        Ok((*key, count))
+    }
+}
+
+#[test]
+fn has_all_of_two_maps_and_leaves_a_copy_as_it_was(rt: HostRuntime) -> Result<(), Fail> {
+    let mut map = ChunkedMap::new(rt.alloc());
+    let mut other = ChunkedMap::new(rt.alloc());
+    for key in 0..150u64 {
+        map.insert(key * 2, Count { number: key })?;
+        other.insert(key * 3, Count { number: 1000 })?;
+    }
+    let copied = map.copy()?;
+    map.insert_all(&other)?;
+    assert_eq!(rt; map.len(), 250);
+    assert_eq!(rt; map.get(&6), Some(&Count { number: 1000 }));
+    assert_eq!(rt; map.get(&4), Some(&Count { number: 2 }));
+    assert_eq!(rt; map.get(&447), Some(&Count { number: 1000 }));
+    assert_eq!(rt; copied.len(), 150);
+    assert_eq!(rt; copied.get(&6), Some(&Count { number: 3 }));
     Ok(())
 }

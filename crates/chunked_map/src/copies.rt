@@ -1,0 +1,45 @@
+//! Copies of maps in chunks, and maps put together.
+ghost use Rattle.std.specs.Prelude.{◌≡◌, T, IfOk, OnOk, OnErr};
+ghost use Rattle.std.specs.FinMap.{is_sorted};
+ghost use Rattle.sorted_map.specs.Merge.{put_all};
+
+use crate::ChunkedMap;
+use std::alloc::AllocError;
+
+/// A value that can be copied together with its key, into memory of their own.
+pub trait Copied<K>: Sized {
+    fn copied(key: &K, value: &Self) -> Result<(K, Self), AllocError>
+        ensures { IfOk result (λ entry. entry ≡ (key.now, value.now)) };
+}
+
+impl<K: Ord + Drop, V: Copied<K> + Drop> ChunkedMap<K, V> {
+    /// The same entries again.
+    pub fn copy(&self) -> Result<ChunkedMap<K, V>, AllocError>
+        ensures copied { IfOk result (λ copied. copied ≡ self.now) }
+        ensures sorted { T (is_sorted K.cmp self.now) }
+    {
+        let mut copied = ChunkedMap::new(self.allocator());
+        for (key, value) in self.iter() {
+            let (key, value) = V::copied(key, value)?;
+            copied.insert(key, value)?;
+        }
+        Ok(copied)
+    }
+
+    /// Gives each key of another map the value that it has there. A key that is there stays.
+    pub fn insert_all(&mut self, other: &ChunkedMap<K, V>) -> Result<(), AllocError>
+        ensures ok { OnOk result (self.new ≡ put_all K.cmp other.now self.old) }
+        ensures err { OnErr result (self.new ≡ self.old) }
+        ensures sorted { T (is_sorted K.cmp self.old) }
+        ensures other_sorted { T (is_sorted K.cmp other.now) }
+    {
+        let entries = other.iter();
+        let mut all = self.copy()?;
+        for (key, value) in entries {
+            let (key, value) = V::copied(key, value)?;
+            all.insert(key, value)?;
+        }
+        *self = all;
+        Ok(())
+    }
+}
