@@ -1,5 +1,5 @@
 -- What names the texts of a dump spell, and what they weigh.
-use Rattle.std.proofs.Common.{◌≡◌, ◌≢◌, ℕ, List, ◌∷◌, ◌++◌, Some, refl, sym, ap, arith}
+use Rattle.std.proofs.Common.{◌≡◌, ◌≢◌, ℕ, List, ◌∷◌, ◌++◌, Some, sym, ap, arith}
 use Rattle.std.specs.Str.{IsUtf8}
 use Rattle.std.proofs.lemmas.Str.{encode_ascii, IsUtf8-past_char}
 use Rattle.model_names.specs.declared.namespaces.Namespace.TheVariants.{Cascading}
