@@ -7,6 +7,10 @@ use std::test::Fail;
 fn tells_formats_by_their_words(rt: HostRuntime) -> Result<(), Fail> {
     for (word, kind) in [
         ("dump", Some(Kind::Dump)),
+        ("simpleini", Some(Kind::SimpleIni)),
+        ("hosts", Some(Kind::Hosts)),
+        ("ini", None),
+        ("host", None),
         ("Dump", None),
         ("dump ", None),
         ("dum", None),
@@ -14,6 +18,8 @@ fn tells_formats_by_their_words(rt: HostRuntime) -> Result<(), Fail> {
     ] {
         assert_eq!(rt; Kind::of(word), kind, "{word:?}");
     }
-    assert_eq!(rt; Kind::Dump.word(), "dump");
+    for kind in [Kind::Dump, Kind::SimpleIni, Kind::Hosts] {
+        assert_eq!(rt; Kind::of(kind.word()), Some(kind));
+    }
     Ok(())
 }
