@@ -6,6 +6,10 @@ mod dumps;
 #[cfg(test)]
 mod formats;
 #[cfg(test)]
+mod hosts_files;
+#[cfg(test)]
+mod ini_files;
+#[cfg(test)]
 mod parts;
 #[cfg(test)]
 mod tables;

@@ -75,6 +75,12 @@ const DEFAULTS: &str =
 const ONE_APP: &str =
     "spec:/ spec.ecf dump\ndir:/ dir.ecf dump\nuser:/ user.ecf dump\nuser:/sw/app app.ecf dump\nsystem:/ system.ecf dump\nsystem:/elektra elektra.ecf dump\n";
 
+const HOSTS_AS_INI: &str =
+    "spec:/ spec.ecf dump\ndir:/ dir.ecf dump\nuser:/ user.ecf dump\nsystem:/ system.ecf dump\nsystem:/elektra elektra.ecf dump\nsystem:/hosts hosts simpleini\n";
+
+const HOSTS_AS_HOSTS: &str =
+    "spec:/ spec.ecf dump\ndir:/ dir.ecf dump\nuser:/ user.ecf dump\nsystem:/ system.ecf dump\nsystem:/elektra elektra.ecf dump\nsystem:/hosts hosts hosts\n";
+
 const OWN_USER: &str =
     "spec:/ spec.ecf dump\ndir:/ dir.ecf dump\nuser:/ mine.ecf dump\nuser:/sw/app app.ecf dump\nsystem:/ system.ecf dump\nsystem:/elektra elektra.ecf dump\n";
 
@@ -99,6 +105,17 @@ fn tables_have_the_default_mounts_and_those_of_the_entries(rt: HostRuntime) -> R
         ("user:\\/z/path", "user.ecf", "file twice user:/z"),
     ] {
         put(rt.alloc(), &mut keys, path, value)?;
+        assert_eq!(rt; answer(rt.alloc(), &keys)?.as_str(), want);
+    }
+    Ok(())
+}
+
+#[test]
+fn mounts_have_the_formats_of_their_words(rt: HostRuntime) -> Result<(), Fail> {
+    let mut keys = KeySet::new(rt.alloc());
+    put(rt.alloc(), &mut keys, "system:\\/hosts/path", "hosts")?;
+    for (word, want) in [("simpleini", HOSTS_AS_INI), ("hosts", HOSTS_AS_HOSTS)] {
+        put(rt.alloc(), &mut keys, "system:\\/hosts/plugin", word)?;
         assert_eq!(rt; answer(rt.alloc(), &keys)?.as_str(), want);
     }
     Ok(())
