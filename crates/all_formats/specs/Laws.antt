@@ -8,13 +8,17 @@ use Rattle.model_formats.specs.Format.{IsLawful}
 use Rattle.model_formats.specs.Holding.{EachHas, LacksFirst, IsKeywise}
 use Rattle.model_formats.proofs.HoldingLemmas.{EachHas-or_lacks, EachHas-lacks_nowhere, EachHas-keywise, LacksFirst-once, LacksFirst-key}
 use Rattle.model_dump.proofs.Lawful.{dump-lawful}
+use Rattle.model_ini.proofs.Lawful.{ini-lawful}
+use Rattle.model_hosts.proofs.Lawful.{hosts-lawful}
 use Rattle.kdb_outside.specs.declared.kinds.Kind.{Kind}
-use Rattle.kdb_outside.specs.declared.kinds.Kind.TheVariants.{Dump}
+use Rattle.kdb_outside.specs.declared.kinds.Kind.TheVariants.{Dump, SimpleIni, Hosts}
 use Rattle.all_formats.specs.Meanings.{format, Reads, IsBadAt, Holds, IsStorable, BreaksAt, is_keywise}
 
 -- each format is lawful
 pub lawful : (kind : Kind) → IsLawful (format kind)
 lawful Dump = dump-lawful
+lawful SimpleIni = ini-lawful
+lawful Hosts = hosts-lawful
 
 pub Reads-or_bad : (kind : Kind) (bytes : List ℕ) → ((keys : KeyMap) × Reads kind bytes keys) ⊎ ((line : ℕ) × IsBadAt kind bytes line)
 Reads-or_bad kind bytes = (lawful kind).reads_or_bad bytes

@@ -6,12 +6,16 @@ use Rattle.model_maps.specs.KeyMap.{KeyMap}
 use Rattle.model_formats.specs.Format as formats
 use Rattle.model_formats.specs.Format.{Format}
 use Rattle.model_dump.specs.DumpFormat.{dump}
+use Rattle.model_ini.specs.Text.{ini}
+use Rattle.model_hosts.specs.Text.{hosts}
 use Rattle.kdb_outside.specs.declared.kinds.Kind.{Kind}
-use Rattle.kdb_outside.specs.declared.kinds.Kind.TheVariants.{Dump}
+use Rattle.kdb_outside.specs.declared.kinds.Kind.TheVariants.{Dump, SimpleIni, Hosts}
 
 -- the format of a kind
 abbrev pub format : Kind → Format
 format Dump = dump
+format SimpleIni = ini
+format Hosts = hosts
 
 -- bytes read as a map
 abbrev pub Reads : Kind → List ℕ → KeyMap → Type 0

@@ -68,6 +68,8 @@ impl Formats for AllFormats {
     {
         match kind {
             Kind::Dump => dump_storage::read(alloc, bytes),
+            Kind::SimpleIni => ini_storage::read(alloc, bytes),
+            Kind::Hosts => hosts_storage::read(alloc, bytes),
         }
     }
 
@@ -77,6 +79,8 @@ impl Formats for AllFormats {
     {
         match kind {
             Kind::Dump => dump_storage::write(alloc, keys),
+            Kind::SimpleIni => ini_storage::write(alloc, keys),
+            Kind::Hosts => hosts_storage::write(alloc, keys),
         }
     }
 
@@ -84,7 +88,8 @@ impl Formats for AllFormats {
         ensures { result ≡ is_keywise kind }
     {
         match kind {
-            Kind::Dump => true,
+            Kind::Dump | Kind::SimpleIni => true,
+            Kind::Hosts => false,
         }
     }
 }

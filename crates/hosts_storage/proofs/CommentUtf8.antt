@@ -1,11 +1,11 @@
 -- The comment of a line that is a text is one too.
-use Rattle.std.proofs.Common.{◌≡◌, ◌⊎◌, ℕ, ◌==◌, cond, true, false, List, [], ◌∷◌, ◌++◌, Option, None, Some, refl, sym, ap, subst, ◌∙◌, inl, inr, lit<}
+use Rattle.std.proofs.Common.{◌≡◌, ◌⊎◌, ℕ, ◌==◌, List, [], ◌∷◌, ◌++◌, Option, None, Some, refl, sym, ap, subst, inl, inr, lit<}
 use Rattle.std.specs.List.{list_any}
 use Rattle.std.specs.Str.{IsUtf8}
 use Rattle.std.proofs.lemmas.Bool.{cond_both, eqb-true}
 use Rattle.model_lines.specs.Lines.{without_return}
 use Rattle.model_lines.proofs.Utf8Lemmas.{utf8-before, utf8-behind}
-use Rattle.model_hosts.specs.Line.{cut_at_hash, words, Meaning, Skipped, Comment, Gives, Unreadable, meaning_of, meaning}
+use Rattle.model_hosts.specs.Line.{cut_at_hash, words, Meaning, Comment, Unreadable, meaning_of, meaning}
 
 -- a line is as it was, or had a carriage return at its end
 line-ends : (line : List ℕ) → (without_return line ≡ line) ⊎ (line ≡ without_return line ++ 13 ∷ [])

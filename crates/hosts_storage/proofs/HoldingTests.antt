@@ -1,7 +1,7 @@
 -- Whether a key can be held, by its parts.
 use Rattle.std.proofs.Common.{◌≡◌, ℕ, ◌==◌, ◌&&◌, ◌≤◌, Bool, true, false, List, [], ◌∷◌, length, Option, None, Some, refl, sym, ap, subst, ◌∙◌, arith, inl, inr}
 use Rattle.std.specs.Bool.{Decides}
-use Rattle.std.specs.Cmp.Lexicographic.{pointwise, pointwise_decides, bytes_decides}
+use Rattle.std.specs.Cmp.Lexicographic.{pointwise_decides, bytes_decides}
 use Rattle.std.specs.FinMap as map
 use Rattle.std.specs.List.{AllByRecursion}
 use Rattle.std.specs.Option.{option_map}
@@ -16,7 +16,7 @@ use Rattle.model_maps.specs.KeyMap.{KeyMap}
 use Rattle.model_lines.proofs.MapFacts.{entries-empty}
 use Rattle.key_meta.specs.Same.{same_item, same_meta}
 use Rattle.model_hosts.specs.Comments.{comments, texts_of}
-use Rattle.model_hosts.specs.Keys.{family, host_name, alias_name, IsWord, IsOneLine, IsHostKey, IsAliasKey, IsHostsKey}
+use Rattle.model_hosts.specs.Keys.{family, host_name, IsWord, IsOneLine, IsHostsKey}
 use Rattle.hosts_storage.specs.Holding.{HasComments, IsHost, IsAlias}
 
 -- what is decided may be said in other words

@@ -1,19 +1,17 @@
 -- What the code puts is what a line adds, and a line that it can't put adds nothing.
-use Rattle.std.proofs.Common.{◌≡◌, ℕ, ◌<◌, ◌≤◌, Bool, true, false, List, [], length, None, refl, sym, ap, subst, ◌∙◌}
+use Rattle.std.proofs.Common.{◌≡◌, ℕ, ◌<◌, ◌≤◌, Bool, true, false, List, [], length, None, sym, ap, subst, ◌∙◌}
 use Rattle.std.specs.FinMap as map
 use Rattle.std.specs.List.{AllByRecursion}
 use Rattle.std.specs.Str.{IsUtf8}
 use Rattle.std.specs.Prelude.{Option}
 use Rattle.model_names.specs.ArrayPart.{last_index}
-use Rattle.model_names.specs.Name.{Name}
 use Rattle.model_names.specs.WellFormed.{IsName}
-use Rattle.model_maps.specs.Entry.{Entry, IsValue}
-use Rattle.model_maps.specs.KeyMap.{KeyMap, weight, heaviest_map}
-use Rattle.model_hosts.specs.Line.{Meaning, Comment, meaning}
-use Rattle.model_hosts.specs.Keys.{family, host_name, alias_name}
+use Rattle.model_maps.specs.Entry.{IsValue}
+use Rattle.model_maps.specs.KeyMap.{KeyMap}
+use Rattle.model_hosts.specs.Line.{Comment, meaning}
+use Rattle.model_hosts.specs.Keys.{family, host_name}
 use Rattle.model_hosts.specs.Hosts.{Progress, with_own, host_entry, AddsHost, Does, Step}
-use Rattle.hosts_storage.specs.ProgressView.{progress_of, IsSound, LeadsBy, WithComment, IsPut, PutsHost}
-use Rattle.hosts_storage.specs.WeighedView.{IsWeighed}
+use Rattle.hosts_storage.specs.ProgressView.{progress_of, LeadsBy, WithComment, IsPut, PutsHost}
 use Rattle.hosts_storage.specs.declared.progress.Progress as code
 use Rattle.hosts_storage.proofs.CommentUtf8.{comment-utf8}
 use Rattle.hosts_storage.proofs.WeighedLemmas.{with_aliases-of}

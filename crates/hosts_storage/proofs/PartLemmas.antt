@@ -1,5 +1,5 @@
 -- The parts of a name by their places.
-use Rattle.std.proofs.Common.{◌≡◌, ℕ, zero, suc, ◌+◌, ◌-◌, ◌<◌, List, [], ◌∷◌, length, Option, None, Some, refl, sym, ap, ◌∙◌, arith}
+use Rattle.std.proofs.Common.{◌≡◌, ℕ, zero, suc, ◌+◌, ◌-◌, ◌<◌, List, [], ◌∷◌, length, None, Some, refl, arith}
 use Rattle.std.specs.Prelude.{slice_get}
 use Rattle.model_names.specs.Name.{Part}
 use Rattle.model_hosts.specs.Text.{last_part}

@@ -1,12 +1,12 @@
 -- Keys that were put among others, with what they weigh, and the aliases of a host.
-use Rattle.std.proofs.Common.{◌≡◌, ◌≢◌, ◌⊎◌, ℕ, ◌+◌, ◌≤◌, cond, Bool, true, false, List, [], ◌∷◌, length, Option, None, Some, refl, sym, ap, subst, ◌∙◌, arith, inl, inr}
+use Rattle.std.proofs.Common.{◌≡◌, ◌⊎◌, cond, true, false, List, [], ◌∷◌, Some, refl, sym, ap, ◌∙◌, inl, inr}
 use Rattle.std.specs.FinMap as finite
 use Rattle.std.specs.Ordering.{eq_by_cmp}
 use Rattle.general_words.proofs.Lookups.{tied_or_not}
 use Rattle.model_names.specs.Name.{Name, Part}
 use Rattle.model_names.specs.Order.{name_cmp}
 use Rattle.model_names.proofs.OrderLemmas.{name_cmp_total, name_cmp-IsAntisymmetric}
-use Rattle.model_maps.specs.Entry.{Entry, plain_entry}
+use Rattle.model_maps.specs.Entry.{Entry}
 use Rattle.model_maps.specs.KeyMap.{KeyMap}
 use Rattle.model_hosts.specs.Keys.{host_name}
 use Rattle.model_hosts.specs.Hosts.{with_aliases}

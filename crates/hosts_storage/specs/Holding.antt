@@ -1,5 +1,5 @@
 -- What a key of a hosts file must have, by its parts. (This project's own.)
-use Rattle.std.specs.Prelude.{◌≡◌, ◌≤◌, List, length, [], Some}
+use Rattle.std.specs.Prelude.{◌≡◌, ◌≤◌, length, [], Some}
 use Rattle.std.specs.FinMap as map
 use Rattle.std.specs.List.{AllByRecursion}
 use Rattle.model_names.specs.ArrayPart.{last_index}

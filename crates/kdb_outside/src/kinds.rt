@@ -8,6 +8,10 @@ ghost use Rattle.kdb_outside.specs.Kind.{kind_word, kind_of};
 pub enum Kind {
     /// Each key with its value and its metadata.
     Dump,
+    /// Each key with its value, on a line of its own.
+    SimpleIni,
+    /// Addresses, each with a host, its aliases and comments.
+    Hosts,
 }
 
 impl Kind {
@@ -19,6 +23,8 @@ impl Kind {
     {
         match word {
             "dump" => Some(Kind::Dump),
+            "simpleini" => Some(Kind::SimpleIni),
+            "hosts" => Some(Kind::Hosts),
             _ => None,
         }
     }
@@ -30,6 +36,8 @@ impl Kind {
     {
         match self {
             Kind::Dump => "dump",
+            Kind::SimpleIni => "simpleini",
+            Kind::Hosts => "hosts",
         }
     }
 }

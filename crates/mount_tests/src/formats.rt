@@ -2,7 +2,7 @@ use all_formats::AllFormats;
 use kdb_outside::Kind;
 use std::alloc::{AllocError, Global};
 use std::test::Fail;
-use storage_api::Formats;
+use storage_api::{Formats, ReadRefusal};
 
 #[test]
 fn a_dump_is_read_and_written_again(rt: HostRuntime) -> Result<(), Fail> {
@@ -13,8 +13,24 @@ fn a_dump_is_read_and_written_again(rt: HostRuntime) -> Result<(), Fail> {
     Ok(())
 }
 
+#[test]
+fn files_go_by_keys_but_for_hosts(rt: HostRuntime) -> Result<(), Fail> {
+    assert!(rt; AllFormats.keywise(Kind::SimpleIni));
+    assert!(rt; !AllFormats.keywise(Kind::Hosts));
+    Ok(())
+}
+
+/// The line at which some bytes are bad, if they read as no map.
+pub fn bad_line(alloc: Global, kind: Kind, bytes: &[u8]) -> Result<Option<u64>, AllocError> {
+    match AllFormats.read(alloc, kind, bytes) {
+        Ok(_) => Ok(None),
+        Err(ReadRefusal::BadFile { line }) => Ok(Some(line)),
+        Err(ReadRefusal::Memory) => Err(AllocError),
+    }
+}
+
 /// The text of what some bytes read as. No reading counts as want of memory.
-fn written_again(alloc: Global, kind: Kind, bytes: &[u8]) -> Result<Vec<u8>, AllocError> {
+pub fn written_again(alloc: Global, kind: Kind, bytes: &[u8]) -> Result<Vec<u8>, AllocError> {
     let Ok(keys) = AllFormats.read(alloc, kind, bytes) else {
         return Err(AllocError);
     };

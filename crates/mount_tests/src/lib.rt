@@ -4,3 +4,7 @@
 
 #[cfg(test)]
 mod formats;
+#[cfg(test)]
+mod hosts_files;
+#[cfg(test)]
+mod ini_files;

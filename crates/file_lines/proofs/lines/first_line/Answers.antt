@@ -1,5 +1,5 @@
 -- The line ends at its line feed, or with the file.
-use Rattle.std.proofs.Common.{◌≡◌, ◌∷◌, ◌-◌, ◌+◌, ℕ, List, length, take, drop, get_or, ap, sym, ◌∙◌, arith, subst}
+use Rattle.std.proofs.Common.{◌∷◌, ◌+◌, take, ap, sym, ◌∙◌, arith, subst}
 use Rattle.std.specs.List.{AllByRecursion}
 use Rattle.std.proofs.lemmas.List.{take_rest, take_all}
 use Rattle.model_lines.specs.Lines.{lines}

@@ -1,5 +1,5 @@
 -- No line feed was passed.
-use Rattle.std.proofs.Common.{ℕ, ◌≢◌, take}
+use Rattle.std.proofs.Common.{◌≢◌, take}
 use Rattle.std.specs.List.{AllByRecursion}
 use Rattle.file_lines.proofs.lines.first_line.Given as goal
 

@@ -1,4 +1,4 @@
-use Rattle.std.proofs.Common.{◌≡◌, ◌==◌, ℕ, ◌+◌, ◌-◌, List, [], ◌∷◌, false, length, refl, sym, ◌∙◌, arith, eqb-true, true}
+use Rattle.std.proofs.Common.{◌≡◌, ◌==◌, ℕ, ◌+◌, ◌-◌, List, [], ◌∷◌, false, length, refl, sym, ◌∙◌, arith, eqb-true}
 use Rattle.std.proofs.lemmas.Bool.{eqb-false}
 use Rattle.model_lines.specs.Lines.{without_return as without_its_return}
 use Rattle.file_lines.proofs.CutLemmas.{without_return-dropped, without_return-kept}

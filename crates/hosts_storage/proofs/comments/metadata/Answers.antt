@@ -1,5 +1,5 @@
 -- One text more was taken away.
-use Rattle.std.proofs.Common.{◌≡◌, ◌+◌, ◌≤◌, ◌∷◌, [], ◌++◌, length, rules, sym, ap, subst, ◌∙◌, arith, append_assoc}
+use Rattle.std.proofs.Common.{◌≡◌, ◌+◌, ◌≤◌, ◌∷◌, [], ◌++◌, length, rules, sym, ap, subst, ◌∙◌, append_assoc}
 use Rattle.std.specs.FinMap as map
 use Rattle.model_names.specs.ArrayPart.{last_index}
 use Rattle.model_maps.specs.Entry.{longest_meta_name}

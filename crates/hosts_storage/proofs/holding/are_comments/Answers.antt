@@ -1,5 +1,5 @@
 use Rattle.hosts_storage.proofs.HoldingTests.{comments-decided}
-use Rattle.std.proofs.Common.{◌≡◌, ◌≤◌, length, rules, subst, sym}
+use Rattle.std.proofs.Common.{◌≤◌, length, rules, subst}
 use Rattle.std.specs.List.{AllByRecursion}
 use Rattle.model_hosts.specs.Keys.{IsOneLine}
 use Rattle.model_names.specs.ArrayPart.{last_index}

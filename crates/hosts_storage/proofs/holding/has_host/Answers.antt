@@ -1,6 +1,5 @@
 use Rattle.std.proofs.Common.{ap, ◌∙◌}
 use Rattle.std.specs.FinMap as map
-use Rattle.key_set.specs.EntryView.{entry_of}
 use Rattle.hosts_storage.proofs.HoldingTests.{there-decides}
 use Rattle.hosts_storage.proofs.holding.has_host.Goals as goal
 

@@ -1,4 +1,4 @@
-use Rattle.std.proofs.Common.{◌≡◌, rules, sym}
+use Rattle.std.proofs.Common.{rules, sym}
 use Rattle.std.specs.Str.{IsUtf8}
 use Rattle.hosts_storage.specs.ProgressView.{progress_of}
 use Rattle.hosts_storage.proofs.HostLemmas.{comment-leads}

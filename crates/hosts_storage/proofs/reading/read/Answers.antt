@@ -1,13 +1,13 @@
 -- Each turn reads one line more, or stops at the first that has no reading.
-use Rattle.std.proofs.Common.{◌≡◌, sym, ap, subst, ◌∙◌, arith}
+use Rattle.std.proofs.Common.{sym, ap, subst, arith}
 use Rattle.model_maps.specs.KeyMap.{weight}
 use Rattle.model_formats.specs.Holding.{EachHas}
 use Rattle.model_lines.proofs.EachKey.{EachHas-no_keys}
 use Rattle.model_lines.proofs.MapFacts.{weight-no_keys}
 use Rattle.model_hosts.specs.Hosts.{Progress, start, Step}
 use Rattle.hosts_storage.specs.WeighedView.{IsPlainAlias}
-use Rattle.hosts_storage.specs.ProgressView.{progress_of, IsSound, LeadsBy}
-use Rattle.file_lines.proofs.Reading.{HasRead, HasRead-start, HasRead-more, HasRead-stops, HasRead-all}
+use Rattle.hosts_storage.specs.ProgressView.{progress_of, LeadsBy}
+use Rattle.file_lines.proofs.Reading.{HasRead, HasRead-start, HasRead-more, HasRead-stops}
 use Rattle.hosts_storage.proofs.reading.read.Goals as goal
 
 pub loop-rest-init : goal.loop-rest-init

@@ -1,5 +1,5 @@
 -- The word ends at the first blank, or with the bytes.
-use Rattle.std.proofs.Common.{◌≡◌, ◌∷◌, ◌∙◌, ap, sym, subst, arith, length, take}
+use Rattle.std.proofs.Common.{◌∷◌, ◌∙◌, ap, sym, subst, arith, take}
 use Rattle.std.proofs.lemmas.List.{take_rest, take_all}
 use Rattle.std.specs.List.{AllByRecursion}
 use Rattle.model_hosts.specs.Line.{words}

@@ -1,5 +1,5 @@
 -- The last part of a list is the one at the last place.
-use Rattle.std.proofs.Common.{◌∙◌, sym, ap}
+use Rattle.std.proofs.Common.{◌∙◌}
 use Rattle.hosts_storage.proofs.PartLemmas.{last_part-some, last_part-none}
 use Rattle.hosts_storage.proofs.writing.last_part_of.Goals as goal
 

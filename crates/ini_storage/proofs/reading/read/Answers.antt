@@ -1,5 +1,5 @@
 -- Each turn reads one line more, or stops at the first that has no reading.
-use Rattle.std.proofs.Common.{◌≡◌, Bool, sym, ap, subst, ◌∙◌, arith}
+use Rattle.std.proofs.Common.{sym, ap, subst, ◌∙◌, arith}
 use Rattle.model_maps.specs.KeyMap.{KeyMap, no_keys, weight}
 use Rattle.model_lines.proofs.MapFacts.{weight-no_keys}
 use Rattle.ini_storage.specs.Steps.{Steps}

@@ -1,6 +1,5 @@
 -- The last sign is dropped while it is a blank.
-use Rattle.std.proofs.Common.{◌≡◌, ◌≤◌, ℕ, ◌+◌, ◌-◌, ◌<◌, List, length, take, refl, sym, ap, subst, ◌∙◌, arith, true, false}
-use Rattle.model_ini.specs.declared.signs.Sign.{Sign}
+use Rattle.std.proofs.Common.{◌≡◌, ℕ, ◌+◌, ◌-◌, ◌<◌, length, take, refl, sym, ap, subst, ◌∙◌, arith}
 use Rattle.model_ini.specs.Signs.{is_blank, without_back}
 use Rattle.ini_storage.proofs.TrimLemmas.{without_back-shorter, without_back-stays}
 use Rattle.ini_storage.proofs.sides.before_blanks.Goals as goal

@@ -1,8 +1,8 @@
 -- The first sign is that of a front, and the others follow.
-use Rattle.std.proofs.Common.{◌≡◌, ◌∷◌, ◌++◌, ap, sym, ◌∙◌}
+use Rattle.std.proofs.Common.{◌++◌, ap, sym, ◌∙◌}
 use Rattle.std.specs.List.{flat_map}
 use Rattle.model_ini.specs.Signs.{spelled_sign}
-use Rattle.ini_storage.specs.SideView.{sign_at, first_at, signs_at}
+use Rattle.ini_storage.specs.SideView.{sign_at, first_at}
 use Rattle.ini_storage.proofs.KeyLemmas.{appended, signs_at-long}
 use Rattle.ini_storage.proofs.writing.push_long.Goals as goal
 

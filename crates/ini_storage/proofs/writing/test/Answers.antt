@@ -1,5 +1,5 @@
 -- Each turn passes a key that can be stored, or stops at the first that can't.
-use Rattle.std.proofs.Common.{◌≡◌, sym, subst, ◌∙◌}
+use Rattle.std.proofs.Common.{sym, subst, ◌∙◌}
 use Rattle.key_set.specs.EntryView.{entry_of}
 use Rattle.model_formats.specs.Holding.{LacksFirst}
 use Rattle.model_ini.specs.Ini.{IsIniKey}
