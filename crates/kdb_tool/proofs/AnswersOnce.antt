@@ -11,12 +11,15 @@ use Rattle.kdb_tool.specs.Request.{Action, Question, Mounts, FileOf, On, Request
 use Rattle.kdb_tool.specs.Answer.{Answer}
 use Rattle.kdb_tool.specs.Commands.{Step, Tells, Sets, parent_of, step_of}
 use Rattle.kdb_tool.specs.Answers.{AnswersStep, AnswersGot, AnswersIn, AnswersOpened, AnswersOver, AnswersRequest, Answers, answer_by}
-use Rattle.kdb_tool.proofs.StatesOnce.{IsMade, Opens-once}
-use Rattle.kdb_tool.proofs.VerdictOnce.{Verdict-once}
+use Rattle.all_formats.specs.Meanings as all
+use Rattle.all_formats.specs.Laws as laws
+use Rattle.mounted_files.specs.Opening.{IsMade}
+use Rattle.mounted_files.proofs.OneOpening.{Opens-once}
+use Rattle.mounted_files.proofs.OneVerdict.{Verdict-once}
 
 step_once : (files : List MountedFile) (parent : Name) (step : Step) (a b : Answer) → AnswersStep files parent step a → AnswersStep files parent step b → a ≡ b
 step_once files parent (Tells report) a b p q = p ∙ sym q
-step_once files parent (Sets keys out) a b p q = p.is ∙ (ap (λ v. answer_by v out) (Verdict-once files parent keys p.verdict q.verdict p.judged q.judged) ∙ sym q.is)
+step_once files parent (Sets keys out) a b p q = p.is ∙ (ap (λ v. answer_by v out) (Verdict-once all.text all.IsStorable all.BreaksAt laws.storable-breaks_nowhere laws.BreaksAt-once files parent keys p.verdict q.verdict p.judged q.judged) ∙ sym q.is)
 
 got_once : (files : List MountedFile) (name : Name) (action : Action) (keys : Result KeyMap GetFault) (a b : Answer) → AnswersGot files name action keys a → AnswersGot files name action keys b → a ≡ b
 got_once files name action (Ok keys) a b p q = step_once files (parent_of name action) (step_of keys name action) a b p q
@@ -37,7 +40,7 @@ is_made (Err refusal) question answer answers = answers.0
 
 over_once : (question : Question) (bytes_of : List ℕ → List ℕ) (a b : Answer) → AnswersOver question bytes_of a → AnswersOver question bytes_of b → a ≡ b
 over_once question bytes_of a b p q =
-    let same = Opens-once bytes_of p.opened q.opened p.opens q.opens (is_made p.opened question a p.answers) (is_made q.opened question b q.answers) in
+    let same = Opens-once all.Reads all.IsBadAt laws.Reads-once laws.Reads-not_bad laws.IsBadAt-once bytes_of p.opened q.opened p.opens q.opens (is_made p.opened question a p.answers) (is_made q.opened question b q.answers) in
     opened_once p.opened question a b p.answers (subst (λ opened. AnswersOpened opened question b) (sym same) q.answers)
 
 request_once : (asked : Request) (bytes_of : List ℕ → List ℕ) (a b : Answer) → AnswersRequest asked bytes_of a → AnswersRequest asked bytes_of b → a ≡ b

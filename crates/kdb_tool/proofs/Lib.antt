@@ -4,9 +4,6 @@ pub mod BringLemmas
 pub mod StatusLemmas
 pub mod StoringLemmas
 pub mod LastingLemmas
-pub mod StatesOnce
-pub mod VerdictOnce
 pub mod AnswersOnce
 pub mod EndLemmas
 pub mod AnswerLemmas
-pub mod OpeningLemmas

@@ -4,7 +4,7 @@ use backend_files::FileRead;
 use key_meta::{List, Meta, Text};
 use key_name::KeyName;
 use key_set::{Entry, KeySet};
-use mounted_files::{GetFault, Mounted, Opening, Verdict, read_table_file};
+use mounted_files::{GetFault, Mounted, Opening, Verdict};
 use std::alloc::Global;
 use std::test::Fail;
 
@@ -35,17 +35,15 @@ fn read(alloc: Global, name: &str) -> Result<FileRead, Fail> {
 
 fn opened(alloc: Global) -> Result<Mounted, Fail> {
     let own = read(alloc, "elektra.ecf")?;
-    let table = read_table_file(alloc, &AllFormats, &own).map_err(|_| "it has a table")?;
-    let count = table.len();
-    let mut opening = Opening::new(alloc, table);
-    for _added in 0..count {
+    let mut opening = Opening::new(alloc, &AllFormats, &own).map_err(|_| "it has a table")?;
+    for _added in 0..opening.len() {
         let Some(mount) = opening.next() else {
             unreachable!()
         };
         let file = read(alloc, mount.file.text())?;
         opening.add(alloc, &AllFormats, &file)?;
     }
-    Ok(opening.mounted())
+    Ok(opening.mounted(&AllFormats)?)
 }
 
 /// The names of the keys that a get gives, or its fault in words.
