@@ -19,6 +19,8 @@ mod mem_sources;
 #[cfg(test)]
 mod readers;
 #[cfg(test)]
+mod store_runs;
+#[cfg(test)]
 mod whole_files;
 #[cfg(test)]
 mod writers;
