@@ -37,16 +37,49 @@ fn store(
     journal.close_gate()
 }
 
-/// Two files with the content `old`, and no journal.
-fn old_disk(alloc: Global, failing: Vec<u64>, stop_after: Option<u64>) -> Result<MemDisk, Fail> {
+/// What the two files and the journal hold.
+#[derive(Clone, Copy, Debug)]
+struct Held<'a> {
+    first: &'a [u8],
+    second: &'a [u8],
+    journal: &'a [u8],
+}
+
+/// Before the entry gives each file `new`: contents of its length, a longer and a shorter one, none and one that is there already.
+const ROWS: [Held<'static>; 3] = [
+    Held {
+        first: b"old",
+        second: b"old",
+        journal: b"",
+    },
+    Held {
+        first: b"a much longer content",
+        second: b"o",
+        journal: b"",
+    },
+    Held {
+        first: b"",
+        second: b"new",
+        journal: b"\x00\x00",
+    },
+];
+
+fn disk_with(
+    alloc: Global,
+    held: Held<'_>,
+    failing: Vec<u64>,
+    stop_after: Option<u64>,
+) -> Result<MemDisk, Fail> {
     let first = name(alloc, "a.ecf")?;
     let second = name(alloc, "b.ecf")?;
-    if first == second {
-        return Err("they are two names")?;
+    let journal = name(alloc, "journal")?;
+    if first == second || first == journal || second == journal {
+        return Err("they are three names")?;
     }
     let files = vec![in alloc;
-        (first, b"old".to_vec(alloc)?),
-        (second, b"old".to_vec(alloc)?),
+        (first, held.first.to_vec(alloc)?),
+        (second, held.second.to_vec(alloc)?),
+        (journal, held.journal.to_vec(alloc)?),
     ]?;
     Ok(MemDisk::new(alloc, files, failing, stop_after)?)
 }
@@ -91,19 +124,19 @@ enum Left {
     Torn,
 }
 
-/// What the files are once a crashed disk was opened again.
-fn left_on(alloc: Global, disk: MemDisk) -> Result<Left, Fail> {
+/// What the files are once a disk that held this before was opened again.
+fn left_on(alloc: Global, held: Held<'_>, disk: MemDisk) -> Result<Left, Fail> {
     let Ok(journal) = Journal::open(alloc, disk) else {
         return Err("a crashed disk opens")?;
     };
     let disk = journal.into_disk();
     let first = disk.bytes(&name(alloc, "a.ecf")?);
     let second = disk.bytes(&name(alloc, "b.ecf")?);
-    let (old, new) = (b"old".as_slice(), b"new".as_slice());
-    if first == old && second == old {
-        Ok(Left::Old)
-    } else if first == new && second == new {
+    let new = b"new".as_slice();
+    if first == new && second == new {
         Ok(Left::New)
+    } else if first == held.first && second == held.second {
+        Ok(Left::Old)
     } else {
         Ok(Left::Torn)
     }
@@ -119,24 +152,36 @@ fn fits(failed: u64, left: Left) -> bool {
 }
 
 /// Whether each crash fits after the call `failed` was the first to fail, alone or with all behind it.
-fn every_choice_fits(alloc: Global, failed: u64, alone: bool, choices: u64) -> Result<bool, Fail> {
+fn every_choice_fits(
+    alloc: Global,
+    held: Held<'_>,
+    failed: u64,
+    alone: bool,
+    choices: u64,
+) -> Result<bool, Fail> {
     for choice in 0..choices {
         let disk = if alone {
-            old_disk(alloc, vec![in alloc; failed]?, None)?
+            disk_with(alloc, held, vec![in alloc; failed]?, None)?
         } else {
-            old_disk(alloc, Vec::new(alloc), Some(failed.saturating_sub(1)))?
+            disk_with(alloc, held, Vec::new(alloc), Some(failed.saturating_sub(1)))?
         };
         let (_, disk) = stored_on(alloc, disk)?;
-        if !fits(failed, left_on(alloc, disk.crash(choice)?)?) {
+        if !fits(failed, left_on(alloc, held, disk.crash(choice)?)?) {
             return Ok(false);
         }
     }
     Ok(true)
 }
 
-fn every_failure_fits(alloc: Global, calls: u64, alone: bool, choices: u64) -> Result<bool, Fail> {
+fn every_failure_fits(
+    alloc: Global,
+    held: Held<'_>,
+    calls: u64,
+    alone: bool,
+    choices: u64,
+) -> Result<bool, Fail> {
     for failed in 1..calls {
-        if !every_choice_fits(alloc, failed, alone, choices)? {
+        if !every_choice_fits(alloc, held, failed, alone, choices)? {
             return Ok(false);
         }
     }
@@ -146,12 +191,103 @@ fn every_failure_fits(alloc: Global, calls: u64, alone: bool, choices: u64) -> R
 #[test]
 fn leaves_both_files_old_or_both_new(rt: HostRuntime) -> Result<(), Fail> {
     let alloc = rt.alloc();
-    assert!(rt; every_failure_fits(alloc, 17, false, 10)?);
-    assert!(rt; every_failure_fits(alloc, 17, true, 10)?);
-    let (stored, disk) = stored_on(alloc, old_disk(alloc, Vec::new(alloc), None)?)?;
-    assert!(rt; stored);
-    assert_eq!(rt; disk.calls(), 15);
-    assert_eq!(rt; left_on(alloc, disk)?, Left::New);
+    for held in ROWS {
+        assert!(rt; every_failure_fits(alloc, held, 17, false, 10)?, "{held:?}");
+        assert!(rt; every_failure_fits(alloc, held, 17, true, 10)?, "{held:?}");
+        let disk = disk_with(alloc, held, Vec::new(alloc), None)?;
+        let (stored, disk) = stored_on(alloc, disk)?;
+        assert!(rt; stored, "{held:?}");
+        assert_eq!(rt; disk.calls(), 15, "{held:?}");
+        assert_eq!(rt; left_on(alloc, held, disk)?, Left::New, "{held:?}");
+    }
+    Ok(())
+}
+
+/// What the files of a disk are that held this, was opened with its calls failing behind so many, crashed, and was opened again.
+fn left_by_stopped_opening(
+    alloc: Global,
+    held: Held<'_>,
+    stop_after: u64,
+    choice: u64,
+) -> Result<Left, Fail> {
+    let disk = disk_with(alloc, held, Vec::new(alloc), Some(stop_after))?;
+    let disk = match Journal::open(alloc, disk) {
+        Ok(journal) => journal.into_disk(),
+        Err(refused) => refused.disk,
+    };
+    left_on(alloc, held, disk.crash(choice)?)
+}
+
+/// Whether the files are new, wherever an opening among so many calls is stopped and crashed by so many choices.
+fn every_stopped_opening_fits(
+    alloc: Global,
+    held: Held<'_>,
+    calls: u64,
+    choices: u64,
+) -> Result<bool, Fail> {
+    for stop_after in 0..calls {
+        for choice in 0..choices {
+            if left_by_stopped_opening(alloc, held, stop_after, choice)? != Left::New {
+                return Ok(false);
+            }
+        }
+    }
+    Ok(true)
+}
+
+#[test]
+fn recovers_again_after_a_crash_in_a_recovery(rt: HostRuntime) -> Result<(), Fail> {
+    let mut journal = Vec::from_slice(rt.alloc(), b"\x01\x1b\x00\x00\x00")?;
+    journal.extend_from_slice(&BODY)?;
+    for row in ROWS {
+        let held = Held {
+            journal: &journal,
+            ..row
+        };
+        assert!(rt;
+            every_stopped_opening_fits(rt.alloc(), held, 13, 10)?,
+            "{held:?}"
+        );
+    }
+    Ok(())
+}
+
+/// Whether the files are not torn, and old once the gate was settled, after crashes behind so many calls of an opening and a settling.
+fn every_settling_fits(
+    alloc: Global,
+    held: Held<'_>,
+    stop_after: u64,
+    choices: u64,
+) -> Result<bool, Fail> {
+    for choice in 0..choices {
+        let disk = disk_with(alloc, held, Vec::new(alloc), Some(stop_after))?;
+        let Ok(mut journal) = Journal::open(alloc, disk) else {
+            return Err("a gate of 7 is no open one")?;
+        };
+        let settled = journal.settle();
+        let left = left_on(alloc, held, journal.into_disk().crash(choice)?)?;
+        if left == Left::Torn || (settled == Ok(()) && left != Left::Old) {
+            return Ok(false);
+        }
+    }
+    Ok(true)
+}
+
+#[test]
+fn takes_a_gate_that_is_neither_open_nor_closed_for_closed(rt: HostRuntime) -> Result<(), Fail> {
+    let mut journal = Vec::from_slice(rt.alloc(), b"\x07\x1b\x00\x00\x00")?;
+    journal.extend_from_slice(&BODY)?;
+    let held = Held {
+        first: b"old",
+        second: b"old",
+        journal: &journal,
+    };
+    let disk = disk_with(rt.alloc(), held, Vec::new(rt.alloc()), None)?;
+    assert_eq!(rt; left_on(rt.alloc(), held, disk)?, Left::Old);
+    // Two calls read it, the third writes the gate, and the fourth syncs it.
+    assert!(rt; every_settling_fits(rt.alloc(), held, 2, 10)?);
+    assert!(rt; every_settling_fits(rt.alloc(), held, 3, 10)?);
+    assert!(rt; every_settling_fits(rt.alloc(), held, 4, 10)?);
     Ok(())
 }
 
@@ -160,7 +296,7 @@ fn finishes_an_entry_whose_file_failed(rt: HostRuntime) -> Result<(), Fail> {
     let alloc = rt.alloc();
     let files = entry_of_body(alloc)?;
     let encoded = encode(alloc, files.as_slice())?;
-    let disk = old_disk(alloc, vec![in alloc; 8]?, None)?;
+    let disk = disk_with(alloc, ROWS[0], vec![in alloc; 8]?, None)?;
     let Ok(mut journal) = Journal::open(alloc, disk) else {
         return Err("the disk opens")?;
     };
@@ -193,7 +329,8 @@ fn opened_on(alloc: Global, bytes: &[u8]) -> Result<(Option<u64>, u64), Fail> {
 
 #[test]
 fn tells_where_a_journal_is_bad(rt: HostRuntime) -> Result<(), Fail> {
-    let rows: [(&[u8], Option<u64>, u64); 10] = [
+    let rows: [(&[u8], Option<u64>, u64); 11] = [
+        (b"\x07\x01\x00\x00\x00\x00", None, 2),
         (b"", None, 1),
         (b"\x01\x02\x00\x00", None, 1),
         (

@@ -16,6 +16,13 @@ mod mem_sources;
 #[cfg(test)]
 mod readers;
 #[cfg(test)]
+<<<<<<< HEAD
+=======
+mod store_runs;
+#[cfg(test)]
+mod whole_files;
+#[cfg(test)]
+>>>>>>> h_journal
 mod writers;
 
 pub use crashes::{Ended, two_commits};

@@ -13,12 +13,14 @@ fn drawn(last: u64) -> u64 {
 
 /// The two have the same entries in the same order, by a walk and by their places.
 fn are_same(chunked: &ChunkedMap<u64, u64>, sorted: &SortedMap<u64, u64>) -> bool {
-    for (place, entry) in chunked.iter().enumerate() {
-        if sorted.at(place) != Some(entry) || chunked.at(place) != Some(entry) {
+    let mut walk = chunked.iter();
+    for place in 0..chunked.len() {
+        let entry = walk.next();
+        if sorted.at(place) != entry || chunked.at(place) != entry {
             return false;
         }
     }
-    chunked.len() == sorted.len() && chunked.at(chunked.len()).is_none()
+    chunked.len() == sorted.len() && walk.next().is_none()
 }
 
 /// Takes the same range out of both and puts it back, and answers whether both gave the same and had the same left.

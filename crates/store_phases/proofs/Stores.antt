@@ -12,7 +12,7 @@ use Rattle.intent_journal.specs.Journal.{JournalValue}
 use Rattle.intent_journal.specs.Moments.{LeavesOnly}
 use Rattle.intent_journal.specs.Outcomes.{with_entry, HasOnly, IsEither}
 use Rattle.intent_journal.specs.States.{IsCalm}
-use Rattle.intent_journal.proofs.Calm.{calm_kept}
+use Rattle.intent_journal.proofs.Calm.{calm_kept, settled_calm}
 use Rattle.model_crashes.specs.Runs.{Run, files_of, IsBegun, IsReached, IsAmid, IsOneOf, new_run, after_begun, after_commit}
 use Rattle.model_crashes.proofs.Moments.{only_both, only_read, only_now, risen_since, risen_still}
 use Rattle.model_crashes.proofs.Reached.{files_of-commit, IsBegun-more, IsBegun-before, begun_last, reached_more, reached_next, reached_begun, reached_now, reached_amid}
@@ -151,3 +151,27 @@ pub closing_reached : {D : Type 0} (g : Ghosts D) (opened old new : D) (run : Ru
 closing_reached g opened old new run later was always closing =
     only_both g opened old new (IsReached run.files run.commits run.begun) (HasOnly (IsEither (files_of run) run.doubt)) (IsReached run.files run.commits run.begun)
     (λ image reached. reached) (λ image has. reached_now run.files run.commits run.begun run.doubt image was has) later always closing
+
+-- where no fault came, the disk is calm
+pub calm_of_run : {D : Type 0} (g : Ghosts D) (opened : D) (journal : JournalValue D) (run : Run) → IsStore g opened journal run → ¬ HasRisen run.faults (g.faults journal.disk)
+    → IsCalm (g.seen journal.disk) (g.may_leave journal.disk) (files_of run) run.doubt
+calm_of_run g opened journal run store still = elim (cases_state journal.state) [
+  | inl clean ↦
+      settled_calm (g.seen journal.disk) (g.may_leave journal.disk) (files_of run) (files_of run) run.doubt (store.rests.clean clean) (g.read_is_image journal.disk store.rests.tells)
+      (inl (λ file own. refl))
+  | inr (inl in_doubt) ↦ store.calm in_doubt still
+  | inr (inr lag) ↦ absurd (still (store.lag_cause lag))
+]
+
+-- a run stands since now too
+pub IsStore-from_now : {D : Type 0} (g : Ghosts D) (opened : D) (journal : JournalValue D) (run : Run) → IsStore g opened journal run → IsStore g journal.disk journal run
+IsStore-from_now g opened journal run store = record {
+  later = omega arith;
+  risen = store.risen;
+  rests = store.rests;
+  doubt_begun = store.doubt_begun;
+  lag_cause = store.lag_cause;
+  calm = store.calm;
+  always = only_now g journal.disk (IsReached run.files run.commits run.begun) store.rests.tells
+      (λ image is. reached_now run.files run.commits run.begun run.doubt image store.doubt_begun (resting_only g journal (files_of run) run.doubt store.rests image is));
+}

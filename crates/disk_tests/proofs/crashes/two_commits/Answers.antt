@@ -42,6 +42,8 @@ returns-in-Err-clause-any_moment g c tells files doubt calm same =
     (λ image only. opening_reached files doubt false c.args.first c.args.second [] image only) (c.in-Err.ensures.any_moment tells files doubt calm)
 
 pub returns-in-Err-clause-durable : goal.returns-in-Err-clause-durable
-returns-in-Err-clause-durable g c tells files doubt calm same =
-    (doubt, λ image is. now_since g.D.Disk c.args.disk c.in-Err.refused.disk (HasOnly (IsEither files doubt)) (c.in-Err.ensures.goes.tells ∙ tells) c.in-Err.ensures.goes.moment
-    (c.in-Err.ensures.any_moment tells files doubt calm) image is)
+returns-in-Err-clause-durable g c tells files doubt calm same = (
+  doubt,
+  λ image is. now_since g.D.Disk c.args.disk c.in-Err.refused.disk (HasOnly (IsEither files doubt)) (c.in-Err.ensures.goes.tells ∙ tells) c.in-Err.ensures.goes.moment
+      (c.in-Err.ensures.any_moment tells files doubt calm) image is,
+)
