@@ -16,13 +16,8 @@ mod mem_sources;
 #[cfg(test)]
 mod readers;
 #[cfg(test)]
-<<<<<<< HEAD
-=======
 mod store_runs;
 #[cfg(test)]
-mod whole_files;
-#[cfg(test)]
->>>>>>> h_journal
 mod writers;
 
 pub use crashes::{Ended, two_commits};
