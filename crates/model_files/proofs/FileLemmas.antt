@@ -22,7 +22,7 @@ use Rattle.mount_table.specs.declared.mounts.Mount.{Mount}
 
 -- ---- the mount whose file has a name
 
-there_is : {A : Type 0} (xs : List A) (n : ℕ) → n < length xs → (x : A) × (slice_get xs n ≡ Some x)
+pub there_is : {A : Type 0} (xs : List A) (n : ℕ) → n < length xs → (x : A) × (slice_get xs n ≡ Some x)
 there_is [] n lt = absurd (omega arith)
 there_is (x ∷ xs) zero lt = (x, refl)
 there_is (x ∷ xs) (suc n) lt = there_is xs n (omega arith)

@@ -1,17 +1,26 @@
 -- The files of a store after a history: the file of each mount that a commit touches holds the text of its present keys. (This project's own.)
-use Rattle.std.specs.Prelude.{◌≡◌, ℕ, Bool, if◌then◌else◌, List, slice_get, Option, Some, None, option_and_then, bytes_eq}
-use Rattle.std.specs.List.{list_any, position_from}
+use Rattle.std.specs.Prelude.{◌≡◌, ℕ, ◌≤◌, Bool, false, if◌then◌else◌, List, length, slice_get, Option, Some, None, option_and_then, bytes_eq, codes, nat_eq}
+use Rattle.std.specs.List.{list_any, position_from, starts_with}
 use Rattle.std.specs.Option.{option_map, unwrap_or}
+use Rattle.kdb_outside.specs.FileName.{IsFileName}
 use Rattle.kdb_outside.specs.Images.{Image}
 use Rattle.model_maps.specs.KeyMap.{KeyMap}
 use Rattle.model_history.specs.History.{Commit, replay, touches}
 use Rattle.model_store.specs.Store.{Store, Formats, points_of, contents}
+use Rattle.mount_table.specs.Table.{most_mounts}
 use Rattle.mount_table.specs.declared.mounts.Mount.{Mount}
 use Rattle.set_split.specs.Parts.{owned_by}
 
 -- each mount has a file of its own
 abbrev pub HaveOwnFiles : List Mount → Type 0
 HaveOwnFiles mounts = (i j : ℕ) (one other : Mount) → slice_get mounts i ≡ Some one → slice_get mounts j ≡ Some other → one.file ≡ other.file → i ≡ j
+
+-- mounts whose files an entry of a journal can hold: few enough, each with a file of its own, none of which is the journal's
+pub record HaveFiles (mounts : List Mount) : Type 0 where
+  pub own : HaveOwnFiles mounts
+  pub named : (i : ℕ) (mount : Mount) → slice_get mounts i ≡ Some mount → IsFileName mount.file
+  pub free : (i : ℕ) (mount : Mount) → slice_get mounts i ≡ Some mount → starts_with nat_eq mount.file (codes "journal") ≡ false
+  pub few : length mounts ≤ most_mounts
 
 -- the mount whose file has a name
 abbrev pub mount_with : List Mount → List ℕ → Option ℕ

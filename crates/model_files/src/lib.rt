@@ -2,16 +2,18 @@
 //! their laws.
 #![tactic(auto)]
 
-ghost use Rattle.std.specs.Prelude.{◌≡◌, ◌≤◌, ℕ, List, length, take, Option};
+ghost use Rattle.std.specs.Prelude.{◌≢◌, [], ◌≡◌, ◌≤◌, ℕ, List, length, take, Option};
 ghost use Rattle.intent_journal.specs.Outcomes.{with_entries, HasOnly, IsEither};
+ghost use Rattle.journal_codec.specs.Entry.{IsEntry};
+ghost use Rattle.model_maps.specs.KeyMap.{KeyMap};
 ghost use Rattle.journal_codec.specs.declared.files.FileText.{FileText as Item};
 ghost use Rattle.kdb_outside.specs.Images.{Image};
 ghost use Rattle.model_crashes.specs.Runs.{Begun, IsBegun, IsReached};
 ghost use Rattle.model_history.specs.History.{Commit};
-ghost use Rattle.model_store.specs.Legal.{IsLegal};
+ghost use Rattle.model_store.specs.Legal.{IsLegal, IsLegalCommit};
 ghost use Rattle.model_store.specs.Store.{Store};
-ghost use Rattle.model_files.specs.Files.{HaveOwnFiles, files_after};
-ghost use Rattle.model_files.specs.Texts.{entries_of};
+ghost use Rattle.model_files.specs.Files.{HaveFiles, HaveOwnFiles, files_after};
+ghost use Rattle.model_files.specs.Texts.{entries_of, entry_of};
 
 use storage_api::Formats;
 
@@ -36,4 +38,9 @@ pub fn a_crash_leaves_a_prefix_of_the_history<F: Formats>(_formats: &F)
     ensures { (store : Store) (files : Image) (history : List Commit) (begun : List Begun) (image : Image) → HaveOwnFiles store.mounts → IsLegal (record { text = F.text; IsStorable = F.is_storable; BreaksAt = F.breaks_at }) store history
         → IsReached files (entries_of (record { text = F.text; IsStorable = F.is_storable; BreaksAt = F.breaks_at }) store history) begun image
         → (number : ℕ) × (doubt : Option (List Item)) × (number ≤ length history) × (IsBegun begun number doubt) × HasOnly (IsEither (files_after (record { text = F.text; IsStorable = F.is_storable; BreaksAt = F.breaks_at }) store files (take number history)) doubt) image }
+{}
+
+/// The texts of a legal commit that touches a mount are an entry that a journal can hold, where the mounts have files for it.
+pub fn a_legal_commit_is_an_entry<F: Formats>(_formats: &F)
+    ensures { (store : Store) (before : KeyMap) (commit : Commit) → HaveFiles store.mounts → IsLegalCommit (record { text = F.text; IsStorable = F.is_storable; BreaksAt = F.breaks_at }) store before commit → commit.touched ≢ [] → IsEntry (entry_of (record { text = F.text; IsStorable = F.is_storable; BreaksAt = F.breaks_at }) store before commit) }
 {}
