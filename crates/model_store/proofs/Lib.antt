@@ -1,6 +1,6 @@
-mod Members
-mod Owners
-mod Histories
+pub mod Members
+pub mod Owners
+pub mod Histories
 mod Touched
 mod Judged
 mod Kept
