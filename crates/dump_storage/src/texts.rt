@@ -1,56 +1,8 @@
-//! The texts of a record: a key's name, a metadata name, and a value or a metadata's text.
-ghost use Rattle.std.specs.Prelude.{◌≡◌, ◌≢◌, ◌∷◌, IfOk, OnOk, MatchOption};
-ghost use Rattle.model_names.specs.Spells.{Spells};
-ghost use Rattle.model_maps.specs.Entry.{IsValue, IsMetaName};
-ghost use Rattle.key_name.specs.declared.faults.NameFault.TheVariants.{Memory as OutOfMemory};
-ghost use Rattle.dump_storage.specs.Texts.{SpellsNothing};
+//! The texts of metadata in a record: its name. Names of keys and values are those of any file.
+ghost use Rattle.std.specs.Prelude.{◌≡◌, MatchOption};
+ghost use Rattle.model_maps.specs.Entry.{IsMetaName};
 
-use key_meta::{LONGEST_META_NAME, LONGEST_VALUE, Memory};
-use key_name::{KeyName, NameFault};
-use std::alloc::{AllocError, Global};
-
-/// The name that a text spells behind a slash.
-pub fn name_of(alloc: Global, text: &[u8]) -> Result<Option<KeyName>, Memory>
-    ensures { IfOk result (λ found. MatchOption found
-        (SpellsNothing text.now)
-        (λ name. Spells (47 ∷ text.now) name)) }
-{
-    let Ok(text) = str::from_utf8(text) else {
-        return Ok(None);
-    };
-    let mut name = String::with_capacity(alloc, 1 + text.len())?;
-    name.push_str("/")?;
-    name.push_str(text)?;
-    match KeyName::parse(alloc, &name) {
-        Ok(name) => Ok(Some(name)),
-        Err(fault) => {
-            hand_on_memory(fault)?;
-            Ok(None)
-        }
-    }
-}
-
-/// Every fault but want of memory is one of the text.
-fn hand_on_memory(fault: NameFault) -> Result<(), Memory>
-    ensures { OnOk result (fault ≢ OutOfMemory) }
-{
-    match fault {
-        NameFault::Memory => Err(AllocError),
-        _ => Ok(()),
-    }
-}
-
-/// The value, or the text of metadata, that bytes are.
-pub fn value_of(bytes: &[u8]) -> Option<&str>
-    ensures { MatchOption result
-        (IsValue bytes.now → ⊥)
-        (λ value. (value.now ≡ bytes.now) × IsValue bytes.now) }
-{
-    if bytes.len() > LONGEST_VALUE {
-        return None;
-    }
-    str::from_utf8(bytes).ok()
-}
+use key_meta::LONGEST_META_NAME;
 
 /// The metadata name that bytes are.
 pub fn meta_name_of(bytes: &[u8]) -> Option<&str>

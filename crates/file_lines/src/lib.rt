@@ -1,4 +1,4 @@
-//! Files of lines, read one line after the other: the next line, and the names and values that stand in lines.
+//! Files of lines, read one line after the other: the next line, and the names and values that stand in any file.
 #![tactic(auto)]
 
 mod lines;

@@ -13,9 +13,9 @@ returns-in-Some-empty c =
     Reads-ending c.args.bytes.now c.in_ok-keys.rest.now c.in_ok-keys.keys (has_read (goal.at.returns-in-Some-empty c).In_ok-keys) c.in-Some-empty.field-0.now c.in-Some-empty.ensures c.in-Some-empty.len_below
 
 pub returns-in-Some-behind_ending : goal.returns-in-Some-behind_ending
-returns-in-Some-behind_ending c =
+returns-in-Some-behind_ending c _ =
     IsBadAt-behind c.args.bytes.now c.in_ok-keys.rest.now c.in_ok-keys.keys (has_read (goal.at.returns-in-Some-behind_ending c).In_ok-keys) c.in-Some-behind_ending.more.now c.line_before.result c.in-Some-behind_ending.ensures c.in-Some-behind_ending.len_at_least c.line_before.ensures
 
 pub returns-in-None : goal.returns-in-None
-returns-in-None c =
+returns-in-None c _ =
     IsBadAt-inside c.args.bytes.now c.in_ok-keys.rest.now c.in_ok-keys.keys (has_read (goal.at.returns-in-None c).In_ok-keys) c.line_before-in-None.result c.in-None.ensures c.line_before-in-None.ensures

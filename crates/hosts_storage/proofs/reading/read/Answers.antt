@@ -21,7 +21,7 @@ loop-rest-init c = record {
 }
 
 pub returns-then-not-branch : goal.returns-then-not-branch
-returns-then-not-branch c =
+returns-then-not-branch c _ =
     let line = c.first_line.result.0.now in
     let none = subst (LeadsBy (Step (progress_of c.loop-rest.progress) line) c.add_line.new.progress) c.if-not-branch.true c.in_ok-add_line.ensures in
     HasRead-stops Step start c.args.bytes.now c.loop-rest.rest.now c.first_line.result.1.now line (progress_of c.loop-rest.progress) c.loop-rest.number c.loop-rest.invariant.read c.first_line.ensures.cut none

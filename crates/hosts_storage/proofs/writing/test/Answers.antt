@@ -14,7 +14,7 @@ loop-name-preserved c =
     HaveBefore-more (IsHostsKey c.args.keys.now) c.args.keys.now c.in-Some.name.now (entry_of c.in-Some.entry.now) c.loop-name.name-iterator c.next.new.self c.loop-name.invariant c.in-Some.ensures.steps (c.in_ok-is_hosts_key.ensures.0 c.if-not-branch.false)
 
 pub returns-then-not-branch : goal.returns-then-not-branch
-returns-then-not-branch c =
+returns-then-not-branch c _ =
     subst (LacksFirst (IsHostsKey c.args.keys.now) c.args.keys.now) (sym c.in_ok-copy.ensures)
     (HaveBefore-lacks (IsHostsKey c.args.keys.now) c.args.keys.now c.in-Some.name.now (entry_of c.in-Some.entry.now) c.loop-name.name-iterator c.next.new.self c.loop-name.invariant c.in-Some.ensures.steps
     (λ has. let both = sym c.if-not-branch.true ∙ c.in_ok-is_hosts_key.ensures.1 has in absurd cc))

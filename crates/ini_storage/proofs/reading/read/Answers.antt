@@ -15,7 +15,7 @@ loop-rest-init c = record {
 }
 
 pub returns-then-not-branch : goal.returns-then-not-branch
-returns-then-not-branch c =
+returns-then-not-branch c _ =
     let line = c.first_line.result.0.now in
     let none = subst (Steps c.loop-rest.progress.keys line c.add_line.new.progress.keys) c.if-not-branch.true c.in_ok-add_line.ensures.read in
     HasRead-stops Step no_keys c.args.bytes.now c.loop-rest.rest.now c.first_line.result.1.now line c.loop-rest.progress.keys c.loop-rest.number c.loop-rest.invariant.read c.first_line.ensures.cut none

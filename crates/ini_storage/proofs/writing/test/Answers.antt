@@ -14,7 +14,7 @@ loop-name-preserved c =
     HaveBefore-more IsIniKey c.args.keys.now c.in-Some.name.now (entry_of c.in-Some.entry.now) c.loop-name.name-iterator c.next.new.self c.loop-name.invariant c.in-Some.ensures.steps (c.is_ini_key.ensures.0 c.if-not-is_ini_key.false)
 
 pub returns-then-not-is_ini_key : goal.returns-then-not-is_ini_key
-returns-then-not-is_ini_key c =
+returns-then-not-is_ini_key c _ =
     subst (LacksFirst IsIniKey c.args.keys.now) (sym c.in_ok-copy.ensures)
     (HaveBefore-lacks IsIniKey c.args.keys.now c.in-Some.name.now (entry_of c.in-Some.entry.now) c.loop-name.name-iterator c.next.new.self c.loop-name.invariant c.in-Some.ensures.steps
     (λ has. let both = sym c.if-not-is_ini_key.true ∙ c.is_ini_key.ensures.1 has in absurd cc))
