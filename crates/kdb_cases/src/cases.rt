@@ -2,7 +2,7 @@
 
 use crate::runs::Runs;
 use crate::sets::Keys;
-use crate::{bodies, dumps, names, texts};
+use crate::{bodies, dumps, merges, names, texts};
 use key_meta::Memory;
 use std::alloc::Global;
 
@@ -47,6 +47,9 @@ impl Cases {
             return Ok(answer);
         }
         if let Some(answer) = dumps::answer_to(self.alloc, word, rest)? {
+            return Ok(answer);
+        }
+        if let Some(answer) = merges::answer_to(self.alloc, word, rest)? {
             return Ok(answer);
         }
         match bodies::answer_to(self.alloc, word, rest)? {

@@ -5,6 +5,7 @@ mod bodies;
 mod calls;
 mod cases;
 mod dumps;
+mod merges;
 mod names;
 mod notation;
 mod runs;

@@ -45,7 +45,7 @@ impl Keys {
 
     fn look(&self, word: &str, rest: &str) -> Result<Option<String>, Memory> {
         match word {
-            "written" => Ok(Some(self.written()?)),
+            "written" => Ok(Some(written_of(self.alloc, &self.keys)?)),
             "names" => Ok(Some(names_of(self.alloc, &self.keys)?)),
             "owner" | "involved" | "split" => match name_of(self.alloc, rest)? {
                 Some(name) => Ok(Some(self.by_points(word, &name)?)),
@@ -123,14 +123,15 @@ impl Keys {
         answer.push_str(&names_of(alloc, &united)?)?;
         Ok(answer)
     }
+}
 
-    fn written(&self) -> Result<String, Memory> {
-        let Ok(text) = write(self.alloc, &self.keys) else {
-            return Err(AllocError);
-        };
-        let text = shown(self.alloc, &text)?;
-        format!(in self.alloc; "  {text}\n")
-    }
+/// The dump of keys.
+pub fn written_of(alloc: Global, keys: &KeySet) -> Result<String, Memory> {
+    let Ok(text) = write(alloc, keys) else {
+        return Err(AllocError);
+    };
+    let text = shown(alloc, &text)?;
+    format!(in alloc; "  {text}\n")
 }
 
 fn names_of(alloc: Global, keys: &KeySet) -> Result<String, Memory> {

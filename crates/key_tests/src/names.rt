@@ -1,6 +1,6 @@
 //! Names by their calls without a text. Spellings, refusals and orders are cases of `kdb_cases`.
 
-use key_name::{KeyName, Namespace};
+use key_name::{KeyName, NameFault, Namespace};
 use std::test::Fail;
 
 #[test]

@@ -1,5 +1,5 @@
 -- How a run goes on: over a commit, a read, a closing.
-use Rattle.std.proofs.Common.{◌≡◌, ◌≢◌, ℕ, ◌≤◌, List, [], ◌∷◌, ◌++◌, length, inl, inr, Option, None, Result, Ok, Err, OnOk, OnErr, sym, subst, ◌∙◌, arith}
+use Rattle.std.proofs.Common.{◌≡◌, ◌≢◌, ℕ, ◌≤◌, List, [], ◌∷◌, ◌++◌, length, inl, inr, refl, Option, None, Result, Ok, Err, OnOk, OnErr, sym, subst, ◌∙◌, arith}
 use Rattle.kdb_outside.specs.declared.disks.Disk.{Ghosts}
 use Rattle.kdb_outside.specs.declared.faults.Failed.{Failed}
 use Rattle.kdb_outside.specs.Faults.{HasRisen}
