@@ -1,4 +1,4 @@
-//! The texts of a line: a key's name, and a value.
+//! The texts of a file: a key's name, and a value.
 ghost use Rattle.std.specs.Prelude.{◌≡◌, ◌≢◌, ◌∷◌, IfOk, OnOk, MatchOption};
 ghost use Rattle.model_names.specs.Name.{Name};
 ghost use Rattle.model_names.specs.Spells.{Spells};
@@ -18,10 +18,7 @@ pub fn name_of(alloc: Global, text: &[u8]) -> Result<Option<KeyName>, Memory>
     let Ok(text) = str::from_utf8(text) else {
         return Ok(None);
     };
-    let mut name = String::with_capacity(alloc, 1 + text.len())?;
-    name.push_str("/")?;
-    name.push_str(text)?;
-    match KeyName::parse(alloc, &name) {
+    match KeyName::parse_relative(alloc, text) {
         Ok(name) => Ok(Some(name)),
         Err(fault) => {
             hand_on_memory(fault)?;

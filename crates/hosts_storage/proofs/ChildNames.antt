@@ -14,6 +14,7 @@ use Rattle.key_name.specs.Children.{child_of, child_refusal, is_misspelled, too_
 use Rattle.key_name.specs.Refused.{IsChildRefusal}
 use Rattle.key_name.specs.declared.faults.NameFault.{NameFault}
 use Rattle.key_name.specs.declared.faults.NameFault.TheVariants as faults
+use Rattle.key_name.proofs.NameOfLemmas.{refusal_is}
 
 spelled_well : (part : Part) → IsPart part → is_misspelled part ≡ false
 spelled_well part is = by (is_array_like part) (is_canonical part) is.canonical
@@ -33,11 +34,6 @@ clash : (wrong : Option Refusal) (refusal : Refusal) → wrong ≡ Some refusal 
 clash wrong refusal e none = absurd cc
 
 pub refused-no_name : (above : Name) (part : Part) (fault : NameFault) → IsChildRefusal above part fault → fault ≢ faults.Memory → IsName (child_of above part) → ⊥
-refused-no_name above part faults.NoNamespace refused other is = clash (child_refusal above part) _ refused (accepted above part is)
-refused-no_name above part faults.UnknownNamespace refused other is = clash (child_refusal above part) _ refused (accepted above part is)
-refused-no_name above part faults.NoSlash refused other is = clash (child_refusal above part) _ refused (accepted above part is)
-refused-no_name above part (faults.BadEscape at) refused other is = clash (child_refusal above part) _ refused (accepted above part is)
-refused-no_name above part (faults.BadArray at) refused other is = clash (child_refusal above part) _ refused (accepted above part is)
-refused-no_name above part (faults.Nul at) refused other is = clash (child_refusal above part) _ refused (accepted above part is)
-refused-no_name above part (faults.TooLong bytes) refused other is = clash (child_refusal above part) _ refused (accepted above part is)
-refused-no_name above part faults.Memory refused other is = absurd (other refl)
+refused-no_name above part fault refused other is =
+    let refusal = refusal_is _ fault other refused in
+    clash (child_refusal above part) refusal.0 refusal.1 (accepted above part is)
