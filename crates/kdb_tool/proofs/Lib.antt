@@ -2,7 +2,6 @@ pub mod StatusLemmas
 pub mod StoringLemmas
 pub mod LastingLemmas
 pub mod AnswersOnce
-pub mod OpeningsExist
 pub mod AnswersExist
 pub mod UntoldLemmas
 pub mod EndLemmas

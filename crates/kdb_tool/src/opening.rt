@@ -11,7 +11,8 @@ ghost use Rattle.mounted_files.specs.Opening.{IsOpened, Opens, RefusesOpening};
 use crate::answers::Stop;
 use all_formats::AllFormats;
 use backend_files::read_file;
-use kdb_outside::Disk;
+use kdb_outside::{Disk, FileName};
+use key_meta::Memory;
 use mounted_files::{Mounted, OpenRefusal, Opening};
 use std::alloc::Global;
 
