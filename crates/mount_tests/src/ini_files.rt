@@ -66,33 +66,3 @@ fn a_line_of_1_mib_is_a_comment_or_bad(rt: HostRuntime) -> Result<(), Fail> {
     }
     Ok(())
 }
-
-/// 255 keys weigh 65,605 each, so that 47,941 are left for one more.
-#[test]
-fn a_map_weighs_16_mib(rt: HostRuntime) -> Result<(), Fail> {
-    let bytes = heavy_file(rt.alloc(), 47875)?;
-    assert_eq!(rt; bad_line(rt.alloc(), Kind::SimpleIni, &bytes)?, None);
-    Ok(())
-}
-
-#[test]
-fn a_map_weighs_no_more(rt: HostRuntime) -> Result<(), Fail> {
-    let bytes = heavy_file(rt.alloc(), 47876)?;
-    assert_eq!(rt; bad_line(rt.alloc(), Kind::SimpleIni, &bytes)?, Some(256));
-    Ok(())
-}
-
-/// Keys with the longest values, and one more with a value of this size.
-fn heavy_file(alloc: Global, size: usize) -> Result<Vec<u8>, AllocError> {
-    let longest = vec![in alloc; b'v'; 65536]?;
-    let mut bytes = Vec::new(alloc);
-    for i in 0..255 {
-        let front = format!(in alloc; "k{i:03} = ")?;
-        bytes.extend_from_slice(front.as_bytes())?;
-        bytes.extend_from_slice(&longest)?;
-        bytes.push(b'\n')?;
-    }
-    bytes.extend_from_slice(b"z = ")?;
-    bytes.extend_from_slice(&vec![in alloc; b'v'; size]?)?;
-    Ok(bytes)
-}
