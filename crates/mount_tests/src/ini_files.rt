@@ -2,7 +2,6 @@
 
 use crate::formats::{bad_line, written_again};
 use kdb_outside::Kind;
-use std::alloc::{AllocError, Global};
 use std::test::Fail;
 
 #[test]
