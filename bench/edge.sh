@@ -1,7 +1,7 @@
 #!/usr/bin/env bash
 # Tries on the real program what no contract can say of files and streams: closed streams, held locks, runs at one time, a
-# folder that is made twice, rights, and fifos, devices, sockets and folders in the place of files. Prints a line for each,
-# and ends with 1 where one isn't as it must be. Wants build/kdb (first-use.sh makes it), flock and setpriv (util-linux),
+# folder that is made twice, rights, fifos, devices, sockets and folders in the place of files, and what hostile files cost. Prints
+# a line for each, and ends with 1 where one isn't as it must be. Wants build/kdb (first-use.sh makes it), flock and setpriv (util-linux),
 # and python3 for a socket; what is tried as another user wants root. It takes about a minute. Not part of the gate.
 set -u
 cd "$(dirname "$0")/.."
@@ -166,5 +166,37 @@ if [ "$(id -u)" = 0 ]; then
 else
   echo 'not tried       rights, since this isn'"'"'t root'
 fi
+
+# Hostile files: what is too heavy is not kept, and metadata may stand in any order.
+# cost WORDS: runs the program; its processor milliseconds and the most MiB of memory that it took
+cost() {
+  python3 -c '
+import resource, subprocess, sys
+subprocess.run(sys.argv[1:], stdout=subprocess.DEVNULL, stderr=subprocess.DEVNULL)
+use = resource.getrusage(resource.RUSAGE_CHILDREN)
+print(round((use.ru_utime + use.ru_stime) * 1000), use.ru_maxrss // 1024)' "$@"
+}
+fresh
+for i in $(seq 59); do "$kdb" mount "m$i.ecf" "user:/m$i"; done
+python3 -c '
+for i in range(1, 60):
+    with open(f".kdb/m{i}.ecf", "w") as f:
+        f.write("kdbOpen 2\n" + "".join(f"$key string 2 65000\n{k:02}\n{65000 * chr(118)}\n" for k in range(16)) + "$end\n")'
+read -r milliseconds mebibytes < <(cost "$kdb" mounts)
+told "mounts over 59 files of 1 MiB ($milliseconds ms, $mebibytes MiB) takes" "$([ "$mebibytes" -le 96 ] && echo 'at most 96 MiB')" 'at most 96 MiB'
+"$kdb" ls user:/m59 2>"$work/err" >/dev/null
+told 'a get past the heavy files' "$(err_of $? | cut -d' ' -f1-4)" '5 kdb: C01100 too-heavy'
+fresh
+for order in rising falling; do
+  python3 -c '
+import sys
+names = [f"{i:05}" for i in range(55000)]
+names = names if sys.argv[1] == "rising" else names[::-1]
+with open(".kdb/user.ecf", "w") as f:
+    f.write("kdbOpen 2\n$key string 4 1\nsw/a\n1\n" + "".join(f"$meta 5 1\n{name}\nv\n" for name in names) + "$end\n")' $order
+  read -r taken _ < <(cost "$kdb" get user:/sw/a)
+  [ $order = rising ] && rising=$taken
+done
+told "55,000 metadata in falling order ($taken ms, rising $rising ms) take" "$([ "$taken" -le $((5 * rising + 10)) ] && echo 'at most 5 times as much')" 'at most 5 times as much'
 
 if [ $wrong = 0 ]; then echo 'all is as it must be'; else echo "$wrong wrong"; exit 1; fi
