@@ -23,17 +23,6 @@ use Rattle.dump_storage.proofs.ProgressLemmas as lemmas
 use Rattle.dump_storage.proofs.ProgressLemmas.{key_record, meta_record, copy_record, HasMetaNames-insert, weight-key, weight-meta, behind_key}
 use Rattle.general_words.proofs.Texts.{text_cmp-IsAntisymmetric}
 
--- names are equal where the comparison says so
-pub name_eq-same : (a b : Name) → name_eq a b ≡ true → a ≡ b
-name_eq-same a b equal = same (tied_or_not {R = name_cmp} name_cmp-IsAntisymmetric a b)
-  where
-    same : (eq_by_cmp name_cmp a b ≡ false) ⊎ ((eq_by_cmp name_cmp a b ≡ true) × (a ≡ b)) → a ≡ b
-    same (inl differ) = let both = sym equal ∙ name_ties a b ∙ differ in absurd cc
-    same (inr tied) = tied.1
-
-pub same-name_eq : (a b : Name) → a ≡ b → name_eq a b ≡ true
-same-name_eq a b same = ap (name_eq a) (sym same) ∙ name_ties a a ∙ (eq_by_cmp_equiv name_cmp_total).refl a
-
 -- there is a value where there is one behind a function
 pub is_some-mapped : {A B : Type 0} (f : A → B) (o : Option A) (m : Option B) → option_map f o ≡ m → (is_some o ≡ true → m ≢ None) × (m ≢ None → is_some o ≡ true)
 is_some-mapped f None m e = (λ some. absurd cc, λ some. absurd (some (sym e)))

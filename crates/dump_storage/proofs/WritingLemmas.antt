@@ -1,5 +1,5 @@
 -- How the text of a map grows record by record.
-use Rattle.std.proofs.Common.{◌≡◌, ℕ, List, [], ◌∷◌, ◌++◌, map, refl, sym, ap, ◌∙◌, append_assoc, Result, Ok, Err, OnOk}
+use Rattle.std.proofs.Common.{◌≡◌, ℕ, List, [], ◌∷◌, ◌++◌, map, refl, sym, ap, ◌∙◌, Result, Ok, Err, OnOk}
 use Rattle.std.specs.List.{flat_map}
 use Rattle.std.proofs.lemmas.List.Concat.{flat_map-append}
 use Rattle.std.proofs.lemmas.List.Folds.{flat_map-map}
@@ -12,10 +12,6 @@ use Rattle.model_dump.specs.Text.{record_of_meta, records_of_key}
 pub OnOk-then : {T E : Type 0} (r : Result T E) (P Q : Type 0) → (P → Q) → OnOk r P → OnOk r Q
 OnOk-then (Ok x) P Q f h = f h
 OnOk-then (Err e) P Q f h = tt
-
--- bytes that were appended twice
-pub appended : (before middle after a b : List ℕ) → middle ≡ before ++ a → after ≡ middle ++ b → after ≡ before ++ (a ++ b)
-appended before middle after a b p q = q ∙ ap (λ x. x ++ b) p ∙ append_assoc before a b
 
 -- the metadata of a key, spelled
 pub spelled_metadata : (items : List (List ℕ × List ℕ)) → flat_map spelled_record (map record_of_meta items) ≡ flat_map (λ item. spelled_record (record_of_meta item)) items

@@ -7,7 +7,7 @@ use Rattle.std.specs.Ordering.{eq_by_cmp}
 use Rattle.std.specs.declared.cmp.Ordering.{Ordering}
 use Rattle.std.specs.declared.cmp.Ordering.TheVariants.{Less, Greater}
 use Rattle.general_words.proofs.Tests.{first, second, both}
-use Rattle.general_words.proofs.Orders.{less, turned}
+use Rattle.general_words.proofs.Orders.{less, not_tied, turned}
 use Rattle.general_words.proofs.Lists.{take-next, cut-next}
 
 module _ {K X : Type 0} (R : K → K → Ordering) where
@@ -53,6 +53,11 @@ module _ {K X : Type 0} (R : K → K → Ordering) where
         | true ↦ λ h. h
         | false ↦ λ h. find-front n es q v h
       ] found
+
+  -- a key below all others is none of them
+  pub find-below : (q : K) (es : List (K × X)) → T (below_all R q es) → find R q es ≡ None
+  find-below q [] h = refl
+  find-below q (e ∷ es) h = ap (λ b. cond b (Some e.1) (find R q es)) (not_tied _ (first _ _ h)) ∙ find-below q es (second _ _ h)
 
   -- where no key ties, none is found
   pub find_nowhere : (q : K) (es : List (K × X)) → ((k : ℕ) (d : K × X) → k < length es → eq_by_cmp R q (get_or es k d).0 ≡ false) → find R q es ≡ None

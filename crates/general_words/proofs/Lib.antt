@@ -1,5 +1,6 @@
 pub mod Tests
 pub mod Orders
+pub mod Deciding
 pub mod Lists
 pub mod Texts
 pub mod Searches

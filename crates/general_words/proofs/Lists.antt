@@ -1,5 +1,5 @@
 -- Lists: one more of their elements behind those before it, and none where the length is 0.
-use Rattle.std.proofs.Common.{◌≡◌, ℕ, zero, suc, ◌+◌, ◌<◌, List, [], ◌∷◌, ◌++◌, length, get_or, take, drop, slice_get, Option, Some, refl, sym, ap, ◌∙◌, arith, append-nil}
+use Rattle.std.proofs.Common.{◌≡◌, ℕ, zero, suc, ◌+◌, ◌<◌, List, [], ◌∷◌, ◌++◌, length, get_or, take, drop, slice_get, Option, None, Some, refl, sym, ap, ◌∙◌, arith, append-nil, append_assoc}
 use Rattle.std.specs.List.{AllByRecursion, flat_map}
 use Rattle.std.proofs.lemmas.List.{take_more, take-append-drop, drop_more}
 use Rattle.std.proofs.lemmas.List.Concat.{flat_map-append}
@@ -12,6 +12,9 @@ no_entries (x ∷ es) e = absurd (omega arith)
 -- what two present values hold is one, where they are
 pub some_is : {A : Type 0} (a b : A) → ◌≡◌ {A = Option A} (Some a) (Some b) → a ≡ b
 some_is a b e = cc
+
+pub none_is_no_some : {A : Type 0} (x : A) → ◌≡◌ {A = Option A} None (Some x) → ⊥
+none_is_no_some x e = absurd cc
 
 -- what one place holds is one
 pub found_once : {A : Type 0} {o : Option A} (a b : A) → o ≡ Some a → o ≡ Some b → a ≡ b
@@ -31,6 +34,10 @@ take-next xs i x found = take_more xs i x (slice_get_within xs i x (sym found)) 
 pub cut-next : {A : Type 0} (xs : List A) (i : ℕ) (x : A) → Some x ≡ slice_get xs i → xs ≡ take i xs ++ x ∷ drop (i + 1) xs
 cut-next xs i x found =
     sym (take-append-drop i xs) ∙ ap (λ rest. take i xs ++ rest) (drop_more xs i x (slice_get_within xs i x (sym found)) ∙ ap (λ y. y ∷ drop (i + 1) xs) (get_or_from_slice_get xs i x x (sym found)))
+
+-- what was appended twice
+pub appended : {A : Type 0} (before middle after xs ys : List A) → middle ≡ before ++ xs → after ≡ middle ++ ys → after ≡ before ++ (xs ++ ys)
+appended before middle after xs ys p q = q ∙ ap (λ zs. zs ++ ys) p ∙ append_assoc before xs ys
 
 -- what one more element adds to the lists that elements stand for
 pub flat_map-more : {A B : Type 0} (f : A → List B) (xs : List A) (i : ℕ) (x : A) → Some x ≡ slice_get xs i → flat_map f (take (i + 1) xs) ≡ flat_map f (take i xs) ++ f x

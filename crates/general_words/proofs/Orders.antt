@@ -1,5 +1,5 @@
 -- What a comparison tells.
-use Rattle.std.proofs.Common.{◌≡◌, true, T, refl, sym, ap, subst, ◌∙◌}
+use Rattle.std.proofs.Common.{◌≡◌, true, false, T, refl, sym, ap, subst, ◌∙◌}
 use Rattle.std.specs.Cmp.{IsTotalOrder, tied_itself}
 use Rattle.std.specs.Ordering.{eq_by_cmp, is_eq, is_lt, ordering_reverse}
 use Rattle.std.specs.declared.cmp.Ordering.{Ordering}
@@ -12,6 +12,11 @@ less Greater h = absurd h
 
 pub is_less : (r : Ordering) → r ≡ Less → T (is_lt r)
 is_less r e = subst (λ s. T (is_lt s)) (sym e) tt
+
+pub not_tied : (r : Ordering) → T (is_lt r) → is_eq r ≡ false
+not_tied Less h = refl
+not_tied Equal h = absurd h
+not_tied Greater h = absurd h
 
 pub tied : (r : Ordering) → is_eq r ≡ true → r ≡ Equal
 tied Less h = absurd cc

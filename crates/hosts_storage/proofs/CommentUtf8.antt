@@ -6,6 +6,7 @@ use Rattle.std.proofs.lemmas.Bool.{cond_both, eqb-true}
 use Rattle.model_lines.specs.Lines.{without_return}
 use Rattle.model_lines.proofs.Utf8Lemmas.{utf8-before, utf8-behind}
 use Rattle.model_hosts.specs.Line.{cut_at_hash, words, Meaning, Comment, Unreadable, meaning_of, meaning}
+use Rattle.general_words.proofs.Lists.{none_is_no_some}
 
 -- a line is as it was, or had a carriage return at its end
 line-ends : (line : List ℕ) → (without_return line ≡ line) ⊎ (line ≡ without_return line ++ 13 ∷ [])
@@ -21,9 +22,6 @@ utf8-without_return line utf8 = elim (line-ends line) as (λ _. IsUtf8 (without_
   | inl same ↦ subst IsUtf8 (sym same) utf8
   | inr cut ↦ utf8-before 13 (without_return line) [] (lit< tt) (subst IsUtf8 cut utf8)
 ]
-
-none_is_no_some : {A : Type 0} (x : A) → ◌≡◌ {A = Option A} None (Some x) → ⊥
-none_is_no_some x e = absurd cc
 
 cut-whole : (bytes text : List ℕ) → (cut_at_hash bytes).1 ≡ Some text → bytes ≡ (cut_at_hash bytes).0 ++ 35 ∷ text
 cut-whole [] text = λ e. absurd (none_is_no_some text e)

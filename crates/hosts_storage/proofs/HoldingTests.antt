@@ -18,14 +18,8 @@ use Rattle.key_meta.specs.Same.{same_item, same_meta}
 use Rattle.model_hosts.specs.Comments.{comments, texts_of}
 use Rattle.model_hosts.specs.Keys.{family, host_name, IsWord, IsOneLine, IsHostsKey}
 use Rattle.hosts_storage.specs.Holding.{HasComments, IsHost, IsAlias}
-
--- what is decided may be said in other words
-pub said : {P Q : Type 0} (is : Bool) → (P → Q) → (Q → P) → Decides is P → Decides is Q
-said is f g p = (λ e. f (p.0 e), λ h. p.1 (g h))
-
-both : {P Q : Type 0} (a b : Bool) → Decides a P → Decides b Q → Decides (a && b) (P × Q)
-both true b p q = (λ e. (p.0 refl, q.0 e), λ h. q.1 h.1)
-both false b p q = (λ e. absurd cc, λ h. p.1 h.0)
+use Rattle.general_words.proofs.Deciding.{said}
+use Rattle.key_meta.proofs.SameLemmas.{meta_decides}
 
 -- metadata are empty where they have no item
 empty_meta : (meta : Meta) → length (map.entries meta) ≡ 0 → meta ≡ map.empty
@@ -41,19 +35,10 @@ nothing-decides entry is none test = (
     no_bytes [] e = refl
     no_bytes (b ∷ bytes) e = absurd (omega arith)
 
-pub something : (entry : Entry) → (length entry.value ≡ 0 → ⊥) → entry ≡ plain_entry [] → ⊥
-something entry some plain = some (ap (λ (e : Entry). length e.value) plain)
-
 -- a key is there where something is found
 pub there-decides : {A : Type 0} (f : A → Entry) (o : Option A) (found : Option Entry) (is : Bool) → option_map f o ≡ found → is ≡ is_some o → Decides is ((entry : Entry) × (found ≡ Some entry))
 there-decides f None found is e test = (λ passes. absurd cc, λ there. let clash : ◌≡◌ {A = Option Entry} None (Some there.0) = e ∙ there.1 in absurd cc)
 there-decides f (Some x) found is e test = (λ _. (f x, sym e), λ _. test)
-
-item_decides : (x y : List ℕ × List ℕ) → Decides (same_item x y) (x ≡ y)
-item_decides x y = said (same_item x y) (λ h. λ i. (h.0 i, h.1 i)) (λ e. (ap (λ z. z.0) e, ap (λ z. z.1) e)) (both _ _ (bytes_decides x.0 y.0) (bytes_decides x.1 y.1))
-
-meta_decides : (x y : Meta) → Decides (same_meta x y) (x ≡ y)
-meta_decides x y = said (same_meta x y) (map.same_entries_map x y) (ap map.entries) (pointwise_decides item_decides (map.entries x) (map.entries y))
 
 -- metadata are comments where they are those of their texts
 pub comments-decided : (meta made : Meta) (texts : List (List ℕ)) (is : Bool) → texts ≡ texts_of meta → made ≡ comments texts → is ≡ same_meta made meta → length texts ≤ last_index → AllByRecursion IsOneLine texts → Decides is (HasComments meta)

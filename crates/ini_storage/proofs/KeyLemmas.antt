@@ -1,5 +1,5 @@
 -- When a key can be added, and how texts are appended.
-use Rattle.std.proofs.Common.{◌≡◌, ◌≢◌, ℕ, ◌+◌, ◌<◌, ◌≤◌, List, [], ◌∷◌, ◌++◌, length, map, None, refl, sym, ap, subst, ◌∙◌, arith, append_assoc}
+use Rattle.std.proofs.Common.{◌≡◌, ◌≢◌, ℕ, ◌+◌, ◌<◌, ◌≤◌, List, [], ◌∷◌, ◌++◌, length, map, None, refl, sym, ap, subst, ◌∙◌, arith}
 use Rattle.std.specs.Prelude.{Bool, ◌==◌}
 use Rattle.std.specs.Bool.{Decides}
 use Rattle.std.proofs.lemmas.Bool.{eqb-true}
@@ -55,10 +55,6 @@ module _ (before : KeyMap) (text value : List ℕ) (name : Name) (spelled : Spel
     added = refl;
     light = omega (arith, weight-plain new);
   }
-
--- bytes that were appended twice
-pub appended : (before middle after a b : List ℕ) → middle ≡ before ++ a → after ≡ middle ++ b → after ≡ before ++ (a ++ b)
-appended before middle after a b p q = q ∙ ap (λ x. x ++ b) p ∙ append_assoc before a b
 
 -- a text of two bytes or more, sign by sign
 pub signs_at-long : (side : Side) (b : ℕ) (rest : List ℕ) → 0 < length rest → signs_at side (b ∷ rest) ≡ first_at side (sign_at side b) ∷ at_last cover_blank (map (sign_at side) rest)

@@ -46,10 +46,10 @@ goes_on front count i previous bytes f after total lt p h so_far =
 pub ends : (stop : Stop) (front : List FileText) (count i : ℕ) (previous bytes : List ℕ) (total : Field (List FileText)) → i < count → previous ≡ last_name front → IsStopOf (file_at previous bytes) stop
     → IsOn front count i bytes total → IsStopOf total stop
 unfolding files_at
-ends stops.Memory front count i previous bytes total lt p h so_far = tt
-ends (stops.Before left) front count i previous bytes total lt p h so_far =
+ends stops.Memory front count i previous bytes total lt p h so_far = λ other. absurd (other refl)
+ends (stops.Before left) front count i previous bytes total lt p h so_far = λ other.
     let k : count - i ≡ suc (count - (i + 1)) = omega arith in
-    let one : with_front front (files_at (count - i) (last_name front) bytes) ≡ Err left = rw (k, ← p, h) refl in
+    let one : with_front front (files_at (count - i) (last_name front) bytes) ≡ Err left = rw (k, ← p, h other) refl in
     sym so_far.is ∙ one
 
 pub is_done : (front : List FileText) (count i : ℕ) (bytes : List ℕ) (total : Field (List FileText)) → count ≤ i → IsOn front count i bytes total → total ≡ Ok (front, bytes)

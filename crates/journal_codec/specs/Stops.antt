@@ -3,11 +3,16 @@ use Rattle.std.specs.Prelude.{◌≡◌, ℕ, List, [], ◌∷◌, Result, Ok, E
 use Rattle.journal_codec.specs.declared.faults.Stop.{Stop}
 use Rattle.journal_codec.specs.declared.faults.Stop.TheVariants.{Before, Memory}
 use Rattle.journal_codec.specs.declared.files.FileText.{FileText}
+use Rattle.general_words.specs.Memory.{UnlessMemory}
 
--- a stop is the one that reading gives; want of memory is free
+-- reading stops where so many bytes are left
+abbrev pub StopsBefore : {Y : Type 0} → Result Y ℕ → Stop → Type 0
+StopsBefore read (Before left) = read ≡ Err left
+StopsBefore read Memory = ⊥
+
+-- a stop is the one that reading gives, or want of memory
 abbrev pub IsStopOf : {Y : Type 0} → Result Y ℕ → Stop → Type 0
-IsStopOf read (Before left) = read ≡ Err left
-IsStopOf read Memory = Unit {0}
+IsStopOf read stop = UnlessMemory Memory (StopsBefore read stop) stop
 
 -- what a function returned, seen by view, is what reading gives
 abbrev pub Gives : {X Y : Type 0} → (X → Y) → Result X Stop → Result Y ℕ → Type 0

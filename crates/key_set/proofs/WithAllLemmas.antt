@@ -19,16 +19,7 @@ use Rattle.key_set.specs.WithAll.{with_keys, with_all}
 use Rattle.key_set.proofs.SetLemmas.{Keys, entries-keys, put-keys}
 use Rattle.general_words.proofs.Tests.{first, second}
 use Rattle.general_words.proofs.Orders.{tied}
-
-not_tied : (r : Ordering) → T (is_lt r) → is_eq r ≡ false
-not_tied Less p = refl
-not_tied Equal p = absurd p
-not_tied Greater p = absurd p
-
--- a name before all others is none of them
-find-below : (name : Name) (others : List (Name × Entry)) → T (below_all name_cmp name others) → find name_cmp name others ≡ None
-find-below name [] h = refl
-find-below name (other ∷ others) h = ap (λ b. cond b (Some other.1) (find name_cmp name others)) (not_tied _ (first _ _ h)) ∙ find-below name others (second _ _ h)
+use Rattle.general_words.proofs.Entries.{find-below}
 
 -- what is found among keys with others: the others' entry, and else the keys'
 get-with_keys : (others : List (Name × Entry)) (keys : KeyMap) (name : Name) → T (is_sorted name_cmp others) → map.get (with_keys others keys) name ≡ option_or (find name_cmp name others) (map.get keys name)
@@ -39,7 +30,7 @@ get-with_keys (other ∷ others) keys name h =
     ∙ elim (eq_by_cmp name_cmp name other.0) as (λ b. eq_by_cmp name_cmp name other.0 ≡ b → option_or (find name_cmp name others) (cond b (Some other.1) (map.get keys name)) ≡ option_or (cond b (Some other.1) (find name_cmp name others)) (map.get keys name)) [
       | true ↦ λ is.
           let same : other.0 ≡ name = sym (name_cmp-IsAntisymmetric name other.0 (tied _ is)) in
-          ap (λ found. option_or found (Some other.1)) (find-below name others (subst (λ n. T (below_all name_cmp n others)) same (first _ _ h)))
+          ap (λ found. option_or found (Some other.1)) (find-below name_cmp name others (subst (λ n. T (below_all name_cmp n others)) same (first _ _ h)))
       | false ↦ λ is. refl
     ] refl
 

@@ -17,26 +17,13 @@ use Rattle.model_names.proofs.OrderLemmas.{name_cmp_total, name_cmp-IsAntisymmet
 use Rattle.model_maps.specs.Entry.{Entry}
 use Rattle.model_maps.specs.KeyMap.{KeyMap, no_keys}
 use Rattle.model_formats.specs.Holding.{EachHas, LacksFirst, IsKeywise}
-
--- what is below all of a list is below what stands in it
-above : (name : Name) (front : List (Name × Entry)) (key : Name × Entry) (behind : List (Name × Entry)) → T (below_all name_cmp name (front ++ key ∷ behind)) → name_cmp key.0 name ≡ Greater
-above name [] key behind h = name_cmp_total.antisymm key.0 name ∙ ap ordering_reverse (less (name_cmp name key.0) (first _ _ h))
-above name (f ∷ front) key behind h = above name front key behind (second _ _ h)
-
-find-there : (front : List (Name × Entry)) (key : Name × Entry) (behind : List (Name × Entry)) → T (is_sorted name_cmp (front ++ key ∷ behind)) → find name_cmp key.0 (front ++ key ∷ behind) ≡ Some key.1
-find-there [] key behind h = rw (tied_itself name_cmp_total key.0)
-find-there (f ∷ front) key behind h = rw (above f.0 front key behind (first _ _ h)) (find-there front key behind (second _ _ h))
+use Rattle.general_words.proofs.Lists.{none_is_no_some, some_is}
+use Rattle.general_words.proofs.Entries.{find-there}
 
 -- a key that stands among the entries is a key of the map
 pub get-there : (keys : KeyMap) (front : List (Name × Entry)) (name : Name) (entry : Entry) (behind : List (Name × Entry)) → map.entries keys ≡ front ++ (name, entry) ∷ behind → map.get keys name ≡ Some entry
 get-there keys front name entry behind all =
-    map.get-entries keys name ∙ ap (find name_cmp name) all ∙ find-there front (name, entry) behind (subst (λ es. T (is_sorted name_cmp es)) all (map.entries_sorted keys))
-
-some_once : {A : Type 0} (x y : A) → Some x ≡ Some y → x ≡ y
-some_once x y e = cc
-
-none_is_no_some : {A : Type 0} (x : A) → ◌≡◌ {A = Option A} None (Some x) → ⊥
-none_is_no_some x e = absurd cc
+    map.get-entries keys name ∙ ap (find name_cmp name) all ∙ find-there name_cmp_total front (name, entry) behind (subst (λ es. T (is_sorted name_cmp es)) all (map.entries_sorted keys))
 
 -- and a key of the map has what all entries have
 found-has : (Has : Name → Entry → Type 0) (es : List (Name × Entry)) (name : Name) (entry : Entry) → AllByRecursion (λ key. Has key.0 key.1) es → find name_cmp name es ≡ Some entry → Has name entry
@@ -45,7 +32,7 @@ found-has Has (key ∷ es) name entry all found = by (name_cmp name key.0) refl 
   where
     by : (r : Ordering) → name_cmp name key.0 ≡ r → (find name_cmp name es ≡ Some entry → Has name entry) → Has name entry
     by Less e behind = behind (rw e at found)
-    by Equal e behind = subst (λ n. Has n entry) (sym (name_cmp-IsAntisymmetric name key.0 e)) (subst (Has key.0) (some_once key.1 entry (rw e at found)) all.0)
+    by Equal e behind = subst (λ n. Has n entry) (sym (name_cmp-IsAntisymmetric name key.0 e)) (subst (Has key.0) (some_is key.1 entry (rw e at found)) all.0)
     by Greater e behind = behind (rw e at found)
 
 pub EachHas-entries : (Has : Name → Entry → Type 0) (keys : KeyMap) → AllByRecursion (λ key. Has key.0 key.1) (map.entries keys) → EachHas Has keys
@@ -110,7 +97,7 @@ found-alone name entry q x found = by (name_cmp q name) refl
   where
     by : (r : Ordering) → name_cmp q name ≡ r → (q ≡ name) × (entry ≡ x)
     by Less e = absurd (none_is_no_some x (sym (map.get-empty name_cmp q) ∙ (rw e at (sym (map.get-insert name_cmp_total no_keys name entry q) ∙ found))))
-    by Equal e = (name_cmp-IsAntisymmetric q name e, some_once entry x (rw e at (sym (map.get-insert name_cmp_total no_keys name entry q) ∙ found)))
+    by Equal e = (name_cmp-IsAntisymmetric q name e, some_is entry x (rw e at (sym (map.get-insert name_cmp_total no_keys name entry q) ∙ found)))
     by Greater e = absurd (none_is_no_some x (sym (map.get-empty name_cmp q) ∙ (rw e at (sym (map.get-insert name_cmp_total no_keys name entry q) ∙ found))))
 
 there-alone : (name : Name) (entry : Entry) → map.get (map.insert no_keys name entry) name ≡ Some entry

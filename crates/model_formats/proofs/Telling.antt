@@ -14,6 +14,7 @@ use Rattle.model_names.specs.Spells.{Spells}
 use Rattle.model_names.proofs.OrderLemmas.{name_cmp_total, name_cmp-IsAntisymmetric}
 use Rattle.model_names.proofs.RefusesLemmas.{refusal_of-spelled, Spells-from_no_refusal}
 use Rattle.model_maps.specs.Entry.{IsValue, IsMetaName, longest_value, longest_meta_name}
+use Rattle.general_words.proofs.Lists.{none_is_no_some}
 
 -- a fact holds or it doesn't
 abbrev pub IsTold : Type 0 → Type 0
@@ -55,9 +56,6 @@ meta_name-told name = elim (utf8-told name) as (λ _. IsTold (IsMetaName name)) 
   | inr fails ↦ inr (λ (n : IsMetaName name). fails n.utf8)
 ]
 
-some_is_none : {A : Type 0} (x : A) → ◌≡◌ {A = Option A} (Some x) None → ⊥
-some_is_none x e = absurd cc
-
 -- a text spells a name or none
 pub spells-told : (text : List ℕ) → IsTold ((name : Name) × Spells text name)
 spells-told text = elim (utf8-told text) as (λ _. IsTold ((name : Name) × Spells text name)) [
@@ -67,7 +65,7 @@ spells-told text = elim (utf8-told text) as (λ _. IsTold ((name : Name) × Spel
   where
     by : IsUtf8 text → (o : Option Refusal) → refusal_of text ≡ o → IsTold ((name : Name) × Spells text name)
     by utf8 None e = inl (Spells-from_no_refusal text utf8 e)
-    by utf8 (Some refusal) e = inr (λ found. some_is_none refusal (sym e ∙ refusal_of-spelled text found.0 found.1))
+    by utf8 (Some refusal) e = inr (λ found. none_is_no_some refusal (sym (sym e ∙ refusal_of-spelled text found.0 found.1)))
 
 -- an option is none, or there is something in it
 pub option-told : {A : Type 0} (o : Option A) → (o ≡ None) ⊎ ((x : A) × (o ≡ Some x))

@@ -19,6 +19,7 @@ use Rattle.general_words.proofs.Tests.{first, second}
 use Rattle.general_words.proofs.Orders.{tied}
 use Rattle.general_words.proofs.Lists.{some_is}
 use Rattle.model_history.specs.Changes.{Change, Changes, change_at, named_change, difference, changed, changed_by, after}
+use Rattle.general_words.proofs.Entries.{find-below}
 
 -- ---- one name
 
@@ -112,16 +113,6 @@ get-changed keys change q = by change.1
     by None = map.get-remove name_cmp_total keys change.0 q
     by (Some entry) = map.get-insert name_cmp_total keys change.0 entry q
 
-not_tied : (r : Ordering) → T (is_lt r) → is_eq r ≡ false
-not_tied Less p = refl
-not_tied Equal p = absurd p
-not_tied Greater p = absurd p
-
--- a name before all others is none of them
-find-below : (q : Name) (changes : List Change) → T (below_all name_cmp q changes) → find name_cmp q changes ≡ None
-find-below q [] below = refl
-find-below q (change ∷ changes) below = ap (λ b. cond b (Some change.1) (find name_cmp q changes)) (not_tied _ (first _ _ below)) ∙ find-below q changes (second _ _ below)
-
 pub get-changed_by : (changes : List Change) (keys : KeyMap) (q : Name) → T (is_sorted name_cmp changes) → map.get (changed_by changes keys) q ≡ unwrap_or (find name_cmp q changes) (map.get keys q)
 get-changed_by [] keys q h = refl
 get-changed_by (change ∷ changes) keys q h = get-changed_by changes (changed keys change) q (second _ _ h) ∙ ap (unwrap_or (find name_cmp q changes)) (get-changed keys change q) ∙ by (eq_by_cmp name_cmp q change.0) refl
@@ -129,7 +120,7 @@ get-changed_by (change ∷ changes) keys q h = get-changed_by changes (changed k
     by : (t : Bool) → eq_by_cmp name_cmp q change.0 ≡ t → unwrap_or (find name_cmp q changes) (cond t change.1 (map.get keys q)) ≡ unwrap_or (cond t (Some change.1) (find name_cmp q changes)) (map.get keys q)
     by true is =
         let same : change.0 ≡ q = sym (name_cmp-IsAntisymmetric q change.0 (tied _ is)) in
-        ap (λ o. unwrap_or o change.1) (find-below q changes (subst (λ n. T (below_all name_cmp n changes)) same (first _ _ h)))
+        ap (λ o. unwrap_or o change.1) (find-below name_cmp q changes (subst (λ n. T (below_all name_cmp n changes)) same (first _ _ h)))
     by false is = refl
 
 pub get-after : (keys : KeyMap) (changes : Changes) (q : Name) → map.get (after keys changes) q ≡ unwrap_or (map.get changes q) (map.get keys q)

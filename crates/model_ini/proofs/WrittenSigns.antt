@@ -37,10 +37,6 @@ abbrev pub IsFilled : {A : Type 0} → List A → Type 0
 IsFilled [] = ⊥
 IsFilled (x ∷ xs) = Unit {0}
 
-all_of : {A : Type 0} (P : A → Type 0) → ((x : A) → P x) → (xs : List A) → AllByRecursion P xs
-all_of P each [] = tt
-all_of P each (x ∷ xs) = (each x, all_of P each xs)
-
 all-mapped : {A B : Type 0} (P : B → Type 0) (f : A → B) → ((x : A) → P (f x)) → (xs : List A) → AllByRecursion P (map f xs)
 all-mapped P f each [] = tt
 all-mapped P f each (x ∷ xs) = (each x, all-mapped P f each xs)

@@ -24,16 +24,6 @@ below x (f ∷ front) key rest h = below x front key rest (second _ _ h)
 above : (x : Name) (front : List (Name × Entry)) (key : Name × Entry) (rest : List (Name × Entry)) → T (below_all name_cmp x (front ++ key ∷ rest)) → name_cmp key.0 x ≡ Greater
 above x front key rest h = name_cmp_total.antisymm key.0 x ∙ ap ordering_reverse (below x front key rest h)
 
--- what stands in a sorted list is found
-pub find-there : (front : List (Name × Entry)) (key : Name × Entry) (rest : List (Name × Entry)) → T (is_sorted name_cmp (front ++ key ∷ rest)) → find name_cmp key.0 (front ++ key ∷ rest) ≡ Some key.1
-find-there [] key rest h = rw (tied_itself name_cmp_total key.0)
-find-there (f ∷ front) key rest h = rw (above f.0 front key rest (first _ _ h)) (find-there front key rest (second _ _ h))
-
--- and a map has it
-pub get-there : (keys : KeyMap) (front : List (Name × Entry)) (name : Name) (entry : Entry) (rest : List (Name × Entry)) → finite.entries keys ≡ front ++ (name, entry) ∷ rest → finite.get keys name ≡ Some entry
-get-there keys front name entry rest all =
-    finite.get-entries keys name ∙ ap (find name_cmp name) all ∙ find-there front (name, entry) rest (subst (λ es. T (is_sorted name_cmp es)) all (finite.entries_sorted keys))
-
 same_some : {A : Type 0} (x y : A) → ◌≡◌ {A = Option A} (Some x) (Some y) → x ≡ y
 same_some x y e = cc
 

@@ -23,7 +23,8 @@ use Rattle.mounted_files.specs.Weighed.{added_weight, is_own, visible_weight, we
 use Rattle.mounted_files.specs.declared.files.FileState.{FileState}
 use Rattle.mounted_files.specs.declared.files.MountedFile.{MountedFile}
 use Rattle.mounted_files.proofs.BegunLemmas.{insert-remove, length-remove, length-weighed, number_of-other, over-insert, own_weight-insert, slice_get-insert, slice_get-remove, weighed_from-append, weighed_from-insert}
-use Rattle.mounted_files.proofs.PlaceLemmas.{name_eq-same, one_place, own-name_eq}
+use Rattle.model_names.proofs.OrderLemmas.{name_decides}
+use Rattle.mounted_files.proofs.PlaceLemmas.{one_place, own-name_eq}
 use Rattle.mounted_files.proofs.PointLemmas.{points-of_mounts}
 use Rattle.mounted_files.proofs.StateLemmas.{last_or_before}
 use Rattle.mounted_files.proofs.WeighLemmas.{mounts-from}
@@ -124,7 +125,7 @@ module _ (Reads : Reading) (IsBad : Badness) (bytes_of : List ℕ → List ℕ) 
         by : (test : Bool) → is_own file ≡ test → is_own file ≡ false
         by false is = is
         by true is =
-            let point = name_eq-same file.mount.at own_point is in
+            let point = (name_decides file.mount.at own_point).0 is in
             let at = point_at (number_of begun.place i) file.mount mount_there ∙ ap Some point in
             absurd (number_of-other begun.place i (one_place (over (λ (m : Mount). m.at) begun.table) own_point (number_of begun.place i) begun.place sorted at (point_at begun.place own_mount own_there)))
 

@@ -21,7 +21,7 @@ use Rattle.model_names.specs.Name.{Name, Part}
 use Rattle.model_names.specs.Namespaces.{has_files}
 use Rattle.model_names.specs.Order.{name_cmp, name_eq}
 use Rattle.model_names.specs.Spelling.{spelling}
-use Rattle.model_names.proofs.OrderLemmas.{name_cmp_total, name_cmp-IsAntisymmetric}
+use Rattle.model_names.proofs.OrderLemmas.{name_cmp_total, name_cmp-IsAntisymmetric, name_decides}
 use Rattle.model_maps.specs.KeyMap.{KeyMap}
 use Rattle.mount_table.specs.Entries.{entries_of}
 use Rattle.mount_table.specs.Points.{longest_point, own_point}
@@ -33,15 +33,8 @@ use Rattle.mount_table.specs.declared.mounts.Mount.{Mount}
 use Rattle.mount_table.proofs.TableLemmas.{IsPoint-from, from_then, mount_of-next, ok_is, point_of-mount}
 use Rattle.mounted_files.specs.OwnPlace.{HasOwn}
 
-pub name_eq-same : (a b : Name) → name_eq a b ≡ true → a ≡ b
-name_eq-same a b equal = same (tied_or_not {R = name_cmp} name_cmp-IsAntisymmetric a b)
-  where
-    same : (eq_by_cmp name_cmp a b ≡ false) ⊎ ((eq_by_cmp name_cmp a b ≡ true) × (a ≡ b)) → a ≡ b
-    same (inl differ) = absurd (let both = sym differ ∙ (sym (name_ties a b) ∙ equal) in cc)
-    same (inr tied) = tied.1
-
 pub own-name_eq : (point : Name) → point ≡ own_point → name_eq point own_point ≡ true
-own-name_eq point is = ap (λ (p : Name). name_eq p own_point) is ∙ (name_ties own_point own_point ∙ (eq_by_cmp_equiv name_cmp_total).refl own_point)
+own-name_eq point is = (name_decides point own_point).1 is
 
 -- a point stands at one place
 pub one_place : (points : List Name) (point : Name) (i j : ℕ) → IsStrictlySortedBy name_cmp points → slice_get points i ≡ Some point → slice_get points j ≡ Some point → i ≡ j
@@ -124,7 +117,7 @@ module _ (table : List Mount) (points : List Name) (told : points ≡ over (λ (
   -- a mount at the own point is the own mount
   pub own-found : HasOwn table → IsStrictlySortedBy name_cmp points → name_eq point own_point ≡ true → slice_get table i ≡ Some own_mount
   own-found has sorted is =
-      let same = one_place points own_point i has.place sorted (there ∙ ap Some (name_eq-same point own_point is)) (point_at has.place has.is) in
+      let same = one_place points own_point i has.place sorted (there ∙ ap Some ((name_decides point own_point).0 is)) (point_at has.place has.is) in
       ap (slice_get table) same ∙ has.is
 
   -- at another point it doesn't stand

@@ -5,8 +5,9 @@ use Rattle.std.specs.List.{flat_map}
 use Rattle.model_dump.specs.Record.{KeyKind, Record, spelled_record}
 use Rattle.model_dump.specs.Text.{relative_text, record_of_meta, records_of_key}
 use Rattle.key_set.specs.EntryView.{entry_of}
-use Rattle.dump_storage.proofs.WritingLemmas.{OnOk-then, appended, spelled_metadata}
+use Rattle.dump_storage.proofs.WritingLemmas.{OnOk-then, spelled_metadata}
 use Rattle.dump_storage.proofs.writing.push_key.Goals as goal
+use Rattle.general_words.proofs.Lists.{appended}
 
 pub returns : goal.returns
 returns c =

@@ -8,7 +8,7 @@ use Rattle.model_dump.specs.Record.{spelled_record}
 use Rattle.model_dump.specs.Text.{records_of_key}
 use Rattle.key_set.specs.EntryView.{entry_of}
 use Rattle.general_words.proofs.Lists.{flat_map-more}
-use Rattle.dump_storage.proofs.WritingLemmas.{appended}
+use Rattle.general_words.proofs.Lists.{appended}
 use Rattle.dump_storage.proofs.writing.push_keys.Goals as goal
 
 pub loop-i-preserved : goal.loop-i-preserved

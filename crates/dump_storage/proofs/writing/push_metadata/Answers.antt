@@ -5,7 +5,7 @@ use Rattle.std.specs.List.{flat_map}
 use Rattle.model_dump.specs.Record.{spelled_record}
 use Rattle.model_dump.specs.Text.{record_of_meta}
 use Rattle.general_words.proofs.Lists.{flat_map-more}
-use Rattle.dump_storage.proofs.WritingLemmas.{appended}
+use Rattle.general_words.proofs.Lists.{appended}
 use Rattle.dump_storage.proofs.writing.push_metadata.Goals as goal
 
 pub loop-i-preserved : goal.loop-i-preserved

@@ -3,8 +3,9 @@ use Rattle.std.proofs.Common.{◌++◌, ap, sym, ◌∙◌}
 use Rattle.std.specs.List.{flat_map}
 use Rattle.model_ini.specs.Signs.{spelled_sign}
 use Rattle.ini_storage.specs.SideView.{sign_at, first_at}
-use Rattle.ini_storage.proofs.KeyLemmas.{appended, signs_at-long}
+use Rattle.ini_storage.proofs.KeyLemmas.{signs_at-long}
 use Rattle.ini_storage.proofs.writing.push_long.Goals as goal
+use Rattle.general_words.proofs.Lists.{appended}
 
 pub returns : goal.returns
 returns c =

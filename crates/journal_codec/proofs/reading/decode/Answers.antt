@@ -18,6 +18,6 @@ returns-in-Ok-clause-found c =
 pub returns-in-Err-Before-clause-bad : goal.returns-in-Err-Before-clause-bad
 unfolding read_body
 returns-in-Err-Before-clause-bad c = λ at e.
-    let all = rw c.in-Err-Before.field-0-is at c.in-Err-Before.ensures in
+    let all = (rw c.in-Err-Before.field-0-is at c.in-Err-Before.ensures) (λ is. absurd cc) in
     let place : c.saturating_sub.result ≡ at = cc in
     ap (reading_of (length c.args.body.now)) all ∙ ap Fails (sym c.saturating_sub.ensures ∙ place)

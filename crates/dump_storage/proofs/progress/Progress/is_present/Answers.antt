@@ -2,13 +2,13 @@
 use Rattle.std.proofs.Common.{◌≡◌, Some, sym, ap, ◌∙◌}
 use Rattle.std.specs.Option.{option_map}
 use Rattle.dump_storage.specs.declared.progress.Present.{Present}
-use Rattle.dump_storage.proofs.StepLemmas.{name_eq-same, same-name_eq}
+use Rattle.model_names.proofs.OrderLemmas.{name_decides}
 use Rattle.dump_storage.proofs.progress.Progress.is_present.Goals as goal
 
 pub returns-in-Some : goal.returns-in-Some
 returns-in-Some c =
     let name = c.in-Some.present.name in
     let is = ap (option_map (λ (present : Present). present.name)) c.in-Some.is in (
-      λ yes. is ∙ ap Some (name_eq-same name c.args.name.now (sym c.eq.ensures ∙ yes)),
-      λ same. c.eq.ensures ∙ same-name_eq name c.args.name.now (let one : Some name ≡ Some c.args.name.now = sym is ∙ same in cc),
+      λ yes. is ∙ ap Some ((name_decides name c.args.name.now).0 (sym c.eq.ensures ∙ yes)),
+      λ same. c.eq.ensures ∙ (name_decides name c.args.name.now).1 (let one : Some name ≡ Some c.args.name.now = sym is ∙ same in cc),
     )
