@@ -1,5 +1,5 @@
 -- No mount of a table is lost where the mounts are put in their order, since no two have one mountpoint.
-use Rattle.std.proofs.Common.{◌≡◌, ◌≢◌, ◌⊎◌, ◌+◌, Bool, true, false, cond, ltb, T, List, [], ◌∷◌, ◌++◌, length, map as over, filter, fold, None, is_some, Result, Ok, Err, refl, sym, ap, subst, ◌∙◌, inl, inr, arith, length-append}
+use Rattle.std.proofs.Common.{◌≡◌, ◌≢◌, ◌⊎◌, ◌+◌, ◌≤◌, Bool, true, false, cond, ltb, T, List, [], ◌∷◌, ◌++◌, length, map as over, filter, fold, None, is_some, Result, Ok, Err, refl, sym, ap, subst, ◌∙◌, inl, inr, arith, length-append}
 use Rattle.std.specs.Cmp.{Equal-is, tied_itself}
 use Rattle.std.specs.FinMap as map
 use Rattle.std.specs.FinMap.{FinMap, is_sorted}
@@ -7,7 +7,7 @@ use Rattle.std.specs.FinMap.Entries.{below_all}
 use Rattle.std.specs.List.{AllByRecursion, list_any}
 use Rattle.std.specs.Ordering.{eq_by_cmp}
 use Rattle.std.specs.declared.cmp.Ordering.TheVariants.{Less, Equal}
-use Rattle.std.proofs.lemmas.Bool.{and_parts, or_parts, cond-false, false_from_ne_true, not-true, true≢false}
+use Rattle.std.proofs.lemmas.Bool.{and_parts, or_parts, cond-false, false_from_ne_true, ltb-false, not-true, true≢false}
 use Rattle.std.proofs.lemmas.Cmp.{nat_list_cmp_total}
 use Rattle.std.proofs.lemmas.List.{length-map}
 use Rattle.std.proofs.lemmas.Slice.Eq.{bytes_eq-Decides}
@@ -153,6 +153,13 @@ is_limited all mounts = by (ltb most_mounts (length all))
     by : (b : Bool) → ◌≡◌ {A = Result (List Mount) TableFault} (cond b (Err (TooMany (length all))) (Ok all)) (Ok mounts) → all ≡ mounts
     by true e = absurd cc
     by false e = ok_is all mounts e
+
+pub few_limited : (all mounts : List Mount) → limited all ≡ Ok mounts → length all ≤ most_mounts
+few_limited all mounts = by (ltb most_mounts (length all)) refl
+  where
+    by : (b : Bool) → ltb most_mounts (length all) ≡ b → ◌≡◌ {A = Result (List Mount) TableFault} (cond b (Err (TooMany (length all))) (Ok all)) (Ok mounts) → length all ≤ most_mounts
+    by true is e = absurd cc
+    by false is e = ltb-false most_mounts (length all) is
 
 pub each_mount : (keys : KeyMap) (mounts : List Mount) → table_of keys ≡ Ok mounts → length mounts ≡ length (remaining (entries_of keys)) + length (map.entries (entries_of keys))
 each_mount keys mounts ok =

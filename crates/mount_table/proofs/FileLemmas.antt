@@ -1,7 +1,7 @@
 -- Which texts name files of mounts, by the test of files' names.
 use Rattle.std.proofs.Common.{◌≡◌, ℕ, Bool, true, false, not, ◌&&◌, nat_eq, List, Option, Some, None, SomeIff, codes, refl, sym, ap, ◌∙◌}
 use Rattle.std.specs.List.{starts_with}
-use Rattle.std.proofs.lemmas.Bool.{cond-true, cond-false, and_from, and_right, false_from_ne_true, not_from_false, not_from_true}
+use Rattle.std.proofs.lemmas.Bool.{cond-true, cond-false, and_from, false_from_ne_true, not_from_false}
 use Rattle.kdb_outside.specs.FileName.{IsFileName, is_file_name}
 use Rattle.kdb_outside.proofs.FileNameLemmas.{is_file_name-Decides}
 use Rattle.mount_table.specs.Points.{file_of}

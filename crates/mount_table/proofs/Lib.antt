@@ -7,3 +7,4 @@ pub mod ChangingLemmas
 pub mod FaultLemmas
 pub mod CountLemmas
 pub mod OwnFileLemmas
+pub mod RootLemmas

@@ -1,5 +1,5 @@
--- The mounts of a table have files of their own, and none of these begins with `journal`.
-use Rattle.std.proofs.Common.{◌≡◌, ◌≢◌, ℕ, zero, suc, Bool, true, false, cond, not, ◌&&◌, nat_eq, List, [], ◌∷◌, ◌++◌, map as over, filter, fold, slice_get, Option, Some, None, ok_or, Ok, Err, codes, refl, sym, ap, subst, ◌∙◌}
+-- The mounts of a table have files of their own, whose names are files' names that don't begin with `journal`.
+use Rattle.std.proofs.Common.{◌≡◌, ◌≢◌, ◌≤◌, ℕ, length, zero, suc, Bool, true, false, cond, not, ◌&&◌, nat_eq, List, [], ◌∷◌, ◌++◌, map as over, filter, fold, slice_get, Option, Some, None, ok_or, Ok, Err, codes, refl, sym, ap, subst, ◌∙◌}
 use Rattle.std.specs.FinMap as map
 use Rattle.std.specs.FinMap.{FinMap}
 use Rattle.std.specs.FinMap.Entries.{put, by_order}
@@ -11,7 +11,8 @@ use Rattle.general_words.specs.Texts.{is_text}
 use Rattle.general_words.proofs.Lists.{some_is}
 use Rattle.general_words.proofs.Maps.{entries-empty}
 use Rattle.general_words.proofs.Texts.{is_text-Decides}
-use Rattle.kdb_outside.specs.FileName.{is_file_name}
+use Rattle.kdb_outside.specs.FileName.{IsFileName, is_file_name}
+use Rattle.kdb_outside.proofs.FileNameLemmas.{is_file_name-Decides}
 use Rattle.model_names.specs.Name.{Name, Part}
 use Rattle.model_names.specs.Order.{name_cmp}
 use Rattle.model_names.proofs.OrderLemmas.{name_cmp_total}
@@ -21,17 +22,21 @@ use Rattle.model_maps.specs.KeyMap.{KeyMap}
 use Rattle.mount_table.specs.Entries.{entries_of}
 use Rattle.mount_table.specs.Points.{point_of, file_of}
 use Rattle.mount_table.specs.Reading.{kind_said, mount_at, mount_of, next_mount, is_taken, mounts_from}
-use Rattle.mount_table.specs.Table.{root_mounts, own_mount, remains, remaining, by_point, in_order, limited, table_of}
+use Rattle.mount_table.specs.Table.{root_mounts, own_mount, remains, remaining, by_point, in_order, most_mounts, limited, table_of}
 use Rattle.mount_table.specs.declared.entries.MountEntry.{MountEntry}
 use Rattle.mount_table.specs.declared.faults.TableFault.{TableFault}
 use Rattle.mount_table.specs.declared.faults.TableFault.TheVariants.{BadMountpoint, NoPath, BadPath, UnknownPlugin, FileTwice}
 use Rattle.mount_table.specs.declared.mounts.Mount.{Mount}
-use Rattle.mount_table.proofs.CountLemmas.{is_limited}
+use Rattle.mount_table.proofs.CountLemmas.{is_limited, few_limited}
 use Rattle.mount_table.proofs.TableLemmas.{from_then, ok_is, all_filter, mount_of-next}
 
 -- a file isn't the journal's
 abbrev IsFree : List ℕ → Type 0
 IsFree file = starts_with nat_eq file (codes "journal") ≡ false
+
+-- a mount may have a file: its name is one, and it isn't the journal's
+abbrev MayHave : List ℕ → Type 0
+MayHave file = IsFree file × (is_file_name file ≡ true)
 
 -- no mount has the file of one before it
 abbrev HaveOwn : List Mount → Type 0
@@ -44,19 +49,19 @@ from_or : {A : Type 0} (o : Option A) (fault : TableFault) (x : A) → ok_or o f
 from_or None fault x h = absurd cc
 from_or (Some y) fault x h = ap Some (ok_is y x h)
 
-free_file : (text file : List ℕ) → file_of text ≡ Some file → IsFree file
+free_file : (text file : List ℕ) → file_of text ≡ Some file → MayHave file
 free_file text file h =
     let found = cond_some (is_file_name text && not (starts_with nat_eq text (codes "journal"))) (Some text) file h in
-    let free : starts_with nat_eq text (codes "journal") ≡ false = not-true _ (and_parts (is_file_name text) _ found.0).1 in
-    ap (λ f. starts_with nat_eq f (codes "journal")) (sym (some_is text file found.1)) ∙ free
+    let parts = and_parts (is_file_name text) _ found.0 in
+    subst MayHave (some_is text file found.1) (not-true _ parts.1, parts.0)
 
-free_mount : (text : Part) (said : MountEntry) (mount : Mount) → mount_of text said ≡ Ok mount → IsFree mount.file
+free_mount : (text : Part) (said : MountEntry) (mount : Mount) → mount_of text said ≡ Ok mount → MayHave mount.file
 free_mount text said mount h =
     let point = from_then (ok_or (point_of text) (BadMountpoint text)) (mount_at text said) mount h in
     let path = from_then (ok_or said.path (NoPath text)) _ mount point.2 in
     let file = from_then (ok_or (file_of path.0) (BadPath text)) _ mount path.2 in
     let kind = from_then (ok_or (kind_said said.plugin) (UnknownPlugin text)) _ mount file.2 in
-    subst (λ (m : Mount). IsFree m.file) (ok_is (record { at = point.0; file = file.0; kind = kind.0 }) mount kind.2) (free_file path.0 file.0 (from_or (file_of path.0) (BadPath text) file.0 file.1))
+    subst (λ (m : Mount). MayHave m.file) (ok_is (record { at = point.0; file = file.0; kind = kind.0 }) mount kind.2) (free_file path.0 file.0 (from_or (file_of path.0) (BadPath text) file.0 file.1))
 
 not_taken : (taken : List ℕ → Bool) (text : Part) (said : MountEntry) (mount : Mount) → next_mount taken text said ≡ Ok mount → taken mount.file ≡ false
 not_taken taken text said mount h =
@@ -83,13 +88,13 @@ own_filter test (mount ∷ mounts) own = elim (test mount) as (λ b. HaveOwn (co
   | false ↦ own_filter test mounts own.1
 ]
 
-own_from : (mounts : List Mount) (entries : List (Part × MountEntry)) (all : List Mount) → HaveOwn mounts → AllByRecursion (λ mount. IsFree mount.file) mounts → mounts_from mounts entries ≡ Ok all → HaveOwn all × AllByRecursion (λ mount. IsFree mount.file) all
-own_from mounts [] all own free ok = (subst HaveOwn (ok_is mounts all ok) own, subst (AllByRecursion (λ mount. IsFree mount.file)) (ok_is mounts all ok) free)
+own_from : (mounts : List Mount) (entries : List (Part × MountEntry)) (all : List Mount) → HaveOwn mounts → AllByRecursion (λ mount. MayHave mount.file) mounts → mounts_from mounts entries ≡ Ok all → HaveOwn all × AllByRecursion (λ mount. MayHave mount.file) all
+own_from mounts [] all own free ok = (subst HaveOwn (ok_is mounts all ok) own, subst (AllByRecursion (λ mount. MayHave mount.file)) (ok_is mounts all ok) free)
 own_from mounts (entry ∷ entries) all own free ok =
     let next = from_then (next_mount (is_taken mounts) entry.0 entry.1) (λ mount. mounts_from (mounts ++ mount ∷ []) entries) all ok in
     own_from (mounts ++ next.0 ∷ []) entries all
     (own_push mounts next.0 own (other_files mounts next.0.file (not_taken (is_taken mounts) entry.0 entry.1 next.0 next.1)))
-    (all_append (λ mount. IsFree mount.file) mounts (next.0 ∷ []) free (free_mount entry.0 entry.1 next.0 (mount_of-next (is_taken mounts) entry.0 entry.1 next.0 next.1), tt))
+    (all_append (λ mount. MayHave mount.file) mounts (next.0 ∷ []) free (free_mount entry.0 entry.1 next.0 (mount_of-next (is_taken mounts) entry.0 entry.1 next.0 next.1), tt))
     next.2
 
 -- ---- mounts by their mountpoints
@@ -133,11 +138,11 @@ own_fold (mount ∷ mounts) table own apart entries =
     (subst (AreApart mounts) put_is (apart_put mounts mount (map.entries table) own.0 apart.1))
     (subst OwnEntries put_is (own_put mount (map.entries table) apart.0 entries))
 
-free_fold : (mounts : List Mount) (table : FinMap name_cmp Mount) → AllByRecursion (λ mount. IsFree mount.file) mounts → AllByRecursion (λ e. IsFree e.1.file) (map.entries table) → AllByRecursion (λ e. IsFree e.1.file) (map.entries (fold (λ table mount. map.insert table mount.at mount) table mounts))
+free_fold : (mounts : List Mount) (table : FinMap name_cmp Mount) → AllByRecursion (λ mount. MayHave mount.file) mounts → AllByRecursion (λ e. MayHave e.1.file) (map.entries table) → AllByRecursion (λ e. MayHave e.1.file) (map.entries (fold (λ table mount. map.insert table mount.at mount) table mounts))
 free_fold [] table free entries = entries
 free_fold (mount ∷ mounts) table free entries =
     free_fold mounts (map.insert table mount.at mount) free.1
-    (subst (AllByRecursion (λ e. IsFree e.1.file)) (sym (map.entries-insert name_cmp_total table mount.at mount)) (all_put (λ m. IsFree m.file) mount (map.entries table) free.0 entries))
+    (subst (AllByRecursion (λ e. MayHave e.1.file)) (sym (map.entries-insert name_cmp_total table mount.at mount)) (all_put (λ m. MayHave m.file) mount (map.entries table) free.0 entries))
 
 nothing_there : (mounts : List Mount) → AreApart mounts []
 nothing_there [] = tt
@@ -179,12 +184,12 @@ module _ (keys : KeyMap) (mounts : List Mount) (ok : table_of keys ≡ Ok mounts
   read : (all : List Mount) × (mounts_from (remaining (entries_of keys)) (map.entries (entries_of keys)) ≡ Ok all) × (limited (in_order all) ≡ Ok mounts)
   read = from_then (mounts_from (remaining (entries_of keys)) (map.entries (entries_of keys))) (λ all. limited (in_order all)) mounts ok
 
-  own_all : HaveOwn read.0 × AllByRecursion (λ mount. IsFree mount.file) read.0
+  own_all : HaveOwn read.0 × AllByRecursion (λ mount. MayHave mount.file) read.0
   own_all =
       let entries = entries_of keys in
       own_from (remaining entries) (map.entries entries) read.0
       (own_push (filter (remains entries) root_mounts) own_mount (own_filter (remains entries) root_mounts roots_own) (all_filter (λ mount. own_mount.file ≢ mount.file) (remains entries) root_mounts own_others))
-      (all_append (λ mount. IsFree mount.file) (filter (remains entries) root_mounts) (own_mount ∷ []) (all_filter (λ mount. IsFree mount.file) (remains entries) root_mounts (refl, (refl, (refl, (refl, tt))))) (refl, tt))
+      (all_append (λ mount. MayHave mount.file) (filter (remains entries) root_mounts) (own_mount ∷ []) (all_filter (λ mount. MayHave mount.file) (remains entries) root_mounts ((refl, refl), ((refl, refl), ((refl, refl), ((refl, refl), tt))))) ((refl, refl), tt))
       read.1
 
   same_mounts : in_order read.0 ≡ mounts
@@ -194,6 +199,15 @@ module _ (keys : KeyMap) (mounts : List Mount) (ok : table_of keys ≡ Ok mounts
   own_files = subst (λ (ms : List Mount). (i j : ℕ) (one other : Mount) → slice_get ms i ≡ Some one → slice_get ms j ≡ Some other → one.file ≡ other.file → i ≡ j) same_mounts
       (own_at (map.entries (by_point read.0)) (own_fold read.0 map.empty own_all.0 (subst (AreApart read.0) (sym (entries-empty name_cmp Mount)) (nothing_there read.0)) (subst OwnEntries (sym (entries-empty name_cmp Mount)) tt)))
 
-  pub free_files : (i : ℕ) (mount : Mount) → slice_get mounts i ≡ Some mount → starts_with nat_eq mount.file (codes "journal") ≡ false
-  free_files = subst (λ (ms : List Mount). (i : ℕ) (mount : Mount) → slice_get ms i ≡ Some mount → starts_with nat_eq mount.file (codes "journal") ≡ false) same_mounts
-      (λ i mount there. all_at (λ m. IsFree m.file) (map.entries (by_point read.0)) i mount (free_fold read.0 map.empty own_all.1 (subst (AllByRecursion (λ e. IsFree e.1.file)) (sym (entries-empty name_cmp Mount)) tt)) there)
+  may_have : (i : ℕ) (mount : Mount) → slice_get mounts i ≡ Some mount → MayHave mount.file
+  may_have = subst (λ (ms : List Mount). (i : ℕ) (mount : Mount) → slice_get ms i ≡ Some mount → MayHave mount.file) same_mounts
+      (λ i mount there. all_at (λ m. MayHave m.file) (map.entries (by_point read.0)) i mount (free_fold read.0 map.empty own_all.1 (subst (AllByRecursion (λ e. MayHave e.1.file)) (sym (entries-empty name_cmp Mount)) tt)) there)
+
+  pub free_files : (i : ℕ) (mount : Mount) → slice_get mounts i ≡ Some mount → IsFree mount.file
+  free_files i mount there = (may_have i mount there).0
+
+  pub named_files : (i : ℕ) (mount : Mount) → slice_get mounts i ≡ Some mount → IsFileName mount.file
+  named_files i mount there = (is_file_name-Decides mount.file).0 (may_have i mount there).1
+
+  pub few_mounts : length mounts ≤ most_mounts
+  few_mounts = subst (λ (ms : List Mount). length ms ≤ most_mounts) same_mounts (few_limited (in_order read.0) mounts read.2)

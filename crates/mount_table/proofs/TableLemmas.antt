@@ -1,11 +1,11 @@
 -- What a table that was read is: mounts in the order of their mountpoints, each in a namespace whose keys are in files.
-use Rattle.std.proofs.Common.{◌≡◌, ℕ, ◌+◌, ◌<◌, ◌≤◌, Bool, true, false, cond, ◌&&◌, ltb, T, List, [], ◌∷◌, ◌++◌, length, take, get_or, map as over, filter, fold, Option, Some, None, is_some, ok_or, Result, Ok, Err, refl, sym, ap, subst, ◌∙◌, inl, inr, ◌⊎◌, arith, length-append, Bor}
+use Rattle.std.proofs.Common.{◌≡◌, ℕ, ◌+◌, ◌<◌, ◌≤◌, Bool, true, false, cond, ◌&&◌, ltb, T, List, [], ◌∷◌, ◌++◌, length, take, get_or, map as over, filter, fold, Option, Some, None, is_some, ok_or, Result, Ok, Err, refl, sym, ap, subst, ◌∙◌, arith, length-append, Bor}
 use Rattle.std.specs.FinMap as map
 use Rattle.std.specs.FinMap.{FinMap, is_sorted}
 use Rattle.std.specs.FinMap.Entries.{put, by_order, below_all}
 use Rattle.std.specs.List.{AllByRecursion, list_all}
 use Rattle.std.specs.List.Sorted.{IsStrictlySortedBy}
-use Rattle.std.specs.Option.{option_copied, option_or}
+use Rattle.std.specs.Option.{option_copied}
 use Rattle.std.specs.Ordering.{is_lt}
 use Rattle.std.specs.declared.cmp.Ordering.{Ordering}
 use Rattle.std.specs.declared.cmp.Ordering.TheVariants.{Less, Equal, Greater}
@@ -13,15 +13,13 @@ use Rattle.std.proofs.lemmas.Bool.{and_from, and_parts, cond-true, cond-false, l
 use Rattle.std.proofs.lemmas.List.{length-map}
 use Rattle.std.proofs.lemmas.List.Sums.{fold_more}
 use Rattle.general_words.proofs.Maps.{from_sorted-nil}
-use Rattle.model_names.specs.declared.namespaces.Namespace.{Namespace}
-use Rattle.model_names.specs.declared.namespaces.Namespace.TheVariants.{Spec, Dir, User, System}
 use Rattle.model_names.specs.Name.{Name, Part}
 use Rattle.model_names.specs.NameOf.{name_of}
 use Rattle.model_names.specs.Namespaces.{has_files}
 use Rattle.model_names.specs.Order.{name_cmp}
 use Rattle.model_names.proofs.OrderLemmas.{name_cmp_total, name_cmp-IsAntisymmetric}
 use Rattle.model_names.proofs.PartLemmas.{all_append}
-use Rattle.model_names.proofs.RefusesLemmas.{from_map, from_and_then, cond_some}
+use Rattle.model_names.proofs.RefusesLemmas.{from_and_then, cond_some}
 use Rattle.general_words.specs.Texts.{text_cmp}
 use Rattle.mount_table.specs.Entries.{Entries}
 use Rattle.mount_table.specs.Points.{is_point, point_of, file_of}
@@ -98,7 +96,7 @@ pub all_filter : {X : Type 0} (P : X → Type 0) (test : X → Bool) (xs : List 
 all_filter P test [] h = tt
 all_filter P test (x ∷ xs) h = elim (test x) as (λ b. AllByRecursion P (cond b (x ∷ filter test xs) (filter test xs))) [ true ↦ (h.0, all_filter P test xs h.1) | false ↦ all_filter P test xs h.1 ]
 
-InFiles-remaining : (entries : Entries) → AllByRecursion InFiles (remaining entries)
+pub InFiles-remaining : (entries : Entries) → AllByRecursion InFiles (remaining entries)
 InFiles-remaining entries = all_append InFiles (filter (remains entries) root_mounts) (own_mount ∷ []) (all_filter InFiles (remains entries) root_mounts (refl, (refl, (refl, (refl, tt))))) (refl, tt)
 
 -- the mounts of entries behind others
@@ -113,10 +111,14 @@ follows mounts (entry ∷ entries) all h is =
     let rest = follows (mounts ++ next.0 ∷ []) entries all (all_append InFiles mounts (next.0 ∷ []) h (InFiles-next (is_taken mounts) entry.0 entry.1 next.0 next.1, tt)) next.2 in
     record { files = rest.files; more = omega (arith, rest.more, length-append mounts (next.0 ∷ [])) }
 
+-- so they are all in such namespaces
+pub in_files_from : (mounts : List Mount) (entries : List (Part × MountEntry)) (all : List Mount) → AllByRecursion InFiles mounts → mounts_from mounts entries ≡ Ok all → AllByRecursion InFiles all
+in_files_from mounts entries all h is = (follows mounts entries all h is).files
+
 -- ---- mounts by their mountpoints
 
 -- a mount stands under its own mountpoint
-record IsKeyed (entry : Name × Mount) : Type 0 where
+pub record IsKeyed (entry : Name × Mount) : Type 0 where
   at : entry.1.at ≡ entry.0
   files : InFiles entry.1
 
@@ -137,7 +139,7 @@ IsKeyed-fold (mount ∷ mounts) table files h =
 no_entries : map.entries (map.empty {X = Mount} {R = name_cmp}) ≡ []
 no_entries = ap map.entries (sym (from_sorted-nil name_cmp)) ∙ map.entries-from_sorted name_cmp [] tt
 
-IsKeyed-by_point : (mounts : List Mount) → AllByRecursion InFiles mounts → AllByRecursion IsKeyed (map.entries (by_point mounts))
+pub IsKeyed-by_point : (mounts : List Mount) → AllByRecursion InFiles mounts → AllByRecursion IsKeyed (map.entries (by_point mounts))
 IsKeyed-by_point mounts files = IsKeyed-fold mounts map.empty files (subst (AllByRecursion IsKeyed) (sym no_entries) tt)
 
 -- a table grows by at most one mount at a time, and never falls
@@ -181,12 +183,12 @@ all_behind : (name : Name) (es : List (Name × Mount)) → T (below_all name_cmp
 all_behind name [] h = tt
 all_behind name (e ∷ es) h = (less_is _ (T_front _ _ h), all_behind name es (T_back _ _ h))
 
-ascend : (es : List (Name × Mount)) → T (is_sorted name_cmp es) → IsStrictlySortedBy name_cmp (over (λ e. e.0) es)
+pub ascend : (es : List (Name × Mount)) → T (is_sorted name_cmp es) → IsStrictlySortedBy name_cmp (over (λ e. e.0) es)
 unfolding IsStrictlySortedBy
 ascend [] h = tt
 ascend (e ∷ es) h = (all_behind e.0 es (T_front _ _ h), ascend es (T_back _ _ h))
 
-points-keyed : (es : List (Name × Mount)) → AllByRecursion IsKeyed es → over (λ m. m.at) (over (λ e. e.1) es) ≡ over (λ e. e.0) es
+pub points-keyed : (es : List (Name × Mount)) → AllByRecursion IsKeyed es → over (λ m. m.at) (over (λ e. e.1) es) ≡ over (λ e. e.0) es
 points-keyed [] h = refl
 points-keyed (e ∷ es) h = λ i. h.0.at i ∷ points-keyed es h.1 i
 

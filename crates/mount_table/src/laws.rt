@@ -1,11 +1,15 @@
 //! Laws of mount tables.
-ghost use Rattle.std.specs.Prelude.{◌≡◌, ℕ, ◌+◌, nat_eq, false, List, length, slice_get, Some, Ok, Err, codes};
+ghost use Rattle.std.specs.Prelude.{◌≡◌, ◌<◌, ◌≤◌, ℕ, ◌+◌, nat_eq, false, List, length, map as over, slice_get, Some, Ok, Err, codes, true};
 ghost use Rattle.std.specs.FinMap as map;
 ghost use Rattle.std.specs.List.{starts_with};
 ghost use Rattle.model_maps.specs.KeyMap.{KeyMap};
+ghost use Rattle.kdb_outside.specs.FileName.{IsFileName};
+ghost use Rattle.key_name.specs.Owner.{owner_of};
+ghost use Rattle.model_names.specs.Name.{Name};
+ghost use Rattle.model_names.specs.Namespaces.{has_files};
 ghost use Rattle.mount_table.specs.Answers.{IsOfTable};
 ghost use Rattle.mount_table.specs.Entries.{entries_of};
-ghost use Rattle.mount_table.specs.Table.{remaining, table_of};
+ghost use Rattle.mount_table.specs.Table.{most_mounts, remaining, table_of};
 ghost use Rattle.mount_table.specs.declared.faults.TableFault.{TableFault};
 ghost use Rattle.mount_table.specs.declared.mounts.Mount.{Mount};
 
@@ -20,8 +24,15 @@ pub fn a_table_has_a_mount_for_each_entry()
     ensures { (keys : KeyMap) (mounts : List Mount) → table_of keys ≡ Ok mounts → length mounts ≡ length (remaining (entries_of keys)) + length (map.entries (entries_of keys)) }
 {}
 
-/// Each mount of a table has a file of its own, and none of these files has a name that begins with `journal`.
+/// Each mount of a table has a file of its own: a file's name that doesn't begin with `journal`. There are at most 64 of them.
 pub fn the_mounts_of_a_table_have_files_of_their_own()
     ensures own { (keys : KeyMap) (mounts : List Mount) → table_of keys ≡ Ok mounts → (i j : ℕ) (one other : Mount) → slice_get mounts i ≡ Some one → slice_get mounts j ≡ Some other → one.file ≡ other.file → i ≡ j }
+    ensures named { (keys : KeyMap) (mounts : List Mount) → table_of keys ≡ Ok mounts → (i : ℕ) (mount : Mount) → slice_get mounts i ≡ Some mount → IsFileName mount.file }
     ensures free { (keys : KeyMap) (mounts : List Mount) → table_of keys ≡ Ok mounts → (i : ℕ) (mount : Mount) → slice_get mounts i ≡ Some mount → starts_with nat_eq mount.file (codes "journal") ≡ false }
+    ensures few { (keys : KeyMap) (mounts : List Mount) → table_of keys ≡ Ok mounts → length mounts ≤ most_mounts }
+{}
+
+/// A name whose keys are in files belongs to a mount of each table: at least to that at the root of its namespace.
+pub fn a_name_with_files_has_an_owner()
+    ensures { (keys : KeyMap) (mounts : List Mount) (name : Name) → table_of keys ≡ Ok mounts → has_files name.namespace ≡ true → (m : ℕ) × (m < length mounts) × (owner_of (over (λ mount. mount.at) mounts) name ≡ Some m) }
 {}

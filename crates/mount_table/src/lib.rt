@@ -15,7 +15,8 @@ mod tables;
 pub use changing::{add, remove};
 pub use faults::TableFault;
 pub use laws::{
-    a_table_has_a_mount_for_each_entry, a_table_is_refused_for_its_entries_or_their_number,
+    a_name_with_files_has_an_owner, a_table_has_a_mount_for_each_entry,
+    a_table_is_refused_for_its_entries_or_their_number,
     the_mounts_of_a_table_have_files_of_their_own,
 };
 pub use mounts::Mount;
