@@ -13,10 +13,6 @@ pub mounts-from : (sum : ℕ) (files : List MountedFile) → over (λ file. file
 mounts-from sum [] = refl
 mounts-from sum (file ∷ files) = ap (λ l. file.mount ∷ l) (mounts-from (sum + added_weight (weighed_file sum file)) files)
 
--- the mounts stay
-pub weighed-mounts : (files : List MountedFile) → over (λ file. file.mount) (weighed files) ≡ over (λ file. file.mount) files
-weighed-mounts files = mounts-from (own_weight files) files
-
 pub short-behind : (sum : ℕ) (state : FileState) → HasShortShadow state → HasShortShadow (weighed_behind sum state)
 short-behind sum (Good visible shadow) short = by (nat_lt heaviest_map (sum + weight visible))
   where

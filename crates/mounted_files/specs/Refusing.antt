@@ -2,8 +2,8 @@
 use Rattle.std.specs.Prelude.{◌≡◌, Result, Err, List}
 use Rattle.mount_table.specs.declared.faults.TableFault.{TableFault}
 use Rattle.mount_table.specs.declared.mounts.Mount.{Mount}
-use Rattle.mounted_files.specs.declared.causes.Cause.{Cause}
-use Rattle.mounted_files.specs.declared.causes.Cause.TheVariants as cause
+use Rattle.mounted_files.specs.declared.causes.FileCause.{FileCause}
+use Rattle.mounted_files.specs.declared.causes.FileCause.TheVariants as cause
 use Rattle.mounted_files.specs.declared.refusals.OpenRefusal.{OpenRefusal}
 use Rattle.mounted_files.specs.declared.refusals.OpenRefusal.TheVariants.{TooLong, BadFile, BadTable, Memory}
 
@@ -14,8 +14,7 @@ RefusesTable made Memory = Unit {0}
 RefusesTable made (TooLong bytes) = ⊥
 RefusesTable made (BadFile line) = ⊥
 
--- a refusal is for a cause
-abbrev pub IsRefusalOf : Cause → OpenRefusal → Type 0
-IsRefusalOf (cause.TooLong bytes) refusal = refusal ≡ TooLong bytes
-IsRefusalOf (cause.BadFile line) refusal = refusal ≡ BadFile line
-IsRefusalOf (cause.TooHeavy weight) refusal = Unit {0}
+-- the refusal for what is wrong with the own file
+abbrev pub refusal_of : FileCause → OpenRefusal
+refusal_of (cause.TooLong bytes) = TooLong bytes
+refusal_of (cause.BadFile line) = BadFile line

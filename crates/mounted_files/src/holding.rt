@@ -1,11 +1,12 @@
 //! What the bytes of a file hold for a mountpoint.
 ghost use Rattle.std.specs.Prelude.{◌≡◌, ◌≤◌, IfOk, List, ℕ, length};
 ghost use Rattle.backend_files.specs.WholeFile.{IsWhole, longest_file};
-ghost use Rattle.mounted_files.specs.Holding.{IsHolding, IsShortHolding};
-ghost use Rattle.mounted_files.specs.declared.causes.Cause.TheVariants.{BadFile};
+ghost use Rattle.mounted_files.specs.Holding.{IsHolding, IsShortHolding, cause_of};
+ghost use Rattle.mounted_files.specs.declared.causes.FileCause.TheVariants.{BadFile};
 ghost use Rattle.mounted_files.specs.declared.holding.Holding.TheVariants.{Bad};
 
 use crate::Cause;
+use crate::causes::FileCause;
 use crate::whole::whole;
 use backend_files::FileRead;
 use kdb_outside::Kind;
@@ -19,7 +20,7 @@ use storage_api::{Formats, ReadRefusal};
 #[derive(Debug, Drop)]
 pub enum Holding {
     Keys { keys: KeySet },
-    Bad { cause: Cause },
+    Bad { cause: FileCause },
 }
 
 /// What a file holds, given what it gave.
@@ -36,7 +37,7 @@ pub fn read_holding<F: Formats>(
     match read {
         FileRead::Bytes(bytes) => holding_of(alloc, formats, point, kind, bytes.as_slice()),
         FileRead::TooLong { bytes } => Ok(Holding::Bad {
-            cause: Cause::TooLong { bytes: *bytes },
+            cause: FileCause::TooLong { bytes: *bytes },
         }),
     }
 }
@@ -66,6 +67,16 @@ fn bad_at(line: u64) -> Holding
     ensures { result ≡ Bad (BadFile line) }
 {
     Holding::Bad {
-        cause: Cause::BadFile { line },
+        cause: FileCause::BadFile { line },
+    }
+}
+
+/// A mount is bad for what is wrong with its file.
+pub fn cause_of(cause: FileCause) -> Cause
+    ensures { result ≡ cause_of cause }
+{
+    match cause {
+        FileCause::TooLong { bytes } => Cause::TooLong { bytes },
+        FileCause::BadFile { line } => Cause::BadFile { line },
     }
 }

@@ -6,11 +6,12 @@ ghost use Rattle.mount_table.specs.Table.{table_of};
 ghost use Rattle.kdb_outside.specs.declared.kinds.Kind.TheVariants.{Dump};
 ghost use Rattle.mounted_files.specs.Files.{Holds};
 ghost use Rattle.mounted_files.specs.Opening.{RefusesOpening};
-ghost use Rattle.mounted_files.specs.Refusing.{RefusesTable, IsRefusalOf};
+ghost use Rattle.mounted_files.specs.Refusing.{RefusesTable, refusal_of};
 ghost use Rattle.mounted_files.specs.Short.{AreShort};
 
+use crate::OpenRefusal;
+use crate::causes::FileCause;
 use crate::holding::{Holding, read_holding};
-use crate::{Cause, OpenRefusal};
 use backend_files::FileRead;
 use kdb_outside::Kind;
 use key_meta::Memory;
@@ -69,13 +70,12 @@ fn table_of(alloc: Global, keys: &KeySet) -> Result<MountTable, OpenRefusal>
     }
 }
 
-/// Why a store isn't opened whose own file is bad. A single file is never too heavy.
-fn refusal_of(cause: Cause) -> OpenRefusal
-    ensures { IsRefusalOf cause result }
+/// Why a store isn't opened whose own file is bad.
+fn refusal_of(cause: FileCause) -> OpenRefusal
+    ensures { result ≡ refusal_of cause }
 {
     match cause {
-        Cause::TooLong { bytes } => OpenRefusal::TooLong { bytes },
-        Cause::BadFile { line } => OpenRefusal::BadFile { line },
-        Cause::TooHeavy { .. } => OpenRefusal::Memory,
+        FileCause::TooLong { bytes } => OpenRefusal::TooLong { bytes },
+        FileCause::BadFile { line } => OpenRefusal::BadFile { line },
     }
 }
