@@ -1,5 +1,5 @@
 -- The bytes of files mean one thing: each file one state, and all of them one opening.
-use Rattle.std.specs.Prelude.{◌≡◌, ◌≢◌, ℕ, ◌≤◌, ◌<◌, zero, suc, true, false, List, [], ◌∷◌, length, slice_get, map as over, Option, Some, None, Result, Ok, Err}
+use Rattle.std.specs.Prelude.{◌≡◌, ℕ, ◌≤◌, ◌<◌, zero, suc, true, false, List, [], ◌∷◌, length, slice_get, map as over, Option, Some, None, Result, Ok, Err}
 use Rattle.std.specs.Option.{option_map}
 use Rattle.std.proofs.Common.{refl, sym, ap, ap₂, ◌∙◌, subst, inl, inr, arith}
 use Rattle.std.proofs.lemmas.Option.{none-some, same_Some, slice_get-map}
@@ -16,7 +16,7 @@ use Rattle.mounted_files.specs.Whole.{whole, all_fit}
 use Rattle.mounted_files.specs.Owned.{not_owned_by}
 use Rattle.set_split.specs.Parts.{owned_by}
 use Rattle.mounted_files.specs.Files.{Badness, Holds, IsCause, IsState, AreStates, Reading, points_of}
-use Rattle.mounted_files.specs.Opening.{IsMade, MakesTable, IsOpened, RefusesOpening, Opens}
+use Rattle.mounted_files.specs.Opening.{IsMade, IsOwnFault, MakesTable, IsOpened, Opens}
 use Rattle.mounted_files.specs.Weighed.{weighed}
 use Rattle.mounted_files.specs.declared.causes.Cause.{Cause}
 use Rattle.mounted_files.specs.declared.causes.Cause.TheVariants.{TooLong, BadFile, TooHeavy}
@@ -138,30 +138,30 @@ module _ (Reads : Reading) (IsBad : Badness)
       let states = subst (λ ps. AreStates Reads IsBad bytes_of ps q.unweighed) (sym points) q.states in
       p.is ∙ (ap weighed (States-once bytes_of (points_of p.unweighed) p.unweighed q.unweighed mounts p.states states) ∙ sym q.is)
 
-  -- an opening is refused for one cause
-  Refused-once : (bytes : List ℕ) (a b : OpenRefusal) → RefusesOpening Reads IsBad bytes a → RefusesOpening Reads IsBad bytes b → a ≢ refusal.Memory → b ≢ refusal.Memory → a ≡ b
-  Refused-once bytes (refusal.TooLong m) (refusal.TooLong n) p q a_is b_is = ap refusal.TooLong (p.is ∙ sym q.is)
-  Refused-once bytes (refusal.TooLong m) (refusal.BadFile n) p q a_is b_is = absurd (long_not_bad own_point Dump bytes n p.long q)
-  Refused-once bytes (refusal.TooLong m) (refusal.BadTable fault) p q a_is b_is = absurd (few_not_long bytes q.holds.reads_as.few p.long)
-  Refused-once bytes (refusal.BadFile m) (refusal.TooLong n) p q a_is b_is = absurd (long_not_bad own_point Dump bytes m q.long p)
-  Refused-once bytes (refusal.BadFile m) (refusal.BadFile n) p q a_is b_is = ap refusal.BadFile (line-once own_point Dump bytes m n p q)
-  Refused-once bytes (refusal.BadFile m) (refusal.BadTable fault) p q a_is b_is = absurd (Holds-not_bad own_point Dump bytes q.keys (BadFile m) q.holds p)
-  Refused-once bytes (refusal.BadTable fault) (refusal.TooLong n) p q a_is b_is = absurd (few_not_long bytes p.holds.reads_as.few q.long)
-  Refused-once bytes (refusal.BadTable fault) (refusal.BadFile n) p q a_is b_is = absurd (Holds-not_bad own_point Dump bytes p.keys (BadFile n) p.holds q)
-  Refused-once bytes (refusal.BadTable fault) (refusal.BadTable other) p q a_is b_is = ap refusal.BadTable (same_err fault other (Table-once bytes (Err fault) (Err other) p q))
-  Refused-once bytes refusal.Memory b p q a_is b_is = absurd (a_is refl)
-  Refused-once bytes a refusal.Memory p q a_is b_is = absurd (b_is refl)
+  -- the table's own file has one fault
+  Own_fault-once : (bytes : List ℕ) (a b : OpenRefusal) → IsOwnFault Reads IsBad bytes a → IsOwnFault Reads IsBad bytes b → a ≡ b
+  Own_fault-once bytes (refusal.TooLong m) (refusal.TooLong n) p q = ap refusal.TooLong (p.is ∙ sym q.is)
+  Own_fault-once bytes (refusal.TooLong m) (refusal.BadFile n) p q = absurd (long_not_bad own_point Dump bytes n p.long q)
+  Own_fault-once bytes (refusal.TooLong m) (refusal.BadTable fault) p q = absurd (few_not_long bytes q.holds.reads_as.few p.long)
+  Own_fault-once bytes (refusal.BadFile m) (refusal.TooLong n) p q = absurd (long_not_bad own_point Dump bytes m q.long p)
+  Own_fault-once bytes (refusal.BadFile m) (refusal.BadFile n) p q = ap refusal.BadFile (line-once own_point Dump bytes m n p q)
+  Own_fault-once bytes (refusal.BadFile m) (refusal.BadTable fault) p q = absurd (Holds-not_bad own_point Dump bytes q.keys (BadFile m) q.holds p)
+  Own_fault-once bytes (refusal.BadTable fault) (refusal.TooLong n) p q = absurd (few_not_long bytes p.holds.reads_as.few q.long)
+  Own_fault-once bytes (refusal.BadTable fault) (refusal.BadFile n) p q = absurd (Holds-not_bad own_point Dump bytes p.keys (BadFile n) p.holds q)
+  Own_fault-once bytes (refusal.BadTable fault) (refusal.BadTable other) p q = ap refusal.BadTable (same_err fault other (Table-once bytes (Err fault) (Err other) p q))
+  Own_fault-once bytes refusal.Memory b p q = absurd p
+  Own_fault-once bytes a refusal.Memory p q = absurd q
 
-  -- what is opened is not refused
-  opened_not_refused : (bytes_of : List ℕ → List ℕ) (files : List MountedFile) (why : OpenRefusal) → IsOpened Reads IsBad bytes_of files → RefusesOpening Reads IsBad (bytes_of own_mount.file) why → why ≢ refusal.Memory → ⊥
-  opened_not_refused bytes_of files (refusal.TooLong n) p q is = few_not_long (bytes_of own_mount.file) p.table.holds.reads_as.few q.long
-  opened_not_refused bytes_of files (refusal.BadFile n) p q is = Holds-not_bad own_point Dump (bytes_of own_mount.file) p.table.keys (BadFile n) p.table.holds q
-  opened_not_refused bytes_of files (refusal.BadTable fault) p q is = ok_not_err _ fault (Table-once (bytes_of own_mount.file) _ (Err fault) p.table q)
-  opened_not_refused bytes_of files refusal.Memory p q is = is refl
+  -- what is opened has no fault there
+  opened_not_at_fault : (bytes_of : List ℕ → List ℕ) (files : List MountedFile) (why : OpenRefusal) → IsOpened Reads IsBad bytes_of files → IsOwnFault Reads IsBad (bytes_of own_mount.file) why → ⊥
+  opened_not_at_fault bytes_of files (refusal.TooLong n) p q = few_not_long (bytes_of own_mount.file) p.table.holds.reads_as.few q.long
+  opened_not_at_fault bytes_of files (refusal.BadFile n) p q = Holds-not_bad own_point Dump (bytes_of own_mount.file) p.table.keys (BadFile n) p.table.holds q
+  opened_not_at_fault bytes_of files (refusal.BadTable fault) p q = ok_not_err _ fault (Table-once (bytes_of own_mount.file) _ (Err fault) p.table q)
+  opened_not_at_fault bytes_of files refusal.Memory p q = q
 
   -- files have one opening
   pub Opens-once : (bytes_of : List ℕ → List ℕ) (a b : Result (List MountedFile) OpenRefusal) → Opens Reads IsBad bytes_of a → Opens Reads IsBad bytes_of b → IsMade a → IsMade b → a ≡ b
   Opens-once bytes_of (Ok a) (Ok b) p q made_a made_b = ap Ok (Opened-once bytes_of a b p q)
-  Opens-once bytes_of (Ok a) (Err b) p q made_a made_b = absurd (opened_not_refused bytes_of a b p q made_b)
-  Opens-once bytes_of (Err a) (Ok b) p q made_a made_b = absurd (opened_not_refused bytes_of b a q p made_a)
-  Opens-once bytes_of (Err a) (Err b) p q made_a made_b = ap Err (Refused-once (bytes_of own_mount.file) a b p q made_a made_b)
+  Opens-once bytes_of (Ok a) (Err b) p q made_a made_b = absurd (opened_not_at_fault bytes_of a b p (q made_b))
+  Opens-once bytes_of (Err a) (Ok b) p q made_a made_b = absurd (opened_not_at_fault bytes_of b a q (p made_a))
+  Opens-once bytes_of (Err a) (Err b) p q made_a made_b = ap Err (Own_fault-once (bytes_of own_mount.file) a b (p made_a) (q made_b))

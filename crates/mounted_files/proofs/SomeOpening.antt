@@ -16,8 +16,8 @@ use Rattle.mounted_files.specs.Whole.{whole, all_fit}
 use Rattle.mounted_files.specs.Owned.{not_owned_by}
 use Rattle.set_split.specs.Parts.{owned_by}
 use Rattle.mounted_files.specs.Files.{Badness, Holds, IsCause, IsState, Reading}
-use Rattle.mounted_files.specs.Opening.{IsMade, Opens}
-use Rattle.mounted_files.specs.Weighed.{weighed}
+use Rattle.mounted_files.specs.Opening.{IsMade, IsMadeByKeys, IsOpened, Opens}
+use Rattle.mounted_files.specs.Weighed.{own_weight, weighed}
 use Rattle.mounted_files.specs.declared.causes.Cause.{Cause}
 use Rattle.mounted_files.specs.declared.causes.Cause.TheVariants.{TooLong, BadFile, TooHeavy}
 use Rattle.mounted_files.specs.declared.files.FileState.{FileState}
@@ -26,6 +26,7 @@ use Rattle.mounted_files.specs.declared.files.MountedFile.{MountedFile}
 use Rattle.mounted_files.specs.declared.refusals.OpenRefusal.{OpenRefusal}
 use Rattle.mounted_files.specs.declared.refusals.OpenRefusal.TheVariants as refusal
 use Rattle.mounted_files.proofs.PointLemmas.{points-of_mounts}
+use Rattle.mounted_files.proofs.WeighLemmas.{mounts-from}
 
 few_or_many : (n : ℕ) → (n ≤ longest_file) ⊎ (longest_file < n)
 few_or_many n = by (cases_lt longest_file n)
@@ -82,7 +83,7 @@ module _ (Reads : Reading) (IsBad : Badness) (reads_or_bad : (kind : Kind) (byte
   Opens-some bytes_of = by (Holds-or_bad own_point Dump (bytes_of own_mount.file))
     where
       by_table : (keys : KeyMap) → Holds Reads own_point Dump (bytes_of own_mount.file) keys → (made : Result (List Mount) TableFault) → table_of keys ≡ made → (opened : Result (List MountedFile) OpenRefusal) × Opens Reads IsBad bytes_of opened × IsMade opened
-      by_table keys holds (Err fault) is = (Err (refusal.BadTable fault), record { keys = keys; holds = holds; is = is }, λ e. absurd cc)
+      by_table keys holds (Err fault) is = (Err (refusal.BadTable fault), λ _. record { keys = keys; holds = holds; is = is }, λ e. absurd cc)
       by_table keys holds (Ok mounts) is =
           let some = States-some bytes_of (over (λ (mount : Mount). mount.at) mounts) (λ i. i) mounts in
           let points = ap (over (λ (mount : Mount). mount.at)) (sym some.1) ∙ points-of_mounts some.0 in (
@@ -101,6 +102,13 @@ module _ (Reads : Reading) (IsBad : Badness) (reads_or_bad : (kind : Kind) (byte
       by (inr b) = by_cause b.0 b.1
         where
           by_cause : (cause : Cause) → IsCause Reads IsBad own_point Dump (bytes_of own_mount.file) cause → (opened : Result (List MountedFile) OpenRefusal) × Opens Reads IsBad bytes_of opened × IsMade opened
-          by_cause (TooLong n) bad = (Err (refusal.TooLong n), bad, λ e. absurd cc)
-          by_cause (BadFile line) bad = (Err (refusal.BadFile line), bad, λ e. absurd cc)
+          by_cause (TooLong n) bad = (Err (refusal.TooLong n), λ _. bad, λ e. absurd cc)
+          by_cause (BadFile line) bad = (Err (refusal.BadFile line), λ _. bad, λ e. absurd cc)
           by_cause (TooHeavy weight) bad = absurd bad
+
+-- the mounts of opened files are those of a table
+pub opened-made : (Reads : Reading) (IsBad : Badness) (bytes_of : List ℕ → List ℕ) (files : List MountedFile) → IsOpened Reads IsBad bytes_of files → IsMadeByKeys (over (λ file. file.mount) files)
+opened-made Reads IsBad bytes_of files opened = record {
+  keys = opened.table.keys;
+  is = opened.table.is ∙ ap Ok (sym (ap (over (λ (file : MountedFile). file.mount)) opened.is ∙ mounts-from (own_weight opened.unweighed) opened.unweighed));
+}

@@ -1,5 +1,6 @@
 -- What the files of a store mean at an opening. (After Elektra's page on mounting; the limits are this project's own.)
 use Rattle.std.specs.Prelude.{◌≡◌, ◌≢◌, ℕ, List, Result, Ok, Err, map as over}
+use Rattle.general_words.specs.Memory.{UnlessMemory}
 use Rattle.kdb_outside.specs.declared.kinds.Kind.TheVariants.{Dump}
 use Rattle.model_maps.specs.KeyMap.{KeyMap}
 use Rattle.mount_table.specs.Points.{own_point}
@@ -19,12 +20,21 @@ pub record MakesTable (Reads : Reading) (bytes : List ℕ) (made : Result (List 
   pub holds : Holds Reads own_point Dump bytes keys
   pub is : table_of keys ≡ made
 
+-- some keys make these mounts
+pub record IsMadeByKeys (mounts : List Mount) : Type 0 where
+  pub keys : KeyMap
+  pub is : table_of keys ≡ Ok mounts
+
+-- what is wrong with the file of the table's own keys, as a refusal tells it
+abbrev pub IsOwnFault : Reading → Badness → List ℕ → OpenRefusal → Type 0
+IsOwnFault Reads IsBad bytes (refusal.TooLong n) = IsCause Reads IsBad own_point Dump bytes (cause.TooLong n)
+IsOwnFault Reads IsBad bytes (refusal.BadFile line) = IsCause Reads IsBad own_point Dump bytes (cause.BadFile line)
+IsOwnFault Reads IsBad bytes (refusal.BadTable fault) = MakesTable Reads bytes (Err fault)
+IsOwnFault Reads IsBad bytes refusal.Memory = ⊥
+
 -- why a store isn't opened, by the file of the table's own keys; want of memory tells nothing
 abbrev pub RefusesOpening : Reading → Badness → List ℕ → OpenRefusal → Type 0
-RefusesOpening Reads IsBad bytes (refusal.TooLong n) = IsCause Reads IsBad own_point Dump bytes (cause.TooLong n)
-RefusesOpening Reads IsBad bytes (refusal.BadFile line) = IsCause Reads IsBad own_point Dump bytes (cause.BadFile line)
-RefusesOpening Reads IsBad bytes (refusal.BadTable fault) = MakesTable Reads bytes (Err fault)
-RefusesOpening Reads IsBad bytes refusal.Memory = Unit {0}
+RefusesOpening Reads IsBad bytes why = UnlessMemory refusal.Memory (IsOwnFault Reads IsBad bytes why) why
 
 -- what the files mean: the mounts of the table, each with the state of its file, all weighed together
 pub record IsOpened (Reads : Reading) (IsBad : Badness) (bytes_of : List ℕ → List ℕ) (files : List MountedFile) : Type 0 where

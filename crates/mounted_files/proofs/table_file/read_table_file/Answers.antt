@@ -7,25 +7,23 @@ use Rattle.mount_table.specs.Points.{own_point}
 use Rattle.mount_table.specs.Table.{table_of}
 use Rattle.mounted_files.specs.Files.{Badness, Holds, IsCause, Reading}
 use Rattle.mounted_files.specs.Holding.{IsHolding, cause_of}
-use Rattle.mounted_files.specs.Opening.{RefusesOpening}
+use Rattle.mounted_files.specs.Opening.{IsOwnFault, RefusesOpening}
 use Rattle.mounted_files.specs.Refusing.{RefusesTable, refusal_of}
 use Rattle.mounted_files.specs.declared.causes.FileCause.{FileCause}
 use Rattle.mounted_files.specs.declared.causes.FileCause.TheVariants as cause
 use Rattle.mounted_files.specs.declared.holding.Holding.{Holding}
 use Rattle.mounted_files.specs.declared.refusals.OpenRefusal.{OpenRefusal}
-use Rattle.mounted_files.specs.declared.refusals.OpenRefusal.TheVariants.{TooLong, BadFile, BadTable, Memory}
 use Rattle.mounted_files.proofs.table_file.read_table_file.Goals as goal
 
 module _ (Reads : Reading) (IsBad : Badness) (bytes : List ℕ) where
   from_table : (keys : KeyMap) (refusal : OpenRefusal) → Holds Reads own_point Dump bytes keys → RefusesTable (table_of keys) refusal → RefusesOpening Reads IsBad bytes refusal
-  from_table keys (BadTable fault) holds is = record { keys = keys; holds = holds; is = is }
-  from_table keys Memory holds is = tt
-  from_table keys (TooLong n) holds is = absurd is
-  from_table keys (BadFile line) holds is = absurd is
+  from_table keys refusal holds is other =
+      let told = is other in
+      subst (λ (r : OpenRefusal). IsOwnFault Reads IsBad bytes r) (sym told.is) (record { keys = keys; holds = holds; is = told.at_fault })
 
   from_cause : (why : FileCause) → IsCause Reads IsBad own_point Dump bytes (cause_of why) → RefusesOpening Reads IsBad bytes (refusal_of why)
-  from_cause (cause.TooLong n) bad = bad
-  from_cause (cause.BadFile line) bad = bad
+  from_cause (cause.TooLong n) bad = λ _. bad
+  from_cause (cause.BadFile line) bad = λ _. bad
 
   -- what the file holds at the mountpoint of the table's own keys
   held : (point : Name) (found holding : Holding) → point ≡ own_point → found ≡ holding → IsHolding Reads IsBad point Dump bytes found → IsHolding Reads IsBad own_point Dump bytes holding
