@@ -64,7 +64,7 @@ files-all files mounts k le = ap (filter_map (slice_get files)) (take_all k moun
 pub got-good : (files : List MountedFile) (parent : Name) → first_some fault_in (involved_files files parent) ≡ None → got files parent ≡ Ok (visible_keys (involved_files files parent))
 got-good files parent none = rw none refl
 
-got-bad : (files : List MountedFile) (parent : Name) (why : GetFault) → first_some fault_in (involved_files files parent) ≡ Some why → got files parent ≡ Err why
+pub got-bad : (files : List MountedFile) (parent : Name) (why : GetFault) → first_some fault_in (involved_files files parent) ≡ Some why → got files parent ≡ Err why
 got-bad files parent why is = rw is refl
 
 -- a fault of a file is told where it is the first

@@ -8,6 +8,7 @@ pub mod JudgeLemmas
 pub mod StateLemmas
 pub mod PointLemmas
 pub mod GetLemmas
+pub mod ReachLemmas
 pub mod SeenLemmas
 pub mod WriteLemmas
 pub mod OneOpening

@@ -1,12 +1,10 @@
 -- What a file holds tells its state, and one more file joins those of the first mounts.
-use Rattle.std.proofs.Common.{◌≡◌, ◌⊎◌, ℕ, zero, suc, ◌<◌, ◌≤◌, List, [], ◌∷◌, ◌++◌, length, length-append, take, map as over, slice_get, Option, Some, inl, inr, refl, sym, ap, subst, ◌∙◌, arith}
+use Rattle.std.proofs.Common.{◌≡◌, ◌⊎◌, ℕ, zero, suc, ◌<◌, ◌≤◌, List, [], ◌∷◌, ◌++◌, length, length-append, take, map as over, slice_get, Some, inl, inr, refl, sym, ap, subst, ◌∙◌, arith}
 use Rattle.std.proofs.lemmas.Option.{slice_get_within}
-use Rattle.backend_files.specs.WholeFile.{IsWhole}
-use Rattle.backend_files.specs.declared.reading.FileRead.{FileRead}
 use Rattle.model_names.specs.Name.{Name}
 use Rattle.mount_table.specs.declared.mounts.Mount.{Mount}
 use Rattle.general_words.proofs.Lists.{take-next}
-use Rattle.mounted_files.specs.Files.{AreStates, Badness, IsState, Reading}
+use Rattle.mounted_files.specs.Files.{Badness, IsState, Reading}
 use Rattle.mounted_files.specs.Holding.{IsHolding, IsStateOf}
 use Rattle.mounted_files.specs.Short.{HasShortShadow, HaveShortShadows}
 use Rattle.mounted_files.specs.declared.files.FileState.{FileState}

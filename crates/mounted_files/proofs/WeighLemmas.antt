@@ -3,7 +3,7 @@ use Rattle.std.proofs.Common.{◌≡◌, ℕ, ◌+◌, nat_lt, Bool, true, false
 use Rattle.general_words.specs.Saturated.{saturated}
 use Rattle.model_maps.specs.KeyMap.{weight, heaviest_map}
 use Rattle.mounted_files.specs.Short.{HasShortShadow}
-use Rattle.mounted_files.specs.Weighed.{added_weight, weighed, weighed_behind, weighed_file, weighed_from, own_weight}
+use Rattle.mounted_files.specs.Weighed.{added_weight, weighed_behind, weighed_file, weighed_from}
 use Rattle.mounted_files.specs.declared.causes.Cause.TheVariants.{TooHeavy}
 use Rattle.mounted_files.specs.declared.files.FileState.{FileState}
 use Rattle.mounted_files.specs.declared.files.FileState.TheVariants.{Good, Bad}

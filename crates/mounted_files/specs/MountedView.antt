@@ -5,18 +5,21 @@ use Rattle.std.specs.List.Sorted.{IsStrictlySortedBy}
 use Rattle.model_names.specs.Order.{name_cmp}
 use Rattle.model_maps.specs.KeyMap.{heaviest_map}
 use Rattle.mount_table.specs.Table.{own_mount}
+use Rattle.mounted_files.specs.Opening.{IsMadeByKeys}
 use Rattle.mounted_files.specs.Short.{HasShortShadow, HaveShortShadows}
 use Rattle.mounted_files.specs.Weighed.{added_weight, visible_weight}
 use Rattle.mounted_files.specs.declared.mounted.Mounted.TheInside as mounted
 use Rattle.mounted_files.specs.declared.opening.Opening.TheInside as opening
 
--- the files are those of the table's mounts
+-- the files are those of the table's mounts, which some keys make
 pub record IsMounted (inside : mounted.Inside) : Type 0 where
   pub table : map (λ file. file.mount) inside.files.items ≡ inside.table
+  pub made : IsMadeByKeys inside.table
   pub short : HaveShortShadows inside.files.items
 
--- the table's own mount is at its place, the files are those of the first of the other mounts, and all of them weigh so much
+-- some keys make the table, its own mount is at its place, the files are those of the first of the other mounts, and all of them weigh so much
 pub record IsBegun (inside : opening.Inside) : Type 0 where
+  pub made : IsMadeByKeys inside.table
   pub ascending : IsStrictlySortedBy name_cmp (map (λ mount. mount.at) inside.table)
   pub place : slice_get inside.table inside.place ≡ Some own_mount
   pub few : length inside.files.items ≤ length (remove inside.table inside.place)

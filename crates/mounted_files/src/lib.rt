@@ -22,7 +22,10 @@ mod writing;
 
 pub use causes::Cause;
 pub use files::{FileState, MountedFile};
-pub use laws::{a_set_has_one_verdict, files_have_one_opening};
+pub use laws::{
+    a_get_gives_the_visible_keys_in_reach, a_set_has_one_verdict, files_have_one_opening,
+    opened_files_have_a_table,
+};
 pub use mounted::Mounted;
 pub use opening::Opening;
 pub use refusals::{GetFault, OpenRefusal};

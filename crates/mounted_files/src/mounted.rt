@@ -3,6 +3,7 @@ ghost use Rattle.std.specs.Prelude.{◌≡◌, MatchResult, IfOk, Ok, None, map 
 ghost use Rattle.key_set.specs.WithAll.{with_all};
 ghost use Rattle.mounted_files.specs.Getting.{fault_in, fault_of, got, visible_of, Gets, IsFaultIn};
 ghost use Rattle.mounted_files.specs.Judging.{IsVerdict};
+ghost use Rattle.mounted_files.specs.Opening.{IsMadeByKeys};
 ghost use Rattle.mounted_files.specs.Short.{HaveShortShadows};
 
 use crate::committing::commit;
@@ -46,15 +47,17 @@ impl Mounted {
     /// The files of a table's mounts.
     pub(crate) fn new(table: MountTable, files: Vec<MountedFile>) -> Mounted
         requires table { over (λ file. file.mount) files.items ≡ table }
+        requires made { IsMadeByKeys table }
         requires short { HaveShortShadows files.items }
         ensures { result ≡ files.items }
     {
         Mounted { table, files }
     }
 
-    /// The table of the mounts.
+    /// The table of the mounts, which some keys make.
     pub fn table(&self) -> &MountTable
-        ensures { result.now ≡ over (λ file. file.mount) self.now }
+        ensures mounts { result.now ≡ over (λ file. file.mount) self.now }
+        ensures made { IsMadeByKeys result.now }
     {
         &self.table
     }

@@ -34,6 +34,7 @@ invariant_of-self-2 g c =
     let short : HasShortShadow file.state = subst (λ (f : MountedFile). HasShortShadow f.state) (sym c.weigh-sum.ensures.file) (weighed_file-short c.self.inside.sum c.in_ok-file.file c.in_ok-file.ensures.short) in
     let items : c.push.new.self.items ≡ files ++ file ∷ [] = c.in_ok-push.ensures.items in
     record {
+      made = inv.made;
       ascending = inv.ascending;
       place = inv.place;
       few = subst (λ (all : List MountedFile). length all ≤ length rest) (sym items) (few-next rest files file (length files) mount refl next);
