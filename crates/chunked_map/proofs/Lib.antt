@@ -4,4 +4,4 @@ pub mod ChunkLemmas
 pub mod PlaceLemmas
 pub mod SplitLemmas
 pub mod RangeLemmas
-pub mod CopyLemmas
+pub mod CountLemmas

@@ -61,7 +61,7 @@ module _ {K X : Type 0} (R : K → K → Ordering) where
           | Greater ↦ λ p s. is_less _ (o.trans q l e.0 (turned o l q Greater p) lt)
         ] refl not_before
 
-    behind_key : (q l : K) (es : List (K × X)) → T (below_all R l es) → is_lt (R l q) ≡ false → T (below_all R q es)
+    pub behind_key : (q l : K) (es : List (K × X)) → T (below_all R l es) → is_lt (R l q) ≡ false → T (below_all R q es)
     behind_key q l [] h not_before = tt
     behind_key q l (e ∷ es) h not_before = both _ _ (further q l e es (less _ (first _ _ h)) not_before) (behind_key q l es (second _ _ h) not_before)
 

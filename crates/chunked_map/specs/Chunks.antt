@@ -1,5 +1,5 @@
 -- Entries in chunks: what the chunks hold together, and where a key belongs among them. (This project's own.)
-use Rattle.std.specs.Prelude.{ℕ, suc, ◌<◌, ◌≤◌, ◌^◌, ◌++◌, ◌∷◌, [], Bool, T, List, length, take, drop, slice_index_or}
+use Rattle.std.specs.Prelude.{ℕ, suc, ◌<◌, ◌≤◌, ◌^◌, ◌++◌, ◌∷◌, [], Bool, T, not, List, length, take, drop, slice_index_or}
 use Rattle.std.specs.FinMap.{is_sorted}
 use Rattle.std.specs.FinMap.Entries.{below_all}
 use Rattle.std.specs.List.{AllByRecursion, flat_map, list_all}
@@ -24,6 +24,10 @@ pub record AreChunks {K X : Type 0} (R : K → K → Ordering) (chunks : List (L
 -- each key stands before q
 abbrev pub all_before : {K X : Type 0} → (K → K → Ordering) → K → List (K × X) → Bool
 all_before R q = list_all (λ e. is_lt (R e.0 q))
+
+-- no key stands before q
+abbrev pub none_before : {K X : Type 0} → (K → K → Ordering) → K → List (K × X) → Bool
+none_before R q = list_all (λ e. not (is_lt (R e.0 q)))
 
 -- a key belongs into this chunk, or into one to be put there: those before it hold smaller keys, and those behind it larger ones
 pub record IsChunkOf {K X : Type 0} (R : K → K → Ordering) (chunks : List (List (K × X))) (q : K) (at : ℕ) : Type 0 where

@@ -1,23 +1,26 @@
 //! A map over chunks of entries.
-ghost use Rattle.std.specs.Prelude.{◌≡◌, ◌≤◌, [], T, length, not, None, IfOk, OnOk, OnErr, slice_get, slice_range};
+ghost use Rattle.std.specs.Prelude.{◌≡◌, ◌<◌, ◌≤◌, ◌^◌, [], T, length, take, drop, not, None, IfOk, OnOk, OnErr, slice_get, slice_range};
 ghost use Rattle.std.specs.FinMap.{find, is_sorted};
 ghost use Rattle.std.specs.FinMap.Entries.{put, where_key};
 ghost use Rattle.std.specs.Option.{option_copied, option_map};
 ghost use Rattle.std.specs.List.{remove_range};
 ghost use Rattle.std.specs.Ordering.{eq_by_cmp};
-ghost use Rattle.chunked_map.specs.Chunks.{joined};
+ghost use Rattle.chunked_map.specs.Chunks.{joined, all_before, none_before};
 
-use crate::chunks::{chunk_of, count_in, home_of, open_chunk, put_in, remove_in, room_in};
+use crate::Copied;
+use crate::chunks::{
+    before_in, chunk_of, count_in, home_of, open_chunk, put_in, remove_in, room_in,
+};
 use crate::iters::ChunkedIter;
-use crate::ranges::{place_in, take_chunks};
-use sorted_map::SortedMap;
+use crate::ranges::{chunks_from, entries_from, place_in, take_chunks};
+use crate::shared::Chunk;
 use std::alloc::{AllocError, Global};
 use std::marker::Model;
 
 /// A value for each of some keys, in the order of the keys.
 #[derive(Debug, Drop)]
 pub struct ChunkedMap<K: Ord, V> {
-    pub(crate) chunks: Vec<SortedMap<K, V>>,
+    pub(crate) chunks: Vec<Chunk<K, V>>,
 }
 
 impl<K: Ord, V> Model for ChunkedMap<K, V> {
@@ -91,9 +94,41 @@ impl<K: Ord, V> ChunkedMap<K, V> {
             chunks: &self.chunks,
         }
     }
+
+    /// The entries from a place on, in the order of their keys.
+    pub fn iter_from(&self, place: usize) -> ChunkedIter<'_, K, V>
+        requires { place ≤ length self.now }
+        ensures from { result ≡ drop place self.now }
+        ensures sorted { T (is_sorted K.cmp self.now) }
+    {
+        let (at, left) = place_in(&self.chunks, place);
+        if at < self.chunks.len() {
+            ChunkedIter {
+                rest: entries_from(&self.chunks[at], left),
+                chunks: chunks_from(&self.chunks, at + 1),
+            }
+        } else {
+            ChunkedIter {
+                rest: &[],
+                chunks: &[],
+            }
+        }
+    }
+
+    /// How many entries have a key before another one.
+    pub fn count_before(&self, key: &K) -> usize
+        ensures bounds { result ≤ length self.now }
+        ensures countable { length self.now < 2 ^ 64 }
+        ensures before { T (all_before K.cmp key.now (take result self.now)) }
+        ensures behind { T (none_before K.cmp key.now (drop result self.now)) }
+        ensures sorted { T (is_sorted K.cmp self.now) }
+    {
+        let at = chunk_of(&self.chunks, key);
+        before_in(&self.chunks, at, key)
+    }
 }
 
-impl<K: Ord + Drop, V: Drop> ChunkedMap<K, V> {
+impl<K: Ord + Drop, V: Copied<K> + Drop> ChunkedMap<K, V> {
     /// Gives a key a value, and answers the value that it had. A key that is there stays, and the one passed in is dropped.
     pub fn insert(&mut self, key: K, value: V) -> Result<Option<V>, AllocError>
         ensures former { IfOk result (λ former. former ≡ find K.cmp key self.old) }
@@ -111,16 +146,17 @@ impl<K: Ord + Drop, V: Drop> ChunkedMap<K, V> {
     }
 
     /// Takes a key out, and answers the value that it had.
-    pub fn remove(&mut self, key: &K) -> Option<V>
-        ensures former { result ≡ find K.cmp key.now self.old }
-        ensures removed { self.new ≡ where_key K.cmp (λ k. not (eq_by_cmp K.cmp key.now k)) self.old }
+    pub fn remove(&mut self, key: &K) -> Result<Option<V>, AllocError>
+        ensures former { IfOk result (λ former. former ≡ find K.cmp key.now self.old) }
+        ensures ok { OnOk result (self.new ≡ where_key K.cmp (λ k. not (eq_by_cmp K.cmp key.now k)) self.old) }
+        ensures err { OnErr result (self.new ≡ self.old) }
         ensures sorted { T (is_sorted K.cmp self.old) }
     {
         let at = chunk_of(&self.chunks, key);
         if at < self.chunks.len() {
             remove_in(&mut self.chunks, at, key)
         } else {
-            None
+            Ok(None)
         }
     }
 

@@ -1,11 +1,13 @@
 //! Chunks of entries: where a key belongs among them, and what changes one of them.
-ghost use Rattle.std.specs.Prelude.{◌≡◌, ◌+◌, ◌^◌, ◌<◌, ◌≤◌, ◌++◌, ◌∷◌, [], T, length, not, IfSome, IfOk, OnOk, OnErr, slice_index_or};
+ghost use Rattle.std.specs.Prelude.{◌≡◌, ◌+◌, ◌^◌, ◌<◌, ◌≤◌, ◌++◌, ◌∷◌, [], T, length, take, drop, not, IfSome, IfOk, OnOk, OnErr, slice_index_or};
 ghost use Rattle.std.specs.FinMap.{find, is_sorted};
 ghost use Rattle.std.specs.FinMap.Entries.{below_all, put, where_key};
 ghost use Rattle.std.specs.List.{AllByRecursion};
 ghost use Rattle.std.specs.Ordering.{eq_by_cmp};
-ghost use Rattle.chunked_map.specs.Chunks.{joined, IsSized, AreChunks, all_before, IsChunkOf, parted};
+ghost use Rattle.chunked_map.specs.Chunks.{joined, IsSized, AreChunks, all_before, none_before, IsChunkOf, parted};
 
+use crate::Copied;
+use crate::shared::Chunk;
 use sorted_map::SortedMap;
 use std::alloc::AllocError;
 
@@ -16,7 +18,7 @@ pub const CHUNK_SIZE: usize = 64;
 const MOST_CHUNKS: usize = 1 << 57;
 
 /// All keys of a chunk are before a key.
-fn is_past<K: Ord, V>(chunk: &SortedMap<K, V>, key: &K) -> bool
+fn is_past<K: Ord, V>(chunk: &Chunk<K, V>, key: &K) -> bool
     ensures yes { T result → T (all_before K.cmp key.now chunk.now) }
     ensures no { T (not result) → (behind : _) → T (is_sorted K.cmp (chunk.now ++ behind)) → T (below_all K.cmp key.now behind) }
 {
@@ -27,7 +29,7 @@ fn is_past<K: Ord, V>(chunk: &SortedMap<K, V>, key: &K) -> bool
 }
 
 /// The first chunk that is not before a key. It stands behind all of them where there is none.
-pub fn chunk_of<K: Ord, V>(chunks: &[SortedMap<K, V>], key: &K) -> usize
+pub fn chunk_of<K: Ord, V>(chunks: &[Chunk<K, V>], key: &K) -> usize
     requires { AreChunks K.cmp chunks.now }
     ensures { IsChunkOf K.cmp chunks.now key.now result }
 {
@@ -45,7 +47,7 @@ pub fn chunk_of<K: Ord, V>(chunks: &[SortedMap<K, V>], key: &K) -> usize
 }
 
 /// A key is behind all chunks.
-fn is_behind<K: Ord, V>(chunks: &[SortedMap<K, V>], key: &K) -> bool
+fn is_behind<K: Ord, V>(chunks: &[Chunk<K, V>], key: &K) -> bool
     requires { AreChunks K.cmp chunks.now }
     ensures { T result → IsChunkOf K.cmp chunks.now key.now (length chunks.now) }
 {
@@ -54,7 +56,7 @@ fn is_behind<K: Ord, V>(chunks: &[SortedMap<K, V>], key: &K) -> bool
 }
 
 /// The chunk into which a key is put. A key behind all goes into the last chunk while that has room, and is not searched for.
-pub fn home_of<K: Ord, V>(chunks: &[SortedMap<K, V>], key: &K) -> usize
+pub fn home_of<K: Ord, V>(chunks: &[Chunk<K, V>], key: &K) -> usize
     requires { AreChunks K.cmp chunks.now }
     ensures { IsChunkOf K.cmp chunks.now key.now result }
 {
@@ -69,8 +71,8 @@ pub fn home_of<K: Ord, V>(chunks: &[SortedMap<K, V>], key: &K) -> usize
 }
 
 /// Puts a key that is behind all chunks into a chunk of its own.
-pub fn open_chunk<K: Ord + Drop, V: Drop>(
-    chunks: &mut Vec<SortedMap<K, V>>,
+pub fn open_chunk<K: Ord + Drop, V: Copied<K> + Drop>(
+    chunks: &mut Vec<Chunk<K, V>>,
     key: K,
     value: V,
 ) -> Result<(), AllocError>
@@ -83,15 +85,16 @@ pub fn open_chunk<K: Ord + Drop, V: Drop>(
     if chunks.len() >= MOST_CHUNKS {
         return Err(AllocError);
     }
-    let mut chunk = SortedMap::new(*chunks.allocator());
-    chunk.insert(key, value)?;
+    let mut entries = SortedMap::new(*chunks.allocator());
+    entries.insert(key, value)?;
+    let chunk = Chunk::of(entries)?;
     chunks.push(chunk)?;
     Ok(())
 }
 
 /// Cuts a chunk in two, behind its first n entries. Its memory is taken first.
-pub fn split_in<K: Ord + Drop, V: Drop>(
-    chunks: &mut Vec<SortedMap<K, V>>,
+pub fn split_in<K: Ord + Drop, V: Copied<K> + Drop>(
+    chunks: &mut Vec<Chunk<K, V>>,
     at: usize,
     n: usize,
 ) -> Result<(), AllocError>
@@ -114,8 +117,8 @@ pub fn split_in<K: Ord + Drop, V: Drop>(
 }
 
 /// Makes room for a key in its chunk, and answers which one it is then.
-pub fn room_in<K: Ord + Drop, V: Drop>(
-    chunks: &mut Vec<SortedMap<K, V>>,
+pub fn room_in<K: Ord + Drop, V: Copied<K> + Drop>(
+    chunks: &mut Vec<Chunk<K, V>>,
     at: usize,
     key: &K,
 ) -> Result<usize, AllocError>
@@ -139,8 +142,8 @@ pub fn room_in<K: Ord + Drop, V: Drop>(
 }
 
 /// Puts a key into its chunk, which has room for it.
-pub fn put_in<K: Ord + Drop, V: Drop>(
-    chunks: &mut Vec<SortedMap<K, V>>,
+pub fn put_in<K: Ord + Drop, V: Copied<K> + Drop>(
+    chunks: &mut Vec<Chunk<K, V>>,
     at: usize,
     key: K,
     value: V,
@@ -158,27 +161,65 @@ pub fn put_in<K: Ord + Drop, V: Drop>(
 }
 
 /// Takes a key out of its chunk, and the chunk out where nothing is left of it.
-pub fn remove_in<K: Ord + Drop, V: Drop>(
-    chunks: &mut Vec<SortedMap<K, V>>,
+pub fn remove_in<K: Ord + Drop, V: Copied<K> + Drop>(
+    chunks: &mut Vec<Chunk<K, V>>,
     at: usize,
     key: &K,
-) -> Option<V>
+) -> Result<Option<V>, AllocError>
     requires chunks { AreChunks K.cmp chunks.old.items }
     requires within { at < length chunks.old.items }
     requires place { IsChunkOf K.cmp chunks.old.items key.now at }
-    ensures former { result ≡ find K.cmp key.now (joined chunks.old.items) }
-    ensures removed { joined chunks.new.items ≡ where_key K.cmp (λ k. not (eq_by_cmp K.cmp key.now k)) (joined chunks.old.items) }
+    ensures former { IfOk result (λ former. former ≡ find K.cmp key.now (joined chunks.old.items)) }
+    ensures ok { OnOk result (joined chunks.new.items ≡ where_key K.cmp (λ k. not (eq_by_cmp K.cmp key.now k)) (joined chunks.old.items)) }
+    ensures err { OnErr result (chunks.new.items ≡ chunks.old.items) }
     ensures chunks { AreChunks K.cmp chunks.new.items }
 {
-    let former = chunks[at].remove(key);
+    let former = chunks[at].remove(key)?;
     if chunks[at].len() == 0 {
         chunks.remove(at);
+        return Ok(former);
     }
-    former
+    Ok(former)
+}
+
+/// How many entries have a key before another one, whose chunk is known.
+pub fn before_in<K: Ord, V>(chunks: &[Chunk<K, V>], at: usize, key: &K) -> usize
+    requires chunks { AreChunks K.cmp chunks.now }
+    requires place { IsChunkOf K.cmp chunks.now key.now at }
+    ensures bounds { result ≤ length (joined chunks.now) }
+    ensures before { T (all_before K.cmp key.now (take result (joined chunks.now))) }
+    ensures behind { T (none_before K.cmp key.now (drop result (joined chunks.now))) }
+{
+    let front = count_in(&chunks[..at]);
+    if at < chunks.len() {
+        front + before_here(chunks[at].entries(), key)
+    } else {
+        front
+    }
+}
+
+/// How many of some entries have a key before another one.
+fn before_here<K: Ord, V>(entries: &[(K, V)], key: &K) -> usize
+    requires { T (is_sorted K.cmp entries.now) }
+    ensures bounds { result ≤ length entries.now }
+    ensures before { T (all_before K.cmp key.now (take result entries.now)) }
+    ensures behind { T (none_before K.cmp key.now (drop result entries.now)) }
+{
+    let mut low = 0;
+    let mut high = entries.len();
+    while low < high {
+        let middle = low + (high - low) / 2;
+        if entries[middle].0.cmp(key).is_lt() {
+            low = middle + 1;
+        } else {
+            high = middle;
+        }
+    }
+    low
 }
 
 /// How many entries the chunks have together.
-pub fn count_in<K: Ord, V>(chunks: &[SortedMap<K, V>]) -> usize
+pub fn count_in<K: Ord, V>(chunks: &[Chunk<K, V>]) -> usize
     requires { AreChunks K.cmp chunks.now }
     ensures { result ≡ length (joined chunks.now) }
 {

@@ -4,7 +4,8 @@ ghost use Rattle.std.specs.FinMap.{is_sorted};
 ghost use Rattle.sorted_map.specs.Merge.{put_all};
 
 use crate::ChunkedMap;
-use std::alloc::AllocError;
+use crate::shared::Chunk;
+use std::alloc::{AllocError, Global};
 
 /// A value that can be copied together with its key, into memory of their own.
 pub trait Copied<K>: Sized {
@@ -13,17 +14,13 @@ pub trait Copied<K>: Sized {
 }
 
 impl<K: Ord + Drop, V: Copied<K> + Drop> ChunkedMap<K, V> {
-    /// The same entries again.
+    /// The same entries again. The chunks are shared until one of the two maps changes them.
     pub fn copy(&self) -> Result<ChunkedMap<K, V>, AllocError>
         ensures copied { IfOk result (λ copied. copied ≡ self.now) }
         ensures sorted { T (is_sorted K.cmp self.now) }
     {
-        let mut copied = ChunkedMap::new(self.allocator());
-        for (key, value) in self.iter() {
-            let (key, value) = V::copied(key, value)?;
-            copied.insert(key, value)?;
-        }
-        Ok(copied)
+        let chunks = share_all(self.allocator(), &self.chunks)?;
+        Ok(ChunkedMap { chunks })
     }
 
     /// Gives each key of another map the value that it has there. A key that is there stays.
@@ -42,4 +39,18 @@ impl<K: Ord + Drop, V: Copied<K> + Drop> ChunkedMap<K, V> {
         *self = all;
         Ok(())
     }
+}
+
+/// The same chunks once more.
+fn share_all<K: Ord + Drop, V: Drop>(
+    alloc: Global,
+    chunks: &[Chunk<K, V>],
+) -> Result<Vec<Chunk<K, V>>, AllocError>
+    ensures { IfOk result (λ shared. shared.items ≡ chunks.now) }
+{
+    let mut shared = Vec::with_capacity(alloc, chunks.len())?;
+    for chunk in chunks {
+        shared.push(chunk.share()?)?;
+    }
+    Ok(shared)
 }

@@ -1,14 +1,14 @@
 //! The entries of a map in chunks, one after another.
 ghost use Rattle.std.specs.Iterator.{YieldsFirstBy, item_count};
 
-use sorted_map::SortedMap;
+use crate::shared::Chunk;
 use std::marker::Model;
 
 /// The entries that are still to come, in the order of their keys: those of a chunk, and the chunks behind it.
 #[derive(Drop)]
 pub struct ChunkedIter<'a, K: Ord, V> {
     pub(crate) rest: &'a [(K, V)],
-    pub(crate) chunks: &'a [SortedMap<K, V>],
+    pub(crate) chunks: &'a [Chunk<K, V>],
 }
 
 impl<'a, K: Ord, V> Model for ChunkedIter<'a, K, V> {

@@ -7,6 +7,7 @@ mod chunks;
 mod copies;
 mod iters;
 mod ranges;
+mod shared;
 #[cfg(test)]
 mod tests;
 

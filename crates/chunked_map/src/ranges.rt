@@ -1,14 +1,15 @@
 //! Chunks by the places of their entries in the order of all keys.
-ghost use Rattle.std.specs.Prelude.{◌≡◌, ◌+◌, ◌<◌, ◌≤◌, [], length, take, IfOk, OnOk, OnErr, slice_range, slice_index_or};
+ghost use Rattle.std.specs.Prelude.{◌≡◌, ◌+◌, ◌<◌, ◌≤◌, [], length, take, drop, IfOk, OnOk, OnErr, slice_range, slice_index_or};
 ghost use Rattle.std.specs.List.{remove_range};
 ghost use Rattle.chunked_map.specs.Chunks.{joined, AreChunks};
 
+use crate::Copied;
 use crate::chunks::split_in;
-use sorted_map::SortedMap;
+use crate::shared::Chunk;
 use std::alloc::AllocError;
 
 /// In which chunk a place is, and at which place in that chunk. The place behind all entries is in none.
-pub fn place_in<K: Ord, V>(chunks: &[SortedMap<K, V>], place: usize) -> (usize, usize)
+pub fn place_in<K: Ord, V>(chunks: &[Chunk<K, V>], place: usize) -> (usize, usize)
     requires chunks { AreChunks K.cmp chunks.now }
     requires bounds { place ≤ length (joined chunks.now) }
     ensures within { result.0 ≤ length chunks.now }
@@ -27,9 +28,25 @@ pub fn place_in<K: Ord, V>(chunks: &[SortedMap<K, V>], place: usize) -> (usize, 
     (chunks.len(), left)
 }
 
+/// The entries of a chunk from a place on.
+pub fn entries_from<K: Ord, V>(chunk: &Chunk<K, V>, place: usize) -> &[(K, V)]
+    requires { place ≤ length chunk.now }
+    ensures { result.now ≡ drop place chunk.now }
+{
+    &chunk.entries()[place..]
+}
+
+/// The chunks from a place on.
+pub fn chunks_from<K: Ord, V>(chunks: &[Chunk<K, V>], place: usize) -> &[Chunk<K, V>]
+    requires { place ≤ length chunks.now }
+    ensures { result.now ≡ drop place chunks.now }
+{
+    &chunks[place..]
+}
+
 /// The chunk that begins at a place. One in which the place stands behind others is cut in two there.
-pub fn boundary<K: Ord + Drop, V: Drop>(
-    chunks: &mut Vec<SortedMap<K, V>>,
+pub fn boundary<K: Ord + Drop, V: Copied<K> + Drop>(
+    chunks: &mut Vec<Chunk<K, V>>,
     place: usize,
 ) -> Result<usize, AllocError>
     requires chunks { AreChunks K.cmp chunks.old.items }
@@ -49,11 +66,11 @@ pub fn boundary<K: Ord + Drop, V: Drop>(
 }
 
 /// Takes out the chunks between two places, and answers them. Their memory is taken first.
-pub fn take_chunks<K: Ord + Drop, V: Drop>(
-    chunks: &mut Vec<SortedMap<K, V>>,
+pub fn take_chunks<K: Ord + Drop, V: Copied<K> + Drop>(
+    chunks: &mut Vec<Chunk<K, V>>,
     from: usize,
     to: usize,
-) -> Result<Vec<SortedMap<K, V>>, AllocError>
+) -> Result<Vec<Chunk<K, V>>, AllocError>
     requires chunks { AreChunks K.cmp chunks.old.items }
     requires order { from ≤ to }
     requires bounds { to ≤ length (joined chunks.old.items) }

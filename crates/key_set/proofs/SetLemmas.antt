@@ -1,5 +1,5 @@
 -- What is found among keys in name order, and what a change of them changes in the map that they make.
-use Rattle.std.proofs.Common.{◌≡◌, ◌+◌, sum_by, Bool, ℕ, zero, suc, List, [], ◌∷◌, Option, Some, None, not, T, slice_get, refl, sym, ap, ◌∙◌, subst}
+use Rattle.std.proofs.Common.{◌≡◌, ◌+◌, ◌<◌, ◌^◌, arith, sum_by, Bool, ℕ, zero, suc, List, [], ◌∷◌, Option, Some, None, not, T, slice_get, refl, sym, ap, ◌∙◌, subst}
 use Rattle.std.specs.FinMap as finite
 use Rattle.std.specs.FinMap.{find, is_sorted}
 use Rattle.std.specs.FinMap.Entries.{put, where_key}
@@ -9,11 +9,15 @@ use Rattle.model_names.specs.Name.{Name}
 use Rattle.model_names.specs.Order.{name_cmp}
 use Rattle.model_names.proofs.OrderLemmas.{name_cmp_total, name_cmp-IsAntisymmetric}
 use Rattle.sorted_map.proofs.SeenLemmas.{seen, is_sorted-seen, find-seen, put-seen, where_key-seen}
+use Rattle.general_words.specs.Saturated.{saturated}
 use Rattle.general_words.proofs.Maps.{from_sorted-put, from_sorted-without, from_sorted-where_key}
 use Rattle.key_set.specs.declared.entries.Entry as code
 use Rattle.std.proofs.lemmas.List.Sums.{sum_by-cons}
 use Rattle.model_maps.specs.KeyMap.{weight_of_key}
 use Rattle.key_set.specs.EntryView.{entry_of, keys_of}
+
+abbrev pub Key : Type 0
+Key = Name × code.Entry
 
 abbrev pub Keys : Type 0
 Keys = List (Name × code.Entry)
@@ -60,3 +64,16 @@ weight-seen (key ∷ keys) =
     sum_by-cons (λ k. weight_of_key k.0 (entry_of k.1)) key keys
     ∙ ap (λ n. weight_of_key key.0 (entry_of key.1) + n) (weight-seen keys)
     ∙ sym (sum_by-cons (λ k. weight_of_key k.0 k.1) (key.0, entry_of key.1) (seen name_cmp entry_of keys))
+
+-- the weight so far goes on by the next key's
+pub weighed-more : {A : Type 0} (f : A → ℕ) (weight more one : ℕ) (e : A) (left rest : List A) (total : ℕ)
+    → left ≡ e ∷ rest → one ≡ saturated (f e) → more ≡ saturated (weight + one) → saturated (weight + sum_by f left) ≡ total → saturated (more + sum_by f rest) ≡ total
+weighed-more f weight more one e left rest total first is sum so_far =
+    let parts : sum_by f left ≡ f e + sum_by f rest = ap (sum_by f) first ∙ sum_by-cons f e rest in
+    omega (arith, parts, is, sum) ∙ so_far
+
+-- and is all where none is left
+pub weighed-all : {A : Type 0} (f : A → ℕ) (weight : ℕ) (left : List A) (total : ℕ) → left ≡ [] → weight < 2 ^ 64 → saturated (weight + sum_by f left) ≡ total → weight ≡ total
+weighed-all f weight left total none fits so_far =
+    let zero_left : sum_by f left ≡ 0 = ap (sum_by f) none in
+    omega (arith, zero_left, fits) ∙ so_far

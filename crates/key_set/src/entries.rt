@@ -4,7 +4,9 @@ ghost use Rattle.std.specs.Cmp.{partial_equiv_from_equiv, on_equiv};
 ghost use Rattle.key_set.specs.EntryView.{entry_of};
 ghost use Rattle.key_set.specs.Same.{same_entry, same_entry_equiv};
 
+use chunked_map::Copied;
 use key_meta::{Memory, Meta, Text};
+use key_name::KeyName;
 
 /// A value, and metadata by name.
 #[derive(Debug, Drop)]
@@ -22,6 +24,12 @@ impl Entry {
             value: self.value.copy()?,
             meta: self.meta.copy()?,
         })
+    }
+}
+
+impl Copied<KeyName> for Entry {
+    fn copied(name: &KeyName, entry: &Entry) -> Result<(KeyName, Entry), Memory> {
+        Ok((name.copy()?, entry.copy()?))
     }
 }
 

@@ -3,13 +3,14 @@ ghost use Rattle.std.specs.Iterator.{YieldsFirstBy, item_count};
 ghost use Rattle.key_set.specs.EntryView.{entry_of};
 
 use crate::Entry;
+use chunked_map::ChunkedIter;
 use key_name::KeyName;
 use std::marker::Model;
 
 /// The keys of a set that are still to come, in name order.
 #[derive(Drop)]
 pub struct KeySetIter<'a> {
-    pub(crate) rest: &'a [(KeyName, Entry)],
+    pub(crate) rest: ChunkedIter<'a, KeyName, Entry>,
 }
 
 impl<'a> Model for KeySetIter<'a> {
@@ -23,7 +24,7 @@ impl<'a> Model for KeySetIter<'a> {
 
     ghost coded = { coded_list (coded× coded_name coded_entry) };
 
-    ghost view = { λ s. map (λ key. (key.0, seen key.1)) s.rest.now };
+    ghost view = { λ s. map (λ key. (key.0, seen key.1)) s.rest };
 }
 
 impl<'a> Iterator for KeySetIter<'a> {
@@ -34,8 +35,6 @@ impl<'a> Iterator for KeySetIter<'a> {
     ghost remaining = { item_count (λ s. s) };
 
     fn next(&mut self) -> Option<(&'a KeyName, &'a Entry)> {
-        let (first, others) = self.rest.split_first()?;
-        self.rest = others;
-        Some((&first.0, &first.1))
+        self.rest.next()
     }
 }

@@ -1,4 +1,4 @@
-//! A finite map from names to entries, over one sorted vector. No contract speaks of the vector.
+//! A finite map from names to entries, over chunks that copies share. No contract speaks of the chunks.
 ghost use Rattle.std.specs.Prelude.{◌≡◌, length, IfOk, OnOk, OnErr, slice_get};
 ghost use Rattle.std.specs.Option.{option_map, option_or};
 ghost use Rattle.std.specs.FinMap as map;
@@ -12,18 +12,19 @@ ghost use Rattle.key_set.specs.Same.{same_keys, same_keys_equiv};
 ghost use Rattle.key_set.specs.WithAll.{with_all};
 
 use crate::ranges::range_below;
+use crate::same::have_same;
 use crate::weights::weight_of_all;
 use crate::{Entry, KeySetIter};
+use chunked_map::ChunkedMap;
 use key_meta::Memory;
 use key_name::KeyName;
-use sorted_map::SortedMap;
 use std::alloc::Global;
 use std::marker::Model;
 
 /// An entry for each of some names.
 #[derive(Debug, Drop)]
 pub struct KeySet {
-    keys: SortedMap<KeyName, Entry>,
+    keys: ChunkedMap<KeyName, Entry>,
 }
 
 impl Model for KeySet {
@@ -42,7 +43,7 @@ impl KeySet {
         ensures { result ≡ no_keys }
     {
         KeySet {
-            keys: SortedMap::new(alloc),
+            keys: ChunkedMap::new(alloc),
         }
     }
 
@@ -86,13 +87,14 @@ impl KeySet {
         ensures ok { OnOk result (self.new ≡ with_all other self.old) }
         ensures err { OnErr result (self.new ≡ self.old) }
     {
-        self.keys.insert_all(other.keys)
+        self.keys.insert_all(&other.keys)
     }
 
     /// Takes a name out, and answers the entry that it had.
-    pub fn remove(&mut self, name: &KeyName) -> Option<Entry>
-        ensures former { option_map entry_of result ≡ map.get self.old name.now }
-        ensures removed { self.new ≡ map.remove self.old name.now }
+    pub fn remove(&mut self, name: &KeyName) -> Result<Option<Entry>, Memory>
+        ensures former { IfOk result (λ former. option_map entry_of former ≡ map.get self.old name.now) }
+        ensures ok { OnOk result (self.new ≡ map.remove self.old name.now) }
+        ensures err { OnErr result (self.new ≡ self.old) }
     {
         self.keys.remove(name)
     }
@@ -103,7 +105,7 @@ impl KeySet {
         ensures ok { OnOk result (self.new ≡ not_below at.now self.old) }
         ensures err { OnErr result (self.new ≡ self.old) }
     {
-        let (from, to) = range_below(self.keys.entries(), at);
+        let (from, to) = range_below(&self.keys, at);
         let keys = self.keys.take_range(from, to)?;
         Ok(KeySet { keys })
     }
@@ -112,12 +114,8 @@ impl KeySet {
     pub fn below(&self, at: &KeyName) -> Result<KeySet, Memory>
         ensures { IfOk result (λ copied. copied ≡ at_or_below at.now self.now) }
     {
-        let keys = self.keys.entries();
-        let (from, to) = range_below(keys, at);
-        let copied = copy_of(self.keys.allocator(), &keys[from..to])?;
-        Ok(KeySet {
-            keys: SortedMap::from_sorted(copied),
-        })
+        let mut copied = self.copy()?;
+        copied.cut(at)
     }
 
     /// The keys, in name order.
@@ -125,17 +123,16 @@ impl KeySet {
         ensures { result ≡ map.entries self.now }
     {
         KeySetIter {
-            rest: self.keys.entries(),
+            rest: self.keys.iter(),
         }
     }
 
-    /// The same keys again, in memory of their own.
+    /// The same keys again. The two sets share them until one of them changes.
     pub fn copy(&self) -> Result<KeySet, Memory>
         ensures { IfOk result (λ copied. copied ≡ self.now) }
     {
-        let keys = copy_of(self.keys.allocator(), self.keys.entries())?;
         Ok(KeySet {
-            keys: SortedMap::from_sorted(keys),
+            keys: self.keys.copy()?,
         })
     }
 
@@ -143,7 +140,7 @@ impl KeySet {
     pub fn weight(&self) -> u64
         ensures { result ≡ saturated (weight self.now) }
     {
-        weight_of_all(self.keys.entries())
+        weight_of_all(&self.keys)
     }
 }
 
@@ -153,7 +150,7 @@ impl PartialEq for KeySet {
     ghost laws = { partial_equiv_from_equiv same_keys_equiv };
 
     fn eq(&self, other: &KeySet) -> bool {
-        self.keys.entries() == other.keys.entries()
+        have_same(&self.keys, &other.keys)
     }
 }
 
@@ -170,14 +167,3 @@ pub fn equal_sets_are_the_same_map()
 pub fn the_keys_set_last_are_found()
     ensures { (others keys : KeyMap) (name : Name) → map.get (with_all others keys) name ≡ option_or (map.get others name) (map.get keys name) }
 {}
-
-/// The same keys again.
-fn copy_of(alloc: Global, keys: &[(KeyName, Entry)]) -> Result<Vec<(KeyName, Entry)>, Memory>
-    ensures { IfOk result (λ copied. copied.items ≡ keys.now) }
-{
-    let mut copied = Vec::with_capacity(alloc, keys.len())?;
-    for key in keys {
-        copied.push((key.0.copy()?, key.1.copy()?))?;
-    }
-    Ok(copied)
-}

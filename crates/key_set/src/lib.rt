@@ -5,6 +5,7 @@ mod entries;
 mod iters;
 mod key_sets;
 mod ranges;
+mod same;
 mod weights;
 
 pub use entries::Entry;

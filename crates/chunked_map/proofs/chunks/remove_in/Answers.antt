@@ -5,16 +5,16 @@ use Rattle.chunked_map.proofs.PlaceLemmas.{find_in, without_set, without_gone, w
 use Rattle.chunked_map.proofs.chunks.remove_in.Goals as goal
 
 pub returns-then-len-eq0-clause-former : goal.returns-then-len-eq0-clause-former
-returns-then-len-eq0-clause-former g c = c.remove-former.ensures.former ∙ find_in g.K.Ord.cmp g.met.K.Ord.total c.args.key.now c.args.chunks.now.items c.args.at c.index_mut.result.now c.requires.place c.requires.within c.index_mut.ensures.value
+returns-then-len-eq0-clause-former g c = c.in_ok-former.ensures.former ∙ find_in g.K.Ord.cmp g.met.K.Ord.total c.args.key.now c.args.chunks.now.items c.args.at c.index_mut.result.now c.requires.place c.requires.within c.index_mut.ensures.value
 
-pub returns-then-len-eq0-clause-removed : goal.returns-then-len-eq0-clause-removed
-returns-then-len-eq0-clause-removed g c =
+pub returns-then-len-eq0-clause-ok : goal.returns-then-len-eq0-clause-ok
+returns-then-len-eq0-clause-ok g c =
     let R = g.K.Ord.cmp in
     let q = c.args.key.now in
     let cs = c.args.chunks.now.items in
     let chunk = c.index_mut.result.now in
-    let none = nothing_left R g.met.K.Ord.total q cs c.args.at chunk c.remove-former.new.self c.index.result.now c.requires.within c.remove-former.ensures.removed c.index.ensures (sym c.len.ensures.len ∙ c.if-len-eq0.true) in
-    ap joined (c.remove.ensures.items ∙ taken_out R g.met.K.Ord.total q cs c.args.at chunk c.remove-former.new.self c.index.result.now c.requires.within c.remove-former.ensures.removed c.index.ensures)
+    let none = nothing_left R g.met.K.Ord.total q cs c.args.at chunk c.remove.new.self c.index.result.now c.requires.within c.in_ok-former.ensures.ok c.index.ensures (sym c.len.ensures.len ∙ c.if-len-eq0.true) in
+    ap joined (c.remove-then-len-eq0.ensures.items ∙ taken_out R g.met.K.Ord.total q cs c.args.at chunk c.remove.new.self c.index.result.now c.requires.within c.in_ok-former.ensures.ok c.index.ensures)
     ∙ without_gone R g.met.K.Ord.total q cs c.args.at chunk c.requires.place c.requires.within c.index_mut.ensures.value none
 
 pub returns-then-len-eq0-clause-chunks : goal.returns-then-len-eq0-clause-chunks
@@ -23,24 +23,24 @@ returns-then-len-eq0-clause-chunks g c =
     let q = c.args.key.now in
     let cs = c.args.chunks.now.items in
     let chunk = c.index_mut.result.now in
-    let none = nothing_left R g.met.K.Ord.total q cs c.args.at chunk c.remove-former.new.self c.index.result.now c.requires.within c.remove-former.ensures.removed c.index.ensures (sym c.len.ensures.len ∙ c.if-len-eq0.true) in
-    subst (AreChunks R) (sym (c.remove.ensures.items ∙ taken_out R g.met.K.Ord.total q cs c.args.at chunk c.remove-former.new.self c.index.result.now c.requires.within c.remove-former.ensures.removed c.index.ensures))
+    let none = nothing_left R g.met.K.Ord.total q cs c.args.at chunk c.remove.new.self c.index.result.now c.requires.within c.in_ok-former.ensures.ok c.index.ensures (sym c.len.ensures.len ∙ c.if-len-eq0.true) in
+    subst (AreChunks R) (sym (c.remove-then-len-eq0.ensures.items ∙ taken_out R g.met.K.Ord.total q cs c.args.at chunk c.remove.new.self c.index.result.now c.requires.within c.in_ok-former.ensures.ok c.index.ensures))
     (gone_are R g.met.K.Ord.total q cs c.args.at chunk c.requires.place c.requires.within c.index_mut.ensures.value c.requires.chunks none)
 
-pub returns-else-len-eq0-clause-former : goal.returns-else-len-eq0-clause-former
-returns-else-len-eq0-clause-former g c = c.remove-former.ensures.former ∙ find_in g.K.Ord.cmp g.met.K.Ord.total c.args.key.now c.args.chunks.now.items c.args.at c.index_mut.result.now c.requires.place c.requires.within c.index_mut.ensures.value
+pub returns-clause-former : goal.returns-clause-former
+returns-clause-former g c = c.in_ok-former.ensures.former ∙ find_in g.K.Ord.cmp g.met.K.Ord.total c.args.key.now c.args.chunks.now.items c.args.at c.index_mut.result.now c.requires.place c.requires.within c.index_mut.ensures.value
 
-pub returns-else-len-eq0-clause-removed : goal.returns-else-len-eq0-clause-removed
-returns-else-len-eq0-clause-removed g c =
-    ap (λ chunk. joined (set c.args.chunks.now.items c.args.at chunk)) c.remove-former.ensures.removed
+pub returns-clause-ok : goal.returns-clause-ok
+returns-clause-ok g c =
+    ap (λ chunk. joined (set c.args.chunks.now.items c.args.at chunk)) c.in_ok-former.ensures.ok
     ∙ without_set g.K.Ord.cmp g.met.K.Ord.total c.args.key.now c.args.chunks.now.items c.args.at c.index_mut.result.now c.requires.place c.requires.within c.index_mut.ensures.value
 
-pub returns-else-len-eq0-clause-chunks : goal.returns-else-len-eq0-clause-chunks
-returns-else-len-eq0-clause-chunks g c =
+pub returns-clause-chunks : goal.returns-clause-chunks
+returns-clause-chunks g c =
     let R = g.K.Ord.cmp in
     let q = c.args.key.now in
     let cs = c.args.chunks.now.items in
     let chunk = c.index_mut.result.now in
-    let some = some_left R g.met.K.Ord.total q cs c.args.at chunk c.remove-former.new.self c.index.result.now c.requires.within c.remove-former.ensures.removed c.index.ensures (λ none. c.if-len-eq0.false (c.len.ensures.len ∙ none)) in
-    subst (λ es. AreChunks R (set cs c.args.at es)) (sym c.remove-former.ensures.removed)
+    let some = some_left R g.met.K.Ord.total q cs c.args.at chunk c.remove.new.self c.index.result.now c.requires.within c.in_ok-former.ensures.ok c.index.ensures (λ none. c.if-len-eq0.false (c.len.ensures.len ∙ none)) in
+    subst (λ es. AreChunks R (set cs c.args.at es)) (sym c.in_ok-former.ensures.ok)
     (without_are R g.met.K.Ord.total q cs c.args.at chunk c.requires.place c.requires.within c.index_mut.ensures.value c.requires.chunks some)

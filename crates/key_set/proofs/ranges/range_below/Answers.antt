@@ -1,21 +1,33 @@
--- Two searches part the keys: those before the name, and those not behind the ones at or below it.
-use Rattle.std.proofs.Common.{rules}
-use Rattle.std.proofs.lemmas.Fn.{always_returns_same}
-use Rattle.key_set.proofs.RangeLemmas.{is_before, is_not_behind, PartsBy, parted_before, parted_behind, ordered, inside_range, outside_range}
+-- The walk ends at the first key that is not at or below the name.
+use Rattle.std.proofs.Common.{◌≡◌, ◌+◌, ◌<◌, suc, length, sym, ◌∙◌, arith}
+use Rattle.key_set.proofs.RangeLemmas.{inside_found, outside_found, inside_all, outside_all, below_more, to_come, one_more}
 use Rattle.key_set.proofs.ranges.range_below.Goals as goal
 
-pub returns : goal.returns
-returns c =
-    let keys = c.args.keys.now in
-    let above = c.args.at.now in
-    let begins : PartsBy above keys c.requires (is_before above) c.partition_point-from.result =
-    c.partition_point-from.ensures.partitioned (λ key. is_before above key.0) (always_returns_same _ _ _ (λ a r f called. search rules)) (parted_before above keys c.requires) in
-    let ends : PartsBy above keys c.requires (is_not_behind above) c.partition_point-to.result =
-    c.partition_point-to.ensures.partitioned (λ key. is_not_behind above key.0) (always_returns_same _ _ _ (λ a r f called. search rules)) (parted_behind above keys c.requires) in
-    let order = ordered above keys c.requires c.partition_point-from.result c.partition_point-to.result c.partition_point-from.ensures.bound begins ends in
-    record {
-      order = order;
-      bounds = c.partition_point-to.ensures.bound;
-      inside = inside_range above keys c.requires c.partition_point-from.result c.partition_point-to.result c.partition_point-from.ensures.bound begins ends order;
-      outside = outside_range above keys c.requires c.partition_point-from.result c.partition_point-to.result c.partition_point-from.ensures.bound begins ends order;
-    }
+pub loop-name-preserved : goal.loop-name-preserved
+loop-name-preserved c =
+    let more : c.loop-name.to < length c.args.keys.now = one_more c.args.at.now c.args.keys.now c.count_before-from.ensures.sorted c.count_before-from.result c.loop-name.to c.loop-name.invariant.1 c.loop-name.invariant.2 c.count_before-from.ensures.before c.count_before-from.ensures.behind c.loop-name.invariant.3 (c.in-Some.name.now, c.in-Some.field-0-1.now) c.next.new.self (sym c.loop-name.invariant.0 ∙ c.in-Some.ensures.steps) in
+    let next : c.loop-name.to + 1 ≡ suc c.loop-name.to = omega arith in
+    let order = c.loop-name.invariant.1 in (
+      to_come c.args.at.now c.args.keys.now c.count_before-from.ensures.sorted c.count_before-from.result c.loop-name.to c.loop-name.invariant.1 c.loop-name.invariant.2 c.count_before-from.ensures.before c.count_before-from.ensures.behind c.loop-name.invariant.3 (c.in-Some.name.now, c.in-Some.field-0-1.now) c.next.new.self (sym c.loop-name.invariant.0 ∙ c.in-Some.ensures.steps) (c.loop-name.to + 1) next,
+      omega arith,
+      omega arith,
+      below_more c.args.at.now c.args.keys.now c.count_before-from.ensures.sorted c.count_before-from.result c.loop-name.to c.loop-name.invariant.1 c.loop-name.invariant.2 c.count_before-from.ensures.before c.count_before-from.ensures.behind c.loop-name.invariant.3 (c.in-Some.name.now, c.in-Some.field-0-1.now) c.next.new.self (sym c.loop-name.invariant.0 ∙ c.in-Some.ensures.steps) (sym c.is_below_or_same.ensures.test ∙ c.if-not-is_below_or_same.false),
+    )
+
+pub overflow_add-to : goal.overflow_add-to
+overflow_add-to c =
+    let more : c.loop-name.to < length c.args.keys.now = one_more c.args.at.now c.args.keys.now c.count_before-from.ensures.sorted c.count_before-from.result c.loop-name.to c.loop-name.invariant.1 c.loop-name.invariant.2 c.count_before-from.ensures.before c.count_before-from.ensures.behind c.loop-name.invariant.3 (c.in-Some.name.now, c.in-Some.field-0-1.now) c.next.new.self (sym c.loop-name.invariant.0 ∙ c.in-Some.ensures.steps) in
+    let fits = c.count_before-from.ensures.countable in
+    omega arith
+
+pub returns-then-not-is_below_or_same-clause-inside : goal.returns-then-not-is_below_or_same-clause-inside
+returns-then-not-is_below_or_same-clause-inside c = inside_found c.args.at.now c.args.keys.now c.count_before-from.ensures.sorted c.count_before-from.result c.loop-name.to c.loop-name.invariant.1 c.loop-name.invariant.2 c.count_before-from.ensures.before c.count_before-from.ensures.behind c.loop-name.invariant.3 (c.in-Some.name.now, c.in-Some.field-0-1.now) c.next.new.self (sym c.loop-name.invariant.0 ∙ c.in-Some.ensures.steps) (sym c.is_below_or_same.ensures.test ∙ c.if-not-is_below_or_same.true)
+
+pub returns-then-not-is_below_or_same-clause-outside : goal.returns-then-not-is_below_or_same-clause-outside
+returns-then-not-is_below_or_same-clause-outside c = outside_found c.args.at.now c.args.keys.now c.count_before-from.ensures.sorted c.count_before-from.result c.loop-name.to c.loop-name.invariant.1 c.loop-name.invariant.2 c.count_before-from.ensures.before c.count_before-from.ensures.behind c.loop-name.invariant.3 (c.in-Some.name.now, c.in-Some.field-0-1.now) c.next.new.self (sym c.loop-name.invariant.0 ∙ c.in-Some.ensures.steps) (sym c.is_below_or_same.ensures.test ∙ c.if-not-is_below_or_same.true)
+
+pub returns-clause-inside : goal.returns-clause-inside
+returns-clause-inside c = inside_all c.args.at.now c.args.keys.now c.count_before-from.ensures.sorted c.count_before-from.result c.loop-name.to c.loop-name.invariant.1 c.loop-name.invariant.2 c.count_before-from.ensures.before c.count_before-from.ensures.behind c.loop-name.invariant.3 (sym c.loop-name.invariant.0 ∙ c.in-None.ensures.steps.0)
+
+pub returns-clause-outside : goal.returns-clause-outside
+returns-clause-outside c = outside_all c.args.at.now c.args.keys.now c.count_before-from.ensures.sorted c.count_before-from.result c.loop-name.to c.loop-name.invariant.1 c.loop-name.invariant.2 c.count_before-from.ensures.before c.count_before-from.ensures.behind c.loop-name.invariant.3 (sym c.loop-name.invariant.0 ∙ c.in-None.ensures.steps.0)

@@ -14,8 +14,8 @@ returns-else-at-len-clause-former g c =
     let place = subst (λ cs. IsChunkOf R cs c.args.key.now c.chunk_of-at.result) c.deref.ensures.value c.chunk_of-at.ensures in
     sym (find_end R g.met.K.Ord.total c.args.key.now cs c.chunk_of-at.result place (omega arith)) ∙ ap (find R c.args.key.now) c.self.view_is
 
-pub returns-else-at-len-clause-removed : goal.returns-else-at-len-clause-removed
-returns-else-at-len-clause-removed g c =
+pub returns-else-at-len-clause-ok : goal.returns-else-at-len-clause-ok
+returns-else-at-len-clause-ok g c =
     let R = g.K.Ord.cmp in
     let cs = c.self.inside.chunks.items in
     let place = subst (λ cs. IsChunkOf R cs c.args.key.now c.chunk_of-at.result) c.deref.ensures.value c.chunk_of-at.ensures in

@@ -7,6 +7,6 @@ use Rattle.key_set.proofs.key_sets.KeySet.iter.Goals as goal
 
 pub returns : goal.returns
 returns c =
-    ap (map (λ key. (key.0, entry_of key.1))) c.entries.ensures.all
-    ∙ sym (entries-keys c.self.inside.keys c.entries.ensures.sorted)
+    ap (map (λ key. (key.0, entry_of key.1))) c.iter.ensures.all
+    ∙ sym (entries-keys c.self.inside.keys c.iter.ensures.sorted)
     ∙ ap finite.entries c.self.view_is

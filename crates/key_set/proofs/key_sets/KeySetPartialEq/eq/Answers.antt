@@ -11,9 +11,8 @@ use Rattle.key_set.proofs.key_sets.KeySetPartialEq.eq.Goals as goal
 
 pub returns : goal.returns
 returns c =
-    let mine = sym (entries-keys c.self.inside.keys c.entries.ensures.sorted) ∙ ap map.entries c.self.view_is in
-    let others = sym (entries-keys c.other.inside.keys c.entries-2.ensures.sorted) ∙ ap map.entries c.other.view_is in
-    c.eq.ensures
-    ∙ (λ i. pointwise (λ x y. name_eq x.0 y.0 && same_entry (entry_of x.1) (entry_of y.1)) (c.entries.ensures.all i) (c.entries-2.ensures.all i))
+    let mine = sym (entries-keys c.self.inside.keys c.have_same.ensures.sorted) ∙ ap map.entries c.self.view_is in
+    let others = sym (entries-keys c.other.inside.keys c.have_same.ensures.others_sorted) ∙ ap map.entries c.other.view_is in
+    c.have_same.ensures.same
     ∙ pointwise-seen c.self.inside.keys c.other.inside.keys
     ∙ (λ i. pointwise same_key (mine i) (others i))
