@@ -37,7 +37,7 @@ fn make(keys: &mut KeySet, change: &Change) -> Result<(), Memory>
             keys.append(change.name.copy()?, entry.copy()?)?;
         }
         None => {
-            keys.remove(&change.name);
+            keys.remove(&change.name)?;
         }
     }
     Ok(())

@@ -5,5 +5,4 @@ pub mod ProgressLemmas
 pub mod StepLemmas
 pub mod ReadingLemmas
 pub mod WritingLemmas
-pub mod EarlierLemmas
 pub mod SoFarLemmas

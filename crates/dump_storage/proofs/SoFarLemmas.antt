@@ -1,5 +1,5 @@
 -- A tree of texts is asked as its metadata are, and its items come out one by one.
-use Rattle.std.proofs.Common.{◌≡◌, ◌≢◌, ℕ, Bool, true, false, cond, List, [], ◌∷◌, Option, Some, None, refl, sym, ap, ◌∙◌}
+use Rattle.std.proofs.Common.{◌≡◌, ◌≢◌, ◌<◌, length, arith, ℕ, Bool, true, false, cond, List, [], ◌∷◌, Option, Some, None, refl, sym, ap, ◌∙◌}
 use Rattle.std.specs.BTreeMap.{is_at, insert_entry}
 use Rattle.std.specs.FinMap as finite
 use Rattle.std.specs.FinMap.{IsAntisymmetric, nat_cmp-IsAntisymmetric, slice_cmp-IsAntisymmetric}
@@ -96,3 +96,8 @@ lengths-put name text (e ∷ es) fine all = by (text_cmp name e.0) (lengths-put 
     by Less behind = (fine, all)
     by Equal behind = (record { some = all.0.some; limit = all.0.limit }, all.1)
     by Greater behind = (all.0, behind)
+
+-- where there is no first, nothing is left
+pub none_left : {A : Type 0} (es : List A) → (0 < length es → false ≡ true) → es ≡ []
+none_left [] first = refl
+none_left (e ∷ es) first = let is = first (omega arith) in absurd cc

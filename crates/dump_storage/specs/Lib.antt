@@ -3,5 +3,4 @@ pub mod RecordView
 pub mod Texts
 pub mod ProgressView
 pub mod Reading
-pub mod EarlierView
 pub mod SoFarView

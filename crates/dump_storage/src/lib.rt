@@ -1,7 +1,6 @@
 //! Maps of keys as dumps: the bytes of a file read, and a map written as its text.
 #![tactic(auto)]
 
-mod earlier;
 mod entry_so_far;
 mod pieces;
 mod progress;

@@ -8,7 +8,6 @@ ghost use Rattle.dump_storage.specs.RecordView.{record_of};
 ghost use Rattle.dump_storage.specs.ProgressView.{IsSound, Steps, PutsInto, CannotPut, progress_of, with_present};
 ghost use Rattle.dump_storage.specs.declared.records.Kind.TheVariants as kinds;
 
-use crate::earlier::Earlier;
 use crate::entry_so_far::EntrySoFar;
 use crate::records::{Kind, Record};
 use crate::texts::meta_name_of;
@@ -21,7 +20,7 @@ use std::alloc::Global;
 /// The keys so far. The last one stands apart, so that its metadata joins it without a search.
 #[derive(Drop)]
 pub struct Progress {
-    keys: Earlier,
+    keys: KeySet,
     present: Option<Present>,
     /// What all keys weigh.
     weight: u64,
@@ -41,19 +40,19 @@ impl Progress {
         ensures sound { IsSound result }
     {
         Progress {
-            keys: Earlier::new(alloc),
+            keys: KeySet::new(alloc),
             present: None,
             weight: 0,
         }
     }
 
     /// All keys so far.
-    pub fn finish(self, alloc: Global) -> Result<KeySet, Memory>
+    pub fn finish(self) -> Result<KeySet, Memory>
         ensures { IfOk result (λ keys. keys ≡ (progress_of self).keys) }
     {
         let mut so_far = self;
         so_far.pass_present()?;
-        so_far.keys.into_keys(alloc)
+        Ok(so_far.keys)
     }
 
     /// Reads a record, if it has a reading. Else the progress stays.
@@ -171,7 +170,7 @@ impl Progress {
     {
         if let Some(present) = self.present.take() {
             let entry = present.entry.into_entry()?;
-            self.keys.add(present.name, entry)?;
+            self.keys.append(present.name, entry)?;
         }
         Ok(())
     }

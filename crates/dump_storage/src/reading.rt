@@ -48,7 +48,7 @@ fn read_records(alloc: Global, records: &[u8]) -> Result<(KeySet, &[u8]), Memory
     while let Some(more) = next(alloc, &mut progress, rest)? {
         rest = more;
     }
-    Ok((progress.finish(alloc)?, rest))
+    Ok((progress.finish()?, rest))
 }
 
 /// Reads one more record, if it has a reading, and gives what stands behind it. Else the progress stays.

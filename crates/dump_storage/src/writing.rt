@@ -36,10 +36,7 @@ fn text_of(alloc: Global, keys: &KeySet) -> Result<Vec<u8>, Memory>
 fn push_keys(bytes: &mut Vec<u8>, keys: &KeySet) -> Result<(), Memory>
     ensures { OnOk result (bytes.new.items ≡ bytes.old.items ++ flat_map (λ key. flat_map spelled_record (records_of_key key)) (map.entries keys.now)) }
 {
-    for i in 0..keys.len() {
-        let Some((name, entry)) = keys.at(i) else {
-            unreachable!()
-        };
+    for (name, entry) in keys.iter() {
         push_key(bytes, name, entry)?;
     }
     Ok(())

@@ -102,7 +102,7 @@ fn put(keys: &mut KeySet, name: &KeyName, entry: Option<&Entry>) -> Result<(), M
             keys.append(name.copy()?, entry.copy()?)?;
         }
         None => {
-            keys.remove(name);
+            keys.remove(name)?;
         }
     }
     Ok(())

@@ -1,5 +1,5 @@
 -- Keys with others set among them: what is found there, and how sorted entries make them.
-use Rattle.std.proofs.Common.{◌≡◌, true, false, T, cond, List, [], ◌∷◌, Some, None, refl, sym, ap, subst, ◌∙◌}
+use Rattle.std.proofs.Common.{◌≡◌, true, false, T, cond, List, [], ◌∷◌, length, Option, Some, None, refl, sym, ap, subst, ◌∙◌}
 use Rattle.std.specs.FinMap as map
 use Rattle.std.specs.FinMap.{find, is_sorted}
 use Rattle.std.specs.FinMap.Entries.{below_all, put, is_sorted-put}
@@ -18,6 +18,7 @@ use Rattle.key_set.specs.EntryView.{entry_of, keys_of}
 use Rattle.key_set.specs.WithAll.{with_keys, with_all}
 use Rattle.key_set.proofs.SetLemmas.{Keys, entries-keys, put-keys}
 use Rattle.general_words.proofs.Tests.{first, second}
+use Rattle.general_words.proofs.Lists.{no_entries}
 use Rattle.general_words.proofs.Orders.{tied}
 use Rattle.general_words.proofs.Entries.{find-below}
 
@@ -48,3 +49,14 @@ put_all-keys (other ∷ others) keys h =
 -- entries that are put among others make the map with all of them
 pub with_all-keys : (others keys : Keys) → T (is_sorted name_cmp others) → T (is_sorted name_cmp keys) → keys_of (put_all name_cmp others keys) ≡ with_all (keys_of others) (keys_of keys)
 with_all-keys others keys g h = put_all-keys others keys h ∙ ap (λ es. with_keys es (keys_of keys)) (sym (entries-keys others g))
+
+-- others set among no keys are the others
+pub with_all-none : (others keys : KeyMap) → length (map.entries keys) ≡ 0 → others ≡ with_all others keys
+with_all-none others keys none = map.same_map name_cmp_total name_cmp-IsAntisymmetric _ _ (λ name.
+    sym (get-with_all others keys name
+    ∙ ap (option_or (map.get others name)) (map.get-entries keys name ∙ ap (find name_cmp name) (no_entries (map.entries keys) none))
+    ∙ or_none (map.get others name)))
+  where
+    or_none : (o : Option Entry) → option_or o None ≡ o
+    or_none None = refl
+    or_none (Some e) = refl

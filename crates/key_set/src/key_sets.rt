@@ -87,6 +87,10 @@ impl KeySet {
         ensures ok { OnOk result (self.new ≡ with_all other self.old) }
         ensures err { OnErr result (self.new ≡ self.old) }
     {
+        if self.len() == 0 {
+            *self = other;
+            return Ok(());
+        }
         self.keys.insert_all(&other.keys)
     }
 

@@ -5,6 +5,26 @@ use sorted_map::SortedMap;
 use std::alloc::AllocError;
 use std::test::Fail;
 
+/// A number that is copied with its key.
+#[derive(Debug, Drop, PartialEq, Eq)]
+struct Count {
+    number: u64,
+}
+
+impl Copied<u64> for Count {
+    fn copied(key: &u64, value: &Count) -> Result<(u64, Count), AllocError> {
+        let count = Count {
+            number: value.number,
+        };
+        Ok((*key, count))
+    }
+}
+
+/// A value of its own for a number.
+fn held(number: u64) -> Count {
+    Count { number }
+}
+
 /// A number that looks as if it were drawn by chance, after another one.
 fn drawn(last: u64) -> u64 {
     last.wrapping_mul(6364136223846793005)
@@ -12,7 +32,7 @@ fn drawn(last: u64) -> u64 {
 }
 
 /// The two have the same entries in the same order, by a walk and by their places.
-fn are_same(chunked: &ChunkedMap<u64, u64>, sorted: &SortedMap<u64, u64>) -> bool {
+fn are_same(chunked: &ChunkedMap<u64, Count>, sorted: &SortedMap<u64, Count>) -> bool {
     let mut walk = chunked.iter();
     for place in 0..chunked.len() {
         let entry = walk.next();
@@ -25,8 +45,8 @@ fn are_same(chunked: &ChunkedMap<u64, u64>, sorted: &SortedMap<u64, u64>) -> boo
 
 /// Takes the same range out of both and puts it back, and answers whether both gave the same and had the same left.
 fn take_the_same(
-    chunked: &mut ChunkedMap<u64, u64>,
-    sorted: &mut SortedMap<u64, u64>,
+    chunked: &mut ChunkedMap<u64, Count>,
+    sorted: &mut SortedMap<u64, Count>,
 ) -> Result<bool, Fail> {
     let len = chunked.len();
     if sorted.len() != len {
@@ -36,7 +56,7 @@ fn take_the_same(
     let other = sorted.take_range(len / 3, len / 2)?;
     let same = are_same(&taken, &other) && are_same(chunked, sorted);
     for (key, value) in taken.iter() {
-        chunked.insert(*key, *value)?;
+        chunked.insert(*key, held(value.number))?;
     }
     sorted.insert_all(other)?;
     Ok(same)
@@ -51,9 +71,9 @@ fn has_what_a_sorted_map_has_after_each_change(rt: HostRuntime) -> Result<(), Fa
         number = drawn(number);
         let key = (number >> 33) % 900;
         if turn % 5 == 4 {
-            assert_eq!(rt; chunked.remove(&key), sorted.remove(&key));
+            assert_eq!(rt; chunked.remove(&key)?, sorted.remove(&key));
         } else {
-            assert_eq!(rt; chunked.insert(key, turn)?, sorted.insert(key, turn)?);
+            assert_eq!(rt; chunked.insert(key, held(turn))?, sorted.insert(key, held(turn))?);
         }
         assert_eq!(rt; chunked.get(&key), sorted.get(&key));
         if turn % 200 == 0 {
@@ -69,7 +89,7 @@ fn has_what_a_sorted_map_has_after_each_change(rt: HostRuntime) -> Result<(), Fa
 fn takes_out_ranges_at_both_ends(rt: HostRuntime) -> Result<(), Fail> {
     let mut map = ChunkedMap::new(rt.alloc());
     for key in 0..200u64 {
-        map.insert(key, key)?;
+        map.insert(key, held(key))?;
     }
     let rows = [
         (0, 0, 200),
@@ -88,36 +108,21 @@ fn takes_out_ranges_at_both_ends(rt: HostRuntime) -> Result<(), Fail> {
     Ok(())
 }
 
-/// A number that is copied with its key.
-#[derive(Debug, Drop, PartialEq, Eq)]
-struct Count {
-    number: u64,
-}
-
-impl Copied<u64> for Count {
-    fn copied(key: &u64, value: &Count) -> Result<(u64, Count), AllocError> {
-        let count = Count {
-            number: value.number,
-        };
-        Ok((*key, count))
-    }
-}
-
 #[test]
 fn has_all_of_two_maps_and_leaves_a_copy_as_it_was(rt: HostRuntime) -> Result<(), Fail> {
     let mut map = ChunkedMap::new(rt.alloc());
     let mut other = ChunkedMap::new(rt.alloc());
     for key in 0..150u64 {
-        map.insert(key * 2, Count { number: key })?;
-        other.insert(key * 3, Count { number: 1000 })?;
+        map.insert(key * 2, held(key))?;
+        other.insert(key * 3, held(1000))?;
     }
     let copied = map.copy()?;
     map.insert_all(&other)?;
     assert_eq!(rt; map.len(), 250);
-    assert_eq!(rt; map.get(&6), Some(&Count { number: 1000 }));
-    assert_eq!(rt; map.get(&4), Some(&Count { number: 2 }));
-    assert_eq!(rt; map.get(&447), Some(&Count { number: 1000 }));
+    assert_eq!(rt; map.get(&6), Some(&held(1000)));
+    assert_eq!(rt; map.get(&4), Some(&held(2)));
+    assert_eq!(rt; map.get(&447), Some(&held(1000)));
     assert_eq!(rt; copied.len(), 150);
-    assert_eq!(rt; copied.get(&6), Some(&Count { number: 3 }));
+    assert_eq!(rt; copied.get(&6), Some(&held(3)));
     Ok(())
 }

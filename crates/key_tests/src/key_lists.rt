@@ -96,7 +96,7 @@ impl Pair {
             0 => self.cut(at),
             1 => self.below(at),
             2 => Ok(self.lookup(at)),
-            3 => Ok(self.remove(at)),
+            3 => self.remove(at),
             _ => self.append(at, step),
         }
     }
@@ -123,11 +123,11 @@ impl Pair {
         same
     }
 
-    fn remove(&mut self, at: &KeyName) -> bool {
-        let gone = self.set.remove(at);
+    fn remove(&mut self, at: &KeyName) -> Result<bool, Fail> {
+        let gone = self.set.remove(at)?;
         let also = self.list.remove(at);
         self.count(gone.is_some());
-        is_same(gone.as_ref(), also.as_ref())
+        Ok(is_same(gone.as_ref(), also.as_ref()))
     }
 
     fn append(&mut self, at: &KeyName, step: u32) -> Result<bool, Fail> {

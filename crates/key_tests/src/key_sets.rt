@@ -108,8 +108,8 @@ fn copied(alloc: Global) -> Result<(KeySet, bool, bool), Fail> {
     let at = name(alloc, "user:/a")?;
     let _ = set.append(at.copy()?, key.copy()?)?;
     let copied = set.copy()?;
-    let removed = set.remove(&at).is_some();
-    let again = set.remove(&at).is_some();
+    let removed = set.remove(&at)?.is_some();
+    let again = set.remove(&at)?.is_some();
     Ok((copied, removed, again))
 }
 

@@ -143,26 +143,24 @@ fn insert_children(
     let plugin = child_of(&name, "plugin")?;
     let file = plain_entry(alloc, file)?;
     let word = plain_entry(alloc, kind.word())?;
-    insert_both(keys, &path, file, plugin, word)
+    insert_both(keys, path, file, plugin, word)
 }
 
-/// Adds two keys, or none of them. The first one is not there.
+/// Adds two keys, or none of them.
 fn insert_both(
     keys: &mut KeySet,
-    path: &KeyName,
+    path: KeyName,
     file: Entry,
     plugin: KeyName,
     word: Entry,
 ) -> Result<(), Memory>
-    requires { map.get keys.old path.now ≡ None }
-    ensures ok { OnOk result (keys.new ≡ map.insert (map.insert keys.old path.now (seen file)) plugin (seen word)) }
+    ensures ok { OnOk result (keys.new ≡ map.insert (map.insert keys.old path (seen file)) plugin (seen word)) }
     ensures err { OnErr result (keys.new ≡ keys.old) }
 {
-    keys.append(path.copy()?, file)?;
-    if let Err(memory) = keys.append(plugin, word) {
-        keys.remove(path);
-        return Err(memory);
-    }
+    let mut both = keys.copy()?;
+    both.append(path, file)?;
+    both.append(plugin, word)?;
+    *keys = both;
     Ok(())
 }
 

@@ -26,8 +26,9 @@ pub fn good_state(
 {
     let mut visible = KeySet::new(alloc);
     let mut shadow = KeySet::new(alloc);
+    let mut rest = keys.iter();
     for place in 0..keys.len() {
-        let Some((name, entry)) = keys.at(place) else {
+        let Some((name, entry)) = rest.next() else {
             unreachable!()
         };
         if owns(points, i, name) {

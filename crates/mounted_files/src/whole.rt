@@ -22,8 +22,9 @@ pub fn whole(alloc: Global, point: &KeyName, keys: &KeySet) -> Result<Option<Key
     ensures { IfOk result (λ found. found ≡ (if all_fit point.now keys.now then Some (whole point.now keys.now) else None)) }
 {
     let mut all = KeySet::new(alloc);
+    let mut rest = keys.iter();
     for i in 0..keys.len() {
-        let Some((name, entry)) = keys.at(i) else {
+        let Some((name, entry)) = rest.next() else {
             unreachable!()
         };
         let Some(name) = whole_name(point, name)? else {
@@ -52,8 +53,9 @@ pub fn relative(alloc: Global, point: &KeyName, keys: &KeySet) -> Result<KeySet,
     ensures sound { IfOk result (λ found. AreSound point.now found) }
 {
     let mut all = KeySet::new(alloc);
+    let mut rest = keys.iter();
     for i in 0..keys.len() {
-        let Some((name, entry)) = keys.at(i) else {
+        let Some((name, entry)) = rest.next() else {
             unreachable!()
         };
         put_way(&mut all, point, name, entry)?;

@@ -30,8 +30,9 @@ pub fn split(
 {
     let mut parts = empty_parts(alloc, points, parent)?;
     let mut aside: u64 = 0;
+    let mut rest = keys.iter();
     for i in 0..keys.len() {
-        let Some((name, entry)) = keys.at(i) else {
+        let Some((name, entry)) = rest.next() else {
             unreachable!()
         };
         if !add(&mut parts, owner(points, name), name, entry)? {

@@ -94,7 +94,7 @@ fn alike(
         return Ok(taken.len() == slow.cut(at)?);
     }
     if kind == 1 {
-        let gone = fast.remove(at);
+        let gone = fast.remove(at)?;
         let also = slow.remove(at)?;
         return Ok(value_of(gone.as_ref()) == value_of(also.as_ref()));
     }

@@ -54,7 +54,7 @@ fn take_one(alloc: Global, keys: &mut KeySet, name: &KeyName) -> Result<KeySet, 
     ensures left { OnOk result (keys.new ≡ others Extent.Alone name.now keys.old) }
 {
     let mut taken = KeySet::new(alloc);
-    if let Some(entry) = keys.remove(name) {
+    if let Some(entry) = keys.remove(name)? {
         let _ = taken.append(name.copy()?, entry)?;
     }
     Ok(taken)
@@ -172,8 +172,9 @@ fn bring_all(
     ensures long { IfOk result (λ found. found ≡ first_too_long from.now to.now (map.entries taken.now)) }
     ensures set { IfOk result (λ found. found ≡ None → keys.new ≡ with_brought from.now to.now keys.old (map.entries taken.now)) }
 {
+    let mut rest = taken.iter();
     for i in 0..taken.len() {
-        let Some((name, entry)) = taken.at(i) else {
+        let Some((name, entry)) = rest.next() else {
             unreachable!()
         };
         if let Some(bytes) = set_one(from, to, name, entry, keys)? {
@@ -222,8 +223,9 @@ fn lines_below(alloc: Global, above: &KeyName, keys: &KeySet) -> Result<String, 
     ensures { IfOk result (λ lines. string_bytes lines ≡ flat_map (λ key. line_of_name key.0) (filter (λ key. is_listed above.now key.0) (map.entries keys.now))) }
 {
     let mut lines = String::new(alloc);
+    let mut rest = keys.iter();
     for i in 0..keys.len() {
-        let Some((name, _)) = keys.at(i) else {
+        let Some((name, _)) = rest.next() else {
             unreachable!()
         };
         push_if_listed(alloc, &mut lines, name, above)?;

@@ -5,7 +5,7 @@ use Rattle.key_set.specs.EntryView.{entry_of}
 use Rattle.model_names.specs.Name.{Name}
 use Rattle.model_maps.specs.Entry.{Entry}
 use Rattle.set_split.specs.Involved.{owns}
-use Rattle.set_split.proofs.SplitLemmas.{some_there}
+use Rattle.key_set.proofs.WalkLemmas.{walk-first, walk-rest, walk-some}
 use Rattle.mounted_files.specs.declared.files.FileState.TheVariants.{Good}
 use Rattle.mounted_files.proofs.MapLemmas.{kept-none, kept-more, kept-same, kept-all}
 use Rattle.mounted_files.proofs.owned.good_state.Goals as goal
@@ -15,15 +15,18 @@ pub loop-place-init : goal.loop-place-init
 loop-place-init c = record {
   owned = c.new-visible.ensures ∙ kept-none c.args.keys.now (owns c.args.points.now c.args.i);
   others = c.new-shadow.ensures ∙ kept-none c.args.keys.now (λ (name : Name). not (owns c.args.points.now c.args.i name));
+  to_come = c.iter-rest.ensures;
 }
 
 pub unreachable-requires : goal.unreachable-requires
-unreachable-requires c = some_there (map.entries c.args.keys.now) c.loop-place.place c.in_default.ensures (omega (arith, c.len-place-end.ensures))
+unreachable-requires c = walk-some (map.entries c.args.keys.now) c.loop-place.place c.loop-place.rest c.loop-place.invariant.to_come c.in_default.ensures.steps.0 (omega (arith, c.len-place-end.ensures, c.loop-place-test.true))
 
 pub loop-place-preserved : goal.loop-place-preserved
 loop-place-preserved c =
     let keys = c.args.keys.now in
     let key : Name × Entry = (c.in-Some.name.now, entry_of c.in-Some.entry.now) in
+    let there = walk-first (map.entries c.args.keys.now) c.loop-place.place c.loop-place.rest c.next.new.self key c.loop-place.invariant.to_come c.in-Some.ensures.steps in
+    let come = walk-rest (map.entries c.args.keys.now) c.loop-place.place c.loop-place.rest c.next.new.self key c.loop-place.invariant.to_come c.in-Some.ensures.steps in
     let is_owned = owns c.args.points.now c.args.i in
     let is_other = λ (name : Name). not (is_owned name) in
     let place = c.loop-place.place in
@@ -33,16 +36,18 @@ loop-place-preserved c =
             w.visible-is
             ∙ w.in_ok-put.ensures
             ∙ (λ k. map.insert (c.loop-place.invariant.owned k) (w.in_ok-copy.ensures k) key.1)
-            ∙ sym (kept-more keys is_owned place key c.in-Some.ensures (sym c.owns.ensures ∙ w.if-owns.true));
-        others = w.shadow-is ∙ c.loop-place.invariant.others ∙ sym (kept-same keys is_other place key c.in-Some.ensures (ap not (sym c.owns.ensures ∙ w.if-owns.true)));
+            ∙ sym (kept-more keys is_owned place key there (sym c.owns.ensures ∙ w.if-owns.true));
+        others = w.shadow-is ∙ c.loop-place.invariant.others ∙ sym (kept-same keys is_other place key there (ap not (sym c.owns.ensures ∙ w.if-owns.true)));
+        to_come = come;
       }
       | else-owns+in_ok-copy-2+in_ok-put-2 w ↦ record {
-        owned = w.visible-is ∙ c.loop-place.invariant.owned ∙ sym (kept-same keys is_owned place key c.in-Some.ensures (sym c.owns.ensures ∙ w.if-owns.false));
+        owned = w.visible-is ∙ c.loop-place.invariant.owned ∙ sym (kept-same keys is_owned place key there (sym c.owns.ensures ∙ w.if-owns.false));
         others =
             w.shadow-is
             ∙ w.in_ok-put-2.ensures
             ∙ (λ k. map.insert (c.loop-place.invariant.others k) (w.in_ok-copy-2.ensures k) key.1)
-            ∙ sym (kept-more keys is_other place key c.in-Some.ensures (ap not (sym c.owns.ensures ∙ w.if-owns.false)));
+            ∙ sym (kept-more keys is_other place key there (ap not (sym c.owns.ensures ∙ w.if-owns.false)));
+        to_come = come;
       }
     ]
 

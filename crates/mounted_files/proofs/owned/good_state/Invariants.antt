@@ -1,5 +1,6 @@
 -- The keys so far that the mount owns, and those that it doesn't.
-use Rattle.std.proofs.Common.{◌≡◌, not}
+use Rattle.std.proofs.Common.{◌≡◌, not, drop}
+use Rattle.std.specs.FinMap as map
 use Rattle.model_names.specs.Name.{Name}
 use Rattle.set_split.specs.Involved.{owns}
 use Rattle.mounted_files.proofs.MapLemmas.{kept}
@@ -9,4 +10,5 @@ abbrev pub invariant-loop-place : goal.invariant-loop-place
 invariant-loop-place l = record {
   owned : l.visible ≡ kept l.keys (owns l.points l.i) l.place;
   others : l.shadow ≡ kept l.keys (λ (name : Name). not (owns l.points l.i name)) l.place;
+  to_come : l.rest ≡ drop l.place (map.entries l.keys);
 }

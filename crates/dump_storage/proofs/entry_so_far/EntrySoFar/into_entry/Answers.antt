@@ -3,8 +3,7 @@ use Rattle.std.proofs.Common.{sym, ap, ap₂, subst, ◌∙◌}
 use Rattle.std.specs.FinMap as map
 use Rattle.model_maps.specs.Entry.{Entry, Meta}
 use Rattle.dump_storage.specs.SoFarView.{HaveMetaLengths}
-use Rattle.dump_storage.proofs.EarlierLemmas.{none_left}
-use Rattle.dump_storage.proofs.SoFarLemmas.{Splits, Splits-start, Splits-more, Splits-end, entry_with}
+use Rattle.dump_storage.proofs.SoFarLemmas.{none_left, Splits, Splits-start, Splits-more, Splits-end, entry_with}
 use Rattle.dump_storage.proofs.entry_so_far.EntrySoFar.into_entry.Goals as goal
 
 pub loop-name-init : goal.loop-name-init
