@@ -5,3 +5,4 @@ pub mod PlaceLemmas
 pub mod SplitLemmas
 pub mod RangeLemmas
 pub mod CountLemmas
+pub mod CostLemmas

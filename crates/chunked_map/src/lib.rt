@@ -5,6 +5,7 @@
 mod chunked_maps;
 mod chunks;
 mod copies;
+mod counted;
 mod iters;
 mod ranges;
 mod shared;

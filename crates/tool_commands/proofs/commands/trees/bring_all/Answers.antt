@@ -1,16 +1,22 @@
 -- Each turn appends one key more, or finds the first name that is too long.
-use Rattle.std.proofs.Common.{arith, sym, ap, ◌∙◌}
+use Rattle.std.proofs.Common.{◌≡◌, true, arith, sym, ap, ◌∙◌}
 use Rattle.std.specs.FinMap as map
+use Rattle.model_names.specs.Below.{is_at_or_below}
 use Rattle.model_names.specs.Name.{Name}
 use Rattle.model_maps.specs.Entry.{Entry}
 use Rattle.key_set.specs.EntryView.{entry_of}
 use Rattle.tool_commands.specs.Commands.Trees.{brought}
-use Rattle.key_set.proofs.WalkLemmas.{walk-first, walk-rest, walk-some}
+use Rattle.key_set.proofs.WalkLemmas.{walk-all, walk-first, walk-rest, walk-some}
 use Rattle.tool_commands.proofs.BringLemmas.{long-next, long-found, brought-next}
 use Rattle.tool_commands.proofs.commands.trees.bring_all.Goals as goal
 
 pub unreachable-requires : goal.unreachable-requires
 unreachable-requires c = walk-some (map.entries c.args.taken.now) c.loop-i.i c.loop-i.rest c.loop-i.invariant.2 c.in_default.ensures.steps.0 (omega (arith, c.len-i-end.ensures, c.loop-i-test.true))
+
+pub set_one-requires : goal.set_one-requires
+set_one-requires c =
+    let key : Name × Entry = (c.in-Some.name.now, entry_of c.in-Some.entry.now) in
+    walk-all (λ (key : Name × Entry). is_at_or_below c.args.from.now key.0 ≡ true) (map.entries c.args.taken.now) c.loop-i.i c.loop-i.rest c.next.new.self key c.requires c.loop-i.invariant.2 c.in-Some.ensures.steps
 
 pub loop-i-preserved : goal.loop-i-preserved
 loop-i-preserved c =
