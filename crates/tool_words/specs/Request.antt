@@ -1,17 +1,17 @@
 -- What a command line asks for, or how its words are refused. (This project's own.)
-use Rattle.std.specs.Prelude.{ℕ, nat_le, nat_lt, not, ◌&&◌, ◌==◌, Bool, List, [], ◌∷◌, ◌++◌, length, if◌then◌else◌, Option, None, Some, codes, filter, slice_index}
+use Rattle.std.specs.Prelude.{◌≡◌, ℕ, true, nat_le, nat_lt, not, ◌&&◌, ◌==◌, Bool, List, [], ◌∷◌, ◌++◌, length, if◌then◌else◌, Option, None, Some, codes, filter, slice_index}
 use Rattle.std.specs.List.{before_first, after_first}
 use Rattle.model_names.specs.Name.{Name}
 use Rattle.model_names.specs.NameOf.{name_of}
+use Rattle.model_names.specs.Namespaces.{has_files}
 use Rattle.model_names.specs.Refuses.{refusal_of}
 use Rattle.model_maps.specs.Entry.{longest_meta_name}
 use Rattle.general_words.specs.Texts.{is_text}
 use Rattle.tool_words.specs.declared.extents.Extent.{Extent}
 use Rattle.tool_words.specs.declared.extents.Extent.TheVariants.{Alone, WithBelow}
 use Rattle.tool_words.specs.declared.ways.Way.{Way}
-use Rattle.tool_words.specs.declared.ways.Way.TheVariants.{Copies, Moves}
 use Rattle.tool_words.specs.declared.uses.Use.{Use}
-use Rattle.tool_words.specs.declared.uses.Use.TheVariants.{Looks, Writes}
+use Rattle.tool_words.specs.declared.uses.Use.TheVariants.{Writes}
 use Rattle.kdb_outside.specs.Kind.{kind_of}
 use Rattle.kdb_outside.specs.declared.kinds.Kind.{Kind}
 use Rattle.kdb_outside.specs.declared.kinds.Kind.TheVariants.{Dump}
@@ -38,6 +38,12 @@ pub data Question : Type 0 where
   Mounts : Question
   FileOf : Name → Question
   On : Name → Action → Question
+
+-- where the file of a key is asked for, keys of its namespace are in files
+abbrev pub NamesFiles : Question → Type 0
+NamesFiles Mounts = Unit {0}
+NamesFiles (FileOf name) = has_files name.namespace ≡ true
+NamesFiles (On name action) = Unit {0}
 
 -- a question, a name that can't be used so, or a status with the text of its line
 pub data Request : Type 0 where

@@ -3,6 +3,7 @@
 
 mod asking;
 mod extents;
+mod laws;
 mod meta_names;
 mod options;
 mod requests;
@@ -11,6 +12,7 @@ mod ways;
 mod words;
 
 pub use extents::Extent;
+pub use laws::a_file_is_asked_for_of_keys_in_files;
 pub use meta_names::MetaName;
 pub use requests::{Action, Question, Refusal, Request};
 pub use uses::Use;
