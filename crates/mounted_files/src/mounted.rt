@@ -62,6 +62,13 @@ impl Mounted {
         &self.table
     }
 
+    /// The files, in the order of the table.
+    pub fn files(&self) -> &[MountedFile]
+        ensures { result.now ≡ self.now }
+    {
+        &self.files
+    }
+
     /// What a get of a parent gives: the visible keys of all mounts that it involves, which are the owner of the parent and each mount at or
     /// below it. A cascading parent involves those of its path in spec, dir, user and system; one in proc or default involves none.
     ///

@@ -11,6 +11,7 @@ use Rattle.intent_journal.specs.declared.states.State.TheVariants.{Clean, Doubt,
 use Rattle.intent_journal.specs.BadJournals.{open_entry, opened_files, opened_doubt}
 use Rattle.intent_journal.specs.Journal.{JournalValue}
 use Rattle.intent_journal.specs.Opened.{disk_of}
+use Rattle.intent_journal.specs.Outcomes.{SameFiles}
 use Rattle.intent_journal.specs.States.{IsSettled, IsDoubtful, IsCalm}
 use Rattle.model_crashes.specs.Runs.{new_run}
 use Rattle.intent_journal.proofs.Calm.{calm_at_read, settled_calm}
@@ -63,3 +64,9 @@ opened_run g disk (Ok j) files doubt tells goes calm state doubtful told left se
     (rests_opened g j (opened_files (g.seen disk)) (opened_doubt (g.seen disk)) (goes.tells ∙ tells) state.0 doubtful)
     (opened_calm g disk j files doubt j.recovered tells goes calm refl told left settled)
 opened_run g disk (Err refused) files doubt tells goes calm state doubtful told left settled = tt
+
+-- what is read behind an opening are the files that it leaves
+pub opened_shown : {D : Type 0} (g : Ghosts D) (disk : D) (result : Result (JournalValue D) (JournalRefused D)) → g.tells disk ≡ true → GoesOn g disk (disk_of result)
+    → IfOk result (λ j. IsDoubtful (g.may_leave j.disk) (opened_files (g.seen disk)) (opened_doubt (g.seen disk))) → IfOk result (λ j. SameFiles (g.seen j.disk) (opened_files (g.seen disk)))
+opened_shown g disk (Ok j) tells goes doubtful = λ file own. doubtful.same file own (g.seen j.disk file) (g.read_is_image j.disk (goes.tells ∙ tells) file)
+opened_shown g disk (Err refused) tells goes doubtful = tt

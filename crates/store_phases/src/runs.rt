@@ -1,13 +1,13 @@
 //! A run of commits on a journal, from its opening to its close.
-ghost use Rattle.std.specs.Prelude.{◌≡◌, ℕ, ◌++◌, length, List, Option, Some, true, Err, IfOk, OnOk, OnErr};
+ghost use Rattle.std.specs.Prelude.{◌≡◌, ℕ, ◌++◌, length, List, Option, Some, true, is_some, Err, IfOk, OnOk, OnErr};
 ghost use Rattle.backend_files.specs.WholeFile.{IsWhole, IsShort};
 ghost use Rattle.kdb_outside.specs.Crashes.{EveryImage};
 ghost use Rattle.kdb_outside.specs.Faults.{HasCause, HasRisen};
 ghost use Rattle.kdb_outside.specs.Frames.{GoesOn, OnlyReads};
 ghost use Rattle.kdb_outside.specs.Images.{Image};
 ghost use Rattle.journal_codec.specs.declared.files.FileText.{FileText as Item};
-ghost use Rattle.journal_codec.specs.Entry.{IsEntry, length_bytes, spelled};
-ghost use Rattle.intent_journal.specs.BadJournals.{opened_files, opened_doubt};
+ghost use Rattle.journal_codec.specs.Entry.{IsEntry, journal_name, length_bytes, spelled};
+ghost use Rattle.intent_journal.specs.BadJournals.{bad_place, open_entry, opened_files, opened_doubt};
 ghost use Rattle.intent_journal.specs.JournalBytes.{IsOwnFile};
 ghost use Rattle.intent_journal.specs.Moments.{LeavesOnly};
 ghost use Rattle.intent_journal.specs.Opened.{disk_of, fault_of};
@@ -32,6 +32,10 @@ pub fn open<D: Disk>(alloc: Global, disk: D) -> Result<Journal<D>, JournalRefuse
         → IfOk result (λ journal. IsStore D.Disk journal.disk journal (new_run (opened_files (D.seen disk)) (D.faults disk) (opened_doubt (D.seen disk)))) }
     ensures own { D.tells disk ≡ true → (files : Image) (doubt : Option (List Item)) → IsCalm (D.seen disk) (D.may_leave disk) files doubt
         → SameFiles files (opened_files (D.seen disk)) → IfOk result (λ journal. IsStore D.Disk journal.disk journal (new_run files (D.faults disk) doubt)) }
+    ensures shown { D.tells disk ≡ true → (files : Image) (doubt : Option (List Item)) → IsCalm (D.seen disk) (D.may_leave disk) files doubt
+        → IfOk result (λ journal. SameFiles (D.seen journal.disk) (opened_files (D.seen disk))) }
+    ensures recovered { D.tells disk ≡ true → IfOk result (λ journal. journal.recovered ≡ is_some (open_entry (D.seen disk journal_name))) }
+    ensures bad { D.tells disk ≡ true → (at : ℕ) → fault_of result ≡ Some (JournalFault.BadJournal at) → bad_place (D.seen disk journal_name) ≡ Some at }
     ensures calm { D.tells disk ≡ true → (files : Image) (doubt : Option (List Item)) → IsCalm (D.seen disk) (D.may_leave disk) files doubt
         → (at : ℕ) → fault_of result ≡ Some (JournalFault.BadJournal at) → ⊥ }
     ensures any_moment { D.tells disk ≡ true → (files : Image) (doubt : Option (List Item)) → IsCalm (D.seen disk) (D.may_leave disk) files doubt

@@ -1,0 +1,125 @@
+-- What the files of a store mean at its opening, and what the reading of them leaves.
+use Rattle.std.proofs.Common.{◌≡◌, ℕ, true, false, true≢false, List, [], map as over, arith, None, Result, Ok, Err, IfOk, IfErr, MatchResult, codes, nat_eq, refl, sym, ap, ap₂, subst, ◌∙◌}
+use Rattle.std.specs.List.{starts_with}
+use Rattle.std.specs.Option.{option_map}
+use Rattle.std.proofs.lemmas.Option.{slice_get-map}
+use Rattle.kdb_outside.specs.declared.disks.Disk.{Ghosts}
+use Rattle.kdb_outside.specs.Frames.{GoesOn, OnlyReads}
+use Rattle.kdb_outside.specs.Images.{Image}
+use Rattle.intent_journal.specs.JournalBytes.{IsOwnFile}
+use Rattle.intent_journal.specs.Journal.{JournalValue}
+use Rattle.intent_journal.specs.Moments.{LeavesOnly}
+use Rattle.intent_journal.specs.Outcomes.{SameFiles}
+use Rattle.model_crashes.specs.Runs.{Run}
+use Rattle.model_crashes.proofs.Moments.{only_both, only_read}
+use Rattle.model_files.specs.Files.{HaveFiles}
+use Rattle.model_files.specs.Texts.{entries_of}
+use Rattle.model_maps.specs.KeyMap.{KeyMap}
+use Rattle.model_history.specs.History.{Commit}
+use Rattle.model_store.specs.Cores.{first_core}
+use Rattle.model_store.specs.Promise.{Stands}
+use Rattle.model_store.specs.Store.{Store, Formats}
+use Rattle.model_store.specs.Worlds.{first_world}
+use Rattle.mount_table.specs.Table.{own_mount, table_of}
+use Rattle.mount_table.specs.declared.mounts.Mount.{Mount}
+use Rattle.mount_table.proofs.OwnFileLemmas.{own_files, named_files, free_files, few_mounts}
+use Rattle.mounted_files.specs.Getting.{visible_keys}
+use Rattle.mounted_files.specs.Files.{Reading, Badness, IsState, points_of}
+use Rattle.mounted_files.specs.Opening.{MakesTable, IsOpened}
+use Rattle.mounted_files.specs.declared.files.MountedFile.{MountedFile}
+use Rattle.mounted_files.proofs.WeighLemmas.{weighed-mounts}
+use Rattle.store_phases.specs.Stores.{IsStore}
+use Rattle.store_phases.proofs.Stores.{IsStore-read, IsStore-from_now}
+use Rattle.store_core.specs.Cores.{StandsFor}
+use Rattle.store_core.specs.Faults.{RefusesStore}
+use Rattle.store_core.specs.Frames.{OnlyReadsFiles}
+use Rattle.store_core.specs.Plans.{store_of}
+use Rattle.store_core.specs.declared.cores.Core.{Core}
+use Rattle.store_core.specs.declared.faults.OpenFault.{OpenFault}
+use Rattle.store_core.specs.declared.faults.OpenRefused.{OpenRefused}
+use Rattle.store_core.specs.declared.opening.Opened.{Opened}
+
+-- ---- the files of a table
+
+pub have_files : (keys : KeyMap) (mounts : List Mount) → table_of keys ≡ Ok mounts → HaveFiles mounts
+have_files keys mounts ok = record { own = own_files keys mounts ok; named = named_files keys mounts ok; free = free_files keys mounts ok; few = few_mounts keys mounts ok }
+
+-- a file whose name doesn't begin as the journal's is not the journal
+not_own : (file : List ℕ) → starts_with nat_eq file (codes "journal") ≡ false → ¬ IsOwnFile file
+not_own file free own = true≢false (sym (ap (λ f. starts_with nat_eq f (codes "journal")) own) ∙ free)
+
+-- the file of the table's own keys is no journal
+own_free : ¬ IsOwnFile own_mount.file
+own_free = not_own own_mount.file refl
+
+module _ (Reads : Reading) (IsBad : Badness) (bytes_of others : Image) (same : SameFiles bytes_of others) where
+  pub opened_alike : (files : List MountedFile) → IsOpened Reads IsBad bytes_of files → IsOpened Reads IsBad others files
+  opened_alike files opened = record {
+    unweighed = opened.unweighed;
+    table = subst (λ (bytes : List ℕ). MakesTable Reads bytes (Ok (over (λ (file : MountedFile). file.mount) opened.unweighed))) (same own_mount.file own_free) opened.table;
+    states = λ i file there.
+        subst (λ (bytes : List ℕ). IsState Reads IsBad (points_of opened.unweighed) i file.mount bytes file.state)
+        (same file.mount.file (not_own file.mount.file (free_files opened.table.keys (over (λ (file : MountedFile). file.mount) opened.unweighed) opened.table.is i file.mount
+        (slice_get-map (λ (file : MountedFile). file.mount) opened.unweighed i ∙ ap (option_map (λ (file : MountedFile). file.mount)) there)))) (opened.states i file there);
+    is = opened.is;
+  }
+
+  pub refused_alike : (fault : OpenFault) → RefusesStore Reads IsBad (bytes_of own_mount.file) fault → RefusesStore Reads IsBad (others own_mount.file) fault
+  refused_alike fault = subst (λ (bytes : List ℕ). RefusesStore Reads IsBad bytes fault) (same own_mount.file own_free)
+
+  pub told_alike : {D F : Type 0} (result : Result (Opened D F) (OpenRefused D)) → MatchResult result (λ o. IsOpened Reads IsBad bytes_of o.plan.mounted) (λ r. RefusesStore Reads IsBad (bytes_of own_mount.file) r.fault)
+      → IfOk result (λ o. IsOpened Reads IsBad others o.plan.mounted) × IfErr result (λ r. RefusesStore Reads IsBad (others own_mount.file) r.fault)
+  told_alike (Ok o) told = (opened_alike o.plan.mounted told, tt)
+  told_alike (Err r) told = (tt, refused_alike r.fault told)
+
+-- the mounts of opened files are those of a table
+pub opened_mounts : (Reads : Reading) (IsBad : Badness) (bytes_of : Image) (files : List MountedFile) → IsOpened Reads IsBad bytes_of files → HaveFiles (over (λ (file : MountedFile). file.mount) files)
+opened_mounts Reads IsBad bytes_of files opened =
+    subst HaveFiles (sym (weighed-mounts opened.unweighed) ∙ ap (over (λ (file : MountedFile). file.mount)) (sym opened.is))
+    (have_files opened.table.keys (over (λ (file : MountedFile). file.mount) opened.unweighed) opened.table.is)
+
+-- ---- what the reading leaves
+
+-- what held of each crash before the reading holds behind it
+pub still_only : {D : Type 0} (g : Ghosts D) (old mid new : D) (P : Image → Type 0) → g.tells old ≡ true → GoesOn g old mid → LeavesOnly g old mid P → OnlyReads g mid new → LeavesOnly g old new P
+still_only g old mid new P tells goes only reads =
+    let still = goes.tells ∙ tells in
+    only_both g old mid new P P P (λ image has. has) (λ image has. has) goes.moment only
+    (only_read g mid new P still reads (λ image is. only.each image (g.counts_now mid (g.moment old) image still goes.moment is)))
+
+pub store_read : {D : Type 0} (g : Ghosts D) (opened : D) (old new : JournalValue D) (run : Run) → OnlyReadsFiles g old new → IsStore g opened old run → IsStore g new.disk new run
+store_read g opened old new run reads store = IsStore-from_now g opened new run (IsStore-read g opened old new run reads.reads reads.state reads.entry store)
+
+-- ---- the first core
+
+-- the first core stands for the first world
+first : (formats : Formats) (store : Store) → Stands formats store first_world (first_core store)
+first formats store = record {
+  history = refl;
+  keys = refl;
+  legal = record { each = tt; not_full = omega arith };
+  records = λ r. record { within = λ m front e. absurd cc; good = λ m front e. absurd cc; is = λ m. refl };
+  sets = λ p. tt;
+}
+
+pub first_stands : (formats : Formats) {D : Type 0} (g : Ghosts D) (store : Store) (core : Core D) (run : Run) → HaveFiles store.mounts → core.history.commits ≡ [] → core.keys ≡ store.start → IsStore g core.journal.disk core.journal run → run.commits ≡ []
+    → StandsFor formats g store core.journal.disk core (λ r m. None) (λ p. None) first_world run
+first_stands formats g store core run files none keys on_disk empty = record {
+  files = files;
+  stands = subst (λ c. Stands formats store first_world c) (sym (ap₂ (λ (h : List Commit) (k : KeyMap). record { history = h; keys = k; records = λ r m. None; sets = λ p. None }) none keys)) (first formats store);
+  on_disk = on_disk;
+  entries = empty ∙ sym (ap (entries_of formats store) none);
+}
+
+-- and so does that of an opening
+pub stands_opened : (formats : Formats) {D F : Type 0} (g : Ghosts D) (Reads : Reading) (IsBad : Badness) (journal : JournalValue D) (run : Run) (result : Result (Opened D F) (OpenRefused D)) → run.commits ≡ [] → IsStore g journal.disk journal run
+    → MatchResult result (λ o. IsOpened Reads IsBad (g.seen journal.disk) o.plan.mounted) (λ r. RefusesStore Reads IsBad (g.seen journal.disk own_mount.file) r.fault)
+    → IfOk result (λ o. o.core.keys ≡ visible_keys o.plan.mounted) → IfOk result (λ o. o.core.history.commits ≡ []) → IfOk result (λ o. OnlyReadsFiles g journal o.core.journal)
+    → IfOk result (λ o. (procs : ℕ → KeyMap) → StandsFor formats g (store_of o.plan.mounted procs) o.core.journal.disk o.core (λ r m. None) (λ p. None) first_world run)
+stands_opened formats g Reads IsBad journal run (Ok o) empty store told keys none reads = λ procs.
+    first_stands formats g (store_of o.plan.mounted procs) o.core run (opened_mounts Reads IsBad (g.seen journal.disk) o.plan.mounted told) none keys (store_read g journal.disk journal o.core.journal run reads store) empty
+stands_opened formats g Reads IsBad journal run (Err r) empty store told keys none reads = tt
+
+pub whatever : {O R : Type 0} (result : Result O R) (P : Type 0) → P → IfOk result (λ o. P)
+whatever (Ok o) P is = is
+whatever (Err r) P is = tt

@@ -1,0 +1,36 @@
+-- The opened journal shows the files that it leaves, and reading them changes nothing.
+use Rattle.std.proofs.Common.{refl}
+use Rattle.intent_journal.specs.BadJournals.{opened_files, opened_doubt}
+use Rattle.intent_journal.specs.Outcomes.{HasOnly, IsEither}
+use Rattle.model_crashes.specs.Runs.{new_run}
+use Rattle.store_core.specs.Opened.{disk_of}
+use Rattle.store_core.proofs.OpeningLemmas.{told_alike, stands_opened, still_only, whatever}
+use Rattle.store_core.proofs.opening.open_store.Goals as goal
+
+pub returns-in-Ok-clause-opened : goal.returns-in-Ok-clause-opened
+returns-in-Ok-clause-opened g c tells files doubt calm =
+    let journal = c.in-Ok.journal in
+    (told_alike g.F.Formats.reads g.F.Formats.is_bad_at (g.D.Disk.seen journal.disk) (opened_files (g.D.Disk.seen c.args.disk)) (c.in-Ok.ensures.shown tells files doubt calm) c.open_files.result
+    (c.open_files.ensures.told (c.in-Ok.ensures.opened tells files doubt calm).rests.tells)).0
+
+pub returns-in-Ok-clause-refused : goal.returns-in-Ok-clause-refused
+returns-in-Ok-clause-refused g c tells files doubt calm =
+    let journal = c.in-Ok.journal in
+    (told_alike g.F.Formats.reads g.F.Formats.is_bad_at (g.D.Disk.seen journal.disk) (opened_files (g.D.Disk.seen c.args.disk)) (c.in-Ok.ensures.shown tells files doubt calm) c.open_files.result
+    (c.open_files.ensures.told (c.in-Ok.ensures.opened tells files doubt calm).rests.tells)).1
+
+pub returns-in-Ok-clause-stands : goal.returns-in-Ok-clause-stands
+returns-in-Ok-clause-stands g c tells files doubt calm =
+    let store = c.in-Ok.ensures.opened tells files doubt calm in
+    stands_opened (record { text = g.F.Formats.text; IsStorable = g.F.Formats.is_storable; BreaksAt = g.F.Formats.breaks_at }) g.D.Disk g.F.Formats.reads g.F.Formats.is_bad_at c.in-Ok.journal
+    (new_run (opened_files (g.D.Disk.seen c.args.disk)) (g.D.Disk.faults c.args.disk) (opened_doubt (g.D.Disk.seen c.args.disk))) c.open_files.result refl store
+    (c.open_files.ensures.told store.rests.tells) c.open_files.ensures.keys c.open_files.ensures.none c.open_files.ensures.journal
+
+pub returns-in-Ok-clause-files : goal.returns-in-Ok-clause-files
+returns-in-Ok-clause-files g c tells files doubt calm =
+    whatever c.open_files.result (IsEither files doubt (opened_files (g.D.Disk.seen c.args.disk))) (c.in-Ok.ensures.files tells files doubt calm)
+
+pub returns-in-Ok-clause-any_moment : goal.returns-in-Ok-clause-any_moment
+returns-in-Ok-clause-any_moment g c tells files doubt calm =
+    still_only g.D.Disk c.args.disk c.in-Ok.journal.disk (disk_of c.open_files.result) (HasOnly (IsEither files doubt)) tells c.in-Ok.ensures.goes (c.in-Ok.ensures.any_moment tells files doubt calm)
+    c.open_files.ensures.reads

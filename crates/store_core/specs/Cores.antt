@@ -1,0 +1,26 @@
+-- What a core stands for. (This project's own.)
+use Rattle.std.specs.Prelude.{◌≡◌, ℕ, Option}
+use Rattle.kdb_outside.specs.declared.disks.Disk.{Ghosts}
+use Rattle.model_crashes.specs.Runs.{Run}
+use Rattle.model_files.specs.Files.{HaveFiles}
+use Rattle.model_files.specs.Texts.{entries_of}
+use Rattle.model_store.specs.Cores as cores
+use Rattle.model_store.specs.Promise.{Stands}
+use Rattle.model_store.specs.Records.{Record}
+use Rattle.model_store.specs.Sets.{Prepared}
+use Rattle.model_store.specs.Store.{Store, Formats}
+use Rattle.model_store.specs.Worlds.{World}
+use Rattle.store_core.specs.declared.cores.Core.{Core}
+use Rattle.store_phases.specs.Stores.{IsStore}
+
+-- a core with the records of its handles and their prepared sets, as the definitions of a store have it
+abbrev pub core_with : {D : Type 0} → Core D → (ℕ → Record) → (ℕ → Option Prepared) → cores.Core
+core_with core records sets = record { history = core.history.commits; keys = core.keys; records = records; sets = sets }
+
+-- a core, with these records and sets, stands for a world; its journal stands for a run since the disk was opened; and the run's entries are
+-- those of the world's history, on files that the journal can hold
+pub record StandsFor (formats : Formats) {D : Type 0} (g : Ghosts D) (store : Store) (opened : D) (core : Core D) (records : ℕ → Record) (sets : ℕ → Option Prepared) (world : World) (run : Run) : Type 0 where
+  pub files : HaveFiles store.mounts
+  pub stands : Stands formats store world (core_with core records sets)
+  pub on_disk : IsStore g opened core.journal run
+  pub entries : run.commits ≡ entries_of formats store core.history.commits

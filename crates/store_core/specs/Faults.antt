@@ -1,0 +1,36 @@
+-- Why a store isn't opened, by what was refused on the way, and what each cause tells. (This project's own.)
+use Rattle.std.specs.Prelude.{List, ℕ}
+use Rattle.backend_files.specs.declared.reading.FileFault.{FileFault}
+use Rattle.backend_files.specs.declared.reading.FileFault.TheVariants as file
+use Rattle.intent_journal.specs.declared.faults.JournalFault.{JournalFault}
+use Rattle.intent_journal.specs.declared.faults.JournalFault.TheVariants as journal
+use Rattle.mounted_files.specs.Files.{Reading, Badness}
+use Rattle.mounted_files.specs.Opening.{RefusesOpening}
+use Rattle.mounted_files.specs.declared.refusals.OpenRefusal.{OpenRefusal}
+use Rattle.mounted_files.specs.declared.refusals.OpenRefusal.TheVariants as refusal
+use Rattle.store_core.specs.declared.faults.OpenFault.{OpenFault}
+use Rattle.store_core.specs.declared.faults.OpenFault.TheVariants.{DiskFault, BadJournal, BadTable, TooLong, BadFile, Memory}
+
+abbrev pub of_file : FileFault → OpenFault
+of_file file.DiskFault = DiskFault
+of_file file.Memory = Memory
+
+abbrev pub of_journal : JournalFault → OpenFault
+of_journal journal.DiskFault = DiskFault
+of_journal (journal.BadJournal at) = BadJournal at
+of_journal journal.Memory = Memory
+
+abbrev pub of_refusal : OpenRefusal → OpenFault
+of_refusal (refusal.TooLong bytes) = TooLong bytes
+of_refusal (refusal.BadFile line) = BadFile line
+of_refusal (refusal.BadTable fault) = BadTable fault
+of_refusal refusal.Memory = Memory
+
+-- why a store isn't opened, by the bytes of the file of the table's own keys; the disk, its journal and want of memory have causes of their own
+abbrev pub RefusesStore : Reading → Badness → List ℕ → OpenFault → Type 0
+RefusesStore Reads IsBad bytes (TooLong n) = RefusesOpening Reads IsBad bytes (refusal.TooLong n)
+RefusesStore Reads IsBad bytes (BadFile line) = RefusesOpening Reads IsBad bytes (refusal.BadFile line)
+RefusesStore Reads IsBad bytes (BadTable fault) = RefusesOpening Reads IsBad bytes (refusal.BadTable fault)
+RefusesStore Reads IsBad bytes DiskFault = Unit {0}
+RefusesStore Reads IsBad bytes (BadJournal at) = Unit {0}
+RefusesStore Reads IsBad bytes Memory = Unit {0}

@@ -1,0 +1,5 @@
+pub mod Cores
+pub mod Faults
+pub mod Frames
+pub mod Opened
+pub mod Plans

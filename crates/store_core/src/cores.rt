@@ -1,0 +1,46 @@
+//! What an opening fixes, and what changes while the store is open.
+ghost use Rattle.std.specs.Prelude.{◌≡◌, map as over};
+
+use commit_log::History;
+use intent_journal::Journal;
+use kdb_outside::Disk;
+use key_set::KeySet;
+use mount_table::MountTable;
+use mounted_files::Mounted;
+use storage_api::Formats;
+
+/// What an opening fixes: the formats, and the mounts with what their files held: which are bad, and the keys that each file
+/// keeps for other mounts.
+#[derive(Drop)]
+pub struct Plan<F: Formats + Drop> {
+    pub(crate) formats: F,
+    pub(crate) mounted: Mounted,
+}
+
+impl<F: Formats + Drop> Plan<F> {
+    /// The table of the mounts.
+    pub fn table(&self) -> &MountTable
+        ensures { result.now ≡ over (λ file. file.mount) self.now.mounted }
+    {
+        self.mounted.table()
+    }
+}
+
+/// What changes: the journal over the disk, the commits since the opening, the keys of all mounts after them, and whether anything
+/// was written to the disk since the opening began.
+#[derive(Drop)]
+pub struct Core<D: Disk> {
+    pub(crate) journal: Journal<D>,
+    pub(crate) history: History,
+    pub(crate) keys: KeySet,
+    pub(crate) wrote: bool,
+}
+
+impl<D: Disk> Core<D> {
+    /// The commits since the opening.
+    pub fn history(&self) -> &History
+        ensures { result.now ≡ self.now.history }
+    {
+        &self.history
+    }
+}
