@@ -5,5 +5,5 @@ mod Touched
 mod Judged
 mod Kept
 mod Committing
-mod Owning
+pub mod Owning
 mod Others

@@ -44,10 +44,10 @@ module _ (formats : Formats) (store : Store) where
   stand world sets k = record { history = refl; keys = refl; legal = k.legal; records = k.records; sets = k.asked }
 
   -- the world goes on as the core does
-  record Goes (world : World) (event : Event) (answer : Answer) (next : Core) : Type 0 where
-    after : World
-    meant : Meant formats store world event answer after
-    stands : Stands formats store after next
+  pub record Goes (world : World) (event : Event) (answer : Answer) (next : Core) : Type 0 where
+    pub after : World
+    pub meant : Meant formats store world event answer after
+    pub stands : Stands formats store after next
 
   stays : (world : World) (sets : ℕ → Option Prepared) (next : Core) → Known world sets → next ≡ core_at world sets → Stands formats store world next
   stays world sets next k is = subst (λ (core : Core). Stands formats store world core) (sym is) (stand world sets k)
@@ -208,7 +208,7 @@ module _ (formats : Formats) (store : Store) where
   }
   step world sets (Commit r p) answer next k made = absurd made
 
-  follows : (world : World) (core : Core) (event : Event) (answer : Answer) (next : Core) → Stands formats store world core → Made formats store core event answer next → Goes world event answer next
+  pub follows : (world : World) (core : Core) (event : Event) (answer : Answer) (next : Core) → Stands formats store world core → Made formats store core event answer next → Goes world event answer next
   follows world core event answer next st made =
       step world core.sets event answer next (known world core st) (subst (λ (c : Core). Made formats store c event answer next) (whole world core st) made)
 
@@ -225,7 +225,7 @@ module _ (formats : Formats) (store : Store) where
       let rest = all_follow calls one.after runs.0 last one.stands runs.2 in
       record { last = rest.last; meant = (one.after, one.meant, rest.meant); stands = rest.stands }
 
-  first_stands : Stands formats store first_world (first_core store)
+  pub first_stands : Stands formats store first_world (first_core store)
   first_stands = record {
     history = refl;
     keys = refl;

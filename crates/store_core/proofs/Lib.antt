@@ -1,3 +1,4 @@
 pub mod ReadingLemmas
 pub mod OpeningLemmas
 pub mod VisibleLemmas
+pub mod CommitLemmas

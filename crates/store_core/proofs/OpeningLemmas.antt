@@ -1,5 +1,5 @@
 -- What the files of a store mean at its opening, and what the reading of them leaves.
-use Rattle.std.proofs.Common.{◌≡◌, ℕ, true, false, true≢false, List, [], map as over, arith, None, Result, Ok, Err, IfOk, IfErr, MatchResult, codes, nat_eq, refl, sym, ap, ap₂, subst, ◌∙◌}
+use Rattle.std.proofs.Common.{◌≡◌, ℕ, true, false, true≢false, List, [], map as over, None, Result, Ok, Err, IfOk, IfErr, MatchResult, codes, nat_eq, refl, sym, ap, ap₂, subst, ◌∙◌}
 use Rattle.std.specs.List.{starts_with}
 use Rattle.std.specs.Option.{option_map}
 use Rattle.std.proofs.lemmas.Option.{slice_get-map}
@@ -16,10 +16,10 @@ use Rattle.model_files.specs.Files.{HaveFiles}
 use Rattle.model_files.specs.Texts.{entries_of}
 use Rattle.model_maps.specs.KeyMap.{KeyMap}
 use Rattle.model_history.specs.History.{Commit}
-use Rattle.model_store.specs.Cores.{first_core}
 use Rattle.model_store.specs.Promise.{Stands}
 use Rattle.model_store.specs.Store.{Store, Formats}
 use Rattle.model_store.specs.Worlds.{first_world}
+use Rattle.model_store.proofs.Owning.{first_stands}
 use Rattle.mount_table.specs.Table.{own_mount, table_of}
 use Rattle.mount_table.specs.declared.mounts.Mount.{Mount}
 use Rattle.mount_table.proofs.OwnFileLemmas.{own_files, named_files, free_files, few_mounts}
@@ -93,20 +93,11 @@ store_read g opened old new run reads store = IsStore-from_now g opened new run 
 -- ---- the first core
 
 -- the first core stands for the first world
-first : (formats : Formats) (store : Store) → Stands formats store first_world (first_core store)
-first formats store = record {
-  history = refl;
-  keys = refl;
-  legal = record { each = tt; not_full = omega arith };
-  records = λ r. record { within = λ m front e. absurd cc; good = λ m front e. absurd cc; is = λ m. refl };
-  sets = λ p. tt;
-}
-
-pub first_stands : (formats : Formats) {D : Type 0} (g : Ghosts D) (store : Store) (core : Core D) (run : Run) → HaveFiles store.mounts → core.history.commits ≡ [] → core.keys ≡ store.start → IsStore g core.journal.disk core.journal run → run.commits ≡ []
+pub first_core_stands : (formats : Formats) {D : Type 0} (g : Ghosts D) (store : Store) (core : Core D) (run : Run) → HaveFiles store.mounts → core.history.commits ≡ [] → core.keys ≡ store.start → IsStore g core.journal.disk core.journal run → run.commits ≡ []
     → StandsFor formats g store core.journal.disk core (λ r m. None) (λ p. None) first_world run
-first_stands formats g store core run files none keys on_disk empty = record {
+first_core_stands formats g store core run files none keys on_disk empty = record {
   files = files;
-  stands = subst (λ c. Stands formats store first_world c) (sym (ap₂ (λ (h : List Commit) (k : KeyMap). record { history = h; keys = k; records = λ r m. None; sets = λ p. None }) none keys)) (first formats store);
+  stands = subst (λ c. Stands formats store first_world c) (sym (ap₂ (λ (h : List Commit) (k : KeyMap). record { history = h; keys = k; records = λ r m. None; sets = λ p. None }) none keys)) (first_stands formats store);
   on_disk = on_disk;
   entries = empty ∙ sym (ap (entries_of formats store) none);
 }
@@ -117,7 +108,7 @@ pub stands_opened : (formats : Formats) {D F : Type 0} (g : Ghosts D) (Reads : R
     → IfOk result (λ o. o.core.keys ≡ visible_keys o.plan.mounted) → IfOk result (λ o. o.core.history.commits ≡ []) → IfOk result (λ o. OnlyReadsFiles g journal o.core.journal)
     → IfOk result (λ o. (procs : ℕ → KeyMap) → StandsFor formats g (store_of o.plan.mounted procs) o.core.journal.disk o.core (λ r m. None) (λ p. None) first_world run)
 stands_opened formats g Reads IsBad journal run (Ok o) empty store told keys none reads = λ procs.
-    first_stands formats g (store_of o.plan.mounted procs) o.core run (opened_mounts Reads IsBad (g.seen journal.disk) o.plan.mounted told) none keys (store_read g journal.disk journal o.core.journal run reads store) empty
+    first_core_stands formats g (store_of o.plan.mounted procs) o.core run (opened_mounts Reads IsBad (g.seen journal.disk) o.plan.mounted told) none keys (store_read g journal.disk journal o.core.journal run reads store) empty
 stands_opened formats g Reads IsBad journal run (Err r) empty store told keys none reads = tt
 
 pub whatever : {O R : Type 0} (result : Result O R) (P : Type 0) → P → IfOk result (λ o. P)
