@@ -1,26 +1,26 @@
 -- A core goes on standing for what the definitions say.
-use Rattle.std.proofs.Common.{◌≡◌, ℕ, List, [], ◌∷◌, ◌++◌, Option, inl, refl, sym, ap, ap₂, subst, ◌∙◌}
+use Rattle.std.proofs.Common.{◌≡◌, ℕ, List, [], ◌∷◌, ◌++◌, Option, Some, None, inl, refl, sym, ap, ap₂, ◌∙◌}
 use Rattle.kdb_outside.specs.declared.disks.Disk.{Ghosts}
 use Rattle.journal_codec.specs.declared.files.FileText.{FileText}
 use Rattle.intent_journal.specs.Journal.{JournalValue}
 use Rattle.intent_journal.specs.Moments.{LeavesOnly}
 use Rattle.model_crashes.proofs.Moments.{only_now}
-use Rattle.model_crashes.specs.Runs.{Run, IsAmid, files_of, after_begun, after_commit}
+use Rattle.model_crashes.specs.Runs.{Run, IsAmid, files_of, after_commit}
 use Rattle.model_files.specs.Texts.{entry_of, entries_from, entries_of}
 use Rattle.model_history.specs.Changes.{changed_by}
 use Rattle.model_history.specs.History as past
 use Rattle.model_history.specs.History.{replay}
 use Rattle.model_maps.specs.KeyMap.{KeyMap}
 use Rattle.model_store.specs.Cores as cores
-use Rattle.model_store.specs.Cores.{CommitMade}
-use Rattle.model_store.specs.Events.{Commit, Judged}
-use Rattle.model_store.specs.Promise.{Stands}
+use Rattle.model_store.specs.Cores.{CommitMade, Made}
+use Rattle.model_store.specs.Events.{Answer, Commit, Memory, Bad, Got, Refused, Ready, Judged, Failed}
 use Rattle.model_store.specs.Records.{Record}
 use Rattle.model_store.specs.Sets.{Prepared}
 use Rattle.model_store.specs.Store.{Store, Formats}
-use Rattle.model_store.specs.Verdicts.{Commits}
+use Rattle.model_store.specs.Verdicts.{Late, Same, Conflict, DatabaseFull, HistoryFull, Commits}
 use Rattle.model_store.specs.Worlds.{World, Meant}
 use Rattle.model_store.proofs.Owning.{follows}
+use Rattle.store_core.specs.Committing.{BeginsSet, RunsOn, IsCommitted}
 use Rattle.store_core.specs.Cores.{StandsFor, core_with}
 use Rattle.store_core.specs.declared.cores.Core.{Core}
 use Rattle.store_phases.specs.Stores.{IsStore}
@@ -32,40 +32,54 @@ module _ (formats : Formats) (store : Store) where
   entries-next start [] commit = refl
   entries-next start (first ∷ history) commit = ap (λ es. entry_of formats store start first ∷ es) (entries-next (changed_by first.changes start) history commit)
 
-  -- a core with the same history and the same keys stands for the same world
-  alike : (world : World) (core : cores.Core) (history : List past.Commit) (keys : KeyMap) → history ≡ core.history → keys ≡ core.keys → Stands formats store world core
-      → Stands formats store world (record { history = history; keys = keys; records = core.records; sets = core.sets })
-  alike world core history keys same_history same_keys stands =
-      subst (λ (c : cores.Core). Stands formats store world c) (sym (ap₂ (λ (h : List past.Commit) (k : KeyMap). record { history = h; keys = k; records = core.records; sets = core.sets }) same_history same_keys)) stands
+  module _ {D : Type 0} (g : Ghosts D) (opened : D) (before after : Core D) (records next : ℕ → Record) (sets : ℕ → Option Prepared) (world : World) (run later : Run) (r p : ℕ) (st : StandsFor formats g store opened before records sets world run) where
+    abbrev old : cores.Core
+    old = core_with before records sets
 
-  module _ {D : Type 0} (g : Ghosts D) (opened : D) (before after : Core D) (records : ℕ → Record) (sets : ℕ → Option Prepared) (world : World) (run : Run) (st : StandsFor formats g store opened before records sets world run) where
-    module _ (r p front aside : ℕ) (commit : past.Commit) (next : cores.Core) (made : CommitMade store (core_with before records sets) r p front (Commits commit aside) next) (same_history : after.history.commits ≡ next.history) (same_keys : after.keys ≡ next.keys) where
-      abbrev pub entry : List FileText
-      entry = entry_of formats store before.keys commit
+    abbrev new : cores.Core
+    new = core_with after next sets
 
-      present : replay store.start before.history.commits ≡ before.keys
-      present = ap (replay store.start) st.stands.history ∙ sym st.stands.keys
+    -- nothing joined the history, and nothing the run
+    entries-stay : new ≡ old → later.commits ≡ run.commits → later.commits ≡ entries_of formats store after.history.commits
+    entries-stay same none = none ∙ st.entries ∙ ap (λ (c : cores.Core). entries_of formats store c.history) (sym same)
 
-      entries-are : (after_commit run entry).commits ≡ entries_of formats store after.history.commits
-      entries-are =
-          ap₂ (λ (es : List (List FileText)) (keys : KeyMap). es ++ entry_of formats store keys commit ∷ []) st.entries (sym present)
-          ∙ sym (entries-next store.start before.history.commits commit)
-          ∙ ap (entries_of formats store) (sym (same_history ∙ ap (λ (c : cores.Core). c.history) made.next_is))
+    present : replay store.start before.history.commits ≡ before.keys
+    present = ap (replay store.start) st.stands.history ∙ sym st.stands.keys
 
-      pub stands_committed : IsStore g opened after.journal (after_commit run entry)
-          → (later : World) × Meant formats store world (Commit r p) (Judged front (Commits commit aside)) later × StandsFor formats g store opened after next.records next.sets later (after_commit run entry)
-      stands_committed on_disk =
-          let goes = follows formats store world (core_with before records sets) (Commit r p) (Judged front (Commits commit aside)) next st.stands made in
-          (goes.after, goes.meant, record { files = st.files; stands = alike goes.after next after.history.commits after.keys same_history same_keys goes.stands; on_disk = on_disk; entries = entries-are })
+    -- a commit joined the history, and its texts the run
+    entries-joined : (commit : past.Commit) → after.history.commits ≡ before.history.commits ++ commit ∷ [] → later ≡ after_commit run (entry_of formats store before.keys commit)
+        → later.commits ≡ entries_of formats store after.history.commits
+    entries-joined commit joined on =
+        ap (λ (x : Run). x.commits) on
+        ∙ ap₂ (λ (es : List (List FileText)) (keys : KeyMap). es ++ entry_of formats store keys commit ∷ []) st.entries (sym present)
+        ∙ sym (entries-next store.start before.history.commits commit)
+        ∙ ap (entries_of formats store) (sym joined)
 
-    pub stands_begun : (begun : List FileText) (later : Option (List FileText)) → after.history.commits ≡ before.history.commits → after.keys ≡ before.keys → IsStore g opened after.journal (after_begun run begun later)
-        → StandsFor formats g store opened after records sets world (after_begun run begun later)
-    stands_begun begun later same_history same_keys on_disk = record {
-      files = st.files;
-      stands = alike world (core_with before records sets) after.history.commits after.keys same_history same_keys st.stands;
-      on_disk = on_disk;
-      entries = st.entries ∙ ap (entries_of formats store) (sym same_history);
-    }
+    entries-judged : (front : ℕ) (late : Late) → CommitMade store old r p front late new → RunsOn formats store before.keys run (sets p) (Judged front late) later → later.commits ≡ entries_of formats store after.history.commits
+    entries-judged front (Same aside) made on = entries-stay made.next_is (ap (λ (x : Run). x.commits) on)
+    entries-judged front (Conflict mount by) made on = entries-stay made.next_is (ap (λ (x : Run). x.commits) on)
+    entries-judged front (DatabaseFull weight) made on = entries-stay made.next_is (ap (λ (x : Run). x.commits) on)
+    entries-judged front (HistoryFull weight) made on = entries-stay made.next_is (ap (λ (x : Run). x.commits) on)
+    entries-judged front (Commits commit aside) made on = entries-joined commit (ap (λ (c : cores.Core). c.history) made.next_is) on
+
+    commits-begun : (set : Option Prepared) → BeginsSet formats store before.keys run set later → later.commits ≡ run.commits
+    commits-begun None begun = absurd begun
+    commits-begun (Some set) begun = ap (λ (x : Run). x.commits) begun.2
+
+    entries-are : (answer : Answer) → Made formats store old (Commit r p) answer new → RunsOn formats store before.keys run (sets p) answer later → later.commits ≡ entries_of formats store after.history.commits
+    entries-are Memory made on = entries-stay made (ap (λ (x : Run). x.commits) on)
+    entries-are (Bad m) made on = absurd made
+    entries-are (Got front keys) made on = absurd made
+    entries-are (Refused why) made on = absurd made
+    entries-are Ready made on = absurd made
+    entries-are (Judged front late) made on = entries-judged front late made on
+    entries-are (Failed front) made on = entries-stay made.next_is (commits-begun (sets p) on)
+
+    pub stands_committed : (answer : Answer) → IsCommitted formats g store opened before after records next sets run later r p answer
+        → (then_world : World) × Meant formats store world (Commit r p) answer then_world × StandsFor formats g store opened after next sets then_world later
+    stands_committed answer committed =
+        let goes = follows formats store world old (Commit r p) answer new st.stands committed.made in
+        (goes.after, goes.meant, record { files = st.files; stands = goes.stands; on_disk = committed.on_disk; entries = entries-are answer committed.made committed.runs_on })
 
 -- ---- without a call
 

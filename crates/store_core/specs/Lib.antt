@@ -1,3 +1,4 @@
+pub mod Committing
 pub mod Cores
 pub mod Faults
 pub mod Frames

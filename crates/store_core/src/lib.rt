@@ -13,6 +13,6 @@ mod visible;
 pub use closing::Closed;
 pub use cores::{Core, Plan};
 pub use faults::{OpenFault, OpenRefused};
-pub use laws::{a_core_stands_after_a_commit, a_core_stands_after_a_fault};
+pub use laws::a_core_stands_after_each_commit;
 pub use opening::{Opened, open_store};
 pub use storing::{Entering, StoreFault};
