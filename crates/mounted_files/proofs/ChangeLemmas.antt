@@ -58,13 +58,13 @@ all_ways : (point : Name) (es : List (Name × Entry)) → AllByRecursion (λ (e 
 all_ways point [] all = tt
 all_ways point (e ∷ es) all = one_way e (way_to point e.0) (filter_map (as_way point) es) all.0 (all_ways point es all.1)
 
-short-relative : (point : Name) (keys : KeyMap) → AreShort keys → AreShort (relative point keys)
+pub short-relative : (point : Name) (keys : KeyMap) → AreShort keys → AreShort (relative point keys)
 short-relative point keys short =
     each-with_keys (λ (x : Entry). long_text x ≡ None) (filter_map (as_way point) (map.entries keys)) no_keys
     (all_ways point (map.entries keys) (all-entries (λ (x : Entry). long_text x ≡ None) keys short))
     (each-none (λ _ (x : Entry). long_text x ≡ None))
 
-short-with_all : (others keys : KeyMap) → AreShort others → AreShort keys → AreShort (with_all others keys)
+pub short-with_all : (others keys : KeyMap) → AreShort others → AreShort keys → AreShort (with_all others keys)
 short-with_all others keys short before = each-with_keys (λ (x : Entry). long_text x ≡ None) (map.entries others) keys (all-entries (λ (x : Entry). long_text x ≡ None) others short) before
 
 -- a change has short contents where the wanted keys and the shadow are short
@@ -106,7 +106,7 @@ none-find f (e ∷ es) name entry none found =
 
 module _ (points : List Name) (keys : KeyMap) (mounts : List ℕ) (none : first_long_in points mounts keys ≡ None) where
   -- the keys that one of the mounts owns are short
-  owned-short : (i : ℕ) → ((name : Name) → owns points i name ≡ true → list_any (λ j. owns points j name) mounts ≡ true) → AreShort (owned_by points i keys)
+  pub owned-short : (i : ℕ) → ((name : Name) → owns points i name ≡ true → list_any (λ j. owns points j name) mounts ≡ true) → AreShort (owned_by points i keys)
   owned-short i within name entry found =
       let kept = cond_some (owns points i name) (map.get keys name) entry (sym (get-retain name_cmp_total name_cmp-IsAntisymmetric keys (owns points i) name) ∙ found) in
       by name (list_any (λ j. owns points j name) mounts) (within name kept.0) (long_text entry) (none-find (long_in points mounts) (map.entries keys) name entry none (sym (map.get-entries keys name) ∙ kept.1))
@@ -130,7 +130,7 @@ or_true true b e = refl
 or_true false b e = e
 
 -- each of some mounts is one of them
-within-all : (points : List Name) (front mounts : List ℕ) → AllByRecursion (λ i. (name : Name) → owns points i name ≡ true → list_any (λ j. owns points j name) (front ++ mounts) ≡ true) mounts
+pub within-all : (points : List Name) (front mounts : List ℕ) → AllByRecursion (λ i. (name : Name) → owns points i name ≡ true → list_any (λ j. owns points j name) (front ++ mounts) ≡ true) mounts
 within-all points front [] = tt
 within-all points front (i ∷ mounts) = (λ name owned. later front name owned, again (within-all points (front ++ i ∷ []) mounts))
   where

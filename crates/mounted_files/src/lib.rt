@@ -21,6 +21,7 @@ mod whole;
 mod writing;
 
 pub use causes::Cause;
+pub use changes::Change;
 pub use files::{FileState, MountedFile};
 pub use laws::{
     a_get_gives_the_visible_keys_in_reach, a_set_has_one_verdict, files_have_one_opening,
@@ -28,5 +29,7 @@ pub use laws::{
 };
 pub use mounted::Mounted;
 pub use opening::Opening;
+pub use preparing::{Prepared, prepare};
 pub use refusals::{GetFault, OpenRefusal};
+pub use setting::made_change;
 pub use verdicts::Verdict;

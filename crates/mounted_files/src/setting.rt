@@ -78,7 +78,7 @@ fn change_of(
 }
 
 /// The change of a touched mount. Its file is to hold the wanted keys and the shadow, under relative names.
-fn made_change(
+pub fn made_change(
     alloc: Global,
     mount: &Mount,
     wanted: &KeySet,
