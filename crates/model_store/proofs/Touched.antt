@@ -22,18 +22,18 @@ use Rattle.model_store.proofs.Owners.{one_owner, get-owned, get-mine}
 use Rattle.set_split.specs.Involved.{owns}
 use Rattle.set_split.specs.Parts.{owned_by}
 
-find-both : (q : Name) (xs ys : List Change) → find name_cmp q (xs ++ ys) ≡ option_or (find name_cmp q xs) (find name_cmp q ys)
+pub find-both : (q : Name) (xs ys : List Change) → find name_cmp q (xs ++ ys) ≡ option_or (find name_cmp q xs) (find name_cmp q ys)
 find-both q [] ys = refl
 find-both q (x ∷ xs) ys = elim (eq_by_cmp name_cmp q x.0) as (λ b. cond b (Some x.1) (find name_cmp q (xs ++ ys)) ≡ option_or (cond b (Some x.1) (find name_cmp q xs)) (find name_cmp q ys)) [
   | true ↦ refl
   | false ↦ find-both q xs ys
 ]
 
-or_none : {A : Type 0} (o : Option A) → option_or o None ≡ o
+pub or_none : {A : Type 0} (o : Option A) → option_or o None ≡ o
 or_none None = refl
 or_none (Some x) = refl
 
-or_same : {A : Type 0} (o : Option A) → option_or o o ≡ o
+pub or_same : {A : Type 0} (o : Option A) → option_or o o ≡ o
 or_same None = refl
 or_same (Some x) = refl
 

@@ -1,0 +1,52 @@
+-- What is kept of mounts, part by part.
+use Rattle.std.proofs.Common.{◌≡◌, ◌≢◌, ℕ, zero, suc, ◌<◌, Bool, true, false, cond, ◌||◌, nat_eq, List, [], ◌∷◌, ◌++◌, map as over, length, slice_get, Option, Some, option_and_then, refl, sym, ap, ◌∙◌, eqb-true, eq-eqb, arith}
+use Rattle.std.proofs.Math.ListN.{set}
+use Rattle.std.specs.Option.{option_map}
+use Rattle.store_verdict.specs.RecordView.{fetched_at, fetched_of}
+use Rattle.store_verdict.specs.declared.records.Fetched as code
+use Rattle.model_maps.specs.KeyMap.{KeyMap}
+use Rattle.model_history.specs.History.{is_among}
+use Rattle.model_store.specs.Records.{Fetched, Record}
+use Rattle.model_store.specs.Cores.{keeping}
+use Rattle.store_verdict.specs.Kept.{with_part, kept_parts}
+
+-- one part more
+pub kept_parts-snoc : (front : ℕ) (parts : List (ℕ × KeyMap)) (part : ℕ × KeyMap) (rec : Record) (m : ℕ) → kept_parts front (parts ++ part ∷ []) rec m ≡ with_part front part (kept_parts front parts rec) m
+kept_parts-snoc front [] part rec m = refl
+kept_parts-snoc front (first ∷ parts) part rec m = kept_parts-snoc front parts part (with_part front first rec) m
+
+-- what a mount has by its own part, or by another
+chosen : (front : ℕ) (keys : ℕ → KeyMap) (rec : Record) (m n : ℕ) (among same : Bool) → nat_eq m n ≡ same
+    → cond among (Some (record { front = front; kept = keys m })) (cond same (Some (record { front = front; kept = keys n })) (rec m)) ≡ cond (same || among) (Some (record { front = front; kept = keys m })) (rec m)
+chosen front keys rec m n true true is = refl
+chosen front keys rec m n true false is = refl
+chosen front keys rec m n false true is = ap (λ k. Some (record { front = front; kept = keys k })) (sym (eqb-true m n is))
+chosen front keys rec m n false false is = refl
+
+-- the parts of some mounts
+pub kept-at : (front : ℕ) (keys : ℕ → KeyMap) (mounts : List ℕ) (rec : Record) (m : ℕ) → kept_parts front (over (λ n. (n, keys n)) mounts) rec m ≡ keeping mounts front keys rec m
+kept-at front keys [] rec m = refl
+kept-at front keys (n ∷ mounts) rec m =
+    kept-at front keys mounts (with_part front (n, keys n) rec) m
+    ∙ chosen front keys rec m n (is_among mounts m) (nat_eq m n) refl
+
+-- ---- one place
+
+set-same : {A : Type 0} (xs : List A) (i : ℕ) (x : A) → i < length xs → slice_get (set xs i x) i ≡ Some x
+set-same [] i x lt = absurd (omega arith)
+set-same (y ∷ xs) zero x lt = refl
+set-same (y ∷ xs) (suc i) x lt = set-same xs i x (omega arith)
+
+set-other : {A : Type 0} (xs : List A) (i m : ℕ) (x : A) → m ≢ i → slice_get (set xs i x) m ≡ slice_get xs m
+set-other [] i m x ne = refl
+set-other (y ∷ xs) zero zero x ne = absurd (ne refl)
+set-other (y ∷ xs) zero (suc m) x ne = refl
+set-other (y ∷ xs) (suc i) zero x ne = refl
+set-other (y ∷ xs) (suc i) (suc m) x ne = set-other xs i m x (λ e. ne (ap suc e))
+
+pub fetched_at-set : (places : List (Option code.Fetched)) (i : ℕ) (x : code.Fetched) (m : ℕ) → i < length places → fetched_at (set places i (Some x)) m ≡ cond (nat_eq m i) (Some (fetched_of x)) (fetched_at places m)
+fetched_at-set places i x m lt = by (nat_eq m i) refl
+  where
+    by : (b : Bool) → nat_eq m i ≡ b → fetched_at (set places i (Some x)) m ≡ cond b (Some (fetched_of x)) (fetched_at places m)
+    by true is = ap (fetched_at (set places i (Some x))) (eqb-true m i is) ∙ ap (option_and_then (option_map fetched_of)) (set-same places i (Some x) lt)
+    by false is = ap (option_and_then (option_map fetched_of)) (set-other places i m (Some x) (λ e. let same : nat_eq m i ≡ true = eq-eqb m i e in absurd cc))

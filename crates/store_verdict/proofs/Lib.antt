@@ -1,0 +1,8 @@
+pub mod KeepLemmas
+pub mod ChangeSetLemmas
+pub mod DifferLemmas
+pub mod FileLemmas
+pub mod TextLemmas
+pub mod SetLemmas
+pub mod LateLemmas
+pub mod PrepareLemmas

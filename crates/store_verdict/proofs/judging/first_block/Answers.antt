@@ -1,0 +1,22 @@
+-- The first blocked mount is told.
+use Rattle.std.proofs.Common.{◌≡◌, ℕ, get_or, slice_get, Some, sym, ap, ◌∙◌}
+use Rattle.std.specs.Option.{option_map}
+use Rattle.std.proofs.lemmas.Option.{slice_get-get_or}
+use Rattle.general_words.proofs.Searches.{first_some-found, first_some-next}
+use Rattle.model_store.specs.Verdicts.{Conflict, conflict_at}
+use Rattle.store_verdict.specs.PreparedView.{front_of}
+use Rattle.store_verdict.proofs.judging.first_block.Goals as goal
+
+pub returns-in-Some : goal.returns-in-Some
+returns-in-Some c =
+    let m : ℕ = get_or c.as_slice-mount-items.result.now c.loop-mount.mount-index 0 in
+    sym (first_some-found (conflict_at c.args.history.now.commits (front_of c.args.set.now.seen)) c.args.set.now.touched c.loop-mount.mount-index m (Conflict m c.in-Some.by)
+    (sym (slice_get-get_or c.as_slice-mount-items.result.now c.loop-mount.mount-index 0 c.loop-mount-test.true) ∙ ap (λ ms. slice_get ms c.loop-mount.mount-index) c.as_slice-mount-items.ensures)
+    c.loop-mount.invariant (sym c.blocking.ensures ∙ ap (option_map (Conflict m)) c.in-Some.is))
+
+pub loop-mount-preserved : goal.loop-mount-preserved
+loop-mount-preserved c =
+    let m : ℕ = get_or c.as_slice-mount-items.result.now c.loop-mount.mount-index 0 in
+    first_some-next (conflict_at c.args.history.now.commits (front_of c.args.set.now.seen)) c.args.set.now.touched c.loop-mount.mount-index m
+    (sym (slice_get-get_or c.as_slice-mount-items.result.now c.loop-mount.mount-index 0 c.loop-mount-test.true) ∙ ap (λ ms. slice_get ms c.loop-mount.mount-index) c.as_slice-mount-items.ensures)
+    c.loop-mount.invariant (sym c.blocking.ensures ∙ ap (option_map (Conflict m)) c.in_default.is)

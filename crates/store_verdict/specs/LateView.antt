@@ -1,0 +1,26 @@
+-- Verdicts as the code has them, seen as the definitions have them.
+use Rattle.std.specs.Prelude.{ℕ, nat_lt, if◌then◌else◌, Option}
+use Rattle.std.specs.Option.{option_map}
+use Rattle.general_words.specs.Saturated.{saturated}
+use Rattle.commit_log.specs.CommitView.{commit_of}
+use Rattle.commit_log.specs.declared.commits.Commit.{Commit}
+use Rattle.model_history.specs.History.{heaviest_history}
+use Rattle.model_store.specs.Verdicts as model
+use Rattle.store_verdict.specs.declared.judging.Block.{Block}
+use Rattle.store_verdict.specs.declared.judging.Late.{Late}
+use Rattle.store_verdict.specs.declared.judging.Late.TheVariants.{Same, Conflict, DatabaseFull, HistoryFull, Commits}
+
+abbrev pub late_of : Late → model.Late
+late_of (Same aside) = model.Same aside
+late_of (Conflict mount by) = model.Conflict mount by
+late_of (DatabaseFull weight) = model.DatabaseFull weight
+late_of (HistoryFull weight) = model.HistoryFull weight
+late_of (Commits commit aside) = model.Commits (commit_of commit) aside
+
+-- a blocked mount is a conflict
+abbrev pub conflict_of : Option Block → Option model.Late
+conflict_of block = option_map (λ b. model.Conflict b.mount b.by) block
+
+-- a commit, unless the history with it weighs too much
+abbrev pub unless_full : ℕ → Commit → ℕ → Late
+unless_full weight commit aside = if nat_lt heaviest_history weight then HistoryFull (saturated weight) else Commits commit aside

@@ -1,0 +1,11 @@
+pub mod RecordView
+pub mod ProcKeys
+pub mod Kept
+pub mod Changing
+pub mod Touching
+pub mod PreparedView
+pub mod LateView
+pub mod Seeing
+pub mod Wanting
+pub mod Filing
+pub mod Preparing

@@ -1,0 +1,88 @@
+//! Changes of different names, over one sorted vector. No contract speaks of the vector.
+ghost use Rattle.std.specs.Prelude.{◌≡◌, IfOk, OnOk, map as over};
+ghost use Rattle.std.specs.FinMap as map;
+ghost use Rattle.std.specs.Option.{option_map, option_or};
+ghost use Rattle.key_set.specs.EntryView.{entry_of};
+ghost use Rattle.model_history.specs.Changes.{change_at};
+ghost use Rattle.model_names.specs.Name.{Name};
+ghost use Rattle.commit_log.specs.CommitView.{change_of};
+
+use commit_log::Change;
+use key_meta::{List, Memory};
+use key_name::KeyName;
+use key_set::{Entry, KeySet};
+use sorted_map::SortedMap;
+use std::alloc::Global;
+use std::marker::Model;
+
+/// A new entry for each of some names, or none where the key is removed.
+#[derive(Debug, Drop)]
+pub struct ChangeSet {
+    changes: SortedMap<KeyName, Option<Entry>>,
+}
+
+impl Model for ChangeSet {
+    ghost use Rattle.model_history.specs.Changes.{Changes};
+    ghost use Rattle.store_verdict.specs.Changing.{changes_in, coded_changes};
+
+    ghost Value = { Changes };
+
+    ghost coded = { coded_changes };
+
+    ghost view = { λ s. changes_in s.changes };
+}
+
+impl ChangeSet {
+    /// No changes.
+    pub fn new(alloc: Global) -> ChangeSet
+        ensures { result ≡ map.empty }
+    {
+        ChangeSet {
+            changes: SortedMap::new(alloc),
+        }
+    }
+
+    /// Gives a name a change, in place of the one that it had.
+    pub fn put(&mut self, name: KeyName, entry: Option<Entry>) -> Result<(), Memory>
+        ensures { OnOk result (self.new ≡ map.insert self.old name (option_map entry_of entry)) }
+    {
+        let _former = self.changes.insert(name, entry)?;
+        Ok(())
+    }
+
+    /// A copy of the changes, in name order.
+    pub fn list(&self, alloc: Global) -> Result<List<Change>, Memory>
+        ensures { IfOk result (λ changes. over change_of changes ≡ map.entries self.now) }
+    {
+        let changes = copy_of_changes(alloc, self.changes.entries())?;
+        Ok(List::from_vec(changes))
+    }
+}
+
+/// Changes again, in memory of their own.
+fn copy_of_changes(
+    alloc: Global,
+    changes: &[(KeyName, Option<Entry>)],
+) -> Result<Vec<Change>, Memory>
+    ensures { IfOk result (λ copied. over change_of copied.items ≡ over (λ change. (change.0, option_map entry_of change.1)) changes.now) }
+{
+    let mut copied = Vec::with_capacity(alloc, changes.len())?;
+    for change in changes {
+        copied.push(copy_of_change(&change.0, &change.1)?)?;
+    }
+    Ok(copied)
+}
+
+/// A change again, in memory of its own.
+fn copy_of_change(name: &KeyName, entry: &Option<Entry>) -> Result<Change, Memory>
+    ensures { IfOk result (λ change. change_of change ≡ (name.now, option_map entry_of entry.now)) }
+{
+    let name = name.copy()?;
+    match entry {
+        Some(entry) => Ok(Change {
+            name,
+            entry: Some(entry.copy()?),
+        }),
+        None => Ok(Change { name, entry: None }),
+    }
+}

@@ -1,0 +1,85 @@
+//! What a get gives a handle.
+ghost use Rattle.std.specs.Prelude.{◌≡◌, IfOk, map as over};
+ghost use Rattle.general_words.specs.Searches.{first_some};
+ghost use Rattle.model_store.specs.Events.{first_bad, got, shows_proc};
+ghost use Rattle.model_store.specs.Store.{Store};
+ghost use Rattle.set_split.specs.Parts.{in_reach};
+ghost use Rattle.store_verdict.specs.Preparing.{IsPlan, bad_at, is_bad_at};
+ghost use Rattle.store_verdict.specs.RecordView.{handle_of, proc_of};
+
+use crate::{Plan, Record};
+use key_meta::Memory;
+use key_name::{KeyName, Namespace};
+use key_set::KeySet;
+use mount_table::MountTable;
+use mounted_files::Cause;
+use set_split::{involved, split, unite};
+use std::alloc::Global;
+
+/// The lowest involved mount that is bad.
+pub fn first_bad(alloc: Global, plan: &Plan, parent: &KeyName) -> Result<Option<usize>, Memory>
+    ensures { IfOk result (λ bad. (store : Store) → IsPlan store plan.now → bad ≡ first_bad store parent.now) }
+{
+    let mounts = involved(alloc, plan.table.points(), parent)?;
+    Ok(first_bad_of(plan.causes.as_slice(), mounts.as_slice()))
+}
+
+/// The first of some mounts that is bad.
+fn first_bad_of(causes: &[Option<Cause>], mounts: &[usize]) -> Option<usize>
+    ensures { result ≡ first_some (bad_at causes.now) mounts.now }
+{
+    for mount in mounts {
+        if is_bad(causes, *mount) {
+            return Some(*mount);
+        }
+    }
+    None
+}
+
+/// Whether a mount is bad.
+fn is_bad(causes: &[Option<Cause>], mount: usize) -> bool
+    ensures { result ≡ is_bad_at causes.now mount }
+{
+    match causes.get(mount) {
+        Some(Some(_)) => true,
+        _ => false,
+    }
+}
+
+/// The keys that a get of a parent gives a handle: those of the involved mounts, and where the parent is cascading or in `proc` the handle's own
+/// too.
+pub fn got(
+    alloc: Global,
+    table: &MountTable,
+    rec: &Record,
+    keys: &KeySet,
+    parent: &KeyName,
+) -> Result<KeySet, Memory>
+    ensures { IfOk result (λ found. (store : Store) → store.mounts ≡ table.now → store.procs (handle_of rec.now) ≡ proc_of rec.now → found ≡ got store keys.now (handle_of rec.now) parent.now) }
+{
+    let mut found = reached(alloc, table, keys, parent)?;
+    if shows_proc(parent.namespace()) {
+        found.append_all(rec.proc().copy()?)?;
+    }
+    Ok(found)
+}
+
+/// The keys that some involved mount owns.
+fn reached(
+    alloc: Global,
+    table: &MountTable,
+    keys: &KeySet,
+    parent: &KeyName,
+) -> Result<KeySet, Memory>
+    ensures { IfOk result (λ found. found ≡ in_reach (over (λ mount. mount.at) table.now) parent.now keys.now) }
+{
+    let parts = split(alloc, table.points(), parent, keys)?;
+    unite(alloc, parts)
+}
+
+/// Whether a get shows the handle's own keys.
+fn shows_proc(namespace: Namespace) -> bool
+    ensures { result ≡ shows_proc namespace }
+{
+    namespace == Namespace::Cascading || namespace == Namespace::Proc
+}

@@ -1,0 +1,122 @@
+//! What the history decides of a prepared set.
+ghost use Rattle.std.specs.Prelude.{◌≡◌, ◌++◌, ◌∷◌, [], IfOk};
+ghost use Rattle.std.specs.Option.{option_map};
+ghost use Rattle.general_words.specs.Saturated.{saturated};
+ghost use Rattle.model_history.specs.Changes.{after};
+ghost use Rattle.model_history.specs.History.{history_weight};
+ghost use Rattle.model_maps.specs.KeyMap as maps;
+ghost use Rattle.model_store.specs.Verdicts.{IsLate, Conflict, commit_of, conflict, conflict_at};
+ghost use Rattle.commit_log.specs.CommitView as log;
+ghost use Rattle.store_verdict.specs.LateView.{late_of, conflict_of, unless_full};
+ghost use Rattle.store_verdict.specs.PreparedView.{prepared_of};
+
+use crate::prepared::{Prepared, front_of};
+use commit_log::{Commit, HEAVIEST_HISTORY, History};
+use key_meta::{List, Memory};
+use key_set::HEAVIEST_MAP;
+use std::alloc::Global;
+
+/// What becomes of a prepared set. Weights are at most `u64::MAX`.
+#[derive(Debug, Drop)]
+pub enum Late {
+    /// No mount is touched. So many keys were left aside, since no involved mount owns them.
+    Same { left_aside: u64 },
+    /// Of a mount there is a later commit: the number of the first one behind the front of the set.
+    Conflict { mount: usize, by: u64 },
+    /// The map after the set would weigh more than 16,777,216: so much.
+    DatabaseFull { weight: u64 },
+    /// The history with the set would weigh more than 67,108,864: so much.
+    HistoryFull { weight: u64 },
+    /// The set is a commit.
+    Commits { commit: Commit, left_aside: u64 },
+}
+
+/// A mount of a set, and the commit that blocks it.
+#[derive(Clone, Copy, Debug)]
+pub struct Block {
+    pub mount: usize,
+    pub by: u64,
+}
+
+/// What becomes of a prepared set by the commits so far and what the map after it weighs, which may be given as `u64::MAX` where it
+/// is more.
+///
+/// The first of these applies: `Same`, where no mount is touched; `Conflict`, for the lowest touched mount that a commit behind the set's
+/// front touches, with the first such commit; `DatabaseFull`; `HistoryFull`; `Commits`.
+pub fn judge(
+    alloc: Global,
+    history: &History,
+    weight: u64,
+    set: &Prepared,
+) -> Result<Late, Memory>
+    ensures { IfOk result (λ made. (keys : maps.KeyMap) → weight ≡ saturated (maps.weight (after keys set.now.changes)) → IsLate history.now.commits keys (prepared_of set.now) (late_of made)) }
+{
+    if set.touched.as_slice().is_empty() {
+        return Ok(Late::Same {
+            left_aside: set.aside,
+        });
+    }
+    if let Some(block) = first_block(history, set) {
+        return Ok(Late::Conflict {
+            mount: block.mount,
+            by: block.by,
+        });
+    }
+    if weight > HEAVIEST_MAP {
+        return Ok(Late::DatabaseFull { weight });
+    }
+    Ok(unless_full(history, commit_of(alloc, set)?, set.aside))
+}
+
+/// The lowest touched mount that a commit blocks.
+fn first_block(history: &History, set: &Prepared) -> Option<Block>
+    ensures { conflict_of result ≡ conflict history.now.commits (prepared_of set.now) }
+{
+    for mount in set.touched.as_slice() {
+        let mount = *mount as usize;
+        if let Some(by) = blocking(history, set, mount) {
+            return Some(Block { mount, by });
+        }
+    }
+    None
+}
+
+/// The commit that blocks a mount.
+fn blocking(history: &History, set: &Prepared, mount: usize) -> Option<u64>
+    ensures { option_map (Conflict mount) result ≡ conflict_at history.now.commits (prepared_of set.now).fronts mount }
+{
+    history.first_after(mount, front_of(set.seen.as_slice(), mount)?)
+}
+
+/// The commit of a set.
+fn commit_of(alloc: Global, set: &Prepared) -> Result<Commit, Memory>
+    ensures { IfOk result (λ commit. log.commit_of commit ≡ commit_of (prepared_of set.now)) }
+{
+    Ok(Commit {
+        handle: set.handle,
+        touched: copy_of_numbers(alloc, set.touched.as_slice())?,
+        changes: set.changes.list(alloc)?,
+    })
+}
+
+/// A commit, unless the history with it would weigh too much.
+fn unless_full(history: &History, commit: Commit, left_aside: u64) -> Late
+    ensures { result ≡ unless_full (history_weight (history.now.commits ++ log.commit_of commit ∷ [])) commit left_aside }
+{
+    let weight = history.weight().saturating_add(commit.weight());
+    if weight > HEAVIEST_HISTORY {
+        return Late::HistoryFull { weight };
+    }
+    Late::Commits { commit, left_aside }
+}
+
+/// The same numbers again.
+fn copy_of_numbers(alloc: Global, numbers: &[u32]) -> Result<List<u32>, Memory>
+    ensures { IfOk result (λ copied. copied ≡ numbers.now) }
+{
+    let mut copied = Vec::with_capacity(alloc, numbers.len())?;
+    for number in numbers {
+        copied.push(*number)?;
+    }
+    Ok(List::from_vec(copied))
+}

@@ -1,0 +1,76 @@
+//! What a set of keys at a parent makes, against what its handle keeps, or why it is refused.
+ghost use Rattle.std.specs.Prelude.{◌≡◌, ◌<◌, IfErr, IfOk, Some, length};
+ghost use Rattle.std.specs.List.{AllByRecursion};
+ghost use Rattle.general_words.specs.Memory.{UnlessMemory};
+ghost use Rattle.model_store.specs.Fitting.{NotFetched};
+ghost use Rattle.model_store.specs.Store.{Store};
+ghost use Rattle.mounted_files.specs.Short.{AreShort};
+ghost use Rattle.store_verdict.specs.Preparing.{IsMade, IsPlan, IsRefused, fault_of};
+ghost use Rattle.store_verdict.specs.RecordView.{handle_of, record_of};
+ghost use Rattle.store_verdict.specs.declared.faults.PrepareFault.TheVariants as fault;
+
+use crate::seeing::{Seeing, all_seen};
+use crate::texts::texts_of;
+use crate::wanting::wanted_of;
+use crate::{Plan, PrepareFault, Prepared, Record};
+use key_meta::Memory;
+use key_name::KeyName;
+use key_set::KeySet;
+use mount_table::MountTable;
+use set_split::involved;
+use std::alloc::Global;
+use storage_api::Formats;
+
+/// What a set of keys at a parent makes, against what its handle keeps.
+///
+/// The keys that an involved mount owns are wanted there, in place of those that the record keeps of it. It is touched where they differ.
+/// What its file is to hold are the wanted keys and those that it keeps for other mounts.
+///
+/// The first of these applies: `NotFetched`, for the lowest involved mount that the record has no front of; `ValueTooLong`, for the first key
+/// that an involved mount owns with too long a text, its value before its metadata; `FileTooLarge` with a weight, for the lowest touched
+/// mount whose file would hold keys of more than 16,777,216; `NotStorable`, for the lowest one whose format can't hold these keys;
+/// `FileTooLarge` with a length, for the lowest one whose text would have more than 1,048,576 bytes; `BadTable`, where the keys wanted for
+/// `system:/elektra` make no table.
+pub fn prepare<F: Formats>(
+    alloc: Global,
+    formats: &F,
+    plan: &Plan,
+    rec: &Record,
+    parent: &KeyName,
+    keys: &KeySet,
+) -> Result<Prepared, PrepareFault>
+    requires shadows { AllByRecursion AreShort plan.now.shadows }
+    ensures made { IfOk result (λ set. (store : Store) → IsPlan store plan.now → IsMade (record { text = F.text; IsStorable = F.is_storable; BreaksAt = F.breaks_at }) store (handle_of rec.now) (record_of rec.now) parent.now keys.now set) }
+    ensures refused { IfErr result (λ why. UnlessMemory fault.Memory ((store : Store) → IsPlan store plan.now → IsRefused (record { text = F.text; IsStorable = F.is_storable; BreaksAt = F.breaks_at }) store (handle_of rec.now) (record_of rec.now) parent.now keys.now why) why) }
+{
+    let mounts = involved(alloc, plan.table.points(), parent)?;
+    let seen = match all_seen(alloc, rec, mounts.as_slice())? {
+        Seeing::All { seen } => seen,
+        Seeing::Missing { mount } => return Err(not_fetched(&plan.table, mount)?),
+    };
+    let wanted = wanted_of(alloc, plan.table.points(), rec, parent, keys)?;
+    let texts = texts_of(alloc, formats, plan, mounts.as_slice(), keys, wanted.parts.as_slice())?;
+    Ok(Prepared {
+        handle: rec.handle(),
+        seen,
+        keys: keys.copy()?,
+        touched: wanted.touched,
+        wanted: wanted.parts,
+        changes: wanted.changes,
+        aside: wanted.aside,
+        texts,
+    })
+}
+
+/// A mount was not fetched.
+fn not_fetched(table: &MountTable, mount: usize) -> Result<PrepareFault, Memory>
+    requires { mount < length table.now }
+    ensures { IfOk result (λ why. fault_of table.now (NotFetched mount) ≡ Some why) }
+{
+    let Some(mount) = table.mount(mount) else {
+        unreachable!()
+    };
+    Ok(PrepareFault::NotFetched {
+        mount: mount.at.copy()?,
+    })
+}
