@@ -1,5 +1,5 @@
 -- What is refused of the files of touched mounts, mount by mount, is what the definitions refuse of a set.
-use Rattle.std.proofs.Common.{◌≡◌, ◌⊎◌, ℕ, zero, suc, ◌+◌, nat_lt, Bool, true, false, cond, List, [], ◌∷◌, ◌++◌, length, take, map as over, filter_map, slice_get, Option, Some, None, option_and_then, IsSomeAnd, Result, Ok, Err, inl, inr, refl, sym, ap, ap₂, subst, ◌∙◌}
+use Rattle.std.proofs.Common.{◌≡◌, ◌⊎◌, ℕ, zero, suc, ◌+◌, nat_lt, Bool, true, false, cond, List, [], ◌∷◌, ◌++◌, length, take, filter_map, slice_get, Option, Some, None, option_and_then, IsSomeAnd, Result, Ok, Err, inl, inr, refl, sym, ap, ap₂, subst, ◌∙◌}
 use Rattle.std.specs.List.{AllByRecursion, cons_option}
 use Rattle.std.specs.Option.{option_map, option_or}
 use Rattle.backend_files.specs.WholeFile.{longest_file}
@@ -20,7 +20,7 @@ use Rattle.mounted_files.specs.Setting.{first_long_in}
 use Rattle.mounted_files.specs.declared.changes.Change.{Change}
 use Rattle.mounted_files.specs.declared.verdicts.Verdict.{Verdict}
 use Rattle.mounted_files.specs.declared.verdicts.Verdict.TheVariants as verdict
-use Rattle.model_store.specs.Fitting.{Early, NotFetched, ValueTooLong, TooHeavy, NotStorable, TooLong, BadTable, too_heavy, too_long, bad_table, heavy_contents, long_text, fault_of_table, IsStorableAt, BreaksAtMount}
+use Rattle.model_store.specs.Fitting.{Early, ValueTooLong, TooHeavy, NotStorable, TooLong, too_heavy, too_long, bad_table, heavy_contents, long_text, fault_of_table, IsStorableAt, BreaksAtMount}
 use Rattle.model_store.specs.Sets.{Prepared}
 use Rattle.model_store.specs.Store.{Store, Formats, points_of, contents}
 use Rattle.model_store.specs.Verdicts.{Follows, IsEarly, BreaksFirst, wanted_in, not_fetched, long_value, before_formats, behind_formats}
@@ -198,17 +198,17 @@ module _ (formats : Formats) (store : Store) (set : Prepared) where
     pub early : IsEarly formats store set answer
     pub agrees : Agrees answer refusal
 
+  abbrev Otherwise : Option Early → Type 0
+  Otherwise answer = BreaksFirst formats store set answer ⊎ (AllByRecursion (IsStorableAt formats store wanted) set.touched × (answer ≡ behind_formats formats store set))
+
+  abbrev Rest : Option Verdict → Type 0
+  Rest refusal = IsSomeAnd refusal (Breaks formats.IsStorable formats.BreaksAt (filter_map made set.touched)) ⊎ (AreStorable formats.IsStorable (filter_map made set.touched) × (refusal ≡ late_refusal formats.text (filter_map made set.touched)))
+
   -- what is refused of the files is refused of the set, where all involved mounts were fetched
   pub bridge : (refusal : Option Verdict) → not_fetched set ≡ None → Prepares formats.text formats.IsStorable formats.BreaksAt (points_of store) set.involved set.keys (filter_map made set.touched) refusal → Bridge refusal
   bridge refusal fetched prepares =
       by (option_or (long_value store set) (first_some (too_heavy store wanted) set.touched)) refl (early_refusal (points_of store) set.involved set.keys (filter_map made set.touched)) early-agrees prepares
     where
-      abbrev Otherwise : Option Early → Type 0
-      Otherwise answer = BreaksFirst formats store set answer ⊎ (AllByRecursion (IsStorableAt formats store wanted) set.touched × (answer ≡ behind_formats formats store set))
-
-      abbrev Rest : Type 0
-      Rest = IsSomeAnd refusal (Breaks formats.IsStorable formats.BreaksAt (filter_map made set.touched)) ⊎ (AreStorable formats.IsStorable (filter_map made set.touched) × (refusal ≡ late_refusal formats.text (filter_map made set.touched)))
-
       before_is : (o : Option Early) → option_or (long_value store set) (first_some (too_heavy store wanted) set.touched) ≡ o → before_formats store set ≡ o
       before_is o is = ap (λ first. option_or first (option_or (long_value store set) (first_some (too_heavy store wanted) set.touched))) fetched ∙ is
 
@@ -220,20 +220,20 @@ module _ (formats : Formats) (store : Store) (set : Prepared) where
           record {
             answer = Some why;
             early = subst (λ (o : Option Early). Follows o (Some why) (Otherwise (Some why))) (sym none)
-              (inl (record {
-                before = at.front;
-                mount = at.mount;
-                behind = at.rest;
-                stand = at.stand;
-                storable = storable-at at.front (subst (λ (cs : List Change). AreStorable formats.IsStorable cs) (sym at.before_is) h.storable);
-                name = joined h.change.mount.at h.key;
-                breaks = breaks-at at.mount h.change h.key at.is h.breaks;
-                is = refl;
-              }));
+                (inl (record {
+                  before = at.front;
+                  mount = at.mount;
+                  behind = at.rest;
+                  stand = at.stand;
+                  storable = storable-at at.front (subst (λ (cs : List Change). AreStorable formats.IsStorable cs) (sym at.before_is) h.storable);
+                  name = joined h.change.mount.at h.key;
+                  breaks = breaks-at at.mount h.change h.key at.is h.breaks;
+                  is = refl;
+                }));
             agrees = subst (λ (o : Option Verdict). Agrees (Some why) o) (sym (is ∙ ap Some h.is)) (fault-at at.mount h.change (joined h.change.mount.at h.key) at.is);
           }
 
-      by : (e : Option Early) → option_or (long_value store set) (first_some (too_heavy store wanted) set.touched) ≡ e → (v : Option Verdict) → Agrees e v → files.Follows v refusal Rest → Bridge refusal
+      by : (e : Option Early) → option_or (long_value store set) (first_some (too_heavy store wanted) set.touched) ≡ e → (v : Option Verdict) → Agrees e v → files.Follows v refusal (Rest refusal) → Bridge refusal
       by (Some why) is (Some v) h p = record {
         answer = Some why;
         early = subst (λ (o : Option Early). Follows o (Some why) (Otherwise (Some why))) (sym (before_is (Some why) is)) refl;
@@ -246,9 +246,9 @@ module _ (formats : Formats) (store : Store) (set : Prepared) where
         answer = behind_formats formats store set;
         early = subst (λ (o : Option Early). Follows o (behind_formats formats store set) (Otherwise (behind_formats formats store set))) (sym (before_is None is)) (inr (storable-at set.touched can.0, refl));
         agrees = subst (λ (o : Option Verdict). Agrees (behind_formats formats store set) o) (sym can.1)
-          (agrees-or (first_some (too_long formats store wanted) set.touched) (first_some (files.too_long formats.text) (filter_map made set.touched)) _ _
-          (agrees-first (too_long formats store wanted) (files.too_long formats.text) long-agrees set.touched)
-          (agrees-first (bad_table store wanted) files.bad_table table-agrees set.touched));
+            (agrees-or (first_some (too_long formats store wanted) set.touched) (first_some (files.too_long formats.text) (filter_map made set.touched)) _ _
+            (agrees-first (too_long formats store wanted) (files.too_long formats.text) long-agrees set.touched)
+            (agrees-first (bad_table store wanted) files.bad_table table-agrees set.touched));
       }
 
 -- ---- files one by one

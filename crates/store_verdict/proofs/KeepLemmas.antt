@@ -6,7 +6,7 @@ use Rattle.store_verdict.specs.RecordView.{fetched_at, fetched_of}
 use Rattle.store_verdict.specs.declared.records.Fetched as code
 use Rattle.model_maps.specs.KeyMap.{KeyMap}
 use Rattle.model_history.specs.History.{is_among}
-use Rattle.model_store.specs.Records.{Fetched, Record}
+use Rattle.model_store.specs.Records.{Record}
 use Rattle.model_store.specs.Cores.{keeping}
 use Rattle.store_verdict.specs.Kept.{with_part, kept_parts}
 

@@ -1,5 +1,5 @@
 -- What the history decides, step by step.
-use Rattle.std.proofs.Common.{◌≡◌, ℕ, ◌+◌, ◌<◌, ◌≤◌, nat_lt, Bool, true, false, cond, List, [], ◌∷◌, ◌++◌, length, Option, Some, None, refl, sym, ap, subst, ◌∙◌, arith}
+use Rattle.std.proofs.Common.{◌≡◌, ℕ, ◌<◌, ◌≤◌, nat_lt, Bool, true, false, cond, List, [], ◌∷◌, ◌++◌, length, Option, Some, None, refl, sym, ap, subst, ◌∙◌, arith}
 use Rattle.std.proofs.lemmas.Bool.{cond-true, cond-false, lt-ltb, le-ltb}
 use Rattle.general_words.specs.Saturated.{saturated}
 use Rattle.commit_log.specs.CommitView as log
@@ -8,7 +8,7 @@ use Rattle.model_maps.specs.KeyMap.{KeyMap, weight, heaviest_map}
 use Rattle.model_history.specs.Changes.{after}
 use Rattle.model_history.specs.History.{Commit, history_weight, heaviest_history}
 use Rattle.model_store.specs.Sets.{Prepared}
-use Rattle.model_store.specs.Verdicts.{Late, Same, Conflict, DatabaseFull, HistoryFull, Commits, Follows, IsLate, commit_of, conflict, if_untouched, if_heavy, if_full}
+use Rattle.model_store.specs.Verdicts.{Late, Same, DatabaseFull, HistoryFull, Commits, Follows, IsLate, commit_of, conflict, if_untouched, if_heavy, if_full}
 use Rattle.store_verdict.specs.declared.judging.Late.TheVariants as verdict
 use Rattle.store_verdict.specs.LateView.{late_of, unless_full}
 

@@ -21,17 +21,17 @@ use Rattle.mounted_files.specs.declared.changes.Change.{Change}
 use Rattle.mounted_files.specs.declared.verdicts.Verdict.{Verdict}
 use Rattle.set_split.specs.Involved.{involved_in}
 use Rattle.set_split.specs.Seen.{numbered}
-use Rattle.store_verdict.specs.Filing.{file_at, file_of, files_of, fault_for, HasTexts, IsRefusedFor}
+use Rattle.store_verdict.specs.Filing.{file_at, file_of, files_of, HasTexts, IsRefusedFor}
 use Rattle.store_verdict.specs.Preparing.{IsMade, IsPlan, IsRefused, fault_of}
 use Rattle.store_verdict.specs.PreparedView.{front_of, prepared_of}
 use Rattle.store_verdict.specs.Seeing.{AreSeen, unseen}
-use Rattle.store_verdict.specs.Wanting.{IsWanted, touched_at}
+use Rattle.store_verdict.specs.Wanting.{IsWanted}
 use Rattle.store_verdict.specs.declared.faults.PrepareFault.{PrepareFault}
 use Rattle.store_verdict.specs.declared.plans.Plan.{Plan}
 use Rattle.store_verdict.specs.declared.prepared.Prepared.{Prepared}
 use Rattle.store_verdict.specs.declared.prepared.Seen.{Seen}
 use Rattle.store_verdict.specs.declared.wanting.Wanted.{Wanted}
-use Rattle.store_verdict.proofs.FileLemmas.{Agrees, made, bridge, none-agrees, some-agrees}
+use Rattle.store_verdict.proofs.FileLemmas.{made, bridge, none-agrees, some-agrees}
 use Rattle.store_verdict.proofs.SetLemmas.{all-seen, not_fetched-is, seen-fronts, seen-mounts, set-is, touched-only, unseen-early}
 use Rattle.store_verdict.proofs.TextLemmas.{texts-are}
 
@@ -87,7 +87,7 @@ module _ (formats : Formats) (store : Store) (plan : Plan) (is : IsPlan store pl
       made-from texts has =
           let one : Prepared = record { handle = handle; seen = seen; keys = keys; touched = wanted.touched; wanted = wanted.parts; changes = wanted.changes; aside = wanted.aside; texts = texts } in
           let same : prepared_of one ≡ the_set = set-is (points_of store) rec parent keys handle (over (λ s. s.mount) seen) (front_of seen) wanted.touched wanted.changes wanted.aside
-            (seen-mounts rec seen (involved_in (points_of store) parent) well_seen) (seen-fronts rec seen (involved_in (points_of store) parent) well_seen) well_wanted.touched well_wanted.changes well_wanted.aside in
+          (seen-mounts rec seen (involved_in (points_of store) parent) well_seen) (seen-fronts rec seen (involved_in (points_of store) parent) well_seen) well_wanted.touched well_wanted.changes well_wanted.aside in
           let b = bridge formats store the_set None fetched (prepares None has.passed) in
           record {
             is = same;

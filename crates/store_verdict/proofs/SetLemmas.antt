@@ -12,14 +12,18 @@ use Rattle.model_store.specs.Fitting.{Early, NotFetched, too_heavy}
 use Rattle.model_store.specs.Records.{Record}
 use Rattle.model_store.specs.Sets as model
 use Rattle.model_store.specs.Sets.{only, kept, front_in, differs, wants, changes_of, changes_at, prepared}
-use Rattle.model_store.specs.Store.{Store, Formats, points_of}
+use Rattle.model_store.specs.Store.{Store, Formats}
 use Rattle.model_store.specs.Verdicts.{Follows, IsEarly, before_formats, if_unseen, long_value, not_fetched, wanted_in}
 use Rattle.model_store.proofs.Members.{among-first, among-rest, among-filter, only-there}
+use Rattle.model_store.proofs.Owners.{owned-among}
+use Rattle.mounted_files.specs.Setting.{first_long_in}
+use Rattle.mounted_files.specs.Short.{AreShort}
+use Rattle.mounted_files.proofs.ChangeLemmas.{owned-short}
 use Rattle.set_split.specs.Involved.{involved_in, is_involved}
 use Rattle.set_split.specs.Parts.{left_aside}
 use Rattle.set_split.specs.Seen.{numbered}
 use Rattle.set_split.specs.declared.parts.Part.{Part}
-use Rattle.store_verdict.specs.PreparedView.{front_of, if_mount}
+use Rattle.store_verdict.specs.PreparedView.{front_of}
 use Rattle.store_verdict.specs.Seeing.{AreSeen, unseen}
 use Rattle.store_verdict.specs.Wanting.{touched_at}
 use Rattle.store_verdict.specs.declared.prepared.Seen.{Seen}
@@ -134,6 +138,16 @@ part-mounts wanted [] [] e = refl
 part-mounts wanted [] (m ∷ ms) e = absurd cc
 part-mounts wanted (part ∷ parts) [] e = absurd cc
 part-mounts wanted (part ∷ parts) (m ∷ ms) e = ap₂ (λ x xs. x ∷ xs) (ap (λ x. x.0) (head _ _ _ _ e)) (part-mounts wanted parts ms (tail _ _ _ _ e))
+
+-- what is wanted for involved mounts is short, where no key that they own has a long text
+pub parts-short : (points : List Name) (keys : KeyMap) (mounts : List ℕ) → first_long_in points mounts keys ≡ None → (parts : List Part) (ms : List ℕ) → numbered parts ≡ over {B = ℕ × KeyMap} (λ m. (m, wants points keys m)) ms
+    → ((m : ℕ) → is_among ms m ≡ true → is_among mounts m ≡ true) → AllByRecursion (λ (part : Part). AreShort part.keys) parts
+parts-short points keys mounts none [] ms e within = tt
+parts-short points keys mounts none (part ∷ parts) [] e within = absurd cc
+parts-short points keys mounts none (part ∷ parts) (m ∷ ms) e within = (
+  subst (λ (k : KeyMap). AreShort k) (sym (ap (λ (x : ℕ × KeyMap). x.1) (head _ _ _ _ e))) (owned-short points keys mounts none m (λ name owned. owned-among points mounts m name (within m (among-first m ms)) owned)),
+  parts-short points keys mounts none parts ms (tail _ _ _ _ e) (λ k among. within k (among-rest m k ms among)),
+)
 
 -- ---- the set
 

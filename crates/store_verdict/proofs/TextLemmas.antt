@@ -1,5 +1,5 @@
 -- The texts of touched mounts by the names of their files, put one after the other, are those of the definitions.
-use Rattle.std.proofs.Common.{◌≡◌, ◌⊎◌, ℕ, Bool, true, false, cond, List, [], ◌∷◌, filter_map, fold, slice_get, Option, Some, None, inl, inr, refl, sym, ap, ap₂, subst, ◌∙◌}
+use Rattle.std.proofs.Common.{◌≡◌, ◌⊎◌, ℕ, Bool, true, false, cond, List, [], ◌∷◌, filter_map, fold, slice_get, Option, Some, None, inl, inr, refl, sym, ap, ap₂, ◌∙◌}
 use Rattle.std.specs.FinMap as map
 use Rattle.std.specs.List.{cons_option}
 use Rattle.std.specs.Option.{option_map, option_or}
@@ -10,10 +10,8 @@ use Rattle.general_words.proofs.Lookups.{tied_or_not}
 use Rattle.general_words.proofs.Texts.{text_cmp-total, text_cmp-IsAntisymmetric}
 use Rattle.model_files.specs.Files.{HaveOwnFiles, text_of}
 use Rattle.model_files.specs.Texts.{Texts, texts_at, with_text}
-use Rattle.model_maps.specs.KeyMap.{KeyMap}
 use Rattle.model_store.specs.Sets.{Prepared}
-use Rattle.model_store.specs.Store.{Store, Formats, contents}
-use Rattle.model_store.specs.Verdicts.{wanted_in}
+use Rattle.model_store.specs.Store.{Store, Formats}
 use Rattle.mount_table.specs.declared.mounts.Mount.{Mount}
 use Rattle.mounted_files.specs.Committing.{texts_of}
 use Rattle.mounted_files.specs.declared.changes.Change.{Change}

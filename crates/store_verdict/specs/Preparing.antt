@@ -8,7 +8,6 @@ use Rattle.model_names.specs.Name.{Name}
 use Rattle.model_store.specs.Fitting.{Early}
 use Rattle.model_store.specs.Fitting as early
 use Rattle.model_store.specs.Records.{Record}
-use Rattle.model_store.specs.Sets as model
 use Rattle.model_store.specs.Sets.{prepared, wants}
 use Rattle.model_store.specs.Store.{Store, Formats, points_of}
 use Rattle.model_store.specs.Verdicts.{IsEarly}

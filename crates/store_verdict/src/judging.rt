@@ -43,12 +43,7 @@ pub struct Block {
 ///
 /// The first of these applies: `Same`, where no mount is touched; `Conflict`, for the lowest touched mount that a commit behind the set's
 /// front touches, with the first such commit; `DatabaseFull`; `HistoryFull`; `Commits`.
-pub fn judge(
-    alloc: Global,
-    history: &History,
-    weight: u64,
-    set: &Prepared,
-) -> Result<Late, Memory>
+pub fn judge(alloc: Global, history: &History, weight: u64, set: &Prepared) -> Result<Late, Memory>
     ensures { IfOk result (λ made. (keys : maps.KeyMap) → weight ≡ saturated (maps.weight (after keys set.now.changes)) → IsLate history.now.commits keys (prepared_of set.now) (late_of made)) }
 {
     if set.touched.as_slice().is_empty() {

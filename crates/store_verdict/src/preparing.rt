@@ -49,7 +49,17 @@ pub fn prepare<F: Formats>(
         Seeing::Missing { mount } => return Err(not_fetched(&plan.table, mount)?),
     };
     let wanted = wanted_of(alloc, plan.table.points(), rec, parent, keys)?;
-    let texts = texts_of(alloc, formats, plan, mounts.as_slice(), keys, wanted.parts.as_slice())?;
+    let texts = match texts_of(
+        alloc,
+        formats,
+        plan,
+        mounts.as_slice(),
+        keys,
+        wanted.parts.as_slice(),
+    ) {
+        Ok(texts) => texts,
+        Err(why) => return Err(why),
+    };
     Ok(Prepared {
         handle: rec.handle(),
         seen,

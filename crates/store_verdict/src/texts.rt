@@ -85,10 +85,7 @@ fn file_at(
 }
 
 /// Texts as the files of an entry.
-fn file_texts(
-    alloc: Global,
-    texts: SortedMap<FileName, List<u8>>,
-) -> Result<List<FileText>, Memory>
+fn file_texts(alloc: Global, texts: SortedMap<FileName, List<u8>>) -> Result<List<FileText>, Memory>
     ensures { IfOk result (λ files. files ≡ over as_file texts) }
 {
     let mut texts = texts;

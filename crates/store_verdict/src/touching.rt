@@ -76,11 +76,7 @@ fn add_part(changes: &mut ChangeSet, rec: &Record, part: &Part) -> Result<(), Me
 }
 
 /// Adds what leads from some keys to others.
-fn add_difference(
-    changes: &mut ChangeSet,
-    before: &KeySet,
-    wanted: &KeySet,
-) -> Result<(), Memory>
+fn add_difference(changes: &mut ChangeSet, before: &KeySet, wanted: &KeySet) -> Result<(), Memory>
     ensures { OnOk result ((q : Name) → map.get changes.new q ≡ option_or (change_at before.now wanted.now q) (map.get changes.old q)) }
 {
     add_named(changes, before, wanted, before)?;

@@ -1,5 +1,5 @@
 -- The record has the fronts of those so far.
-use Rattle.std.proofs.Common.{◌≡◌, ℕ, nat_eq, true, take, map as over}
+use Rattle.std.proofs.Common.{◌≡◌, nat_eq, true, take, map as over}
 use Rattle.std.specs.List.{list_all}
 use Rattle.std.specs.Option.{option_eq}
 use Rattle.model_store.specs.Sets.{front_in}

@@ -1,5 +1,5 @@
 -- What is split and united again are the keys in reach.
-use Rattle.std.proofs.Common.{◌≡◌, ℕ, List, [], ◌∷◌, map as over, refl, sym, ap, subst, ◌∙◌}
+use Rattle.std.proofs.Common.{◌≡◌, ℕ, List, [], ◌∷◌, map as over, refl, ap, subst, ◌∙◌}
 use Rattle.model_maps.specs.KeyMap.{KeyMap}
 use Rattle.model_names.specs.Name.{Name}
 use Rattle.mount_table.specs.declared.mounts.Mount.{Mount}
@@ -21,5 +21,5 @@ returns c =
     let parts : numbered c.in_ok-parts.parts.parts ≡ parts_of points c.args.parent.now c.args.keys.now = c.in_ok-parts.ensures.parts ∙ ap (λ ps. parts_of ps c.args.parent.now c.args.keys.now) c.points.ensures.points in
     for_ok (λ found. found ≡ in_reach points c.args.parent.now c.args.keys.now) c.unite.result
     (λ found union. united-again points c.args.parent.now c.args.keys.now found
-      (subst (λ (maps : List KeyMap). IsUnion maps found) (maps-numbered c.in_ok-parts.parts.parts ∙ ap (over (λ (part : ℕ × KeyMap). part.1)) parts) union))
+    (subst (λ (maps : List KeyMap). IsUnion maps found) (maps-numbered c.in_ok-parts.parts.parts ∙ ap (over (λ (part : ℕ × KeyMap). part.1)) parts) union))
     c.unite.ensures

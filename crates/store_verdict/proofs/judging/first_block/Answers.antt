@@ -1,5 +1,5 @@
 -- The first blocked mount is told.
-use Rattle.std.proofs.Common.{◌≡◌, ℕ, get_or, slice_get, Some, sym, ap, ◌∙◌}
+use Rattle.std.proofs.Common.{ℕ, get_or, slice_get, sym, ap, ◌∙◌}
 use Rattle.std.specs.Option.{option_map}
 use Rattle.std.proofs.lemmas.Option.{slice_get-get_or}
 use Rattle.general_words.proofs.Searches.{first_some-found, first_some-next}

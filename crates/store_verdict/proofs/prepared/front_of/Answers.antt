@@ -1,5 +1,5 @@
 -- The first that is of the mount is told.
-use Rattle.std.proofs.Common.{cond, get_or, Some, None, sym, ap, ◌∙◌, eq-eqb}
+use Rattle.std.proofs.Common.{cond, get_or, Some, None, sym, ap, eq-eqb}
 use Rattle.std.proofs.lemmas.Bool.{ne_eqb}
 use Rattle.std.proofs.lemmas.Option.{slice_get-get_or}
 use Rattle.general_words.proofs.Searches.{first_some-found, first_some-next}

@@ -1,5 +1,5 @@
 -- Each turn puts one more part in its place.
-use Rattle.std.proofs.Common.{ℕ, cond, nat_eq, List, ◌∷◌, [], Some, ap, sym, ◌∙◌}
+use Rattle.std.proofs.Common.{ℕ, cond, nat_eq, ◌∷◌, [], Some, ap, sym, ◌∙◌}
 use Rattle.std.proofs.lemmas.List.{map-append}
 use Rattle.model_maps.specs.KeyMap.{KeyMap}
 use Rattle.set_split.specs.Seen.{numbered}

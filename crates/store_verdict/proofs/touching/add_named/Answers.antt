@@ -1,9 +1,7 @@
 -- Each turn looks at one name more.
-use Rattle.std.proofs.Common.{◌≡◌, ap, sym, ◌∙◌, map as over, take, Some, Bor}
+use Rattle.std.proofs.Common.{ap, sym, ◌∙◌, take}
 use Rattle.std.specs.FinMap as map
 use Rattle.general_words.proofs.Lists.{take-next}
-use Rattle.model_names.specs.Name.{Name}
-use Rattle.model_maps.specs.Entry.{Entry}
 use Rattle.store_verdict.specs.Touching.{with_change, with_changes}
 use Rattle.store_verdict.proofs.DifferLemmas.{name-at, with_changes-snoc}
 use Rattle.store_verdict.proofs.touching.add_named.Goals as goal

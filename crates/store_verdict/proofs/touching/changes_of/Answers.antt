@@ -1,5 +1,5 @@
 -- Each turn adds what changes for one more mount.
-use Rattle.std.proofs.Common.{ℕ, List, ◌∷◌, [], take, map as over, ap, sym, ◌∙◌, arith}
+use Rattle.std.proofs.Common.{ℕ, ◌∷◌, [], take, ap, sym, ◌∙◌, arith}
 use Rattle.std.specs.FinMap as map
 use Rattle.std.specs.Option.{option_or}
 use Rattle.std.proofs.lemmas.List.{map-append, take_all}

@@ -1,9 +1,9 @@
 -- Where nothing is kept, some keys differ from none.
-use Rattle.std.proofs.Common.{◌≡◌, ℕ, not, nat_eq, List, [], ◌∷◌, length, Option, None, refl, sym, ap, ◌∙◌, arith}
+use Rattle.std.proofs.Common.{◌≡◌, not, nat_eq, List, [], ◌∷◌, length, Option, None, refl, sym, ap, ◌∙◌, arith}
 use Rattle.std.proofs.lemmas.Bool.{ne_eqb}
 use Rattle.std.specs.Cmp.Lexicographic.{pointwise}
 use Rattle.std.specs.FinMap as map
-use Rattle.std.specs.Option.{option_copied, option_map, unwrap_or}
+use Rattle.std.specs.Option.{option_copied, unwrap_or}
 use Rattle.general_words.proofs.Maps.{entries-empty}
 use Rattle.key_set.specs.Same.{same_key, same_keys}
 use Rattle.model_names.specs.Name.{Name}

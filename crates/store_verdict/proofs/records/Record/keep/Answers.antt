@@ -1,8 +1,6 @@
 -- The parts of some mounts are kept of these.
-use Rattle.std.proofs.Common.{◌≡◌, ℕ, length, map as over, sym, ap, ◌∙◌, arith}
+use Rattle.std.proofs.Common.{◌≡◌, length, map as over, ap, ◌∙◌, arith}
 use Rattle.std.proofs.lemmas.List.{with_items_is}
-use Rattle.model_maps.specs.KeyMap.{KeyMap}
-use Rattle.model_store.specs.Cores.{keeping}
 use Rattle.set_split.specs.Seen.{numbered}
 use Rattle.store_verdict.specs.Kept.{kept_parts}
 use Rattle.store_verdict.specs.RecordView.{fetched_at}
