@@ -9,3 +9,4 @@ pub mod Seeing
 pub mod Wanting
 pub mod Filing
 pub mod Preparing
+pub mod Gets

@@ -1,11 +1,12 @@
 //! What a get gives a handle.
-ghost use Rattle.std.specs.Prelude.{◌≡◌, IfOk, map as over};
+ghost use Rattle.std.specs.Prelude.{◌≡◌, ◌≤◌, IfOk, OnErr, length, map as over};
 ghost use Rattle.general_words.specs.Searches.{first_some};
 ghost use Rattle.model_store.specs.Events.{first_bad, got, shows_proc};
 ghost use Rattle.model_store.specs.Store.{Store};
 ghost use Rattle.set_split.specs.Parts.{in_reach};
 ghost use Rattle.store_verdict.specs.Preparing.{IsPlan, bad_at, is_bad_at};
-ghost use Rattle.store_verdict.specs.RecordView.{handle_of, proc_of};
+ghost use Rattle.store_verdict.specs.Gets.{IsGetting};
+ghost use Rattle.store_verdict.specs.RecordView.{handle_of, places_of, proc_of, record_of};
 
 use crate::{Plan, Record};
 use key_meta::Memory;
@@ -15,6 +16,39 @@ use mount_table::MountTable;
 use mounted_files::Cause;
 use set_split::{involved, split, unite};
 use std::alloc::Global;
+
+/// What a get gives: keys, or the lowest involved mount that is bad.
+#[derive(Debug, Drop)]
+pub enum Getting {
+    Keys { keys: KeySet },
+    Bad { mount: usize },
+}
+
+/// What a get of a parent gives a handle, by the present keys and the number of commits so far. The record keeps that number and a copy for each
+/// involved mount, unless one of them is bad.
+pub fn get(
+    alloc: Global,
+    plan: &Plan,
+    keys: &KeySet,
+    front: u64,
+    rec: &mut Record,
+    parent: &KeyName,
+) -> Result<Getting, Memory>
+    requires { length plan.now.table ≤ places_of rec.old }
+    ensures got { IfOk result (λ made. (store : Store) → IsPlan store plan.now → store.procs (handle_of rec.old) ≡ proc_of rec.old → IsGetting store keys.now front parent.now rec.old rec.new made) }
+    ensures err { OnErr result (record_of rec.new ≡ record_of rec.old) }
+    ensures handle { handle_of rec.new ≡ handle_of rec.old }
+    ensures places { places_of rec.new ≡ places_of rec.old }
+    ensures proc { proc_of rec.new ≡ proc_of rec.old }
+{
+    if let Some(mount) = first_bad(alloc, plan, parent)? {
+        return Ok(Getting::Bad { mount });
+    }
+    let found = got(alloc, &plan.table, rec, keys, parent)?;
+    let parts = split(alloc, plan.table.points(), parent, keys)?;
+    rec.keep(front, parts.parts);
+    Ok(Getting::Keys { keys: found })
+}
 
 /// The lowest involved mount that is bad.
 pub fn first_bad(alloc: Global, plan: &Plan, parent: &KeyName) -> Result<Option<usize>, Memory>

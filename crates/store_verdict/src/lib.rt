@@ -18,7 +18,7 @@ mod wanting;
 
 pub use change_sets::ChangeSet;
 pub use faults::PrepareFault;
-pub use getting::{first_bad, got};
+pub use getting::{Getting, first_bad, get, got};
 pub use judging::{Late, judge};
 pub use plans::Plan;
 pub use prepared::{Prepared, Seen};
