@@ -2,6 +2,7 @@
 #![tactic(auto)]
 
 mod arrays;
+mod counting;
 mod cutting;
 mod faults;
 mod glob;

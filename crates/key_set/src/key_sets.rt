@@ -24,7 +24,7 @@ use std::marker::Model;
 /// An entry for each of some names.
 #[derive(Debug, Drop)]
 pub struct KeySet {
-    keys: ChunkedMap<KeyName, Entry>,
+    pub(crate) keys: ChunkedMap<KeyName, Entry>,
 }
 
 impl Model for KeySet {

@@ -1,6 +1,7 @@
 //! Keys with their entries, as a finite map in name order.
 #![tactic(auto)]
 
+mod counting;
 mod entries;
 mod iters;
 mod key_sets;
@@ -8,6 +9,7 @@ mod ranges;
 mod same;
 mod weights;
 
+pub use counting::ten_thousand_keys_take_21_steps;
 pub use entries::Entry;
 pub use iters::KeySetIter;
 pub use key_sets::{KeySet, equal_sets_are_the_same_map, the_keys_set_last_are_found};
