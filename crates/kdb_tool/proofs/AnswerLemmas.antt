@@ -1,14 +1,19 @@
 -- Answers by what was got, and by the mounts.
-use Rattle.std.specs.Prelude.{◌≡◌, ◌≢◌, ℕ, List, ◌∷◌, ◌++◌, [], slice_get, map as over, Option, Some, None, option_and_then}
+use Rattle.std.specs.Prelude.{◌≡◌, ◌≢◌, ℕ, ◌<◌, zero, suc, true, List, ◌∷◌, ◌++◌, [], length, slice_get, map as over, Option, Some, None, IsSomeAnd, option_and_then}
 use Rattle.std.specs.Option.{option_map}
 use Rattle.std.specs.List.{flat_map}
-use Rattle.std.proofs.Common.{refl, sym, ap, ◌∙◌, subst}
+use Rattle.std.proofs.Common.{refl, sym, ap, ◌∙◌, subst, arith}
+use Rattle.std.proofs.lemmas.List.{length-map}
 use Rattle.std.proofs.lemmas.Option.{none-some, same_Some, slice_get-map}
 use Rattle.std.proofs.lemmas.List.Folds.{flat_map-map}
 use Rattle.key_name.specs.Owner.{owner_of}
 use Rattle.model_names.specs.Name.{Name}
+use Rattle.model_names.specs.Namespaces.{has_files}
+use Rattle.mount_table.proofs.RootLemmas.{has_owner}
 use Rattle.mount_table.specs.declared.mounts.Mount.{Mount}
+use Rattle.mounted_files.specs.Files.{points_of}
 use Rattle.mounted_files.specs.Getting.{got, Gets}
+use Rattle.mounted_files.specs.Opening.{IsMadeByKeys}
 use Rattle.mounted_files.specs.declared.files.MountedFile.{MountedFile}
 use Rattle.mounted_files.specs.declared.refusals.GetFault.{GetFault}
 use Rattle.mounted_files.specs.declared.refusals.GetFault.TheVariants as faults
@@ -25,6 +30,27 @@ pub got-fault : (files : List MountedFile) (name parent : Name) (action : Action
 got-fault files name parent action fault answer parent_is gets no_memory is =
     subst (λ r. AnswersGot files name action r answer) (sym (ap (λ p. got files p) (sym parent_is) ∙ gets no_memory)) is
 
+-- a place within a list has something
+something : {A : Type 0} (xs : List A) (i : ℕ) → i < length xs → (x : A) × (slice_get xs i ≡ Some x)
+something [] i within = absurd (omega arith)
+something (x ∷ xs) zero within = (x, refl)
+something (x ∷ xs) (suc i) within = something xs i (omega (arith, within))
+
+-- a table has an owner of each key in files
+pub no-owner : (table : List Mount) (points : List Name) (name : Name) → IsMadeByKeys table → has_files name.namespace ≡ true → points ≡ over (λ mount. mount.at) table → None ≡ owner_of points name → ⊥
+no-owner table points name made in_files are none =
+    let owner = has_owner made.keys table name made.is in_files in
+    absurd (none-some owner.0 (none ∙ (ap (λ ps. owner_of ps name) are ∙ owner.2)))
+
+-- so one of the files of a table has it
+pub owner_in-there : (files : List MountedFile) (name : Name) → IsMadeByKeys (over (λ (file : MountedFile). file.mount) files) → has_files name.namespace ≡ true → (file : MountedFile) × (owner_in files name ≡ Some file)
+owner_in-there files name made in_files =
+    let owner = has_owner made.keys (over (λ (file : MountedFile). file.mount) files) name made.is in_files in
+    let within : owner.0 < length files = subst (λ n. owner.0 < n) (length-map files (λ (file : MountedFile). file.mount)) owner.1 in
+    let found = something files owner.0 within in
+    let at : owner_of (points_of files) name ≡ Some owner.0 = ap (λ points. owner_of points name) (sym (points-of_mounts files)) ∙ owner.2 in
+    (found.0, ap (λ o. option_and_then (λ i. slice_get files i) o) at ∙ found.1)
+
 -- the mount of the owner, by its number
 pub owner-found : (files : List MountedFile) (name : Name) (i : ℕ) → Some i ≡ owner_of (over (λ (mount : Mount). mount.at) (over (λ (file : MountedFile). file.mount) files)) name
     → slice_get (over (λ (file : MountedFile). file.mount) files) i ≡ option_map (λ file. file.mount) (owner_in files name)
@@ -32,19 +58,10 @@ owner-found files name i is =
     slice_get-map (λ (file : MountedFile). file.mount) files i
     ∙ ap (λ o. option_map (λ (file : MountedFile). file.mount) (option_and_then (λ k. slice_get files k) o)) (is ∙ ap (λ points. owner_of points name) (points-of_mounts files))
 
-pub owner-none : (files : List MountedFile) (name : Name) → None ≡ owner_of (over (λ (mount : Mount). mount.at) (over (λ (file : MountedFile). file.mount) files)) name
-    → None ≡ option_map (λ file. file.mount) (owner_in files name)
-owner-none files name is =
-    ap (λ o. option_map (λ (file : MountedFile). file.mount) (option_and_then (λ k. slice_get files k) o)) (is ∙ ap (λ points. owner_of points name) (points-of_mounts files))
-
 -- what `file` tells, by the mount of the owner
-pub told-owner : (name : Name) (found : Option MountedFile) (mount : Mount) → Some mount ≡ option_map (λ file. file.mount) found → done (mount.file ++ 10 ∷ []) ≡ file_told name found
-told-owner name None mount is = absurd (none-some mount (sym is))
-told-owner name (Some file) mount is = ap (λ (m : Mount). done (m.file ++ 10 ∷ [])) (same_Some mount file.mount is)
-
-pub told-nobody : (name : Name) (found : Option MountedFile) → None ≡ option_map (λ file. file.mount) found → file_told name None ≡ file_told name found
-told-nobody name None is = refl
-told-nobody name (Some file) is = absurd (none-some file.mount is)
+pub told-owner : (found : Option MountedFile) (mount : Mount) (answer : Answer) → Some mount ≡ option_map (λ file. file.mount) found → answer ≡ done (mount.file ++ 10 ∷ []) → IsSomeAnd found (λ file. answer ≡ file_told file)
+told-owner None mount answer is told = absurd (none-some mount (sym is))
+told-owner (Some file) mount answer is told = told ∙ ap (λ (m : Mount). done (m.file ++ 10 ∷ [])) (same_Some mount file.mount is)
 
 -- the lines of the mounts are those of their files
 pub lines-of-mounts : (files : List MountedFile) → flat_map line_of_mount (over (λ (file : MountedFile). file.mount) files) ≡ flat_map (λ file. line_of_mount file.mount) files

@@ -1,5 +1,5 @@
 -- A command line has one answer.
-use Rattle.std.specs.Prelude.{◌≡◌, ℕ, List, Result, Ok, Err}
+use Rattle.std.specs.Prelude.{◌≡◌, ℕ, List, Option, Some, None, IsSomeAnd, Result, Ok, Err}
 use Rattle.std.proofs.Common.{sym, ap, subst, ◌∙◌}
 use Rattle.model_names.specs.Name.{Name}
 use Rattle.model_maps.specs.KeyMap.{KeyMap}
@@ -12,7 +12,7 @@ use Rattle.tool_words.specs.Rows.{request}
 use Rattle.kdb_tool.specs.Answer.{Answer}
 use Rattle.tool_commands.specs.Step.{Step, Tells, Sets}
 use Rattle.tool_commands.specs.Commands.{parent_of, step_of}
-use Rattle.kdb_tool.specs.Answers.{AnswersStep, AnswersGot, AnswersIn, AnswersOpened, AnswersOver, AnswersRequest, Answers, answer_by}
+use Rattle.kdb_tool.specs.Answers.{AnswersStep, AnswersGot, AnswersIn, AnswersOpened, AnswersOver, AnswersRequest, Answers, answer_by, file_told, owner_in}
 use Rattle.all_formats.specs.Meanings as all
 use Rattle.all_formats.specs.Laws as laws
 use Rattle.mounted_files.specs.Opening.{IsMade}
@@ -27,9 +27,13 @@ got_once : (files : List MountedFile) (name : Name) (action : Action) (keys : Re
 got_once files name action (Ok keys) a b p q = step_once files (parent_of name action) (step_of keys name action) a b p q
 got_once files name action (Err fault) a b p q = p ∙ sym q
 
+file_once : (found : Option MountedFile) (a b : Answer) → IsSomeAnd found (λ file. a ≡ file_told file) → IsSomeAnd found (λ file. b ≡ file_told file) → a ≡ b
+file_once None a b p q = absurd p
+file_once (Some file) a b p q = p ∙ sym q
+
 in_once : (files : List MountedFile) (question : Question) (a b : Answer) → AnswersIn files question a → AnswersIn files question b → a ≡ b
 in_once files Mounts a b p q = p ∙ sym q
-in_once files (FileOf name) a b p q = p ∙ sym q
+in_once files (FileOf name) a b p q = file_once (owner_in files name) a b p q
 in_once files (On name action) a b p q = got_once files name action (got files (parent_of name action)) a b p q
 
 opened_once : (opened : Result (List MountedFile) OpenRefusal) (question : Question) (a b : Answer) → AnswersOpened opened question a → AnswersOpened opened question b → a ≡ b

@@ -1,5 +1,5 @@
 -- The answer to a command line over the files of a store. (This project's own.)
-use Rattle.std.specs.Prelude.{◌≡◌, ◌≢◌, ℕ, List, ◌∷◌, ◌++◌, [], Option, Some, None, option_and_then, slice_get, Result, Ok, Err}
+use Rattle.std.specs.Prelude.{◌≡◌, ◌≢◌, ℕ, List, ◌∷◌, ◌++◌, [], Option, IsSomeAnd, option_and_then, slice_get, Result, Ok, Err}
 use Rattle.std.specs.List.{flat_map}
 use Rattle.all_formats.specs.Meanings as all
 use Rattle.key_name.specs.Owner.{owner_of}
@@ -17,7 +17,7 @@ use Rattle.mounted_files.specs.declared.refusals.OpenRefusal.{OpenRefusal}
 use Rattle.mounted_files.specs.declared.refusals.OpenRefusal.TheVariants as refusals
 use Rattle.mounted_files.specs.declared.verdicts.Verdict.{Verdict}
 use Rattle.mounted_files.specs.declared.verdicts.Verdict.TheVariants.{ValueTooLong, FileTooLarge, NotStorable, BadTable, DatabaseFull, Same, Stores}
-use Rattle.tool_commands.specs.Lines.{too_long, bad_file, too_heavy, bad_table, value_too_long, file_too_large, not_storable, database_full, not_found, line_of_mount}
+use Rattle.tool_commands.specs.Lines.{too_long, bad_file, too_heavy, bad_table, value_too_long, file_too_large, not_storable, database_full, line_of_mount}
 use Rattle.tool_words.specs.Lines.{out_of_memory}
 use Rattle.kdb_tool.specs.Answer.{Answer, tells, done, stores, refused}
 use Rattle.tool_words.specs.Uses.{barred}
@@ -63,10 +63,9 @@ AnswersGot files name action (Err fault) answer = answer ≡ refused 5 (line_of_
 abbrev pub owner_in : List MountedFile → Name → Option MountedFile
 owner_in files name = option_and_then (λ i. slice_get files i) (owner_of (points_of files) name)
 
--- `file`: the file of a key, with a line feed
-abbrev pub file_told : Name → Option MountedFile → Answer
-file_told name (Some file) = done (file.mount.file ++ 10 ∷ [])
-file_told name None = refused 11 (not_found name)
+-- `file`: the name of a file, with a line feed
+abbrev pub file_told : MountedFile → Answer
+file_told file = done (file.mount.file ++ 10 ∷ [])
 
 -- `mounts`: a line for each mount, in the order of the table
 abbrev pub mounts_told : List MountedFile → Answer
@@ -75,7 +74,7 @@ mounts_told files = done (flat_map (λ file. line_of_mount file.mount) files)
 -- the answer to a question over mounted files
 abbrev pub AnswersIn : List MountedFile → Question → Answer → Type 0
 AnswersIn files Mounts answer = answer ≡ mounts_told files
-AnswersIn files (FileOf name) answer = answer ≡ file_told name (owner_in files name)
+AnswersIn files (FileOf name) answer = IsSomeAnd (owner_in files name) (λ file. answer ≡ file_told file)
 AnswersIn files (On name action) answer = AnswersGot files name action (got files (parent_of name action)) answer
 
 -- the line of what refuses an opening

@@ -1,5 +1,5 @@
 -- What is known of an answer whatever a disk tells. (This project's own.)
-use Rattle.std.specs.Prelude.{◌≡◌, ℕ, List, [], ◌∷◌}
+use Rattle.std.specs.Prelude.{◌≡◌, ℕ, List, []}
 use Rattle.tool_words.specs.Request.{Question, Mounts, FileOf, On, Request, Refuses, Bars, Asks}
 use Rattle.tool_words.specs.Uses.{barred}
 use Rattle.tool_commands.specs.Commands.{row_of}
@@ -9,7 +9,7 @@ use Rattle.kdb_tool.specs.Answer.{Answer, refused}
 -- the statuses that a question to the store may end with, beside 0 and 5
 abbrev pub own_statuses : Question → List ℕ
 own_statuses Mounts = []
-own_statuses (FileOf name) = 11 ∷ []
+own_statuses (FileOf name) = []
 own_statuses (On name action) = (row_of name action).statuses
 
 -- a question to the store ends so

@@ -1,7 +1,7 @@
 //! The answer to a question over the mounted files.
-ghost use Rattle.std.specs.Prelude.{◌≡◌, ◌≢◌, ℕ, List, ◌++◌, ◌∷◌, [], IfOk, OnOk, string_bytes};
+ghost use Rattle.std.specs.Prelude.{◌≡◌, ◌≢◌, ℕ, true, List, ◌++◌, ◌∷◌, [], Some, IfOk, OnOk, IsSomeAnd, string_bytes};
 ghost use Rattle.std.specs.List.{flat_map};
-ghost use Rattle.std.specs.Option.{option_copied, option_map};
+ghost use Rattle.std.specs.Option.{option_map};
 ghost use Rattle.mounted_files.specs.Getting.{got};
 ghost use Rattle.kdb_tool.specs.AnswerView.{answer_of};
 ghost use Rattle.tool_commands.specs.StepView.{seen_step};
@@ -13,8 +13,10 @@ ghost use Rattle.tool_commands.specs.Step.{TellsEnd};
 ghost use Rattle.kdb_tool.specs.Untold.{IsStatusOf};
 ghost use Rattle.kdb_tool.specs.Answers.{AnswersOpened, AnswersIn, AnswersGot, AnswersStep, AnswersSet, IsRefusedBy, answer_by, file_told, mounts_told, owner_in, line_of_get, line_of_opening};
 ghost use Rattle.tool_commands.specs.Commands.{parent_of, row_of};
-ghost use Rattle.tool_commands.specs.Lines.{line_of_mount, not_found};
+ghost use Rattle.tool_commands.specs.Lines.{line_of_mount};
+ghost use Rattle.tool_words.specs.Request.{NamesFiles};
 ghost use Rattle.tool_words.specs.RequestView.{action_of, question_of};
+ghost use Rattle.model_names.specs.Namespaces.{has_files};
 
 use crate::answers::{Answer, refuse, stores, tells};
 use all_formats::AllFormats;
@@ -28,7 +30,7 @@ use mounted_files::{GetFault, Mounted, OpenRefusal, Verdict};
 use std::alloc::{AllocError, Global};
 use tool_commands::{
     REFUSED, Step, bad_file, bad_table, database_full, file_too_large, not_storable, own_point,
-    parent_of, step, tell, too_heavy, too_long, value_too_long, warn_not_found,
+    parent_of, step, tell, too_heavy, too_long, value_too_long,
 };
 use tool_words::{Action, Question};
 
@@ -38,6 +40,7 @@ pub fn answer_opened(
     opened: Result<Mounted, OpenRefusal>,
     question: Question<'_>,
 ) -> Result<Answer, Memory>
+    requires { NamesFiles (question_of question) }
     ensures answers { IfOk result (λ answer. AnswersOpened opened (question_of question.entry) (answer_of answer)) }
     ensures status { IfOk result (λ answer. IsStatusOf (question_of question.entry) answer.report.status) }
 {
@@ -77,6 +80,7 @@ fn line_of_opening(alloc: Global, refusal: &OpenRefusal) -> Result<String, Memor
 
 /// The answer to a question over the mounted files.
 fn answer_in(alloc: Global, mounted: &Mounted, question: Question<'_>) -> Result<Answer, Memory>
+    requires { NamesFiles (question_of question) }
     ensures answers { IfOk result (λ answer. AnswersIn mounted.now (question_of question.entry) (answer_of answer)) }
     ensures status { IfOk result (λ answer. IsStatusOf (question_of question.entry) answer.report.status) }
 {
@@ -124,13 +128,12 @@ fn push_line_of_mount(alloc: Global, lines: &mut String, mount: &Mount) -> Resul
 
 /// `file`: the file of the mount that owns a key.
 fn tell_file(alloc: Global, mounted: &Mounted, name: &KeyName) -> Result<Answer, Memory>
-    ensures told { IfOk result (λ answer. answer_of answer ≡ file_told name.now (owner_in mounted.now name.now)) }
-    ensures status { IfOk result (λ answer. IsEnd (11 ∷ []) answer.report.status) }
+    requires { has_files name.now.namespace ≡ true }
+    ensures told { IfOk result (λ answer. IsSomeAnd (owner_in mounted.now name.now) (λ file. answer_of answer ≡ file_told file)) }
+    ensures status { IfOk result (λ answer. answer.report.status ≡ 0) }
 {
-    match owner_in(mounted, name) {
-        Some(mount) => tell_name_of(alloc, &mount.file),
-        None => refuse_not_found(alloc, name),
-    }
+    let mount = owner_in(mounted, name);
+    tell_name_of(alloc, &mount.file)
 }
 
 fn tell_name_of(alloc: Global, file: &FileName) -> Result<Answer, Memory>
@@ -142,22 +145,19 @@ fn tell_name_of(alloc: Global, file: &FileName) -> Result<Answer, Memory>
     Ok(tells(alloc, tell(alloc, out)))
 }
 
-fn refuse_not_found(alloc: Global, name: &KeyName) -> Result<Answer, Memory>
-    ensures told { IfOk result (λ answer. answer_of answer ≡ refused 11 (not_found name.now)) }
-    ensures status { IfOk result (λ answer. answer.report.status ≡ 11) }
-{
-    Ok(tells(alloc, warn_not_found(alloc, name)?))
-}
-
-/// The mount that owns a key.
-fn owner_in<'a>(mounted: &'a Mounted, name: &KeyName) -> Option<&'a Mount>
-    ensures { option_copied result ≡ option_map (λ file. file.mount) (owner_in mounted.now name.now) }
+/// The mount that owns a key. Each table has one for a key in files.
+fn owner_in<'a>(mounted: &'a Mounted, name: &KeyName) -> &'a Mount
+    requires { has_files name.now.namespace ≡ true }
+    ensures { Some result.now ≡ option_map (λ file. file.mount) (owner_in mounted.now name.now) }
 {
     let table = mounted.table();
-    match owner(table.points(), name) {
-        Some(i) => table.mount(i),
-        None => None,
-    }
+    let Some(i) = owner(table.points(), name) else {
+        unreachable!()
+    };
+    let Some(mount) = table.mount(i) else {
+        unreachable!()
+    };
+    mount
 }
 
 /// The answer to an action on a key.

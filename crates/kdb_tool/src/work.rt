@@ -7,6 +7,7 @@ ghost use Rattle.kdb_tool.specs.AnswerView.{answer_of};
 ghost use Rattle.kdb_tool.specs.Answers.{Answers, AnswersOver};
 ghost use Rattle.tool_commands.specs.Report.{IsAnswered};
 ghost use Rattle.kdb_tool.specs.Lasting.{Lasts, SparesUnnamed};
+ghost use Rattle.tool_words.specs.Request.{NamesFiles};
 ghost use Rattle.tool_words.specs.Rows.{request};
 ghost use Rattle.tool_words.specs.RequestView.{question_of};
 ghost use Rattle.kdb_tool.specs.Untold.{AnswersUntold, AsksStore, IsStatusOf};
@@ -27,6 +28,7 @@ fn answer_question<D: Disk>(
     question: Question<'_>,
     disk: &mut D,
 ) -> Result<Answer, Stop>
+    requires { NamesFiles (question_of question) }
     ensures told { D.tells disk.old ≡ true → IfOk result (λ answer. AnswersOver (question_of question.entry) (D.seen disk.old) (answer_of answer)) }
     ensures status { IfOk result (λ answer. IsStatusOf (question_of question.entry) answer.report.status) }
     ensures own { IfOk result (λ answer. IsAnswered answer.report.status) }

@@ -19,4 +19,4 @@ returns c =
     let table = c.table-table.result.now in
     let at_end : c.loop-i.i ≡ length table = omega (arith, c.loop-i-test.false, c.loop-i.auto.i-end, c.len-i-end.ensures.len) in
     c.loop-i.invariant
-    ∙ (ap (flat_map line_of_mount) (ap (λ n. take n table) at_end ∙ (take-length table ∙ c.table-table.ensures)) ∙ lines-of-mounts c.args.mounted.now)
+    ∙ (ap (flat_map line_of_mount) (ap (λ n. take n table) at_end ∙ (take-length table ∙ c.table-table.ensures.mounts)) ∙ lines-of-mounts c.args.mounted.now)

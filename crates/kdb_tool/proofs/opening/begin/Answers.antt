@@ -1,7 +1,6 @@
 -- What was read is the own file, whole.
 use Rattle.std.proofs.Common.{subst}
 use Rattle.backend_files.specs.WholeFile.{IsWhole}
-use Rattle.mount_table.specs.Table.{own_mount}
 use Rattle.kdb_tool.proofs.opening.begin.Goals as goal
 
 pub returns-clause-told : goal.returns-clause-told
