@@ -25,7 +25,7 @@ use Rattle.general_words.proofs.Lists.{take-next}
 use Rattle.general_words.proofs.Orders.{tied}
 use Rattle.model_names.proofs.RefusesLemmas.{cond_some}
 use Rattle.mounted_files.specs.Setting.{change_at, change_of, first_long_in, long_in, long_text}
-use Rattle.mounted_files.specs.Short.{AreShort, HasShortShadow, HaveShortShadows}
+use Rattle.mounted_files.specs.Short.{AreShort, HasShortTexts, HaveShortTexts}
 use Rattle.mounted_files.specs.Whole.{as_way, as_whole, relative, whole}
 use Rattle.mounted_files.specs.declared.changes.Change.{Change}
 use Rattle.mounted_files.specs.declared.files.FileState.{FileState}
@@ -68,20 +68,20 @@ pub short-with_all : (others keys : KeyMap) → AreShort others → AreShort key
 short-with_all others keys short before = each-with_keys (λ (x : Entry). long_text x ≡ None) (map.entries others) keys (all-entries (λ (x : Entry). long_text x ≡ None) others short) before
 
 -- a change has short contents where the wanted keys and the shadow are short
-short-change : (mount : Mount) (state : FileState) (wanted : KeyMap) (rest : List Change) → AreShort wanted → HasShortShadow state → AllByRecursion (λ (c : Change). AreShort c.contents) rest → AllByRecursion (λ (c : Change). AreShort c.contents) (cons_option (change_of mount state wanted) rest)
+short-change : (mount : Mount) (state : FileState) (wanted : KeyMap) (rest : List Change) → AreShort wanted → HasShortTexts state → AllByRecursion (λ (c : Change). AreShort c.contents) rest → AllByRecursion (λ (c : Change). AreShort c.contents) (cons_option (change_of mount state wanted) rest)
 short-change mount (Bad cause) wanted rest short shadow all = all
-short-change mount (Good visible shadow) wanted rest short shadow_short all = by (same_keys wanted visible)
+short-change mount (Good visible shadow) wanted rest short texts_short all = by (same_keys wanted visible)
   where
     made : Change
     made = record { mount = mount; wanted = wanted; contents = relative mount.at (with_all wanted shadow) }
 
     by : (b : Bool) → AllByRecursion (λ (c : Change). AreShort c.contents) (cons_option (cond b None (Some made)) rest)
     by true = all
-    by false = (short-relative mount.at (with_all wanted shadow) (short-with_all wanted shadow short shadow_short), all)
+    by false = (short-relative mount.at (with_all wanted shadow) (short-with_all wanted shadow short texts_short.1), all)
 
-shadow_at : (files : List MountedFile) (i : ℕ) (file : MountedFile) → HaveShortShadows files → slice_get files i ≡ Some file → HasShortShadow file.state
+shadow_at : (files : List MountedFile) (i : ℕ) (file : MountedFile) → HaveShortTexts files → slice_get files i ≡ Some file → HasShortTexts file.state
 shadow_at [] i file all there = absurd cc
-shadow_at (f ∷ files) zero file all there = let same : f ≡ file = cc in subst (λ (g : MountedFile). HasShortShadow g.state) same all.0
+shadow_at (f ∷ files) zero file all there = let same : f ≡ file = cc in subst (λ (g : MountedFile). HasShortTexts g.state) same all.0
 shadow_at (f ∷ files) (suc i) file all there = shadow_at files i file all.1 there
 
 -- nothing is told of a key that is found among keys of which nothing is told
@@ -117,7 +117,7 @@ module _ (points : List Name) (keys : KeyMap) (mounts : List ℕ) (none : first_
       by n false is o h = absurd cc
 
   -- so are the contents of all changes
-  pub short-changes : (files : List MountedFile) → HaveShortShadows files → (some : List ℕ) → AllByRecursion (λ i. (name : Name) → owns points i name ≡ true → list_any (λ j. owns points j name) mounts ≡ true) some → AllByRecursion (λ (c : Change). AreShort c.contents) (filter_map (change_at files) (over (λ i. (i, owned_by points i keys)) some))
+  pub short-changes : (files : List MountedFile) → HaveShortTexts files → (some : List ℕ) → AllByRecursion (λ i. (name : Name) → owns points i name ≡ true → list_any (λ j. owns points j name) mounts ≡ true) some → AllByRecursion (λ (c : Change). AreShort c.contents) (filter_map (change_at files) (over (λ i. (i, owned_by points i keys)) some))
   short-changes files shadows [] within = tt
   short-changes files shadows (i ∷ some) within = by (slice_get files i) refl (short-changes files shadows some within.1)
     where
@@ -146,7 +146,7 @@ within-all points front (i ∷ mounts) = (λ name owned. later front name owned,
     again h = subst (λ (all : List ℕ). AllByRecursion (λ k. (name : Name) → owns points k name ≡ true → list_any (λ j. owns points j name) all ≡ true) mounts) (assoc front) h
 
 -- what the changed files are to hold is short
-pub contents-short : (files : List MountedFile) (points : List Name) (parent : Name) (keys : KeyMap) → HaveShortShadows files → first_long_in points (involved_in points parent) keys ≡ None → AllByRecursion (λ (c : Change). AreShort c.contents) (filter_map (change_at files) (parts_of points parent keys))
+pub contents-short : (files : List MountedFile) (points : List Name) (parent : Name) (keys : KeyMap) → HaveShortTexts files → first_long_in points (involved_in points parent) keys ≡ None → AllByRecursion (λ (c : Change). AreShort c.contents) (filter_map (change_at files) (parts_of points parent keys))
 contents-short files points parent keys shadows none = short-changes points keys (involved_in points parent) none files shadows (involved_in points parent) (within-all points [] (involved_in points parent))
 
 -- one more part is looked at

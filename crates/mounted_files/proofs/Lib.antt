@@ -17,3 +17,4 @@ pub mod SomeOpening
 pub mod PlaceLemmas
 pub mod BegunLemmas
 pub mod OpeningLemmas
+pub mod LightLemmas

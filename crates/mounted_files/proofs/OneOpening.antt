@@ -67,12 +67,12 @@ module _ (Reads : Reading) (IsBad : Badness)
     (one_reading : (kind : Kind) (bytes : List ℕ) (keys other : KeyMap) → Reads kind bytes keys → Reads kind bytes other → keys ≡ other)
     (read_is_not_bad : (kind : Kind) (bytes : List ℕ) (keys : KeyMap) (line : ℕ) → Reads kind bytes keys → IsBad kind bytes line → ⊥)
     (one_line : (kind : Kind) (bytes : List ℕ) (line other : ℕ) → IsBad kind bytes line → IsBad kind bytes other → line ≡ other) where
-  Holds-once : (point : Name) (kind : Kind) (bytes : List ℕ) (found other : KeyMap) → Holds Reads point kind bytes found → Holds Reads point kind bytes other → found ≡ other
+  pub Holds-once : (point : Name) (kind : Kind) (bytes : List ℕ) (found other : KeyMap) → Holds Reads point kind bytes found → Holds Reads point kind bytes other → found ≡ other
   Holds-once point kind bytes found other p q =
       p.is ∙ (ap (whole point) (one_reading kind bytes p.keys q.keys p.reads_as.reads q.reads_as.reads) ∙ sym q.is)
 
   -- what holds keys is not bad
-  Holds-not_bad : (point : Name) (kind : Kind) (bytes : List ℕ) (found : KeyMap) (cause : Cause) → Holds Reads point kind bytes found → IsCause Reads IsBad point kind bytes cause → ⊥
+  pub Holds-not_bad : (point : Name) (kind : Kind) (bytes : List ℕ) (found : KeyMap) (cause : Cause) → Holds Reads point kind bytes found → IsCause Reads IsBad point kind bytes cause → ⊥
   Holds-not_bad point kind bytes found (TooLong n) p q = few_not_long bytes p.reads_as.few q.long
   Holds-not_bad point kind bytes found (BadFile line) p (inl q) = read_is_not_bad kind bytes p.keys line p.reads_as.reads q.bad
   Holds-not_bad point kind bytes found (BadFile line) p (inr q) =
@@ -90,7 +90,7 @@ module _ (Reads : Reading) (IsBad : Badness)
   long_not_bad point kind bytes line long (inl q) = few_not_long bytes q.few long
   long_not_bad point kind bytes line long (inr q) = few_not_long bytes q.reads_as.few long
 
-  Cause-once : (point : Name) (kind : Kind) (bytes : List ℕ) (a b : Cause) → IsCause Reads IsBad point kind bytes a → IsCause Reads IsBad point kind bytes b → a ≡ b
+  pub Cause-once : (point : Name) (kind : Kind) (bytes : List ℕ) (a b : Cause) → IsCause Reads IsBad point kind bytes a → IsCause Reads IsBad point kind bytes b → a ≡ b
   Cause-once point kind bytes (TooLong m) (TooLong n) p q = ap TooLong (p.is ∙ sym q.is)
   Cause-once point kind bytes (TooLong m) (BadFile n) p q = absurd (long_not_bad point kind bytes n p.long q)
   Cause-once point kind bytes (TooLong m) (TooHeavy n) p q = absurd q

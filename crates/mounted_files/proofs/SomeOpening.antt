@@ -38,7 +38,7 @@ few_or_many n = by (cases_lt longest_file n)
 -- for formats whose bytes read as a map, or are bad at a line
 module _ (Reads : Reading) (IsBad : Badness) (reads_or_bad : (kind : Kind) (bytes : List ℕ) → ((keys : KeyMap) × Reads kind bytes keys) ⊎ ((line : ℕ) × IsBad kind bytes line)) where
   -- what holds no keys is bad for a cause
-  Holds-or_bad : (point : Name) (kind : Kind) (bytes : List ℕ) → ((keys : KeyMap) × Holds Reads point kind bytes keys) ⊎ ((cause : Cause) × IsCause Reads IsBad point kind bytes cause)
+  pub Holds-or_bad : (point : Name) (kind : Kind) (bytes : List ℕ) → ((keys : KeyMap) × Holds Reads point kind bytes keys) ⊎ ((cause : Cause) × IsCause Reads IsBad point kind bytes cause)
   Holds-or_bad point kind bytes = by_length (few_or_many (length bytes))
     where
       by_fit : (keys : KeyMap) → length bytes ≤ longest_file → Reads kind bytes keys → (b : Bool) → all_fit point keys ≡ b → ((found : KeyMap) × Holds Reads point kind bytes found) ⊎ ((cause : Cause) × IsCause Reads IsBad point kind bytes cause)

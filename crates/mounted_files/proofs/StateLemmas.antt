@@ -6,7 +6,7 @@ use Rattle.mount_table.specs.declared.mounts.Mount.{Mount}
 use Rattle.general_words.proofs.Lists.{take-next}
 use Rattle.mounted_files.specs.Files.{Badness, IsState, Reading}
 use Rattle.mounted_files.specs.Holding.{IsHolding, IsStateOf}
-use Rattle.mounted_files.specs.Short.{HasShortShadow, HaveShortShadows}
+use Rattle.mounted_files.specs.Short.{HasShortTexts, HaveShortTexts}
 use Rattle.mounted_files.specs.declared.files.FileState.{FileState}
 use Rattle.mounted_files.specs.declared.files.MountedFile.{MountedFile}
 use Rattle.mounted_files.specs.declared.holding.Holding.{Holding}
@@ -43,6 +43,6 @@ few-next table files file i next i_is next_is =
     omega (arith, length-append files (file ∷ []))
 
 -- and their shadows short
-pub short-next : (files : List MountedFile) (file : MountedFile) → HaveShortShadows files → HasShortShadow file.state → HaveShortShadows (files ++ file ∷ [])
+pub short-next : (files : List MountedFile) (file : MountedFile) → HaveShortTexts files → HasShortTexts file.state → HaveShortTexts (files ++ file ∷ [])
 short-next [] file all short = (short, tt)
 short-next (f ∷ files) file all short = (all.0, short-next files file all.1 short)

@@ -8,6 +8,7 @@ use Rattle.model_maps.specs.KeyMap.{KeyMap, no_keys}
 use Rattle.key_set.specs.WithAll.{with_all}
 use Rattle.set_split.specs.Involved.{involved_in}
 use Rattle.mounted_files.specs.Files.{points_of}
+use Rattle.mounted_files.specs.Whole.{relative}
 use Rattle.mounted_files.specs.declared.causes.Cause.{Cause}
 use Rattle.mounted_files.specs.declared.causes.Cause.TheVariants.{TooLong, BadFile, TooHeavy}
 use Rattle.mounted_files.specs.declared.files.FileState.{FileState}
@@ -50,6 +51,10 @@ got files parent = unless_fault (first_some fault_in (involved_files files paren
     unless_fault : Option GetFault → Result KeyMap GetFault
     unless_fault None = Ok (visible_keys (involved_files files parent))
     unless_fault (Some why) = Err why
+
+-- what a file at a name would hold of them: those at or below the name, under the names that lead there
+abbrev pub below : List MountedFile → Name → Result KeyMap GetFault
+below files name = elim (got files name) [ Ok keys ↦ Ok (relative name keys) | Err why ↦ Err why ]
 
 -- a fault is that of a file; want of memory tells nothing
 abbrev pub IsFaultIn : MountedFile → GetFault → Type 0

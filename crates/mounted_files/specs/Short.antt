@@ -14,11 +14,11 @@ use Rattle.mounted_files.specs.declared.files.MountedFile.{MountedFile}
 abbrev pub AreShort : KeyMap → Type 0
 AreShort keys = (name : Name) (entry : Entry) → map.get keys name ≡ Some entry → long_text entry ≡ None
 
--- the shadow of a good file is such
-abbrev pub HasShortShadow : FileState → Type 0
-HasShortShadow (Good visible shadow) = AreShort shadow
-HasShortShadow (Bad cause) = Unit {0}
+-- the keys of a good file are such, those in its shadow too
+abbrev pub HasShortTexts : FileState → Type 0
+HasShortTexts (Good visible shadow) = AreShort visible × AreShort shadow
+HasShortTexts (Bad cause) = Unit {0}
 
--- so is that of each of some files
-abbrev pub HaveShortShadows : List MountedFile → Type 0
-HaveShortShadows files = AllByRecursion (λ file. HasShortShadow file.state) files
+-- so are those of each of some files
+abbrev pub HaveShortTexts : List MountedFile → Type 0
+HaveShortTexts files = AllByRecursion (λ file. HasShortTexts file.state) files

@@ -28,6 +28,10 @@ pub record IsSound (point name : Name) (entry : Entry) : Type 0 where
 abbrev pub AreSound : Name → KeyMap → Type 0
 AreSound point keys = (name : Name) (entry : Entry) → map.get keys name ≡ Some entry → IsSound point name entry
 
+-- the whole names of keys behind a mountpoint are names
+abbrev pub AreNames : Name → KeyMap → Type 0
+AreNames point keys = (name : Name) (entry : Entry) → map.get keys name ≡ Some entry → IsName (joined point name)
+
 -- so are the keys that each changed file is to hold
 abbrev pub AreSoundChanges : List Change → Type 0
 AreSoundChanges all = AllByRecursion (λ change. AreSound change.mount.at change.contents) all

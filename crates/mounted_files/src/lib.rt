@@ -23,6 +23,7 @@ mod writing;
 pub use causes::Cause;
 pub use changes::Change;
 pub use files::{FileState, MountedFile};
+pub use holding::{Holding, read_holding};
 pub use laws::{
     a_get_gives_the_visible_keys_in_reach, a_set_has_one_verdict, files_have_one_opening,
     opened_files_have_a_table,

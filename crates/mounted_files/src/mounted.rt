@@ -1,14 +1,20 @@
 //! What the files of all mounts mean together.
-ghost use Rattle.std.specs.Prelude.{◌≡◌, MatchResult, IfOk, Ok, None, map as over};
+ghost use Rattle.std.specs.Prelude.{◌≡◌, ◌≤◌, MatchResult, IfOk, Ok, None, map as over};
+ghost use Rattle.std.specs.List.{sum_by};
 ghost use Rattle.key_set.specs.WithAll.{with_all};
-ghost use Rattle.mounted_files.specs.Getting.{fault_in, fault_of, got, visible_of, Gets, IsFaultIn};
+ghost use Rattle.model_maps.specs.KeyMap.{heaviest_map};
+ghost use Rattle.model_maps.specs.Limits.{IsLimited};
+ghost use Rattle.mounted_files.specs.Getting.{below, fault_in, fault_of, got, visible_of, Gets, IsFaultIn};
 ghost use Rattle.mounted_files.specs.Judging.{IsVerdict};
 ghost use Rattle.mounted_files.specs.Opening.{IsMadeByKeys};
-ghost use Rattle.mounted_files.specs.Short.{HaveShortShadows};
+ghost use Rattle.mounted_files.specs.Short.{HaveShortTexts};
+ghost use Rattle.mounted_files.specs.Sound.{AreNames};
+ghost use Rattle.mounted_files.specs.Weighed.{visible_weight};
 
 use crate::committing::commit;
 use crate::preparing::{Prepared, prepare};
 use crate::setting::{changes_of, weight_after};
+use crate::whole::relative;
 use crate::{Cause, FileState, GetFault, MountedFile, Verdict};
 use key_meta::Memory;
 use key_name::KeyName;
@@ -48,7 +54,8 @@ impl Mounted {
     pub(crate) fn new(table: MountTable, files: Vec<MountedFile>) -> Mounted
         requires table { over (λ file. file.mount) files.items ≡ table }
         requires made { IsMadeByKeys table }
-        requires short { HaveShortShadows files.items }
+        requires short { HaveShortTexts files.items }
+        requires light { sum_by (λ file. visible_weight file.state) files.items ≤ heaviest_map }
         ensures { result ≡ files.items }
     {
         Mounted { table, files }
@@ -84,6 +91,19 @@ impl Mounted {
             }
         }
         Ok(keys)
+    }
+
+    /// What a file at a name would hold of the keys that a get of it gives: those at or below it, under the names that lead there. They are
+    /// within the limits of a file, and their whole names are names. It is refused as the get is.
+    pub fn below(&self, alloc: Global, name: &KeyName) -> Result<KeySet, GetFault>
+        ensures keys { MatchResult result (λ keys. below self.now name.now ≡ Ok keys) (Gets (got self.now name.now)) }
+        ensures limited { IfOk result IsLimited }
+        ensures names { IfOk result (AreNames name.now) }
+    {
+        // What is known of the files is known where one of the fields is used.
+        let _ = &self.files;
+        let keys = self.get(alloc, name)?;
+        Ok(relative(alloc, name, &keys)?)
     }
 
     /// What becomes of a set of these keys at this parent, by one who got the parent when the store was opened, and nothing since.

@@ -14,7 +14,7 @@ ghost use Rattle.mounted_files.specs.Holding.{IsShortHolding, IsStateOf};
 ghost use Rattle.mounted_files.specs.Opening.{IsOpened, RefusesOpening};
 ghost use Rattle.mounted_files.specs.OwnPlace.{HasOwn};
 ghost use Rattle.mounted_files.specs.Owned.{not_owned_by};
-ghost use Rattle.mounted_files.specs.Short.{AreShort, HasShortShadow};
+ghost use Rattle.mounted_files.specs.Short.{AreShort, HasShortTexts};
 ghost use Rattle.mounted_files.specs.Weighed.{weighed_behind};
 ghost use Rattle.mounted_files.specs.declared.files.FileState.TheVariants.{Good};
 ghost use Rattle.set_split.specs.Parts.{owned_by};
@@ -198,7 +198,7 @@ fn mounted_file<F: Formats>(
     requires { IsStrictlySortedBy name_cmp points.now }
     ensures mount { IfOk result (λ file. file.mount ≡ mount.now) }
     ensures state { IfOk result (λ file. (bytes : List ℕ) → IsWhole bytes read.now → IsState F.reads F.is_bad_at points.now i mount.now bytes file.state) }
-    ensures short { IfOk result (λ file. HasShortShadow file.state) }
+    ensures short { IfOk result (λ file. HasShortTexts file.state) }
 {
     let holding = read_holding(alloc, formats, &mount.at, mount.kind, read)?;
     let state = state_of(alloc, points, i, holding)?;
@@ -217,7 +217,7 @@ fn state_of(
 ) -> Result<FileState, Memory>
     requires { IsStrictlySortedBy name_cmp points.now }
     ensures is { IfOk result (IsStateOf points.now i holding) }
-    ensures short { IsShortHolding holding → IfOk result HasShortShadow }
+    ensures short { IsShortHolding holding → IfOk result HasShortTexts }
 {
     match holding {
         Holding::Keys { keys } => good_state(alloc, points, i, &keys),

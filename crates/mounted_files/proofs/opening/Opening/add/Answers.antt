@@ -9,7 +9,7 @@ use Rattle.mount_table.specs.declared.mounts.Mount.{Mount}
 use Rattle.mounted_files.specs.Begins.{Begins}
 use Rattle.mounted_files.specs.Begun.{Begun, number_of, others}
 use Rattle.mounted_files.specs.Files.{IsState}
-use Rattle.mounted_files.specs.Short.{HasShortShadow, HaveShortShadows}
+use Rattle.mounted_files.specs.Short.{HasShortTexts, HaveShortTexts}
 use Rattle.mounted_files.specs.Weighed.{added_weight}
 use Rattle.mounted_files.specs.declared.files.MountedFile.{MountedFile}
 use Rattle.mounted_files.proofs.BegunLemmas.{slice_get-remove}
@@ -31,7 +31,7 @@ invariant_of-self-2 g c =
     let number : c.number_of-number.result ≡ number_of place (length files) = c.number_of-number.ensures ∙ ap (number_of place) count in
     let next : Some mount ≡ slice_get rest (length files) = c.in-Some.ensures ∙ (ap (slice_get table) number ∙ sym (slice_get-remove table place (length files))) in
     let mount_is : file.mount ≡ mount = ap (λ (f : MountedFile). f.mount) c.weigh-sum.ensures.file ∙ c.in_ok-file.ensures.mount in
-    let short : HasShortShadow file.state = subst (λ (f : MountedFile). HasShortShadow f.state) (sym c.weigh-sum.ensures.file) (weighed_file-short c.self.inside.sum c.in_ok-file.file c.in_ok-file.ensures.short) in
+    let short : HasShortTexts file.state = subst (λ (f : MountedFile). HasShortTexts f.state) (sym c.weigh-sum.ensures.file) (weighed_file-short c.self.inside.sum c.in_ok-file.file c.in_ok-file.ensures.short) in
     let items : c.push.new.self.items ≡ files ++ file ∷ [] = c.in_ok-push.ensures.items in
     record {
       made = inv.made;
@@ -40,7 +40,7 @@ invariant_of-self-2 g c =
       few = subst (λ (all : List MountedFile). length all ≤ length rest) (sym items) (few-next rest files file (length files) mount refl next);
       table = subst (λ (all : List MountedFile). over (λ f. f.mount) all ≡ take (length all) rest) (sym items) (mounts-next rest files file (length files) mount refl mount_is next inv.table);
       own_short = inv.own_short;
-      short = subst (λ (all : List MountedFile). HaveShortShadows all) (sym items) (short-next files file inv.short short);
+      short = subst (λ (all : List MountedFile). HaveShortTexts all) (sym items) (short-next files file inv.short short);
       sum = omega (arith, c.weigh-sum.ensures.sum, inv.sum, sum_by_push added_weight files file, ap (sum_by added_weight) items);
       limit = c.weigh-sum.ensures.limit;
     }

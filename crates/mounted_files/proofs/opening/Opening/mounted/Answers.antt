@@ -1,15 +1,18 @@
 -- The own file is put back at its place among the others.
-use Rattle.std.proofs.Common.{◌≡◌, ℕ, List, length, take, map as over, sym, ap, subst, ◌∙◌, arith}
-use Rattle.std.specs.List.{insert, remove}
+use Rattle.std.proofs.Common.{◌≡◌, ◌≤◌, ℕ, List, length, take, map as over, sym, ap, subst, ◌∙◌, arith}
+use Rattle.std.specs.List.{insert, remove, sum_by}
 use Rattle.std.proofs.lemmas.List.{take_all}
 use Rattle.std.proofs.lemmas.Option.{same_Some}
+use Rattle.model_maps.specs.KeyMap.{heaviest_map}
 use Rattle.mount_table.specs.Table.{own_mount}
 use Rattle.mount_table.specs.declared.mounts.Mount.{Mount}
 use Rattle.mounted_files.specs.Begins.{Begins}
 use Rattle.mounted_files.specs.Begun.{Begun, others}
+use Rattle.mounted_files.specs.Weighed.{visible_weight}
 use Rattle.mounted_files.specs.declared.files.FileState.{FileState}
 use Rattle.mounted_files.specs.declared.files.MountedFile.{MountedFile}
 use Rattle.mounted_files.proofs.BegunLemmas.{insert-remove, over-insert}
+use Rattle.mounted_files.proofs.LightLemmas.{all-light}
 use Rattle.mounted_files.proofs.OpeningLemmas.{is-opened}
 use Rattle.mounted_files.proofs.opening.Opening.mounted.Goals as goal
 
@@ -32,6 +35,17 @@ new-requires-clause-table g c =
     ∙ (over-insert (λ (file : MountedFile). file.mount) files place (record { mount = own_mount; state = c.self.inside.own })
     ∙ (ap (λ ms. insert ms place own_mount) (all_others table place files c.self.invariant.table counted)
     ∙ insert-remove table place own_mount c.self.invariant.place))
+
+pub new-requires-clause-light : goal.new-requires-clause-light
+new-requires-clause-light g c =
+    let table = c.self.inside.table in
+    let place = c.self.inside.place in
+    let own = c.self.inside.own in
+    let files = c.self.inside.files.items in
+    let counted = subst (λ (b : Begun). length b.files ≡ length (others b)) (sym c.self.view_is) c.requires in
+    let put = put_in files c.insert.new.self.items place own c.in_ok-copy.field-0 c.in-Some.mount.now c.in_ok-copy.ensures (same_Some c.in-Some.mount.now own_mount (c.in-Some.ensures ∙ c.self.invariant.place)) c.in_ok-insert.ensures.items in
+    subst (λ (all : List MountedFile). sum_by (λ (f : MountedFile). visible_weight f.state) all ≤ heaviest_map) (sym put)
+    (all-light table place c.self.inside.sum own files c.self.invariant.ascending c.self.invariant.place (all_others table place files c.self.invariant.table counted) c.self.invariant.sum c.self.invariant.limit)
 
 pub returns : goal.returns
 returns g c = λ bytes_of begins.
