@@ -4,7 +4,7 @@ use crate::calls;
 use crate::notation::{bytes_of, shown, text_of};
 use crate::starts::Start;
 use disk_memory::MemDisk;
-use kdb_outside::{FileName, MemSink, OpenGate, SureSource};
+use kdb_outside::{FileName, MemSink, MemSource, OpenGate, Source};
 use kdb_tool::run;
 use key_meta::{Memory, Text};
 use std::alloc::Global;
@@ -17,6 +17,8 @@ pub struct Runs {
     disk: Option<MemDisk>,
     given: Vec<u8>,
     input: Vec<u8>,
+    input_failing: Option<u64>,
+    left: Vec<u8>,
     out_failing: Option<u64>,
     err_failing: Option<u64>,
     out: Vec<u8>,
@@ -30,6 +32,8 @@ impl Runs {
             disk: None,
             given: Vec::new(alloc),
             input: Vec::new(alloc),
+            input_failing: None,
+            left: Vec::new(alloc),
             out_failing: None,
             err_failing: None,
             out: Vec::new(alloc),
@@ -64,6 +68,10 @@ impl Runs {
                 Ok(Some(format!(in self.alloc; "  {calls}\n")?))
             }
             "show" => Ok(Some(self.show(rest)?)),
+            "left" => {
+                let left = shown(self.alloc, self.left.as_slice())?;
+                Ok(Some(format!(in self.alloc; "  {left}\n")?))
+            }
             "kept" => Ok(Some(self.kept(rest)?)),
             "out" => {
                 let wanted = bytes_of(self.alloc, rest)?;
@@ -91,7 +99,7 @@ impl Runs {
         Ok(())
     }
 
-    /// Lets calls fail: those of the disk that are listed, or one of out or of err.
+    /// Lets calls fail: those of the disk that are listed, or one of the input, of out or of err.
     fn fail(&mut self, rest: &str) -> Result<(), Memory> {
         let (what, listed) = rest.split_once(' ').unwrap_or((rest, ""));
         match what {
@@ -99,6 +107,7 @@ impl Runs {
                 let calls = numbers(self.alloc, listed)?;
                 self.start.fail(calls);
             }
+            "input" => self.input_failing = listed.parse().ok(),
             "out" => self.out_failing = listed.parse().ok(),
             _ => self.err_failing = listed.parse().ok(),
         }
@@ -115,7 +124,10 @@ impl Runs {
     fn run(&mut self, words: &str) -> Result<String, Memory> {
         let texts = words_of(self.alloc, words)?;
         let disk = self.disk()?;
-        let mut input = SureSource::new(self.input.clone()?);
+        let mut input = MemSource::new(
+            self.input.clone()?,
+            listed(self.alloc, self.input_failing)?,
+        );
         let mut out = sink(self.alloc, self.out_failing)?;
         let mut err = sink(self.alloc, self.err_failing)?;
         let (status, disk) = run(
@@ -123,6 +135,7 @@ impl Runs {
         );
         self.disk = Some(disk);
         self.out = out.bytes().to_vec(self.alloc)?;
+        self.left = rest_of(self.alloc, &mut input)?;
         ended(self.alloc, status.code(), out.bytes(), err.bytes())
     }
 
@@ -160,11 +173,23 @@ fn yes_or_no(holds: bool) -> &'static str {
 }
 
 fn sink(alloc: Global, failing: Option<u64>) -> Result<MemSink, Memory> {
+    Ok(MemSink::new(alloc, listed(alloc, failing)?))
+}
+
+fn listed(alloc: Global, failing: Option<u64>) -> Result<Vec<u64>, Memory> {
     let mut calls = Vec::new(alloc);
     if let Some(call) = failing {
         calls.push(call)?;
     }
-    Ok(MemSink::new(alloc, calls))
+    Ok(calls)
+}
+
+/// What a run has left of its input, as far as one call gives it.
+fn rest_of(alloc: Global, input: &mut MemSource) -> Result<Vec<u8>, Memory> {
+    let mut rest = vec![in alloc; 0u8; 1000]?;
+    let count = input.take(&mut rest).unwrap_or(0);
+    rest.truncate(count);
+    Ok(rest)
 }
 
 fn numbers(alloc: Global, text: &str) -> Result<Vec<u64>, Memory> {

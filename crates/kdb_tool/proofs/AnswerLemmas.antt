@@ -6,7 +6,19 @@ use Rattle.std.proofs.Common.{refl, sym, ap, ◌∙◌, subst, arith}
 use Rattle.std.proofs.lemmas.List.{length-map}
 use Rattle.std.proofs.lemmas.Option.{none-some, same_Some, slice_get-map}
 use Rattle.std.proofs.lemmas.List.Folds.{flat_map-map}
+use Rattle.all_formats.specs.Meanings as all
+use Rattle.all_formats.specs.Laws as laws
+use Rattle.storage_api.specs.Formats.{RefusesToWrite}
+use Rattle.storage_api.specs.declared.refusals.WriteRefusal.{WriteRefusal}
+use Rattle.storage_api.specs.declared.refusals.WriteRefusal.TheVariants as write
+use Rattle.kdb_outside.specs.declared.kinds.Kind.{Kind}
+use Rattle.key_name.specs.Joining.{joined}
 use Rattle.key_name.specs.Owner.{owner_of}
+use Rattle.model_names.specs.declared.namespaces.Namespace.TheVariants.{Cascading}
+use Rattle.model_names.specs.WellFormed.{IsName}
+use Rattle.model_maps.specs.KeyMap.{KeyMap}
+use Rattle.model_maps.specs.Limits.{IsLimited}
+use Rattle.mounted_files.specs.Sound.{AreNames}
 use Rattle.model_names.specs.Name.{Name}
 use Rattle.model_names.specs.Namespaces.{has_files}
 use Rattle.mount_table.proofs.RootLemmas.{has_owner}
@@ -66,3 +78,16 @@ told-owner (Some file) mount answer is told = told ∙ ap (λ (m : Mount). done 
 -- the lines of the mounts are those of their files
 pub lines-of-mounts : (files : List MountedFile) → flat_map line_of_mount (over (λ (file : MountedFile). file.mount) files) ≡ flat_map (λ file. line_of_mount file.mount) files
 lines-of-mounts files = flat_map-map line_of_mount (λ (file : MountedFile). file.mount) files
+
+-- ---- export
+
+-- a refusal that tells a key is no want of memory
+pub key-told : (Breaks : Name → Type 0) (key : Name) (refusal : WriteRefusal) → refusal ≡ write.NotStorable key → RefusesToWrite Breaks refusal → Breaks key
+key-told Breaks key refusal is refuses = subst (λ (w : WriteRefusal). RefusesToWrite Breaks w) is refuses (λ memory. absurd cc)
+
+-- a key at which a map breaks that is within the limits has a cascading name, and a whole name that is one
+pub breaks-cascading : (kind : Kind) (keys : KeyMap) (key : Name) → IsLimited keys → all.BreaksAt kind keys key → key.namespace ≡ Cascading
+breaks-cascading kind keys key limited breaks = let there = laws.BreaksAt-key kind keys key breaks in (limited.each key there.0 there.1).cascading
+
+pub breaks-named : (name : Name) (kind : Kind) (keys : KeyMap) (key : Name) → AreNames name keys → all.BreaksAt kind keys key → IsName (joined name key)
+breaks-named name kind keys key names breaks = let there = laws.BreaksAt-key kind keys key breaks in names key there.0 there.1

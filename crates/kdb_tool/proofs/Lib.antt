@@ -6,3 +6,4 @@ pub mod AnswersExist
 pub mod UntoldLemmas
 pub mod EndLemmas
 pub mod AnswerLemmas
+pub mod TakeLemmas

@@ -1,15 +1,18 @@
--- The answer to a command line over the files of a store. (This project's own.)
+-- The answer to a command line, over its input and the files of a store. (This project's own.)
 use Rattle.std.specs.Prelude.{◌≡◌, ◌≢◌, ℕ, List, ◌∷◌, ◌++◌, [], Option, IsSomeAnd, option_and_then, slice_get, Result, Ok, Err}
 use Rattle.std.specs.List.{flat_map}
 use Rattle.all_formats.specs.Meanings as all
+use Rattle.key_name.specs.Joining.{joined}
 use Rattle.key_name.specs.Owner.{owner_of}
+use Rattle.kdb_outside.specs.declared.kinds.Kind.{Kind}
 use Rattle.model_names.specs.Name.{Name}
 use Rattle.model_maps.specs.KeyMap.{KeyMap}
 use Rattle.mount_table.specs.Points.{own_point}
-use Rattle.mounted_files.specs.Files.{points_of}
-use Rattle.mounted_files.specs.Getting.{got}
+use Rattle.mounted_files.specs.Files.{points_of, Holds, IsCause}
+use Rattle.mounted_files.specs.Getting.{below, fault_of, got}
 use Rattle.mounted_files.specs.Judging.{IsVerdict}
 use Rattle.mounted_files.specs.Opening.{Opens}
+use Rattle.mounted_files.specs.declared.causes.Cause.{Cause}
 use Rattle.mounted_files.specs.declared.files.MountedFile.{MountedFile}
 use Rattle.mounted_files.specs.declared.refusals.GetFault.{GetFault}
 use Rattle.mounted_files.specs.declared.refusals.GetFault.TheVariants as faults
@@ -20,8 +23,9 @@ use Rattle.mounted_files.specs.declared.verdicts.Verdict.TheVariants.{ValueTooLo
 use Rattle.tool_commands.specs.Lines.{too_long, bad_file, too_heavy, bad_table, value_too_long, file_too_large, not_storable, database_full, line_of_mount}
 use Rattle.tool_words.specs.Lines.{out_of_memory}
 use Rattle.kdb_tool.specs.Answer.{Answer, tells, done, stores, refused}
+use Rattle.kdb_tool.specs.Input.{taken}
 use Rattle.tool_words.specs.Uses.{barred}
-use Rattle.tool_words.specs.Request.{Action, Question, Mounts, FileOf, On, Request, Refuses, Bars, Asks}
+use Rattle.tool_words.specs.Request.{Action, Replace, Question, Mounts, FileOf, TextOf, On, Request, Refuses, Bars, Asks, Imports}
 use Rattle.tool_words.specs.Rows.{request}
 use Rattle.tool_commands.specs.Step.{Step, Tells, Sets}
 use Rattle.tool_commands.specs.Commands.{parent_of, step_of}
@@ -59,6 +63,16 @@ abbrev pub AnswersGot : List MountedFile → Name → Action → Result KeyMap G
 AnswersGot files name action (Ok keys) answer = AnswersStep files (parent_of name action) (step_of keys name action) answer
 AnswersGot files name action (Err fault) answer = answer ≡ refused 5 (line_of_get fault)
 
+-- `export` of what a file at a name would hold: its text in a format, or the whole name of the first key that the format can't hold
+pub data AnswersText (name : Name) (kind : Kind) (keys : KeyMap) (answer : Answer) : Type 0 where
+  Written : all.IsStorable kind keys → answer ≡ done (all.text kind keys) → AnswersText name kind keys answer
+  NotHeld : (key : Name) → all.BreaksAt kind keys key → answer ≡ refused 5 (not_storable name (joined name key)) → AnswersText name kind keys answer
+
+-- `export`, by what it got
+abbrev pub AnswersBelow : Name → Kind → Result KeyMap GetFault → Answer → Type 0
+AnswersBelow name kind (Ok keys) answer = AnswersText name kind keys answer
+AnswersBelow name kind (Err fault) answer = answer ≡ refused 5 (line_of_get fault)
+
 -- the mounted file that holds a key
 abbrev pub owner_in : List MountedFile → Name → Option MountedFile
 owner_in files name = option_and_then (λ i. slice_get files i) (owner_of (points_of files) name)
@@ -75,6 +89,7 @@ mounts_told files = done (flat_map (λ file. line_of_mount file.mount) files)
 abbrev pub AnswersIn : List MountedFile → Question → Answer → Type 0
 AnswersIn files Mounts answer = answer ≡ mounts_told files
 AnswersIn files (FileOf name) answer = IsSomeAnd (owner_in files name) (λ file. answer ≡ file_told file)
+AnswersIn files (TextOf name kind) answer = AnswersBelow name kind (below files name) answer
 AnswersIn files (On name action) answer = AnswersGot files name action (got files (parent_of name action)) answer
 
 -- the line of what refuses an opening
@@ -99,12 +114,19 @@ pub record AnswersOver (question : Question) (bytes_of : List ℕ → List ℕ) 
   pub opens : Opens all.Reads all.IsBadAt bytes_of opened
   pub answers : AnswersOpened opened question answer
 
--- the answer to a request
-abbrev pub AnswersRequest : Request → (List ℕ → List ℕ) → Answer → Type 0
-AnswersRequest (Refuses status text) bytes_of answer = answer ≡ refused status text
-AnswersRequest (Bars by name) bytes_of answer = answer ≡ refused 2 (barred by name)
-AnswersRequest (Asks question) bytes_of answer = AnswersOver question bytes_of answer
+-- `import`: the keys that some bytes hold as a file at a name would, take the place of all at or below it. Bytes that hold none are
+-- refused as such a file is, before the files are looked at
+pub data AnswersImport (name : Name) (kind : Kind) (bytes : List ℕ) (bytes_of : List ℕ → List ℕ) (answer : Answer) : Type 0 where
+  Held : (keys : KeyMap) → Holds all.Reads name kind bytes keys → AnswersOver (On name (Replace keys)) bytes_of answer → AnswersImport name kind bytes bytes_of answer
+  Bad : (cause : Cause) → IsCause all.Reads all.IsBadAt name kind bytes cause → answer ≡ refused 5 (line_of_get (fault_of name cause)) → AnswersImport name kind bytes bytes_of answer
 
--- the answer to a command line, where files gives each file name its bytes
-abbrev pub Answers : List (List ℕ) → (List ℕ → List ℕ) → Answer → Type 0
-Answers words files answer = AnswersRequest (request words) files answer
+-- the answer to a request
+abbrev pub AnswersRequest : Request → List ℕ → (List ℕ → List ℕ) → Answer → Type 0
+AnswersRequest (Refuses status text) input bytes_of answer = answer ≡ refused status text
+AnswersRequest (Bars by name) input bytes_of answer = answer ≡ refused 2 (barred by name)
+AnswersRequest (Asks question) input bytes_of answer = AnswersOver question bytes_of answer
+AnswersRequest (Imports name kind) input bytes_of answer = AnswersImport name kind (taken input) bytes_of answer
+
+-- the answer to a command line with some input, where files gives each file name its bytes
+abbrev pub Answers : List (List ℕ) → List ℕ → (List ℕ → List ℕ) → Answer → Type 0
+Answers words input files answer = AnswersRequest (request words) input files answer

@@ -3,7 +3,7 @@ use Rattle.std.specs.Prelude.{Result, Ok, Err}
 use Rattle.kdb_tool.specs.declared.answers.Answer as code
 use Rattle.kdb_tool.specs.declared.answers.Stop.{Stop}
 use Rattle.kdb_tool.specs.declared.answers.Stop.TheVariants as stops
-use Rattle.tool_commands.specs.Lines.{disk_fault}
+use Rattle.tool_commands.specs.Lines.{disk_fault, read_fault}
 use Rattle.tool_words.specs.Lines.{out_of_memory}
 use Rattle.tool_commands.specs.Report.{Report, warned}
 use Rattle.tool_commands.specs.StepView.{report_of}
@@ -12,6 +12,7 @@ use Rattle.tool_commands.specs.StepView.{report_of}
 abbrev pub stopped : Stop → Report
 stopped stops.Memory = warned 70 out_of_memory
 stopped stops.DiskFault = warned 74 disk_fault
+stopped stops.ReadFault = warned 74 read_fault
 
 abbrev pub ending : Result code.Answer Stop → Report
 ending (Ok answer) = report_of answer.report

@@ -1,11 +1,11 @@
 -- How a run ends, as the top call says it. (This project's own.)
-use Rattle.std.specs.Prelude.{◌≡◌, ◌⊎◌, ℕ, List}
-use Rattle.tool_commands.specs.Lines.{disk_fault, line, write_fault}
+use Rattle.std.specs.Prelude.{◌≡◌, ◌⊎◌, ℕ, List, []}
+use Rattle.tool_commands.specs.Lines.{disk_fault, line, read_fault, write_fault}
 use Rattle.tool_words.specs.Lines.{out_of_memory}
 use Rattle.tool_words.specs.Uses.{barred}
 use Rattle.kdb_tool.specs.Answer.{Answer, LeavesFiles}
-use Rattle.tool_commands.specs.Report.{IsAnswered, Report, warned}
-use Rattle.tool_words.specs.Request.{Request, Refuses, Bars, Asks}
+use Rattle.tool_commands.specs.Report.{IsAnswered, IsEnd, Report, warned}
+use Rattle.tool_words.specs.Request.{Request, Refuses, Bars, Asks, Imports}
 use Rattle.kdb_tool.specs.Answers.{Answers}
 use Rattle.kdb_tool.specs.Lasting.{Lasts}
 use Rattle.kdb_tool.specs.Untold.{IsStatusOf}
@@ -13,14 +13,14 @@ use Rattle.kdb_outside.specs.SinkChange.{SinkChange as Change}
 use Rattle.kdb_tool.specs.Outcome.{Failed, Gives, Gains}
 
 -- an answer to a command line was given, and the files are those that it leaves
-pub record GivesAnswer (words : List (List ℕ)) (before after : List ℕ → List ℕ) (status : ℕ) (out err : Change) : Type 0 where
+pub record GivesAnswer (words : List (List ℕ)) (input : List ℕ) (before after : List ℕ → List ℕ) (status : ℕ) (out err : Change) : Type 0 where
   pub answer : Answer
-  pub answers : Answers words before answer
+  pub answers : Answers words input before answer
   pub gives : Gives answer.report status out err
   pub leaves : LeavesFiles answer.stored before after
 
-abbrev pub EndsAsAnswered : List (List ℕ) → (List ℕ → List ℕ) → (List ℕ → List ℕ) → ℕ → Change → Change → Type 0
-EndsAsAnswered words before after status out err = IsAnswered status → GivesAnswer words before after status out err
+abbrev pub EndsAsAnswered : List (List ℕ) → List ℕ → (List ℕ → List ℕ) → (List ℕ → List ℕ) → ℕ → Change → Change → Type 0
+EndsAsAnswered words input before after status out err = IsAnswered status → GivesAnswer words input before after status out err
 
 -- a sink failed, so that the status is that of a fault
 abbrev pub LosesSink : ℕ → Change → Change → Type 0
@@ -32,26 +32,30 @@ pub data EndsRefused (report : Report) (status : ℕ) (out err : Change) : Type 
   NoMemory : status ≡ 70 → EndsRefused report status out err
   SinkFails : LosesSink status out err → EndsRefused report status out err
 
--- words that ask the store for nothing decide how a run ends; a question to the store ends with its own statuses alone
+-- words that ask the store for nothing decide how a run ends; a question to the store ends with its own statuses alone, and an
+-- import with 0 or 5
 abbrev pub EndsByWords : Request → ℕ → Change → Change → Type 0
 EndsByWords (Refuses code text) status out err = EndsRefused (warned code text) status out err
 EndsByWords (Bars by name) status out err = EndsRefused (warned 2 (barred by name)) status out err
 EndsByWords (Asks question) status out err = IsAnswered status → IsStatusOf question status
+EndsByWords (Imports name kind) status out err = IsAnswered status → IsEnd [] status
 
 abbrev pub EndsWithoutMemory : ℕ → Change → Change → Type 0
 EndsWithoutMemory status out err = status ≡ 70 → Gives (warned 70 out_of_memory) status out err
 
--- which fault ended a run: the disk's, of which err tells, out's, of which err tells, or err's
-pub data FaultCause (disk_failed : Type 0) (status : ℕ) (out err : Change) : Type 0 where
-  OfDisk : disk_failed → Gives (warned 74 disk_fault) status out err → FaultCause disk_failed status out err
-  OfOut : Failed out → Gains err.held_before err.held_now (line write_fault) → FaultCause disk_failed status out err
-  OfErr : Failed err → FaultCause disk_failed status out err
+-- which fault ended a run: the disk's, the input's or out's, of which err tells, or err's
+pub data FaultCause (disk_failed input_failed : Type 0) (status : ℕ) (out err : Change) : Type 0 where
+  OfDisk : disk_failed → Gives (warned 74 disk_fault) status out err → FaultCause disk_failed input_failed status out err
+  OfInput : input_failed → Gives (warned 74 read_fault) status out err → FaultCause disk_failed input_failed status out err
+  OfOut : Failed out → Gains err.held_before err.held_now (line write_fault) → FaultCause disk_failed input_failed status out err
+  OfErr : Failed err → FaultCause disk_failed input_failed status out err
 
-abbrev pub EndsInFault : Type 0 → ℕ → Change → Change → Type 0
-EndsInFault disk_failed status out err = status ≡ 74 → FaultCause disk_failed status out err
+abbrev pub EndsInFault : Type 0 → Type 0 → ℕ → Change → Change → Type 0
+EndsInFault disk_failed input_failed status out err = status ≡ 74 → FaultCause disk_failed input_failed status out err
 
--- what a run leaves that had no fault of the disk, whatever becomes of out and err: in want of memory it only read, and else the
--- files are those of its answer and outlast a crash
-pub data LeftBy (words : List (List ℕ)) (before after : List ℕ → List ℕ) (leaves : List ℕ → List ℕ → Type 0) (only_read : Type 0) (status : ℕ) (out err : Change) : Type 0 where
-  Unwritten : only_read → (status ≡ 70) ⊎ ((status ≡ 74) × Failed err) → LeftBy words before after leaves only_read status out err
-  Left : (answer : Answer) → Answers words before answer → LeavesFiles answer.stored before after → Lasts answer.stored leaves → (status ≡ answer.report.status) ⊎ LosesSink status out err → LeftBy words before after leaves only_read status out err
+-- what a run leaves that had no fault of the disk, whatever becomes of out and err: in want of memory and at a fault of the input it
+-- only read, and else the files are those of its answer and outlast a crash
+pub data LeftBy (words : List (List ℕ)) (input : List ℕ) (before after : List ℕ → List ℕ) (leaves : List ℕ → List ℕ → Type 0) (only_read input_failed : Type 0) (status : ℕ) (out err : Change) : Type 0 where
+  Unwritten : only_read → (status ≡ 70) ⊎ ((status ≡ 74) × Failed err) → LeftBy words input before after leaves only_read input_failed status out err
+  Unread : only_read → input_failed → status ≡ 74 → LeftBy words input before after leaves only_read input_failed status out err
+  Left : (answer : Answer) → Answers words input before answer → LeavesFiles answer.stored before after → Lasts answer.stored leaves → (status ≡ answer.report.status) ⊎ LosesSink status out err → LeftBy words input before after leaves only_read input_failed status out err

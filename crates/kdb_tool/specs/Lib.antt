@@ -1,6 +1,7 @@
 pub mod Answer
 pub mod Lasting
 pub mod AnswerView
+pub mod Input
 pub mod Answers
 pub mod Untold
 pub mod Outcome

@@ -1,6 +1,6 @@
 -- What is known of an answer whatever a disk tells. (This project's own.)
 use Rattle.std.specs.Prelude.{◌≡◌, ℕ, List, []}
-use Rattle.tool_words.specs.Request.{Question, Mounts, FileOf, On, Request, Refuses, Bars, Asks}
+use Rattle.tool_words.specs.Request.{Question, Mounts, FileOf, TextOf, On, Request, Refuses, Bars, Asks, Imports}
 use Rattle.tool_words.specs.Uses.{barred}
 use Rattle.tool_commands.specs.Commands.{row_of}
 use Rattle.tool_commands.specs.Report.{IsEnd}
@@ -10,20 +10,23 @@ use Rattle.kdb_tool.specs.Answer.{Answer, refused}
 abbrev pub own_statuses : Question → List ℕ
 own_statuses Mounts = []
 own_statuses (FileOf name) = []
+own_statuses (TextOf name kind) = []
 own_statuses (On name action) = (row_of name action).statuses
 
 -- a question to the store ends so
 abbrev pub IsStatusOf : Question → ℕ → Type 0
 IsStatusOf question status = IsEnd (own_statuses question) status
 
--- words ask the store for something
+-- words may ask the store for something
 abbrev pub AsksStore : Request → Type 0
 AsksStore (Refuses status text) = ⊥
 AsksStore (Bars by name) = ⊥
 AsksStore (Asks question) = Unit {0}
+AsksStore (Imports name kind) = Unit {0}
 
 -- of a request: all where it asks the store for nothing, and else a status
 abbrev pub AnswersUntold : Request → Answer → Type 0
 AnswersUntold (Refuses status text) answer = answer ≡ refused status text
 AnswersUntold (Bars by name) answer = answer ≡ refused 2 (barred by name)
 AnswersUntold (Asks question) answer = IsStatusOf question answer.report.status
+AnswersUntold (Imports name kind) answer = IsEnd [] answer.report.status

@@ -2,7 +2,8 @@
 ghost use Rattle.std.specs.Prelude.{◌≡◌, ◌≢◌, ℕ, true, List, ◌++◌, ◌∷◌, [], Some, IfOk, OnOk, IsSomeAnd, string_bytes};
 ghost use Rattle.std.specs.List.{flat_map};
 ghost use Rattle.std.specs.Option.{option_map};
-ghost use Rattle.mounted_files.specs.Getting.{got};
+ghost use Rattle.model_maps.specs.Limits.{IsLimited};
+ghost use Rattle.mounted_files.specs.Getting.{below, got};
 ghost use Rattle.kdb_tool.specs.AnswerView.{answer_of};
 ghost use Rattle.tool_commands.specs.StepView.{seen_step};
 ghost use Rattle.mounted_files.specs.declared.refusals.GetFault.TheVariants.{Memory as OutOfMemory};
@@ -11,26 +12,31 @@ ghost use Rattle.kdb_tool.specs.Answer.{done, refused};
 ghost use Rattle.tool_commands.specs.Report.{IsEnd};
 ghost use Rattle.tool_commands.specs.Step.{TellsEnd};
 ghost use Rattle.kdb_tool.specs.Untold.{IsStatusOf};
-ghost use Rattle.kdb_tool.specs.Answers.{AnswersOpened, AnswersIn, AnswersGot, AnswersStep, AnswersSet, IsRefusedBy, answer_by, file_told, mounts_told, owner_in, line_of_get, line_of_opening};
+ghost use Rattle.kdb_tool.specs.Answers.{AnswersOpened, AnswersBelow, AnswersIn, AnswersGot, AnswersText, AnswersStep, AnswersSet, IsRefusedBy, answer_by, file_told, mounts_told, owner_in, line_of_get, line_of_opening};
 ghost use Rattle.tool_commands.specs.Commands.{parent_of, row_of};
-ghost use Rattle.tool_commands.specs.Lines.{line_of_mount};
+ghost use Rattle.key_name.specs.Joining.{joined};
+ghost use Rattle.model_names.specs.WellFormed.{IsName};
+ghost use Rattle.model_names.specs.declared.namespaces.Namespace.TheVariants.{Cascading};
+ghost use Rattle.mounted_files.specs.Sound.{AreNames};
+ghost use Rattle.tool_commands.specs.Lines.{line_of_mount, not_storable};
 ghost use Rattle.tool_words.specs.Request.{NamesFiles};
 ghost use Rattle.tool_words.specs.RequestView.{action_of, question_of};
 ghost use Rattle.model_names.specs.Namespaces.{has_files};
 
 use crate::answers::{Answer, refuse, stores, tells};
 use all_formats::AllFormats;
-use kdb_outside::FileName;
+use kdb_outside::{FileName, Kind};
 use kdb_text::shown;
 use key_meta::Memory;
-use key_name::{KeyName, owner};
+use key_name::{KeyName, NameFault, owner};
 use key_set::KeySet;
 use mount_table::Mount;
 use mounted_files::{GetFault, Mounted, OpenRefusal, Verdict};
 use std::alloc::{AllocError, Global};
+use storage_api::{Formats, WriteRefusal};
 use tool_commands::{
     REFUSED, Step, bad_file, bad_table, database_full, file_too_large, not_storable, own_point,
-    parent_of, step, tell, too_heavy, too_long, value_too_long,
+    parent_of, step, tell, tell_bytes, too_heavy, too_long, value_too_long,
 };
 use tool_words::{Action, Question};
 
@@ -87,6 +93,7 @@ fn answer_in(alloc: Global, mounted: &Mounted, question: Question<'_>) -> Result
     match question {
         Question::Mounts => tell_mounts(alloc, mounted),
         Question::FileOf(name) => tell_file(alloc, mounted, &name),
+        Question::TextOf { name, kind } => tell_text(alloc, mounted, &name, kind),
         Question::On { name, action } => act(alloc, mounted, &name, action),
     }
 }
@@ -145,6 +152,45 @@ fn tell_name_of(alloc: Global, file: &FileName) -> Result<Answer, Memory>
     Ok(tells(alloc, tell(alloc, out)))
 }
 
+/// `export`: what a file at a name would hold, as its text in a format.
+fn tell_text(alloc: Global, mounted: &Mounted, name: &KeyName, kind: Kind) -> Result<Answer, Memory>
+    ensures answers { IfOk result (λ answer. AnswersBelow name.now kind (below mounted.now name.now) (answer_of answer)) }
+    ensures status { IfOk result (λ answer. IsEnd [] answer.report.status) }
+{
+    match mounted.below(alloc, name) {
+        Ok(keys) => tell_keys(alloc, name, kind, &keys),
+        Err(fault) => refuse_get(alloc, fault),
+    }
+}
+
+/// The text of some keys in a format, or the refusal of the first that the format can't hold.
+fn tell_keys(alloc: Global, name: &KeyName, kind: Kind, keys: &KeySet) -> Result<Answer, Memory>
+    requires limited { IsLimited keys.now }
+    requires whole { AreNames name.now keys.now }
+    ensures answers { IfOk result (λ answer. AnswersText name.now kind keys.now (answer_of answer)) }
+    ensures status { IfOk result (λ answer. IsEnd [] answer.report.status) }
+{
+    match AllFormats.write(alloc, kind, keys) {
+        Ok(bytes) => Ok(tells(alloc, tell_bytes(alloc, bytes))),
+        Err(WriteRefusal::NotStorable { key }) => refuse_key(alloc, name, &key),
+        Err(WriteRefusal::Memory) => Err(AllocError),
+    }
+}
+
+/// The refusal of a key that a format can't hold, whose whole name is told.
+fn refuse_key(alloc: Global, name: &KeyName, key: &KeyName) -> Result<Answer, Memory>
+    requires cascading { key.now.namespace ≡ Cascading }
+    requires name { IsName (joined name.now key.now) }
+    ensures told { IfOk result (λ answer. answer_of answer ≡ refused 5 (not_storable name.now (joined name.now key.now))) }
+    ensures status { IfOk result (λ answer. answer.report.status ≡ 5) }
+{
+    match name.join(key) {
+        Ok(key) => refuse(alloc, REFUSED, &not_storable(alloc, name, &key)?),
+        Err(NameFault::Memory) => Err(AllocError),
+        Err(_) => unreachable!(),
+    }
+}
+
 /// The mount that owns a key. Each table has one for a key in files.
 fn owner_in<'a>(mounted: &'a Mounted, name: &KeyName) -> &'a Mount
     requires { has_files name.now.namespace ≡ true }
@@ -181,7 +227,7 @@ fn act(
 }
 
 /// The answer where keys can't be got.
-fn refuse_get(alloc: Global, fault: GetFault) -> Result<Answer, Memory>
+pub fn refuse_get(alloc: Global, fault: GetFault) -> Result<Answer, Memory>
     ensures refused { IfOk result (λ answer. (fault ≢ OutOfMemory) × (answer_of answer ≡ refused 5 (line_of_get fault))) }
     ensures status { IfOk result (λ answer. answer.report.status ≡ 5) }
 {

@@ -30,6 +30,7 @@ pub struct Answer {
 pub enum Stop {
     Memory,
     DiskFault,
+    ReadFault,
 }
 
 impl From<AllocError> for Stop {

@@ -24,8 +24,8 @@ fn tell<E: Sink>(status: Status, line: &str, err: &mut E) -> Status
     }
 }
 
-/// Puts a text on out, where there is one.
-fn put_out<K: Sink>(text: &str, out: &mut K) -> Result<(), Failed>
+/// Puts bytes on out, where there are some.
+fn put_out<K: Sink>(text: &[u8], out: &mut K) -> Result<(), Failed>
     ensures whole { OnOk result (Gains (K.held out.old) (K.held out.new) text.now) }
     ensures front { GainsFront (K.held out.old) (K.held out.new) text.now }
     ensures some { OnErr result (text.now ≢ []) }
@@ -35,13 +35,13 @@ fn put_out<K: Sink>(text: &str, out: &mut K) -> Result<(), Failed>
     if text.is_empty() {
         return Ok(());
     }
-    out.put(text.as_bytes())
+    out.put(text)
 }
 
-/// Puts the texts of an answer on out and on err.
+/// Puts the bytes of an answer on out and its text on err.
 fn deliver<K: Sink, E: Sink>(
     status: Status,
-    out_text: &str,
+    out_text: &[u8],
     err_text: &str,
     out: &mut K,
     err: &mut E,
@@ -65,7 +65,7 @@ pub fn finish<K: Sink, E: Sink>(answer: &Result<Answer, Stop>, out: &mut K, err:
     match answer {
         Ok(answer) => deliver(
             answer.report.status,
-            answer.report.out.as_str(),
+            answer.report.out.as_slice(),
             answer.report.err.as_str(),
             out,
             err,
@@ -83,11 +83,24 @@ fn give_up<K: Sink, E: Sink>(stop: Stop, out: &mut K, err: &mut E) -> Status
     match stop {
         Stop::Memory => deliver(
             Status::new(OUT_OF_MEMORY),
-            "",
+            b"",
             "kdb: C01110 out of memory\n",
             out,
             err,
         ),
-        Stop::DiskFault => deliver(Status::new(FAULT), "", "kdb: C01100 disk-fault\n", out, err),
+        Stop::DiskFault => deliver(
+            Status::new(FAULT),
+            b"",
+            "kdb: C01100 disk-fault\n",
+            out,
+            err,
+        ),
+        Stop::ReadFault => deliver(
+            Status::new(FAULT),
+            b"",
+            "kdb: C01100 read-fault\n",
+            out,
+            err,
+        ),
     }
 }

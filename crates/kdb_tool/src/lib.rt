@@ -8,7 +8,10 @@ ghost use Rattle.kdb_tool.specs.Answers.{Answers};
 mod answering;
 mod answers;
 mod delivery;
+mod importing;
 mod opening;
+mod questions;
+mod reading;
 mod storing;
 mod tool;
 mod work;
@@ -16,12 +19,12 @@ mod work;
 pub use tool::run;
 pub use tool_commands::Status;
 
-/// A command line has one answer over the files of a store.
+/// A command line has one answer over its input and the files of a store.
 pub fn words_have_one_answer()
-    ensures { (words : List (List ℕ)) (files : List ℕ → List ℕ) (a b : Answer) → Answers words files a → Answers words files b → a ≡ b }
+    ensures { (words : List (List ℕ)) (input : List ℕ) (files : List ℕ → List ℕ) (a b : Answer) → Answers words input files a → Answers words input files b → a ≡ b }
 {}
 
-/// A command line has an answer over all files, whatever its words and the bytes of the files.
+/// A command line has an answer over every input and all files, whatever its words and the bytes of the files.
 pub fn words_have_an_answer()
-    ensures { (words : List (List ℕ)) (files : List ℕ → List ℕ) → (answer : Answer) × Answers words files answer }
+    ensures { (words : List (List ℕ)) (input : List ℕ) (files : List ℕ → List ℕ) → (answer : Answer) × Answers words input files answer }
 {}

@@ -1,5 +1,5 @@
 //! The files of all mounts, each read once.
-ghost use Rattle.std.specs.Prelude.{◌≡◌, ◌<◌, ◌+◌, true, [], length, IfOk, OnOk, MatchResult};
+ghost use Rattle.std.specs.Prelude.{◌≡◌, ◌≢◌, ◌<◌, ◌+◌, true, [], length, Err, IfOk, OnOk, MatchResult};
 ghost use Rattle.kdb_outside.specs.Faults.{HasRisen};
 ghost use Rattle.kdb_outside.specs.Frames.{OnlyReads};
 ghost use Rattle.all_formats.specs.Meanings.{Reads, IsBadAt};
@@ -20,6 +20,7 @@ use std::alloc::Global;
 pub fn open<D: Disk>(alloc: Global, disk: &mut D) -> Result<Result<Mounted, OpenRefusal>, Stop>
     ensures told { D.tells disk.old ≡ true → IfOk result (Opens Reads IsBadAt (D.seen disk.old)) }
     ensures cause { result ≡ Err Stop.DiskFault → HasRisen (D.faults disk.old) (D.faults disk.new) }
+    ensures input { result ≢ Err Stop.ReadFault }
     ensures reads { OnlyReads D.Disk disk.old disk.new }
 {
     match begin(alloc, disk)? {
@@ -36,6 +37,7 @@ fn begin<D: Disk>(alloc: Global, disk: &mut D) -> Result<Result<Opening, OpenRef
     ensures told { D.tells disk.old ≡ true → IfOk result (λ begun. MatchResult begun (Begins Reads IsBadAt (D.seen disk.old)) (RefusesOpening Reads IsBadAt (D.seen disk.old own_mount.file))) }
     ensures none { IfOk result (λ begun. IfOk begun (λ opening. opening.files ≡ [])) }
     ensures cause { result ≡ Err Stop.DiskFault → HasRisen (D.faults disk.old) (D.faults disk.new) }
+    ensures input { result ≢ Err Stop.ReadFault }
     ensures reads { OnlyReads D.Disk disk.old disk.new }
 {
     let file = own_file(alloc)?;
@@ -48,6 +50,7 @@ fn mount_all<D: Disk>(alloc: Global, opening: Opening, disk: &mut D) -> Result<M
     requires none { opening.files ≡ [] }
     ensures told { D.tells disk.old ≡ true → Begins Reads IsBadAt (D.seen disk.old) opening → IfOk result (IsOpened Reads IsBadAt (D.seen disk.old)) }
     ensures cause { result ≡ Err Stop.DiskFault → HasRisen (D.faults disk.old) (D.faults disk.new) }
+    ensures input { result ≢ Err Stop.ReadFault }
     ensures reads { OnlyReads D.Disk disk.old disk.new }
 {
     let mut opening = opening;
@@ -65,6 +68,7 @@ fn add_next<D: Disk>(alloc: Global, opening: &mut Opening, disk: &mut D) -> Resu
     ensures count { OnOk result (length opening.new.files ≡ length opening.old.files + 1) }
     ensures others { others opening.new ≡ others opening.old }
     ensures cause { result ≡ Err Stop.DiskFault → HasRisen (D.faults disk.old) (D.faults disk.new) }
+    ensures input { result ≢ Err Stop.ReadFault }
     ensures reads { OnlyReads D.Disk disk.old disk.new }
 {
     let Some(mount) = opening.next() else {

@@ -7,10 +7,10 @@ use Rattle.model_names.specs.Spelling.{spelling}
 use Rattle.model_maps.specs.KeyMap.{KeyMap}
 use Rattle.mount_table.specs.Changing as table
 use Rattle.mount_table.specs.Points.{own_point}
-use Rattle.tool_words.specs.Request.{Action, Get, Set, Remove, Names, GetMeta, SetMeta, MetaNames, Bring, MountFile, Unmount}
+use Rattle.tool_words.specs.Request.{Action, Get, Set, Remove, Names, GetMeta, SetMeta, MetaNames, Bring, MountFile, Unmount, Replace}
 use Rattle.tool_commands.specs.Commands.Metadata.{meta_got, meta_set_in, meta_listed}
 use Rattle.tool_commands.specs.Commands.Mounting.{mounted}
-use Rattle.tool_commands.specs.Commands.Trees.{sources, others, removed, listed, brought_in}
+use Rattle.tool_commands.specs.Commands.Trees.{sources, others, removed, listed, brought_in, replaced}
 use Rattle.tool_commands.specs.Commands.Values.{got, set_in}
 use Rattle.tool_commands.specs.Step.{Step, Tells}
 pub mod Metadata
@@ -40,6 +40,7 @@ row_of name MetaNames = record { parent = every_key; step = λ keys. Tells (meta
 row_of name (Bring way extent to) = record { parent = every_key; step = λ keys. brought_in keys name way extent to; statuses = 2 ∷ 11 ∷ [] }
 row_of name (MountFile file kind) = record { parent = own_point; step = λ keys. mounted (table.added keys (spelling name) file kind); statuses = [] }
 row_of name Unmount = record { parent = own_point; step = λ keys. mounted (table.removed keys (spelling name)); statuses = [] }
+row_of name (Replace others) = record { parent = name; step = λ keys. replaced name others keys; statuses = [] }
 
 -- the parent whose keys a command gets, and sets where it sets any
 abbrev pub parent_of : Name → Action → Name

@@ -27,6 +27,9 @@ disk_fault = codes "C01100 disk-fault"
 abbrev pub write_fault : List ℕ
 write_fault = codes "C01100 write-fault"
 
+abbrev pub read_fault : List ℕ
+read_fault = codes "C01100 read-fault"
+
 -- the file of a mount has more than 1 MiB
 abbrev pub too_long : Name → ℕ → List ℕ
 too_long mount bytes = codes "C01100 too-long " ++ (shown mount ++ (32 ∷ decimal bytes))

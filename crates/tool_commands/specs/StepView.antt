@@ -7,7 +7,7 @@ use Rattle.tool_commands.specs.Report.{Report}
 use Rattle.tool_commands.specs.Step.{Step, Tells, Sets}
 
 abbrev pub report_of : code_report.Report → Report
-report_of report = record { status = report.status; out = string_bytes report.out; err = string_bytes report.err }
+report_of report = record { status = report.status; out = report.out.items; err = string_bytes report.err }
 
 abbrev pub seen_step : code_step.Step → Step
 seen_step (code_steps.Tells report) = Tells (report_of report)

@@ -12,7 +12,7 @@ mod values;
 
 use crate::commands::metadata::{get_meta, list_meta, set_meta};
 use crate::commands::mounting::{mount, unmount};
-use crate::commands::trees::{bring, list, remove};
+use crate::commands::trees::{bring, list, remove, replace};
 use crate::commands::values::{get, set};
 use crate::places::{every_key, own_point};
 use crate::steps::Step;
@@ -27,7 +27,11 @@ pub fn parent_of(alloc: Global, name: &KeyName, action: &Action<'_>) -> Result<K
     ensures { IfOk result (λ parent. parent ≡ parent_of name.now (action_of action.now)) }
 {
     match action {
-        Action::Set(_) | Action::Remove(_) | Action::Names | Action::SetMeta(_, _) => name.copy(),
+        Action::Set(_)
+        | Action::Remove(_)
+        | Action::Names
+        | Action::SetMeta(_, _)
+        | Action::Replace(_) => name.copy(),
         Action::Get | Action::GetMeta(_) | Action::MetaNames | Action::Bring { .. } => {
             Ok(every_key(alloc))
         }
@@ -51,5 +55,6 @@ pub fn step(alloc: Global, name: &KeyName, action: Action<'_>, keys: KeySet) -> 
         Action::Bring { way, extent, to } => bring(alloc, name, way, extent, &to, keys),
         Action::MountFile { file, kind } => mount(alloc, name, file, kind, keys),
         Action::Unmount => unmount(alloc, name, keys),
+        Action::Replace(others) => replace(alloc, name, others, keys),
     }
 }

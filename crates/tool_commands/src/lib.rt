@@ -12,7 +12,7 @@ mod store_lines;
 pub use commands::{parent_of, step};
 pub use places::own_point;
 pub use refusing::{warn_of_name, warn_of_words};
-pub use reports::{Report, tell, warn, warn_not_found};
+pub use reports::{Report, tell, tell_bytes, warn, warn_not_found};
 pub use status::{FAULT, OUT_OF_MEMORY, REFUSED, Status};
 pub use steps::Step;
 pub use store_lines::{

@@ -10,17 +10,29 @@ use key_meta::Memory;
 use key_name::KeyName;
 use std::alloc::Global;
 
-/// A status, and the texts that are put on out and on err.
+/// A status, the bytes that are put on out, and the text on err.
 #[derive(Debug, Drop)]
 pub struct Report {
     pub status: Status,
-    pub out: String,
+    pub out: Vec<u8>,
     pub err: String,
 }
 
 /// The command was done, and puts this on out.
 pub fn tell(alloc: Global, out: String) -> Report
     ensures told { report_of result ≡ told (string_bytes out) }
+    ensures status { result.status ≡ 0 }
+{
+    Report {
+        status: Status::new(DONE),
+        out: out.into_bytes(),
+        err: String::new(alloc),
+    }
+}
+
+/// The command was done, and puts these bytes on out.
+pub fn tell_bytes(alloc: Global, out: Vec<u8>) -> Report
+    ensures told { report_of result ≡ told out.items }
     ensures status { result.status ≡ 0 }
 {
     Report {
@@ -37,7 +49,7 @@ pub fn warn(alloc: Global, status: u8, text: &str) -> Result<Report, Memory>
 {
     Ok(Report {
         status: Status::new(status),
-        out: String::new(alloc),
+        out: Vec::new(alloc),
         err: format!(in alloc; "kdb: {text}\n")?,
     })
 }

@@ -13,11 +13,13 @@ use Rattle.model_names.specs.NameOf.{name_of}
 use Rattle.model_names.specs.Namespaces.{has_files}
 use Rattle.model_names.specs.Refuses.{Refusal, refusal_of}
 use Rattle.tool_words.specs.declared.extents.Extent.{Extent}
+use Rattle.tool_words.specs.declared.flows.Flow.{Flow}
+use Rattle.tool_words.specs.declared.flows.Flow.TheVariants.{Out, In}
 use Rattle.tool_words.specs.declared.uses.Use.{Use}
 use Rattle.tool_words.specs.declared.uses.Use.TheVariants.{Looks, Writes}
 use Rattle.tool_words.specs.declared.ways.Way.{Way}
 use Rattle.tool_words.specs.declared.ways.Way.TheVariants.{Copies, Moves}
-use Rattle.tool_words.specs.Request.{Action, Get, Set, Remove, Names, GetMeta, SetMeta, MetaNames, Bring, MountFile, Unmount, Question, Mounts, FileOf, On, NamesFiles, Request, Refuses, Bars, Asks, options, arguments, extent_of, plain, extended, on_none, on_one, on_two, on_three, on_two_or_three, on_name, on_name_for, on_meta, on_kind, is_meta, unnamed, asks, asks_to_bring, asks_to_mount}
+use Rattle.tool_words.specs.Request.{Action, Get, Set, Remove, Names, GetMeta, SetMeta, MetaNames, Bring, MountFile, Unmount, Question, Mounts, FileOf, TextOf, On, NamesFiles, Request, Refuses, Bars, Asks, Imports, options, arguments, extent_of, plain, extended, on_none, on_one, on_two, on_three, on_two_or_three, on_name, on_name_for, on_meta, on_kind, is_meta, unnamed, asks, asks_to_bring, asks_to_mount, asks_to_pass, passing}
 use Rattle.tool_words.specs.Lines.{argument, no_name, options_refused}
 use Rattle.tool_words.specs.Rows.{Row, asked_by, request, rows}
 use Rattle.tool_words.specs.Uses.{bars}
@@ -27,6 +29,7 @@ abbrev NamesAny : Request → Type 0
 NamesAny (Refuses status text) = Unit {0}
 NamesAny (Bars by name) = Unit {0}
 NamesAny (Asks question) = NamesFiles question
+NamesAny (Imports name kind) = Unit {0}
 
 -- ---- the words behind a command
 
@@ -170,9 +173,17 @@ file_asked word = on_name_for Writes word (λ name. Asks (FileOf name))
 file : (words : List (List ℕ)) → NamesAny (plain (on_one file_asked) words)
 file = plain-names (on_one file_asked) (one-names file_asked (λ word. name_for-names Writes word (λ name. Asks (FileOf name)) (λ name is. writable-in_files name.namespace is)))
 
+passed-names : (flow : Flow) (name : Name) (kind : Kind) → NamesAny (passing flow name kind)
+passed-names Out name kind = tt
+passed-names In name kind = tt
+
+passing-names : (flow : Flow) (words : List (List ℕ)) → NamesAny (plain (on_two (asks_to_pass flow)) words)
+passing-names flow = plain-names (on_two (asks_to_pass flow)) (two-names (asks_to_pass flow) (λ word format.
+    name_for-names Writes word (λ name. on_kind (Some format) (λ kind. passing flow name kind)) (λ name is. kind-names (Some format) (λ kind. passing flow name kind) (λ kind. passed-names flow name kind))))
+
 -- a line for each row, in their order
 rows-name : AllByRecursion (λ (row : Row). (words : List (List ℕ)) → NamesAny (row.asks_for words)) rows
-rows-name = (key_alone Looks Get, (setting, (removing, (listing, (meta_getting, (meta_setting, (key_alone Looks MetaNames, (bringing Copies, (bringing Moves, (mounting, (key_alone Writes Unmount, (mounts, (file, tt)))))))))))))
+rows-name = (key_alone Looks Get, (setting, (removing, (listing, (meta_getting, (meta_setting, (key_alone Looks MetaNames, (bringing Copies, (bringing Moves, (mounting, (key_alone Writes Unmount, (mounts, (file, (passing-names Out, (passing-names In, tt)))))))))))))))
 
 asked_by-names : (some : List Row) → AllByRecursion (λ (row : Row). (words : List (List ℕ)) → NamesAny (row.asks_for words)) some → (word : List ℕ) (words : List (List ℕ)) → NamesAny (asked_by some word words)
 asked_by-names [] each word words = tt

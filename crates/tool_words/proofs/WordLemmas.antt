@@ -4,8 +4,9 @@ use Rattle.std.proofs.Common.{refl, ap, ◌∙◌, arith}
 use Rattle.std.specs.List.{position, position_or_len}
 use Rattle.std.proofs.lemmas.Bool.{ltb-false}
 use Rattle.tool_words.specs.Lines.{argument, no_name}
-use Rattle.tool_words.specs.Request.{Request, Refuses, Asks, On, MountFile, is_meta, on_meta, on_name, on_name_for, unnamed, asks, asks_to_mount}
+use Rattle.tool_words.specs.Request.{Request, Refuses, Asks, On, MountFile, is_meta, on_meta, on_name, on_name_for, unnamed, asks, asks_to_mount, asks_to_pass, passing}
 use Rattle.tool_words.specs.RequestView.{text_of_fault}
+use Rattle.tool_words.specs.declared.flows.Flow.{Flow}
 use Rattle.tool_words.specs.declared.uses.Use.{Use}
 use Rattle.tool_words.specs.declared.uses.Use.TheVariants.{Writes}
 use Rattle.kdb_outside.specs.Kind.{kind_of}
@@ -56,6 +57,15 @@ pub refuses_kind : (file name word : List ℕ) (plugin : Option (List ℕ)) → 
 refuses_kind file name word plugin is unknown =
     ap (asks_to_mount file name) is
     ∙ ap (λ found. on_name_for Writes name (λ at. elim found [ None ↦ Refuses 2 (argument word) | Some format ↦ Asks (On at (MountFile file format)) ])) unknown
+
+-- what export and import ask for, by the word of a format
+pub passes_as : (flow : Flow) (name word : List ℕ) (kind : Kind) → kind_of word ≡ Some kind → asks_to_pass flow name word ≡ on_name_for Writes name (λ at. passing flow at kind)
+passes_as flow name word kind known =
+    ap (λ found. on_name_for Writes name (λ at. elim found [ None ↦ Refuses 2 (argument word) | Some format ↦ passing flow at format ])) known
+
+pub refuses_format : (flow : Flow) (name word : List ℕ) → kind_of word ≡ None → asks_to_pass flow name word ≡ on_name_for Writes name (λ _. Refuses 2 (argument word))
+refuses_format flow name word unknown =
+    ap (λ found. on_name_for Writes name (λ at. elim found [ None ↦ Refuses 2 (argument word) | Some format ↦ passing flow at format ])) unknown
 
 -- ---- words that are to be names
 

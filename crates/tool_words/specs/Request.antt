@@ -6,9 +6,12 @@ use Rattle.model_names.specs.NameOf.{name_of}
 use Rattle.model_names.specs.Namespaces.{has_files}
 use Rattle.model_names.specs.Refuses.{refusal_of}
 use Rattle.model_maps.specs.Entry.{longest_meta_name}
+use Rattle.model_maps.specs.KeyMap.{KeyMap}
 use Rattle.general_words.specs.Texts.{is_text}
 use Rattle.tool_words.specs.declared.extents.Extent.{Extent}
 use Rattle.tool_words.specs.declared.extents.Extent.TheVariants.{Alone, WithBelow}
+use Rattle.tool_words.specs.declared.flows.Flow.{Flow}
+use Rattle.tool_words.specs.declared.flows.Flow.TheVariants.{Out, In}
 use Rattle.tool_words.specs.declared.ways.Way.{Way}
 use Rattle.tool_words.specs.declared.uses.Use.{Use}
 use Rattle.tool_words.specs.declared.uses.Use.TheVariants.{Writes}
@@ -19,8 +22,8 @@ use Rattle.tool_words.specs.Uses.{bars}
 use Rattle.tool_words.specs.Lines.{argument, options_refused, no_name}
 
 -- what is done with a key: it is looked up, gets a value, is taken out, or is listed with all below it; its metadata
--- is looked up, set or listed; it is brought to another name; or its name becomes or ceases to be a mountpoint. Any other
--- key of the action is given by its name
+-- is looked up, set or listed; it is brought to another name; its name becomes or ceases to be a mountpoint; or all keys at or
+-- below it are replaced by others. Any other key of the action is given by its name
 pub data Action : Type 0 where
   Get : Action
   Set : List ℕ → Action
@@ -32,24 +35,29 @@ pub data Action : Type 0 where
   Bring : Way → Extent → Name → Action
   MountFile : List ℕ → Kind → Action
   Unmount : Action
+  Replace : KeyMap → Action
 
--- what is asked of a store: its mounts, the file of a key, or an action on a key
+-- what is asked of a store: its mounts, the file of a key, the text of the keys at or below a name, or an action on a key
 pub data Question : Type 0 where
   Mounts : Question
   FileOf : Name → Question
+  TextOf : Name → Kind → Question
   On : Name → Action → Question
 
 -- where the file of a key is asked for, keys of its namespace are in files
 abbrev pub NamesFiles : Question → Type 0
 NamesFiles Mounts = Unit {0}
 NamesFiles (FileOf name) = has_files name.namespace ≡ true
+NamesFiles (TextOf name kind) = Unit {0}
 NamesFiles (On name action) = Unit {0}
 
--- a question, a name that can't be used so, or a status with the text of its line
+-- a question, keys that the input holds in a format and that are to replace those at or below a name, a name that can't be used
+-- so, or a status with the text of its line
 pub data Request : Type 0 where
   Refuses : ℕ → List ℕ → Request
   Bars : Use → Name → Request
   Asks : Question → Request
+  Imports : Name → Kind → Request
 
 -- a word that ends the options
 abbrev pub ends_options : List ℕ → Bool
@@ -155,3 +163,12 @@ asks_to_bring way extent from to = on_name_for Writes from (λ name. on_name_for
 -- a file is mounted at the name of a word
 abbrev pub asks_to_mount : List ℕ → List ℕ → Option (List ℕ) → Request
 asks_to_mount file word plugin = on_name_for Writes word (λ name. on_kind plugin (λ kind. Asks (On name (MountFile file kind))))
+
+-- the keys at or below a name go out, or others come in
+abbrev pub passing : Flow → Name → Kind → Request
+passing Out name kind = Asks (TextOf name kind)
+passing In name kind = Imports name kind
+
+-- keys at or below the name of a word go out or come in, in the format of another word
+abbrev pub asks_to_pass : Flow → List ℕ → List ℕ → Request
+asks_to_pass flow word format = on_name_for Writes word (λ name. on_kind (Some format) (λ kind. passing flow name kind))

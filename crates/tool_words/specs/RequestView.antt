@@ -16,7 +16,7 @@ use Rattle.tool_words.specs.declared.requests.Named.TheVariants as code_names
 use Rattle.tool_words.specs.declared.requests.Refusal.{Refusal}
 use Rattle.tool_words.specs.declared.requests.Refusal.TheVariants as refusals
 use Rattle.tool_words.specs.Lines.{argument, no_command, unknown_command, options_refused, no_name, out_of_memory}
-use Rattle.tool_words.specs.Request.{Action, Get, Set, Remove, Names, GetMeta, SetMeta, MetaNames, Bring, MountFile, Unmount, Question, Mounts, FileOf, On, Request, Refuses, Bars, Asks}
+use Rattle.tool_words.specs.Request.{Action, Get, Set, Remove, Names, GetMeta, SetMeta, MetaNames, Bring, MountFile, Unmount, Replace, Question, Mounts, FileOf, TextOf, On, Request, Refuses, Bars, Asks, Imports}
 
 -- the status of a refusal
 abbrev pub status_of : Refusal → ℕ
@@ -56,10 +56,12 @@ action_of code_actions.MetaNames = MetaNames
 action_of (code_actions.Bring way extent to) = Bring way extent to
 action_of (code_actions.MountFile file kind) = MountFile file.now kind
 action_of code_actions.Unmount = Unmount
+action_of (code_actions.Replace keys) = Replace keys
 
 abbrev pub question_of : code_question.Question → Question
 question_of code_questions.Mounts = Mounts
 question_of (code_questions.FileOf name) = FileOf name
+question_of (code_questions.TextOf name kind) = TextOf name kind
 question_of (code_questions.On name action) = On name (action_of action)
 
 -- words that are lent
@@ -71,6 +73,7 @@ abbrev pub IsSeenAs : code.Request → Request → Type 0
 IsSeenAs (code_requests.Refuses refusal) asked = asked ≡ Refuses (status_of refusal) (text_of refusal)
 IsSeenAs (code_requests.Bars by name) asked = asked ≡ Bars by name
 IsSeenAs (code_requests.Asks question) asked = asked ≡ Asks (question_of question)
+IsSeenAs (code_requests.Imports name kind) asked = asked ≡ Imports name kind
 
 -- a word that was read as a name: whatever is asked for by a name is asked for by this one, or the word is refused
 abbrev pub IsRead : ((Name → Request) → Request) → code_named.Named → Type 0

@@ -3,9 +3,10 @@
 use Rattle.std.specs.Prelude.{ℕ, List, [], ◌∷◌, codes, if◌then◌else◌}
 use Rattle.general_words.specs.Texts.{is_text}
 use Rattle.tool_words.specs.declared.uses.Use.TheVariants.{Looks, Writes}
+use Rattle.tool_words.specs.declared.flows.Flow.TheVariants.{Out, In}
 use Rattle.tool_words.specs.declared.ways.Way.TheVariants.{Copies, Moves}
 use Rattle.tool_words.specs.Lines.{no_command, unknown_command}
-use Rattle.tool_words.specs.Request.{Get, Set, Remove, Names, GetMeta, SetMeta, MetaNames, Unmount, Mounts, FileOf, On, Request, Refuses, Asks, plain, extended, on_none, on_one, on_two, on_three, on_two_or_three, on_name, on_name_for, on_meta, asks, asks_to_bring, asks_to_mount}
+use Rattle.tool_words.specs.Request.{Get, Set, Remove, Names, GetMeta, SetMeta, MetaNames, Unmount, Mounts, FileOf, On, Request, Refuses, Asks, plain, extended, on_none, on_one, on_two, on_three, on_two_or_three, on_name, on_name_for, on_meta, asks, asks_to_bring, asks_to_mount, asks_to_pass}
 
 -- a command's word, and what the words behind it ask for
 pub record Row : Type 0 where
@@ -30,6 +31,8 @@ rows =
     ∷ row (codes "umount") (plain (on_one (asks Writes Unmount)))
     ∷ row (codes "mounts") (plain (on_none (Asks Mounts)))
     ∷ row (codes "file") (plain (on_one (λ word. on_name_for Writes word (λ name. Asks (FileOf name)))))
+    ∷ row (codes "export") (plain (on_two (asks_to_pass Out)))
+    ∷ row (codes "import") (plain (on_two (asks_to_pass In)))
     ∷ []
 
 -- what the words behind a command's word ask for

@@ -2,12 +2,13 @@
 ghost use Rattle.std.specs.Prelude.{IfOk};
 ghost use Rattle.std.specs.Option.{option_map};
 ghost use Rattle.tool_words.specs.Request as asked;
-ghost use Rattle.tool_words.specs.Request.{on_name, on_name_for, asks, asks_to_bring, asks_to_mount};
+ghost use Rattle.tool_words.specs.Request.{on_name, on_name_for, asks, asks_to_bring, asks_to_mount, asks_to_pass, passing};
 ghost use Rattle.tool_words.specs.Lines.{argument};
 ghost use Rattle.tool_words.specs.RequestView.{IsRead, IsSeenAs, action_of};
 ghost use Rattle.tool_words.specs.declared.uses.Use.TheVariants.{Writes};
 
 use crate::extents::Extent;
+use crate::flows::Flow;
 use crate::requests::{Action, Named, Question, Refusal, Request};
 use crate::uses::{Use, bars};
 use crate::ways::Way;
@@ -96,6 +97,40 @@ pub fn ask_to_mount<'a>(
     match Kind::of(word) {
         Some(kind) => ask(alloc, name, Use::Writes, Action::MountFile { file, kind }),
         None => refuse_argument(alloc, name, Use::Writes, word),
+    }
+}
+
+/// Keys at or below the name that a word is to spell go out or come in, in the format of another word.
+pub fn ask_to_pass<'a>(
+    alloc: Global,
+    name: &'a str,
+    word: &'a str,
+    flow: Flow,
+) -> Result<Request<'a>, Memory>
+    ensures { IfOk result (λ read. IsSeenAs read (asks_to_pass flow name.now word.now)) }
+{
+    match Kind::of(word) {
+        Some(kind) => pass(alloc, name, kind, flow),
+        None => refuse_argument(alloc, name, Use::Writes, word),
+    }
+}
+
+/// Keys at or below the name that a word is to spell go out or come in, in a format.
+fn pass<'a>(alloc: Global, name: &'a str, kind: Kind, flow: Flow) -> Result<Request<'a>, Memory>
+    ensures { IfOk result (λ read. IsSeenAs read (on_name_for Writes name.now (λ at. passing flow at kind))) }
+{
+    match read_name(alloc, name, Use::Writes)? {
+        Named::Is(name) => Ok(passed(name, kind, flow)),
+        Named::IsNone(request) => Ok(request),
+    }
+}
+
+fn passed<'a>(name: KeyName, kind: Kind, flow: Flow) -> Request<'a>
+    ensures { IsSeenAs result (passing flow name kind) }
+{
+    match flow {
+        Flow::Out => Request::Asks(Question::TextOf { name, kind }),
+        Flow::In => Request::Imports { name, kind },
     }
 }
 

@@ -3,6 +3,7 @@
 
 mod asking;
 mod extents;
+mod flows;
 mod laws;
 mod meta_names;
 mod options;
@@ -12,6 +13,7 @@ mod ways;
 mod words;
 
 pub use extents::Extent;
+pub use flows::Flow;
 pub use laws::a_file_is_asked_for_of_keys_in_files;
 pub use meta_names::MetaName;
 pub use requests::{Action, Question, Refusal, Request};

@@ -5,6 +5,7 @@ use crate::uses::Use;
 use crate::ways::Way;
 use kdb_outside::Kind;
 use key_name::{KeyName, NameFault};
+use key_set::KeySet;
 
 /// Why words ask for nothing.
 #[derive(Clone, Copy, Debug)]
@@ -38,6 +39,8 @@ pub enum Action<'a> {
         kind: Kind,
     },
     Unmount,
+    /// All keys at or below the name give way to these.
+    Replace(KeySet),
 }
 
 /// What is asked of a store.
@@ -47,16 +50,20 @@ pub enum Question<'a> {
     Mounts,
     /// The file that holds a key.
     FileOf(KeyName),
+    /// The text of the keys at or below a name, in a format.
+    TextOf { name: KeyName, kind: Kind },
     /// What is done with a key.
     On { name: KeyName, action: Action<'a> },
 }
 
-/// What words ask for, a name that can't be used so, or why there is neither.
+/// What words ask for, which may be that keys of the input replace those at or below a name, a name that can't be used so, or why
+/// there is neither.
 #[derive(Debug, Drop)]
 pub enum Request<'a> {
     Refuses(Refusal<'a>),
     Bars { by: Use, name: KeyName },
     Asks(Question<'a>),
+    Imports { name: KeyName, kind: Kind },
 }
 
 /// A word that was to be a name: the name, or the request that the word makes in its place.

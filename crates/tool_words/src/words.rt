@@ -1,13 +1,16 @@
 //! What the words of a command line ask for.
 ghost use Rattle.std.specs.Prelude.{IfOk};
 ghost use Rattle.tool_words.specs.Request as asked;
-ghost use Rattle.tool_words.specs.Request.{plain, extended, on_none, on_one, on_two, on_three, on_two_or_three, on_name, on_name_for, on_meta, asks, asks_to_bring, asks_to_mount};
+ghost use Rattle.tool_words.specs.Request.{plain, extended, on_none, on_one, on_two, on_three, on_two_or_three, on_name, on_name_for, on_meta, asks, asks_to_bring, asks_to_mount, asks_to_pass};
 ghost use Rattle.tool_words.specs.Rows.{asked_by, request, rows};
 ghost use Rattle.tool_words.specs.RequestView.{IsSeenAs, action_of};
 ghost use Rattle.tool_words.specs.declared.uses.Use.TheVariants.{Looks, Writes};
 
-use crate::asking::{ask, ask_any, ask_for_file, ask_to_bring, ask_to_mount, refuse_argument};
+use crate::asking::{
+    ask, ask_any, ask_for_file, ask_to_bring, ask_to_mount, ask_to_pass, refuse_argument,
+};
 use crate::extents::Extent;
+use crate::flows::Flow;
 use crate::meta_names::MetaName;
 use crate::options::{extended_arguments, none, one, plain_arguments, three, two, two_or_three};
 use crate::requests::{Action, Question, Refusal, Request};
@@ -48,6 +51,8 @@ fn read_behind<'a>(
         "umount" => read_one(alloc, words, Use::Writes, Action::Unmount),
         "mounts" => read_none(alloc, words),
         "file" => read_file_name(alloc, words),
+        "export" => read_passing(alloc, words, Flow::Out),
+        "import" => read_passing(alloc, words, Flow::In),
         _ => Ok(Request::Refuses(Refusal::UnknownCommand(command))),
     }
 }
@@ -179,6 +184,19 @@ fn read_none<'a>(alloc: Global, words: &'a [Text]) -> Result<Request<'a>, Memory
     } else {
         Ok(Request::Refuses(Refusal::OptionsRefused))
     }
+}
+
+/// The words behind `export` and `import`.
+fn read_passing<'a>(alloc: Global, words: &'a [Text], flow: Flow) -> Result<Request<'a>, Memory>
+    ensures { IfOk result (λ read. IsSeenAs read (plain (on_two (asks_to_pass flow)) words.now)) }
+{
+    let Some(arguments) = plain_arguments(alloc, words)? else {
+        return Ok(Request::Refuses(Refusal::OptionsRefused));
+    };
+    let Some((name, format)) = two(&arguments) else {
+        return Ok(Request::Refuses(Refusal::OptionsRefused));
+    };
+    ask_to_pass(alloc, name, format, flow)
 }
 
 /// The words behind `file`.

@@ -11,6 +11,7 @@ use Rattle.model_names.specs.Spelling.{path}
 use Rattle.model_names.specs.Spells.{longest_path}
 use Rattle.model_maps.specs.Entry.{Entry}
 use Rattle.model_maps.specs.KeyMap.{KeyMap, no_keys, at_or_below, not_below}
+use Rattle.key_set.specs.WithAll.{with_all}
 use Rattle.tool_words.specs.declared.extents.Extent.{Extent}
 use Rattle.tool_words.specs.declared.extents.Extent.TheVariants.{Alone, WithBelow}
 use Rattle.tool_words.specs.declared.ways.Way.{Way}
@@ -78,3 +79,7 @@ abbrev pub brought_in : KeyMap → Name → Way → Extent → Name → Step
 brought_in keys name way extent to =
     let taken = map.entries (sources extent name keys) in
     if length taken == 0 then Tells (warned 11 (not_found name)) else brought_over name to taken (staying way extent name keys)
+
+-- other keys in the place of all at or below a name, as `import` sets them
+abbrev pub replaced : Name → KeyMap → KeyMap → Step
+replaced name others keys = Sets (with_all others (not_below name keys)) []

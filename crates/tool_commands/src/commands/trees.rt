@@ -6,7 +6,7 @@ ghost use Rattle.model_names.specs.Below.{is_at_or_below};
 ghost use Rattle.key_set.specs.EntryView.{entry_of};
 ghost use Rattle.tool_commands.specs.StepView.{seen_step};
 ghost use Rattle.tool_commands.specs.Step.{Tells, TellsEnd};
-ghost use Rattle.tool_commands.specs.Commands.Trees.{sources, others, removed, is_listed, listed, staying, brought, bytes_over, first_too_long, with_brought, brought_over, brought_in};
+ghost use Rattle.tool_commands.specs.Commands.Trees.{sources, others, removed, is_listed, listed, staying, replaced, brought, bytes_over, first_too_long, with_brought, brought_over, brought_in};
 ghost use Rattle.tool_commands.specs.Lines.{line_of_name};
 
 use crate::refusing::warn_of_words;
@@ -207,6 +207,17 @@ fn set_one(
         Err(NameFault::TooLong { bytes }) => Ok(Some(bytes)),
         Err(_) => Err(AllocError),
     }
+}
+
+/// `import`: other keys stand in the place of all at or below a name, and nothing is printed.
+pub fn replace(alloc: Global, name: &KeyName, others: KeySet, keys: KeySet) -> Result<Step, Memory>
+    ensures step { IfOk result (λ step. seen_step step ≡ replaced name.now others keys) }
+    ensures status { IfOk result (λ step. TellsEnd ([]) (seen_step step)) }
+{
+    let mut keys = keys;
+    let _taken = keys.cut(name)?;
+    keys.append_all(others)?;
+    Ok(set_silently(alloc, keys))
 }
 
 /// `ls`: a line for each key at or below a name.

@@ -1,5 +1,5 @@
 use Rattle.kdb_tool.proofs.StatusLemmas.{own_status}
-use Rattle.kdb_tool.proofs.work.answer_question.Goals as goal
+use Rattle.kdb_tool.proofs.questions.answer_question.Goals as goal
 
 pub returns-clause-told : goal.returns-clause-told
 returns-clause-told g c = λ tells. record { opened = c.in_ok-opened.opened; opens = c.in_ok-opened.ensures.told tells; answers = c.in_ok-answer.ensures.answers }

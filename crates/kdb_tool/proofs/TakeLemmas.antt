@@ -1,0 +1,77 @@
+-- What a loop has taken of an input, piece by piece.
+use Rattle.std.proofs.Common.{◌≡◌, ℕ, zero, suc, ◌+◌, ◌≤◌, ◌<◌, List, [], ◌∷◌, ◌++◌, length, length-append, take, drop, Option, Some, refl, sym, ap, subst, ◌∙◌, arith}
+use Rattle.std.proofs.lemmas.List.{append_assoc, append-nil, drop-drop, drop_all, take_all}
+use Rattle.backend_files.specs.WholeFile.{longest_file}
+use Rattle.kdb_outside.specs.Bytes.{Takes}
+use Rattle.kdb_tool.specs.Input.{most_taken, taken, TakesAll, TakesFront, TakesPiece, TakesSome}
+
+-- these bytes were taken, and what stands behind them is left
+pub record HasTaken (whole bytes : List ℕ) (now : Option (List ℕ)) : Type 0 where
+  pub front : whole ≡ bytes ++ drop (length bytes) whole
+  pub rest : now ≡ Some (drop (length bytes) whole)
+
+pub HasTaken-start : (whole : List ℕ) (now : Option (List ℕ)) → now ≡ Some whole → HasTaken whole [] now
+HasTaken-start whole now is = record { front = refl; rest = is }
+
+-- what is left behind a piece more
+behind : (whole bytes next : List ℕ) (n : ℕ) → length next ≡ length bytes + n → drop n (drop (length bytes) whole) ≡ drop (length next) whole
+behind whole bytes next n count = drop-drop n (length bytes) whole ∙ ap (λ k. drop k whole) (sym count)
+
+pub HasTaken-more : (whole bytes next : List ℕ) (n : ℕ) (now new : Option (List ℕ)) → HasTaken whole bytes now → length next ≡ length bytes + n → TakesPiece (drop (length bytes) whole) bytes next n new → HasTaken whole next new
+HasTaken-more whole bytes next n now new before count piece = record {
+  front = before.front ∙ piece.moved ∙ ap (λ rest. next ++ rest) (behind whole bytes next n count);
+  rest = piece.rest ∙ ap Some (behind whole bytes next n count);
+}
+
+-- a front was taken
+pub front-taken : (whole bytes : List ℕ) (now : Option (List ℕ)) → HasTaken whole bytes now → length bytes ≤ most_taken → TakesFront whole now
+front-taken whole bytes now has few = record { count = length bytes; few = few; is = has.rest }
+
+pub front-more : (whole bytes : List ℕ) (new : Option (List ℕ)) → TakesSome (length bytes) (drop (length bytes) whole) new → TakesFront whole new
+front-more whole bytes new some = record { count = length bytes + some.count; few = some.few; is = some.is ∙ ap Some (drop-drop some.count (length bytes) whole) }
+
+-- nothing is left: the bytes are the whole
+at_end : (whole bytes : List ℕ) (now : Option (List ℕ)) → HasTaken whole bytes now → drop (length bytes) whole ≡ [] → whole ≡ bytes
+at_end whole bytes now has none = has.front ∙ ap (λ rest. bytes ++ rest) none ∙ append-nil bytes
+
+none-left : (whole bytes next : List ℕ) (n : ℕ) → length next ≡ length bytes + n → n ≡ 0 → drop (length bytes) whole ≡ [] → drop (length next) whole ≡ []
+none-left whole bytes next n count none empty = ap (λ k. drop k whole) (count ∙ ap (λ m. length bytes + m) none ∙ plus_none (length bytes)) ∙ empty
+  where
+    plus_none : (k : ℕ) → k + 0 ≡ k
+    plus_none k = omega arith
+
+pub taken-end : (whole bytes next : List ℕ) (n : ℕ) (now new : Option (List ℕ)) → HasTaken whole bytes now → length next ≡ length bytes + n → TakesPiece (drop (length bytes) whole) bytes next n new → n ≡ 0 → length next ≤ most_taken → next ≡ taken whole
+taken-end whole bytes next n now new before count piece none few =
+    let has = HasTaken-more whole bytes next n now new before count piece in
+    let all = at_end whole next new has (none-left whole bytes next n count none (piece.ends none)) in
+    sym (ap taken all ∙ take_all most_taken next few)
+
+pub all-end : (whole bytes next : List ℕ) (n : ℕ) (now new : Option (List ℕ)) → HasTaken whole bytes now → length next ≡ length bytes + n → TakesPiece (drop (length bytes) whole) bytes next n new → n ≡ 0 → length next ≤ most_taken → TakesAll whole new
+all-end whole bytes next n now new before count piece none few =
+    let has = HasTaken-more whole bytes next n now new before count piece in
+    let empty = none-left whole bytes next n count none (piece.ends none) in
+    let all = at_end whole next new has empty in
+    has.rest ∙ ap Some (empty ∙ sym (drop_all most_taken whole (subst (λ (w : List ℕ). length w ≤ most_taken) (sym all) few)))
+
+take-front : (xs ys : List ℕ) (n : ℕ) → n ≡ length xs → take n (xs ++ ys) ≡ xs
+take-front [] ys n is = ap (λ k. take k ys) is
+take-front (x ∷ xs) ys zero is = absurd (omega (arith, is))
+take-front (x ∷ xs) ys (suc n) is = ap (λ l. x ∷ l) (take-front xs ys n (omega (arith, is)))
+
+-- so many bytes were taken as an import takes
+pub taken-full : (whole bytes : List ℕ) (now : Option (List ℕ)) → HasTaken whole bytes now → length bytes ≡ most_taken → bytes ≡ taken whole
+taken-full whole bytes now has full = sym (ap taken has.front ∙ take-front bytes (drop (length bytes) whole) most_taken (sym full))
+
+pub all-full : (whole bytes : List ℕ) (now : Option (List ℕ)) → HasTaken whole bytes now → length bytes ≡ most_taken → TakesAll whole now
+all-full whole bytes now has full = has.rest ∙ ap (λ k. Some (drop k whole)) full
+
+-- a piece that a source moved into a buffer stands behind the bytes so far
+pub piece-moved : (left before buffer after next : List ℕ) (n : ℕ) (now : Option (List ℕ)) → Takes left buffer after n now → 0 < length buffer → next ≡ before ++ take n after → TakesPiece left before next n now
+piece-moved left before buffer after next n now takes some is = record {
+  moved = ap (λ l. before ++ l) takes.moved ∙ sym (append_assoc before (take n after) (drop n left)) ∙ ap (λ l. l ++ drop n left) (sym is);
+  rest = takes.rest;
+  ends = takes.ends some;
+}
+
+pub piece-some : (left buffer after : List ℕ) (before n : ℕ) (now : Option (List ℕ)) → Takes left buffer after n now → before + n ≤ most_taken → TakesSome before left now
+piece-some left buffer after before n now takes few = record { count = n; few = few; is = takes.rest }

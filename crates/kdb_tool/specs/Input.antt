@@ -1,0 +1,62 @@
+-- The input of a command line: an import takes it, and every other command takes none. (This project's own.)
+use Rattle.std.specs.Prelude.{◌≡◌, ℕ, ◌+◌, ◌≤◌, List, [], ◌++◌, take, drop, Option, Some}
+use Rattle.backend_files.specs.WholeFile.{longest_file}
+use Rattle.kdb_outside.specs.Faults.{HasRisen}
+use Rattle.kdb_outside.specs.declared.sources.Source.{Ghosts}
+use Rattle.tool_words.specs.Request.{Request, Refuses, Bars, Asks, Imports}
+
+-- the most bytes that an import takes: one more than it may have
+abbrev pub most_taken : ℕ
+most_taken = longest_file + 1
+
+-- what an import takes of some input
+abbrev pub taken : List ℕ → List ℕ
+taken input = take most_taken input
+
+-- a command line is given this input: an import the bytes that its source tells. Of one that takes none it is any
+abbrev pub IsInput : Request → Option (List ℕ) → List ℕ → Type 0
+IsInput (Refuses status text) left input = Unit {0}
+IsInput (Bars by name) left input = Unit {0}
+IsInput (Asks question) left input = Unit {0}
+IsInput (Imports name kind) left input = left ≡ Some input
+
+-- a count of faults of the input rose while an import took it
+abbrev pub FailsToRead : Request → ℕ → ℕ → Type 0
+FailsToRead (Refuses status text) before now = ⊥
+FailsToRead (Bars by name) before now = ⊥
+FailsToRead (Asks question) before now = ⊥
+FailsToRead (Imports name kind) before now = HasRisen before now
+
+-- a front of some bytes was taken, no more than an import takes
+pub record TakesFront (bytes : List ℕ) (now : Option (List ℕ)) : Type 0 where
+  pub count : ℕ
+  pub few : count ≤ most_taken
+  pub is : now ≡ Some (drop count bytes)
+
+-- a front of what was left was taken behind so many bytes, no more with these than an import takes
+pub record TakesSome (before : ℕ) (left : List ℕ) (now : Option (List ℕ)) : Type 0 where
+  pub count : ℕ
+  pub few : before + count ≤ most_taken
+  pub is : now ≡ Some (drop count left)
+
+-- a piece of what was left stands behind the bytes so far, and is empty only at the end
+pub record TakesPiece (left before after : List ℕ) (n : ℕ) (now : Option (List ℕ)) : Type 0 where
+  pub moved : before ++ left ≡ after ++ drop n left
+  pub rest : now ≡ Some (drop n left)
+  pub ends : n ≡ 0 → left ≡ []
+
+-- all that an import takes of some bytes was taken
+abbrev pub TakesAll : List ℕ → Option (List ℕ) → Type 0
+TakesAll bytes now = now ≡ Some (drop most_taken bytes)
+
+-- what an import takes of a source that tells its bytes: a front, and all where there is an answer
+pub record TakesInput {S : Type 0} (g : Ghosts S) (answered : Type 0) (before now : S) : Type 0 where
+  pub front : (bytes : List ℕ) → g.left before ≡ Some bytes → TakesFront bytes (g.left now)
+  pub all : answered → (bytes : List ℕ) → g.left before ≡ Some bytes → TakesAll bytes (g.left now)
+
+-- how a run leaves its input
+abbrev pub LeavesInput : {S : Type 0} → Ghosts S → Request → Type 0 → S → S → Type 0
+LeavesInput g (Refuses status text) answered before now = now ≡ before
+LeavesInput g (Bars by name) answered before now = now ≡ before
+LeavesInput g (Asks question) answered before now = now ≡ before
+LeavesInput g (Imports name kind) answered before now = TakesInput g answered before now
