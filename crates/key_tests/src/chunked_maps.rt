@@ -73,7 +73,10 @@ fn has_what_a_sorted_map_has_after_each_change(rt: HostRuntime) -> Result<(), Fa
         if turn % 5 == 4 {
             assert_eq!(rt; chunked.remove(&key)?, sorted.remove(&key));
         } else {
-            assert_eq!(rt; chunked.insert(key, held(turn))?, sorted.insert(key, held(turn))?);
+            assert_eq!(rt;
+                chunked.insert(key, held(turn))?,
+                sorted.insert(key, held(turn))?
+            );
         }
         assert_eq!(rt; chunked.get(&key), sorted.get(&key));
         if turn % 200 == 0 {

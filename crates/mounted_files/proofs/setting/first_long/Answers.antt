@@ -30,6 +30,6 @@ loop-i-preserved c =
     let owned = list_any (λ i. owns c.args.points.now i key.0) c.args.mounts.now in
     record {
       none = first_some-next (long_in c.args.points.now c.args.mounts.now) (map.entries c.args.keys.now) c.loop-i.i key there c.loop-i.invariant.none
-    (told-nothing owned (long_text key.1) key.0 (sym c.long_text_if_owned.ensures ∙ c.in_default-long_text_if_owned.is));
+          (told-nothing owned (long_text key.1) key.0 (sym c.long_text_if_owned.ensures ∙ c.in_default-long_text_if_owned.is));
       to_come = walk-rest (map.entries c.args.keys.now) c.loop-i.i c.loop-i.rest c.next.new.self key c.loop-i.invariant.to_come c.in-Some.ensures.steps;
     }
