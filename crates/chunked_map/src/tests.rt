@@ -12,7 +12,8 @@ struct Count {
 
 impl Copied<u64> for Count {
     fn copied(key: &u64, value: &Count) -> Result<(u64, Count), AllocError> {
-        Ok((*key, held(value.number)))
+        let number = value.number;
+        Ok((*key, Count { number }))
     }
 }
 
