@@ -39,7 +39,8 @@ use Rattle.mounted_files.proofs.BegunLemmas.{number_of-other, slice_get-remove}
 use Rattle.mounted_files.specs.Begun.{number_of}
 use Rattle.mounted_files.proofs.ChangeLemmas.{short-with_all}
 use Rattle.mounted_files.proofs.MapLemmas.{each-none}
-use Rattle.mounted_files.proofs.PlaceLemmas.{name_eq-same, one_place}
+use Rattle.model_names.proofs.OrderLemmas.{name_decides}
+use Rattle.mounted_files.proofs.PlaceLemmas.{one_place}
 
 abbrev weighs : Name × Entry → ℕ
 weighs key = weight_of_key key.0 key.1
@@ -257,7 +258,7 @@ none_own table place files sorted own_there mounts i file there = by (is_own fil
     by : (test : Bool) → is_own file ≡ test → is_own file ≡ false
     by false is = is
     by true is =
-        let point = name_eq-same file.mount.at own_point is in
+        let point = (name_decides file.mount.at own_point).0 is in
         let at = point_at (number_of place i) file.mount mount_there ∙ ap Some point in
         absurd (number_of-other place i (one_place (over (λ (m : Mount). m.at) table) own_point (number_of place i) place sorted at (point_at place own_mount own_there)))
 
