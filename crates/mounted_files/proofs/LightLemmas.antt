@@ -17,7 +17,7 @@ use Rattle.model_names.specs.Name.{Name, Part}
 use Rattle.model_names.specs.Order.{name_cmp}
 use Rattle.model_names.specs.Below.{is_at_or_below}
 use Rattle.model_names.specs.Spelling.{path_of_parts, spelled, spelling, word_of}
-use Rattle.model_names.proofs.OrderLemmas.{name_cmp_total, name_cmp-IsAntisymmetric}
+use Rattle.model_names.proofs.OrderLemmas.{name_cmp_total, name_cmp-IsAntisymmetric, name_decides}
 use Rattle.model_maps.specs.Entry.{Entry}
 use Rattle.model_maps.specs.KeyMap.{KeyMap, heaviest_map, no_keys, weight, weight_of_key}
 use Rattle.mount_table.specs.Points.{own_point}
@@ -39,7 +39,6 @@ use Rattle.mounted_files.proofs.BegunLemmas.{number_of-other, slice_get-remove}
 use Rattle.mounted_files.specs.Begun.{number_of}
 use Rattle.mounted_files.proofs.ChangeLemmas.{short-with_all}
 use Rattle.mounted_files.proofs.MapLemmas.{each-none}
-use Rattle.model_names.proofs.OrderLemmas.{name_decides}
 use Rattle.mounted_files.proofs.PlaceLemmas.{one_place}
 
 abbrev weighs : Name × Entry → ℕ

@@ -1,5 +1,9 @@
 -- What a change of the changes in name order is in the map that they make.
-use Rattle.std.proofs.Common.{◌≡◌, T, List, Option, sym, ap, subst, ◌∙◌}
+use Rattle.std.proofs.Common.{◌≡◌, ℕ, ◌+◌, T, List, [], ◌∷◌, ◌++◌, take, map as over, slice_get, Option, Some, refl, sym, ap, subst, ◌∙◌}
+use Rattle.std.proofs.lemmas.List.{map-append}
+use Rattle.general_words.proofs.Lists.{take-next}
+use Rattle.model_maps.specs.KeyMap.{KeyMap}
+use Rattle.model_history.specs.Changes.{Change, changed, changed_by}
 use Rattle.std.specs.FinMap as finite
 use Rattle.std.specs.FinMap.{is_sorted}
 use Rattle.std.specs.FinMap.Entries.{put}
@@ -23,3 +27,20 @@ pub put-changes : (changes : List (Name × Option code.Entry)) (name : Name) (en
 put-changes changes name entry h =
     ap (finite.from_sorted {R = name_cmp}) (sym (put-seen name_cmp (option_map entry_of) name entry changes))
     ∙ from_sorted-put name_cmp name_cmp_total (seen name_cmp (option_map entry_of) changes) name (option_map entry_of entry) (sorted_seen changes h)
+
+-- ---- changes made
+
+abbrev pub seen_change : Name × Option code.Entry → Change
+seen_change change = (change.0, option_map entry_of change.1)
+
+changed_by-snoc : (changes : List Change) (change : Change) (keys : KeyMap) → changed_by (changes ++ change ∷ []) keys ≡ changed (changed_by changes keys) change
+changed_by-snoc [] change keys = refl
+changed_by-snoc (first ∷ changes) change keys = changed_by-snoc changes change (changed keys first)
+
+-- one change more
+pub made-next : (changes : List (Name × Option code.Entry)) (i : ℕ) (change : Name × Option code.Entry) (keys : KeyMap) → Some change ≡ slice_get changes i
+    → changed_by (over seen_change (take (i + 1) changes)) keys ≡ changed (changed_by (over seen_change (take i changes)) keys) (seen_change change)
+made-next changes i change keys there =
+    ap (λ cs. changed_by (over seen_change cs) keys) (take-next changes i change there)
+    ∙ ap (λ cs. changed_by cs keys) (map-append seen_change (take i changes) (change ∷ []))
+    ∙ changed_by-snoc (over seen_change (take i changes)) (seen_change change) keys

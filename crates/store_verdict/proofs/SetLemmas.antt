@@ -119,7 +119,7 @@ among-within k (n ∷ ms) m all e = elim (nat_eq m n) as (λ b. nat_eq m n ≡ b
   | false ↦ λ is h. among-within k ms m all.1 h
 ] refl e
 
-filter-within : (k : ℕ) (p : ℕ → Bool) (ms : List ℕ) → AllByRecursion (λ n. n < k) ms → AllByRecursion (λ n. n < k) (filter p ms)
+pub filter-within : (k : ℕ) (p : ℕ → Bool) (ms : List ℕ) → AllByRecursion (λ n. n < k) ms → AllByRecursion (λ n. n < k) (filter p ms)
 filter-within k p [] all = tt
 filter-within k p (m ∷ ms) all = elim (p m) as (λ b. AllByRecursion (λ n. n < k) (cond b (m ∷ filter p ms) (filter p ms))) [
   | true ↦ (all.0, filter-within k p ms all.1)

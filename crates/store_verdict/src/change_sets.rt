@@ -1,10 +1,9 @@
 //! Changes of different names, over one sorted vector. No contract speaks of the vector.
 ghost use Rattle.std.specs.Prelude.{◌≡◌, IfOk, OnOk, map as over};
 ghost use Rattle.std.specs.FinMap as map;
-ghost use Rattle.std.specs.Option.{option_map, option_or};
+ghost use Rattle.std.specs.Option.{option_map};
 ghost use Rattle.key_set.specs.EntryView.{entry_of};
-ghost use Rattle.model_history.specs.Changes.{change_at};
-ghost use Rattle.model_names.specs.Name.{Name};
+ghost use Rattle.model_history.specs.Changes.{after, changed, changed_by};
 ghost use Rattle.commit_log.specs.CommitView.{change_of};
 
 use commit_log::Change;
@@ -50,6 +49,15 @@ impl ChangeSet {
         Ok(())
     }
 
+    /// A copy of some keys, with the changes made in it.
+    pub fn applied(&self, keys: &KeySet) -> Result<KeySet, Memory>
+        ensures { IfOk result (λ made. made ≡ after keys.now self.now) }
+    {
+        let mut made = keys.copy()?;
+        make_all(&mut made, self.changes.entries())?;
+        Ok(made)
+    }
+
     /// A copy of the changes, in name order.
     pub fn list(&self, alloc: Global) -> Result<List<Change>, Memory>
         ensures { IfOk result (λ changes. over change_of changes ≡ map.entries self.now) }
@@ -85,4 +93,29 @@ fn copy_of_change(name: &KeyName, entry: &Option<Entry>) -> Result<Change, Memor
         }),
         None => Ok(Change { name, entry: None }),
     }
+}
+
+/// Makes some changes, one after the other.
+fn make_all(keys: &mut KeySet, changes: &[(KeyName, Option<Entry>)]) -> Result<(), Memory>
+    ensures { OnOk result (keys.new ≡ changed_by (over (λ change. (change.0, option_map entry_of change.1)) changes.now) keys.old) }
+{
+    for change in changes {
+        make(keys, &change.0, &change.1)?;
+    }
+    Ok(())
+}
+
+/// Makes one change.
+fn make(keys: &mut KeySet, name: &KeyName, entry: &Option<Entry>) -> Result<(), Memory>
+    ensures { OnOk result (keys.new ≡ changed keys.old (name.now, option_map entry_of entry.now)) }
+{
+    match entry {
+        Some(entry) => {
+            keys.append(name.copy()?, entry.copy()?)?;
+        }
+        None => {
+            keys.remove(name)?;
+        }
+    }
+    Ok(())
 }
