@@ -2,6 +2,7 @@
 #![tactic(auto)]
 
 mod closing;
+mod committing;
 mod cores;
 mod faults;
 mod laws;
@@ -11,8 +12,8 @@ mod storing;
 mod visible;
 
 pub use closing::Closed;
+pub use committing::{CommitFault, Done};
 pub use cores::{Core, Plan};
 pub use faults::{OpenFault, OpenRefused};
 pub use laws::a_core_stands_after_each_commit;
 pub use opening::{Opened, open_store};
-pub use storing::{Entering, StoreFault};

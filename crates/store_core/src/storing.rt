@@ -22,15 +22,15 @@ use store_phases::commit;
 
 /// A commit that enters the history: with the texts of the files that it touches, in the order of their names, and the keys of all mounts after it.
 #[derive(Drop)]
-pub struct Entering {
-    pub commit: Commit,
-    pub texts: List<FileText>,
-    pub keys: KeySet,
+pub(crate) struct Entering {
+    pub(crate) commit: Commit,
+    pub(crate) texts: List<FileText>,
+    pub(crate) keys: KeySet,
 }
 
 /// Why a commit isn't stored.
 #[derive(Clone, Copy, Debug, PartialEq, Eq)]
-pub enum StoreFault {
+pub(crate) enum StoreFault {
     DiskFault,
     Memory,
 }
@@ -54,7 +54,7 @@ impl From<Failed> for StoreFault {
 impl<D: Disk> Core<D> {
     /// Stores a commit. All memory is taken before the disk is touched. From `Ok` on every crash leaves the commit, and it is kept; else what is kept is
     /// as it was, and after `DiskFault` at most one entry may still come into the files.
-    pub fn store(&mut self, alloc: Global, entering: Entering) -> Result<(), StoreFault>
+    pub(crate) fn store(&mut self, alloc: Global, entering: Entering) -> Result<(), StoreFault>
         requires entry { IsEntry entering.texts }
         requires light { history_weight (self.old.history.commits ++ commit_of entering.commit ∷ []) ≤ heaviest_history }
         ensures history { OnOk result (self.new.history.commits ≡ self.old.history.commits ++ commit_of entering.commit ∷ []) }

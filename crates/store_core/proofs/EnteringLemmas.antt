@@ -1,0 +1,144 @@
+-- A set that is a commit joins a history that stays legal, and its texts are an entry that the journal can hold.
+use Rattle.std.proofs.Common.{◌≡◌, ◌≢◌, ℕ, ◌+◌, ◌<◌, ◌≤◌, true, nat_eq, List, [], ◌∷◌, ◌++◌, length, slice_get, Option, Some, None, refl, sym, ap, ap₂, subst, ◌∙◌, arith, length-append}
+use Rattle.std.specs.List.{AllByRecursion}
+use Rattle.std.specs.Option.{option_map}
+use Rattle.std.proofs.lemmas.Bool.{cond-true}
+use Rattle.std.proofs.lemmas.List.{length-map, take_all}
+use Rattle.std.specs.FinMap as map
+use Rattle.general_words.proofs.Lists.{some_is}
+use Rattle.kdb_outside.specs.declared.disks.Disk.{Ghosts}
+use Rattle.journal_codec.specs.Entry.{IsEntry}
+use Rattle.model_crashes.specs.Runs.{Run}
+use Rattle.model_files.specs.Texts.{Texts, as_entry, entry_of, texts_at, with_text}
+use Rattle.model_files.proofs.EntryLemmas.{is_entry}
+use Rattle.model_history.specs.Changes.{after, changed_by}
+use Rattle.model_history.specs.History as past
+use Rattle.model_history.specs.History.{is_among, replay, history_weight, heaviest_history}
+use Rattle.model_maps.specs.KeyMap.{KeyMap}
+use Rattle.model_store.specs.Cores as cores
+use Rattle.model_store.specs.Cores.{JudgementMade, accepts, core_after, keeping}
+use Rattle.model_store.specs.Events.{Commit, Judged}
+use Rattle.model_store.specs.Legal.{AreLegal, IsLegalCommit}
+use Rattle.model_names.specs.Name.{Name}
+use Rattle.model_store.specs.Promise.{IsSet}
+use Rattle.model_store.specs.Records.{Record, Fetched, fetched_at}
+use Rattle.model_store.specs.Sets.{Prepared, wants}
+use Rattle.model_store.specs.Store.{Store, Formats, points_of, contents}
+use Rattle.model_store.specs.Verdicts.{Late, Commits, Follows, IsLate, commit_of, if_untouched}
+use Rattle.model_store.specs.Worlds.{World, Asked}
+use Rattle.model_store.proofs.Members.{among-first, among-rest, itself_number}
+use Rattle.model_store.proofs.Owning.{Goes, follows}
+use Rattle.mount_table.specs.declared.mounts.Mount.{Mount}
+use Rattle.set_split.specs.Involved.{involved_in}
+use Rattle.set_split.specs.Parts.{owned_by}
+use Rattle.store_core.specs.Cores.{StandsFor, core_with}
+use Rattle.store_core.specs.declared.cores.Core.{Core}
+use Rattle.store_core.proofs.VerdictLemmas.{commit_is}
+use Rattle.store_verdict.proofs.SetLemmas.{filter-within, involved-within}
+
+-- ---- texts
+
+module _ (formats : Formats) (store : Store) (keys other : KeyMap) where
+  abbrev Alike : ℕ → Type 0
+  Alike m = owned_by (points_of store) m keys ≡ owned_by (points_of store) m other
+
+  with-alike : (m : ℕ) (mount : Option Mount) (one two : Texts) → Alike m → one ≡ two → with_text formats store keys m mount one ≡ with_text formats store other m mount two
+  with-alike m None one two same e = e
+  with-alike m (Some mount) one two same e =
+      ap₂ (λ (owned : KeyMap) (ts : Texts). map.insert ts mount.file (formats.text mount.kind (contents store m mount owned))) same e
+
+  -- the texts of some mounts go by what these own
+  pub texts-alike : (ms : List ℕ) → ((m : ℕ) → is_among ms m ≡ true → Alike m) → texts_at formats store keys ms ≡ texts_at formats store other ms
+  texts-alike [] same = refl
+  texts-alike (m ∷ ms) same = with-alike m (slice_get store.mounts m) _ _ (same m (among-first m ms)) (texts-alike ms (λ k among. same k (among-rest m k ms among)))
+
+-- ---- the history
+
+-- the last commit of a legal history is legal
+last_legal : (formats : Formats) (store : Store) (before : KeyMap) (history : List past.Commit) (commit : past.Commit) → AreLegal formats store before (history ++ commit ∷ []) → IsLegalCommit formats store (replay before history) commit
+last_legal formats store before [] commit legal = legal.0
+last_legal formats store before (first ∷ history) commit legal = last_legal formats store (changed_by first.changes before) history commit legal.1
+
+-- a set that is a commit touches a mount
+some_touched : (touched : List ℕ) (aside left : ℕ) (commit : past.Commit) (P : Type 0) → Follows (if_untouched touched aside) (Some (Commits commit left)) P → touched ≢ []
+some_touched [] aside left commit P h = absurd cc
+some_touched (m ∷ touched) aside left commit P h = λ e. absurd cc
+
+-- a prepared set touches mounts of the table alone
+set-within : (formats : Formats) (store : Store) (history : List past.Commit) (asked : Option Asked) (set : Prepared) → IsSet formats store history asked (Some set) → AllByRecursion (λ m. m < length store.mounts) set.touched
+set-within formats store history None set is = absurd is
+set-within formats store history (Some asked) set is =
+    let points : List Name = points_of store in
+    let k : ℕ = length store.mounts in
+    let count : length points ≡ k = length-map store.mounts (λ (mount : Mount). mount.at) in
+    subst (λ (s : Prepared). AllByRecursion (λ m. m < k) s.touched) (sym is.is)
+    (filter-within k _ (involved_in points asked.parent) (involved-within points asked.parent k (omega (arith, count))))
+
+module _ (formats : Formats) {D : Type 0} (g : Ghosts D) (store : Store) (opened : D) (core : Core D) (records : ℕ → Record) (sets : ℕ → Option Prepared) (world : World) (run : Run) (st : StandsFor formats g store opened core records sets world run)
+    (r p : ℕ) (set : Prepared) (is_set : sets p ≡ Some set) (accepted : accepts (records r) r set ≡ true) where
+  abbrev old : cores.Core
+  old = core_with core records sets
+
+  -- a verdict of the history is one of the definitions
+  abbrev pub judgement : (late : Late) → IsLate core.history.commits core.keys set late → JudgementMade store old r p (length core.history.commits) late
+  judgement late is = record { set = set; is_set = is_set; accepted = accepted; front_is = refl; late_is = is }
+
+  pub present : replay store.start core.history.commits ≡ core.keys
+  present = ap (replay store.start) st.stands.history ∙ sym st.stands.keys
+
+  module _ (commit : past.Commit) (aside : ℕ) (late : IsLate core.history.commits core.keys set (Commits commit aside)) where
+    abbrev next : cores.Core
+    next = core_after store old r set (Commits commit aside)
+
+    goes : Goes formats store world (Commit r p) (Judged (length core.history.commits) (Commits commit aside)) next
+    goes = follows formats store world old (Commit r p) (Judged (length core.history.commits) (Commits commit aside)) next st.stands (record { judged = judgement (Commits commit aside) late; next_is = refl })
+
+    joined : goes.after.history ≡ core.history.commits ++ commit ∷ []
+    joined = sym goes.stands.history
+
+    pub light : history_weight (core.history.commits ++ commit ∷ []) ≤ heaviest_history
+    light = subst (λ h. history_weight h ≤ heaviest_history) joined goes.stands.legal.not_full
+
+    pub legal : IsLegalCommit formats store core.keys commit
+    legal = subst (λ k. IsLegalCommit formats store k commit) present
+        (last_legal formats store store.start core.history.commits commit (subst (AreLegal formats store store.start) joined goes.stands.legal.each))
+
+    -- after the commit a touched mount owns what was wanted for it
+    stored : (m : ℕ) → is_among set.touched m ≡ true → owned_by (points_of store) m (after core.keys set.changes) ≡ owned_by (points_of store) m set.keys
+    stored m among =
+        from (goes.after.fronts r m)
+        (sym (cond-true (is_among set.touched m) (Some (wanted m)) (records r m) among)
+        ∙ sym (ap (λ (rec : Record). rec m) (cond-true (nat_eq r r) moved (records r) (itself_number r)))
+        ∙ (goes.stands.records r).is m)
+      where
+        n : ℕ
+        n = length core.history.commits
+
+        wanted : ℕ → Fetched
+        wanted k = record { front = n + 1; kept = owned_by (points_of store) k set.keys }
+
+        moved : Record
+        moved = keeping set.touched (n + 1) (wants (points_of store) set.keys) (records r)
+
+        from : (o : Option ℕ) → Some (wanted m) ≡ option_map (fetched_at store goes.after.history m) o → owned_by (points_of store) m (after core.keys set.changes) ≡ owned_by (points_of store) m set.keys
+        from None e = absurd cc
+        from (Some f) e =
+            let is : wanted m ≡ fetched_at store goes.after.history m f = some_is (wanted m) (fetched_at store goes.after.history m f) e in
+            let front : n + 1 ≡ f = ap (λ (x : Fetched). x.front) is in
+            let all : length goes.after.history ≤ f = omega (arith, front, ap length joined, length-append core.history.commits (commit ∷ [])) in
+            ap (owned_by (points_of store) m) (goes.stands.keys ∙ ap (replay store.start) (sym (take_all f goes.after.history all)))
+            ∙ sym (ap (λ (x : Fetched). x.kept) is)
+
+    pub commit_is_set : commit ≡ commit_of set
+    commit_is_set = (commit_is commit aside core.history.commits core.keys set late).0
+
+    pub entry_is : as_entry (texts_at formats store set.keys set.touched) ≡ entry_of formats store core.keys (commit_of set)
+    entry_is = ap as_entry (texts-alike formats store set.keys (after core.keys set.changes) set.touched (λ m among. sym (stored m among)))
+
+    pub entry : IsEntry (as_entry (texts_at formats store set.keys set.touched))
+    entry = subst IsEntry (sym entry_is)
+        (is_entry formats store st.files core.keys (commit_of set) (subst (λ c. IsLegalCommit formats store core.keys c) commit_is_set legal) (some_touched set.touched set.aside aside commit _ late))
+
+  -- each touched mount is one of the table
+  pub within : AllByRecursion (λ m. m < length store.mounts) set.touched
+  within = set-within formats store world.history (world.asked p) set (subst (IsSet formats store world.history (world.asked p)) is_set (st.stands.sets p))

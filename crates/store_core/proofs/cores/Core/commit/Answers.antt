@@ -1,0 +1,99 @@
+-- Each exit is an answer of the definitions.
+use Rattle.std.proofs.Common.{◌≡◌, ◌<◌, List, length, map as over, Ok, Err, refl, sym, ap, subst}
+use Rattle.commit_log.specs.CommitView as log
+use Rattle.model_store.specs.Events.{Judged}
+use Rattle.model_store.specs.Verdicts.{IsLate}
+use Rattle.model_store.specs.Verdicts as verdicts
+use Rattle.mount_table.specs.declared.mounts.Mount.{Mount}
+use Rattle.mounted_files.specs.declared.files.MountedFile.{MountedFile}
+use Rattle.store_core.specs.Answers.{IsConflict}
+use Rattle.store_core.specs.declared.committing.CommitFault.TheVariants as fault
+use Rattle.store_core.specs.declared.committing.Done.TheVariants as done
+use Rattle.store_core.proofs.AnswerLemmas.{told, wanting, conflicting, conflict_within, parts_within, not_full, is_entry, answered}
+use Rattle.store_core.proofs.CommitLemmas.{nothing_stored}
+use Rattle.store_verdict.specs.LateView.{late_of}
+use Rattle.store_verdict.specs.PreparedView.{prepared_of}
+use Rattle.store_verdict.specs.declared.judging.Late.{Late}
+use Rattle.store_verdict.specs.declared.judging.Late.TheVariants as code
+use Rattle.store_core.proofs.cores.Core.commit.Goals as goal
+
+pub returns-in-Err-clause-committed : goal.returns-in-Err-clause-committed
+returns-in-Err-clause-committed g c store opened records made world run p b = wanting (record { text = g.F.Formats.text; IsStorable = g.F.Formats.is_storable; BreaksAt = g.F.Formats.breaks_at }) g.D.Disk (over (λ (file : MountedFile). file.mount) c.args.plan.now.mounted) store opened c.args.self.now records made world run p c.args.rec.now c.args.prepared b
+
+pub returns-in-Err-clause-any_moment : goal.returns-in-Err-clause-any_moment
+returns-in-Err-clause-any_moment g c opened run store = nothing_stored g.D.Disk opened c.args.self.now.journal run c.args.prepared.texts store
+
+pub conflict-requires : goal.conflict-requires
+conflict-requires g c =
+    let verdict : c.in-Ok.judged.late ≡ code.Conflict c.in-Conflict.mount c.in-Conflict.by = c.in-Conflict.is in
+    let late : IsLate c.args.self.now.history.commits c.args.self.now.keys (prepared_of c.args.prepared) (late_of (code.Conflict c.in-Conflict.mount c.in-Conflict.by)) =
+    subst (λ (l : Late). IsLate c.args.self.now.history.commits c.args.self.now.keys (prepared_of c.args.prepared) (late_of l)) verdict c.in-Ok.ensures.late in
+    subst (λ (ms : List Mount). c.in-Conflict.mount < length ms) (sym c.table.ensures) (conflict_within (record { text = g.F.Formats.text; IsStorable = g.F.Formats.is_storable; BreaksAt = g.F.Formats.breaks_at }) g.D.Disk (over (λ (file : MountedFile). file.mount) c.args.plan.now.mounted) c.requires.ready.store c.requires.ready.opened c.args.self.now c.requires.ready.records c.requires.ready.made c.requires.ready.world c.requires.ready.run c.requires.ready.number c.args.rec.now c.args.prepared c.requires.ready.belongs c.in-Conflict.mount c.in-Conflict.by late)
+
+pub enter-requires-clause-entry : goal.enter-requires-clause-entry
+enter-requires-clause-entry g c =
+    let verdict : c.in-Ok.judged.late ≡ code.Commits c.in-Commits.commit c.in-Commits.left_aside = c.in-Commits.is in
+    let late : IsLate c.args.self.now.history.commits c.args.self.now.keys (prepared_of c.args.prepared) (late_of (code.Commits c.in-Commits.commit c.in-Commits.left_aside)) =
+    subst (λ (l : Late). IsLate c.args.self.now.history.commits c.args.self.now.keys (prepared_of c.args.prepared) (late_of l)) verdict c.in-Ok.ensures.late in
+    is_entry (record { text = g.F.Formats.text; IsStorable = g.F.Formats.is_storable; BreaksAt = g.F.Formats.breaks_at }) g.D.Disk (over (λ (file : MountedFile). file.mount) c.args.plan.now.mounted) c.requires.ready.store c.requires.ready.opened c.args.self.now c.requires.ready.records c.requires.ready.made c.requires.ready.world c.requires.ready.run c.requires.ready.number c.args.rec.now c.args.prepared c.requires.ready.belongs (log.commit_of c.in-Commits.commit) c.in-Commits.left_aside late
+
+pub enter-requires-clause-light : goal.enter-requires-clause-light
+enter-requires-clause-light g c =
+    let verdict : c.in-Ok.judged.late ≡ code.Commits c.in-Commits.commit c.in-Commits.left_aside = c.in-Commits.is in
+    let late : IsLate c.args.self.now.history.commits c.args.self.now.keys (prepared_of c.args.prepared) (late_of (code.Commits c.in-Commits.commit c.in-Commits.left_aside)) =
+    subst (λ (l : Late). IsLate c.args.self.now.history.commits c.args.self.now.keys (prepared_of c.args.prepared) (late_of l)) verdict c.in-Ok.ensures.late in
+    not_full (record { text = g.F.Formats.text; IsStorable = g.F.Formats.is_storable; BreaksAt = g.F.Formats.breaks_at }) g.D.Disk (over (λ (file : MountedFile). file.mount) c.args.plan.now.mounted) c.requires.ready.store c.requires.ready.opened c.args.self.now c.requires.ready.records c.requires.ready.made c.requires.ready.world c.requires.ready.run c.requires.ready.number c.args.rec.now c.args.prepared c.requires.ready.belongs (log.commit_of c.in-Commits.commit) c.in-Commits.left_aside late
+
+pub enter-requires-clause-places : goal.enter-requires-clause-places
+enter-requires-clause-places g c = parts_within (record { text = g.F.Formats.text; IsStorable = g.F.Formats.is_storable; BreaksAt = g.F.Formats.breaks_at }) g.D.Disk (over (λ (file : MountedFile). file.mount) c.args.plan.now.mounted) c.requires.ready.store c.requires.ready.opened c.args.self.now c.requires.ready.records c.requires.ready.made c.requires.ready.world c.requires.ready.run c.requires.ready.number c.args.rec.now c.args.prepared c.requires.ready.belongs
+
+pub returns-in-Same-clause-committed : goal.returns-in-Same-clause-committed
+returns-in-Same-clause-committed g c store opened records made world run p b =
+    let verdict : c.in-Ok.judged.late ≡ code.Same c.in-Same.left_aside = c.in-Same.is in
+    let late : IsLate c.args.self.now.history.commits c.args.self.now.keys (prepared_of c.args.prepared) (late_of (code.Same c.in-Same.left_aside)) =
+    subst (λ (l : Late). IsLate c.args.self.now.history.commits c.args.self.now.keys (prepared_of c.args.prepared) (late_of l)) verdict c.in-Ok.ensures.late in
+    told (record { text = g.F.Formats.text; IsStorable = g.F.Formats.is_storable; BreaksAt = g.F.Formats.breaks_at }) g.D.Disk (over (λ (file : MountedFile). file.mount) c.args.plan.now.mounted) store opened c.args.self.now records made world run p c.args.rec.now c.args.prepared b (Ok (done.Same c.len-front.result c.in-Same.left_aside)) (verdicts.Same c.in-Same.left_aside) late refl refl (ap (λ n. Judged n (verdicts.Same c.in-Same.left_aside)) (sym c.len-front.ensures))
+
+pub returns-in-Same-clause-any_moment : goal.returns-in-Same-clause-any_moment
+returns-in-Same-clause-any_moment g c opened run store = nothing_stored g.D.Disk opened c.args.self.now.journal run c.args.prepared.texts store
+
+pub returns-in-DatabaseFull-clause-committed : goal.returns-in-DatabaseFull-clause-committed
+returns-in-DatabaseFull-clause-committed g c store opened records made world run p b =
+    let verdict : c.in-Ok.judged.late ≡ code.DatabaseFull c.in-DatabaseFull.weight = c.in-DatabaseFull.is in
+    let late : IsLate c.args.self.now.history.commits c.args.self.now.keys (prepared_of c.args.prepared) (late_of (code.DatabaseFull c.in-DatabaseFull.weight)) =
+    subst (λ (l : Late). IsLate c.args.self.now.history.commits c.args.self.now.keys (prepared_of c.args.prepared) (late_of l)) verdict c.in-Ok.ensures.late in
+    told (record { text = g.F.Formats.text; IsStorable = g.F.Formats.is_storable; BreaksAt = g.F.Formats.breaks_at }) g.D.Disk (over (λ (file : MountedFile). file.mount) c.args.plan.now.mounted) store opened c.args.self.now records made world run p c.args.rec.now c.args.prepared b (Err (fault.DatabaseFull c.in-DatabaseFull.weight c.len-front.result)) (verdicts.DatabaseFull c.in-DatabaseFull.weight) late refl refl (ap (λ n. Judged n (verdicts.DatabaseFull c.in-DatabaseFull.weight)) (sym c.len-front.ensures))
+
+pub returns-in-DatabaseFull-clause-any_moment : goal.returns-in-DatabaseFull-clause-any_moment
+returns-in-DatabaseFull-clause-any_moment g c opened run store = nothing_stored g.D.Disk opened c.args.self.now.journal run c.args.prepared.texts store
+
+pub returns-in-HistoryFull-clause-committed : goal.returns-in-HistoryFull-clause-committed
+returns-in-HistoryFull-clause-committed g c store opened records made world run p b =
+    let verdict : c.in-Ok.judged.late ≡ code.HistoryFull c.in-HistoryFull.weight = c.in-HistoryFull.is in
+    let late : IsLate c.args.self.now.history.commits c.args.self.now.keys (prepared_of c.args.prepared) (late_of (code.HistoryFull c.in-HistoryFull.weight)) =
+    subst (λ (l : Late). IsLate c.args.self.now.history.commits c.args.self.now.keys (prepared_of c.args.prepared) (late_of l)) verdict c.in-Ok.ensures.late in
+    told (record { text = g.F.Formats.text; IsStorable = g.F.Formats.is_storable; BreaksAt = g.F.Formats.breaks_at }) g.D.Disk (over (λ (file : MountedFile). file.mount) c.args.plan.now.mounted) store opened c.args.self.now records made world run p c.args.rec.now c.args.prepared b (Err (fault.HistoryFull c.in-HistoryFull.weight c.len-front.result)) (verdicts.HistoryFull c.in-HistoryFull.weight) late refl refl (ap (λ n. Judged n (verdicts.HistoryFull c.in-HistoryFull.weight)) (sym c.len-front.ensures))
+
+pub returns-in-HistoryFull-clause-any_moment : goal.returns-in-HistoryFull-clause-any_moment
+returns-in-HistoryFull-clause-any_moment g c opened run store = nothing_stored g.D.Disk opened c.args.self.now.journal run c.args.prepared.texts store
+
+pub returns-in-Conflict-clause-committed : goal.returns-in-Conflict-clause-committed
+returns-in-Conflict-clause-committed g c store opened records made world run p b =
+    let verdict : c.in-Ok.judged.late ≡ code.Conflict c.in-Conflict.mount c.in-Conflict.by = c.in-Conflict.is in
+    let late : IsLate c.args.self.now.history.commits c.args.self.now.keys (prepared_of c.args.prepared) (late_of (code.Conflict c.in-Conflict.mount c.in-Conflict.by)) =
+    subst (λ (l : Late). IsLate c.args.self.now.history.commits c.args.self.now.keys (prepared_of c.args.prepared) (late_of l)) verdict c.in-Ok.ensures.late in
+    conflicting (record { text = g.F.Formats.text; IsStorable = g.F.Formats.is_storable; BreaksAt = g.F.Formats.breaks_at }) g.D.Disk (over (λ (file : MountedFile). file.mount) c.args.plan.now.mounted) store opened c.args.self.now records made world run p c.args.rec.now c.args.prepared b c.in-Conflict.mount c.in-Conflict.by c.conflict.result late
+    (subst (λ (ms : List Mount). IsConflict ms c.in-Conflict.mount c.in-Conflict.by (length c.args.self.now.history.commits) c.conflict.result) c.table.ensures
+    (subst (λ n. IsConflict c.table.result.now c.in-Conflict.mount c.in-Conflict.by n c.conflict.result) c.len-front.ensures c.conflict.ensures))
+
+pub returns-in-Conflict-clause-any_moment : goal.returns-in-Conflict-clause-any_moment
+returns-in-Conflict-clause-any_moment g c opened run store = nothing_stored g.D.Disk opened c.args.self.now.journal run c.args.prepared.texts store
+
+pub returns-in-Commits-clause-committed : goal.returns-in-Commits-clause-committed
+returns-in-Commits-clause-committed g c store opened records made world run p b =
+    let verdict : c.in-Ok.judged.late ≡ code.Commits c.in-Commits.commit c.in-Commits.left_aside = c.in-Commits.is in
+    let late : IsLate c.args.self.now.history.commits c.args.self.now.keys (prepared_of c.args.prepared) (late_of (code.Commits c.in-Commits.commit c.in-Commits.left_aside)) =
+    subst (λ (l : Late). IsLate c.args.self.now.history.commits c.args.self.now.keys (prepared_of c.args.prepared) (late_of l)) verdict c.in-Ok.ensures.late in
+    answered (record { text = g.F.Formats.text; IsStorable = g.F.Formats.is_storable; BreaksAt = g.F.Formats.breaks_at }) g.D.Disk (over (λ (file : MountedFile). file.mount) c.args.plan.now.mounted) store opened c.args.self.now records made world run p c.args.rec.now c.args.prepared b (log.commit_of c.in-Commits.commit) c.in-Commits.left_aside late c.enter.new.self c.enter.new.rec c.in-Ok.judged.keys c.in-Ok.ensures.keys c.enter.result
+    c.enter.ensures.ok c.enter.ensures.err c.enter.ensures.history c.enter.ensures.keys c.enter.ensures.kept c.enter.ensures.same c.enter.ensures.fetched c.enter.ensures.memory
+    (c.enter.ensures.committed opened run b.stands.on_disk) (λ front. c.enter.ensures.failed opened run front b.stands.on_disk)

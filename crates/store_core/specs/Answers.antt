@@ -1,0 +1,32 @@
+-- What a commit answers, as the definitions of a store have it. (This project's own.)
+use Rattle.std.specs.Prelude.{◌≡◌, ℕ, ◌+◌, List, slice_get, Option, Some, Result, Ok, Err}
+use Rattle.std.specs.Option.{option_map}
+use Rattle.model_names.specs.Name.{Name}
+use Rattle.model_store.specs.Events as event
+use Rattle.model_store.specs.Sets.{Prepared}
+use Rattle.model_store.specs.Verdicts as late
+use Rattle.mount_table.specs.declared.mounts.Mount.{Mount}
+use Rattle.store_core.specs.declared.committing.CommitFault.{CommitFault}
+use Rattle.store_core.specs.declared.committing.CommitFault.TheVariants.{Conflict, DatabaseFull, HistoryFull, DiskFault, Memory}
+use Rattle.store_core.specs.declared.committing.Done.{Done}
+use Rattle.store_core.specs.declared.committing.Done.TheVariants.{Committed, Same}
+
+-- the mountpoint of a mount by its number
+abbrev pub point_at : List Mount → ℕ → Option Name
+point_at mounts m = option_map (λ mount. mount.at) (slice_get mounts m)
+
+-- the answer to a commit of a set that found so many commits; a mount is told by its mountpoint
+abbrev pub IsAnswer : List Mount → ℕ → Prepared → Result Done CommitFault → event.Answer → Type 0
+IsAnswer mounts found set (Ok (Committed number aside)) answer = (number ≡ found + 1) × (answer ≡ event.Judged found (late.Commits (late.commit_of set) aside))
+IsAnswer mounts found set (Ok (Same front aside)) answer = answer ≡ event.Judged front (late.Same aside)
+IsAnswer mounts found set (Err (Conflict mount by front)) answer = (m : ℕ) × (point_at mounts m ≡ Some mount) × (answer ≡ event.Judged front (late.Conflict m by))
+IsAnswer mounts found set (Err (DatabaseFull weight front)) answer = answer ≡ event.Judged front (late.DatabaseFull weight)
+IsAnswer mounts found set (Err (HistoryFull weight front)) answer = answer ≡ event.Judged front (late.HistoryFull weight)
+IsAnswer mounts found set (Err (DiskFault front)) answer = answer ≡ event.Failed front
+IsAnswer mounts found set (Err Memory) answer = answer ≡ event.Memory
+
+-- a conflict at the mount of a number, or want of memory for its name
+abbrev pub IsConflict : List Mount → ℕ → ℕ → ℕ → CommitFault → Type 0
+IsConflict mounts m by front Memory = Unit {0}
+IsConflict mounts m by front (Conflict mount number found) = (point_at mounts m ≡ Some mount) × (number ≡ by) × (found ≡ front)
+IsConflict mounts m by front why = ⊥

@@ -1,0 +1,54 @@
+-- What a commit needs of its caller, and what it does then. (This project's own.)
+use Rattle.std.specs.Prelude.{◌≡◌, ℕ, ◌≤◌, true, List, length, map as over, Option, Some, Result}
+use Rattle.kdb_outside.specs.declared.disks.Disk.{Ghosts}
+use Rattle.model_crashes.specs.Runs.{Run}
+use Rattle.model_files.specs.Texts.{as_entry, texts_at}
+use Rattle.model_store.specs.Cores.{accepts}
+use Rattle.model_store.specs.Events.{Answer, put}
+use Rattle.model_store.specs.Records as model
+use Rattle.model_store.specs.Sets as sets
+use Rattle.model_store.specs.Sets.{wants}
+use Rattle.model_store.specs.Store.{Store, Formats, points_of}
+use Rattle.model_store.specs.Worlds.{World}
+use Rattle.mount_table.specs.declared.mounts.Mount.{Mount}
+use Rattle.set_split.specs.Seen.{numbered}
+use Rattle.store_core.specs.Answers.{IsAnswer}
+use Rattle.store_core.specs.Committing.{IsCommitted}
+use Rattle.store_core.specs.Cores.{StandsFor}
+use Rattle.store_core.specs.declared.committing.CommitFault.{CommitFault}
+use Rattle.store_core.specs.declared.committing.Done.{Done}
+use Rattle.store_core.specs.declared.cores.Core.{Core}
+use Rattle.store_verdict.specs.PreparedView.{prepared_of}
+use Rattle.store_verdict.specs.RecordView.{handle_of, places_of, record_of}
+use Rattle.store_verdict.specs.declared.prepared.Prepared.{Prepared}
+use Rattle.store_verdict.specs.declared.records.Record.{Record}
+
+-- the core stands for a world and a run, with this record as that of its handle and with this set as that of a number; the record accepts
+-- the set, which holds what is wanted for each touched mount, and the texts that the formats give of it
+pub record Belongs (formats : Formats) {D : Type 0} (g : Ghosts D) (mounts : List Mount) (store : Store) (opened : D) (core : Core D) (records : ℕ → model.Record) (made : ℕ → Option sets.Prepared) (world : World) (run : Run) (p : ℕ) (rec : Record) (set : Prepared) : Type 0 where
+  pub mounts_are : store.mounts ≡ mounts
+  pub stands : StandsFor formats g store opened core records made world run
+  pub record_is : records (handle_of rec) ≡ record_of rec
+  pub places : length store.mounts ≤ places_of rec
+  pub set_is : made p ≡ Some (prepared_of set)
+  pub accepted : accepts (record_of rec) (handle_of rec) (prepared_of set) ≡ true
+  pub wanted : numbered set.wanted ≡ over (λ m. (m, wants (points_of store) set.keys m)) set.touched
+  pub texts : set.texts ≡ as_entry (texts_at formats store set.keys set.touched)
+
+-- there is such a store, such a world, and such a run
+pub record IsReady (formats : Formats) {D : Type 0} (g : Ghosts D) (mounts : List Mount) (core : Core D) (rec : Record) (set : Prepared) : Type 0 where
+  pub store : Store
+  pub opened : D
+  pub records : ℕ → model.Record
+  pub made : ℕ → Option sets.Prepared
+  pub world : World
+  pub run : Run
+  pub number : ℕ
+  pub belongs : Belongs formats g mounts store opened core records made world run number rec set
+
+-- the set was committed as the definitions say, with this answer
+pub record HasAnswered (formats : Formats) {D : Type 0} (g : Ghosts D) (mounts : List Mount) (store : Store) (opened : D) (before after : Core D) (records : ℕ → model.Record) (made : ℕ → Option sets.Prepared) (run : Run) (p : ℕ) (old new : Record) (set : Prepared) (result : Result Done CommitFault) : Type 0 where
+  pub later : Run
+  pub answer : Answer
+  pub is_answer : IsAnswer mounts (length before.history.commits) (prepared_of set) result answer
+  pub committed : IsCommitted formats g store opened before after records (put (handle_of old) (record_of new) records) made run later (handle_of old) p answer
