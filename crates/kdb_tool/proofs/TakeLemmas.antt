@@ -10,9 +10,6 @@ pub record HasTaken (whole bytes : List ℕ) (now : Option (List ℕ)) : Type 0 
   pub front : whole ≡ bytes ++ drop (length bytes) whole
   pub rest : now ≡ Some (drop (length bytes) whole)
 
-pub HasTaken-start : (whole : List ℕ) (now : Option (List ℕ)) → now ≡ Some whole → HasTaken whole [] now
-HasTaken-start whole now is = record { front = refl; rest = is }
-
 -- what is left behind a piece more
 behind : (whole bytes next : List ℕ) (n : ℕ) → length next ≡ length bytes + n → drop n (drop (length bytes) whole) ≡ drop (length next) whole
 behind whole bytes next n count = drop-drop n (length bytes) whole ∙ ap (λ k. drop k whole) (sym count)
@@ -22,10 +19,6 @@ HasTaken-more whole bytes next n now new before count piece = record {
   front = before.front ∙ piece.moved ∙ ap (λ rest. next ++ rest) (behind whole bytes next n count);
   rest = piece.rest ∙ ap Some (behind whole bytes next n count);
 }
-
--- a front was taken
-pub front-taken : (whole bytes : List ℕ) (now : Option (List ℕ)) → HasTaken whole bytes now → length bytes ≤ most_taken → TakesFront whole now
-front-taken whole bytes now has few = record { count = length bytes; few = few; is = has.rest }
 
 pub front-more : (whole bytes : List ℕ) (new : Option (List ℕ)) → TakesSome (length bytes) (drop (length bytes) whole) new → TakesFront whole new
 front-more whole bytes new some = record { count = length bytes + some.count; few = some.few; is = some.is ∙ ap Some (drop-drop some.count (length bytes) whole) }
@@ -64,14 +57,3 @@ taken-full whole bytes now has full = sym (ap taken has.front ∙ take-front byt
 
 pub all-full : (whole bytes : List ℕ) (now : Option (List ℕ)) → HasTaken whole bytes now → length bytes ≡ most_taken → TakesAll whole now
 all-full whole bytes now has full = has.rest ∙ ap (λ k. Some (drop k whole)) full
-
--- a piece that a source moved into a buffer stands behind the bytes so far
-pub piece-moved : (left before buffer after next : List ℕ) (n : ℕ) (now : Option (List ℕ)) → Takes left buffer after n now → 0 < length buffer → next ≡ before ++ take n after → TakesPiece left before next n now
-piece-moved left before buffer after next n now takes some is = record {
-  moved = ap (λ l. before ++ l) takes.moved ∙ sym (append_assoc before (take n after) (drop n left)) ∙ ap (λ l. l ++ drop n left) (sym is);
-  rest = takes.rest;
-  ends = takes.ends some;
-}
-
-pub piece-some : (left buffer after : List ℕ) (before n : ℕ) (now : Option (List ℕ)) → Takes left buffer after n now → before + n ≤ most_taken → TakesSome before left now
-piece-some left buffer after before n now takes few = record { count = n; few = few; is = takes.rest }

@@ -29,9 +29,6 @@ pub record IsLower (a b : Option Name) (name : Name) : Type 0 where
   pub second : IsAtMost name b
   pub is : (a ≡ Some name) ⊎ (b ≡ Some name)
 
-at_itself : (name other : Name) → name ≡ other → IsUpTo name other
-at_itself name other e = inl e
-
 by_order : (x y name : Name) (r : Ordering) → name_cmp y x ≡ r → cond (is_lt r) (Some y) (Some x) ≡ Some name → IsLower (Some x) (Some y) name
 by_order x y name Less e is =
     let same : name ≡ y = sym (some_is y name is) in

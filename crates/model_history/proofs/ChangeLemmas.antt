@@ -83,7 +83,7 @@ module _ (g : Name → Option (Option Entry)) where
       by more false t None is = more
       by more false t (Some change) is = ap (λ b. cond b (Some change) (find name_cmp q (filter_map pair names))) t ∙ more
 
-unfound : {A : Type 0} (o : Option A) → is_some o ≡ false → o ≡ None
+pub unfound : {A : Type 0} (o : Option A) → is_some o ≡ false → o ≡ None
 unfound None e = refl
 unfound (Some x) e = absurd cc
 

@@ -1,7 +1,7 @@
 pub mod Members
 pub mod Owners
 pub mod Histories
-mod Touched
+pub mod Touched
 mod Judged
 mod Kept
 mod Committing

@@ -1,5 +1,5 @@
 -- What changed files are to hold has short texts, where the keys of the set and the shadows have.
-use Rattle.std.proofs.Common.{◌≡◌, ℕ, ◌+◌, take, ◌||◌, Bool, true, false, cond, List, [], ◌∷◌, ◌++◌, map as over, filter_map, slice_get, zero, suc, Option, Some, None, option_and_then, refl, sym, ap, subst, ◌∙◌}
+use Rattle.std.proofs.Common.{◌≡◌, ℕ, ◌+◌, take, ◌||◌, Bool, true, false, cond, List, [], ◌∷◌, ◌++◌, map as over, filter_map, slice_get, zero, suc, Option, Some, None, option_and_then, refl, sym, ap, subst, ◌∙◌, append-nil}
 use Rattle.std.specs.FinMap as map
 use Rattle.std.specs.FinMap.{find}
 use Rattle.std.specs.List.{AllByRecursion, cons_option, list_any}
@@ -156,9 +156,5 @@ changes-more files parts k part change there is =
     ∙ filter_map-append (change_at files) (numbered (take k parts)) ((part.mount, part.keys) ∷ [])
     ∙ ap (λ o. filter_map (change_at files) (numbered (take k parts)) ++ cons_option o []) (sym is)
 
-nothing-behind : {A : Type 0} (xs : List A) → xs ++ [] ≡ xs
-nothing-behind [] = refl
-nothing-behind (x ∷ xs) = ap (λ l. x ∷ l) (nothing-behind xs)
-
 pub changes-same : (files : List MountedFile) (parts : List Part) (k : ℕ) (part : Part) → Some part ≡ slice_get parts k → None ≡ change_at files (part.mount, part.keys) → filter_map (change_at files) (numbered (take (k + 1) parts)) ≡ filter_map (change_at files) (numbered (take k parts))
-changes-same files parts k part there is = changes-more files parts k part None there is ∙ nothing-behind _
+changes-same files parts k part there is = changes-more files parts k part None there is ∙ append-nil _

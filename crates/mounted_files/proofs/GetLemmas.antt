@@ -1,5 +1,5 @@
 -- The visible keys of the files that a parent involves, and the first fault among them, file by file.
-use Rattle.std.proofs.Common.{◌≡◌, ℕ, zero, suc, ◌+◌, ◌<◌, ◌≤◌, List, [], ◌∷◌, ◌++◌, length, take, slice_get, get_or, filter_map, Option, Some, None, option_and_then, Result, Ok, Err, MatchResult, refl, sym, ap, subst, ◌∙◌, arith}
+use Rattle.std.proofs.Common.{◌≡◌, ℕ, zero, suc, ◌+◌, ◌<◌, ◌≤◌, List, [], ◌∷◌, ◌++◌, length, take, slice_get, get_or, filter_map, Option, Some, None, option_and_then, Result, Ok, Err, MatchResult, refl, sym, ap, subst, ◌∙◌, arith, append-nil}
 use Rattle.std.specs.List.{cons_option}
 use Rattle.std.specs.Option.{option_or}
 use Rattle.std.specs.Result.{IsErrAnd}
@@ -51,11 +51,7 @@ module _ (files : List MountedFile) (mounts : List ℕ) (k m : ℕ) (there : Som
 
   -- a mount of which there is no file adds none
   pub files-same : None ≡ slice_get files m → first_files files mounts (k + 1) ≡ first_files files mounts k
-  files-same missing = files-next ∙ ap (λ o. first_files files mounts k ++ cons_option o []) (sym missing) ∙ nothing-behind (first_files files mounts k)
-    where
-      nothing-behind : (xs : List MountedFile) → xs ++ [] ≡ xs
-      nothing-behind [] = refl
-      nothing-behind (x ∷ xs) = ap (λ l. x ∷ l) (nothing-behind xs)
+  files-same missing = files-next ∙ ap (λ o. first_files files mounts k ++ cons_option o []) (sym missing) ∙ append-nil (first_files files mounts k)
 
 pub files-all : (files : List MountedFile) (mounts : List ℕ) (k : ℕ) → length mounts ≤ k → first_files files mounts k ≡ filter_map (slice_get files) mounts
 files-all files mounts k le = ap (filter_map (slice_get files)) (take_all k mounts le)

@@ -101,12 +101,6 @@ module _ (owner : Option ℕ) (name : Name) (entry : Entry) (old parts : List Pa
 
 -- ---- the keys aside
 
--- there is an item at each place before the end
-pub some_there : {A : Type 0} (xs : List A) (i : ℕ) → None ≡ slice_get xs i → i < length xs → ⊥
-some_there [] i none lt = omega arith
-some_there (x ∷ xs) zero none lt = absurd cc
-some_there (x ∷ xs) (suc i) none lt = some_there xs i none (omega arith)
-
 module _ (p : Name → Bool) where
   where_key-append : (xs ys : List (Name × Entry)) → where_key name_cmp p (xs ++ ys) ≡ where_key name_cmp p xs ++ where_key name_cmp p ys
   where_key-append [] ys = refl

@@ -13,10 +13,11 @@ use Rattle.model_names.proofs.OrderLemmas.{name_cmp_total, name_cmp-IsAntisymmet
 use Rattle.model_maps.specs.Entry.{Entry}
 use Rattle.model_maps.specs.KeyMap.{KeyMap}
 use Rattle.model_history.specs.Changes.{Change, Changes, change_at, difference}
-use Rattle.model_history.proofs.ChangeLemmas.{get-difference, change_at-same}
+use Rattle.model_history.proofs.ChangeLemmas.{get-difference, change_at-same, unfound}
 use Rattle.model_store.specs.Records.{Record}
 use Rattle.model_store.specs.Sets.{kept, changes_of, changes_at, differs}
 use Rattle.store_verdict.specs.Touching.{differs_at, with_some, with_change, with_changes}
+use Rattle.model_store.proofs.Touched.{or_none, find-both}
 
 -- ---- names
 
@@ -56,10 +57,6 @@ module _ (before wanted : KeyMap) where
       ∙ ap (λ o. cond (list_any (eq_by_cmp name_cmp q) names) (option_or (change_at before wanted q) o) o) (get-one name q changes)
       ∙ twice (list_any (eq_by_cmp name_cmp q) names) (eq_by_cmp name_cmp q name) (change_at before wanted q) (map.get changes q)
 
-  unfound : {A : Type 0} (o : Option A) → is_some o ≡ false → o ≡ None
-  unfound None e = refl
-  unfound (Some x) e = absurd cc
-
   -- at the names of both maps it is all that changes
   pub get-both : (changes : Changes) (q : Name) → map.get (with_changes before wanted (map.keys wanted) (with_changes before wanted (map.keys before) changes)) q ≡ option_or (change_at before wanted q) (map.get changes q)
   get-both changes q =
@@ -84,22 +81,11 @@ or_assoc : {A : Type 0} (a b c : Option A) → option_or (option_or a b) c ≡ o
 or_assoc None b c = refl
 or_assoc (Some x) b c = refl
 
-or_none : {A : Type 0} (o : Option A) → option_or o None ≡ o
-or_none None = refl
-or_none (Some x) = refl
-
 pub changed_in-snoc : (before : ℕ → KeyMap) (parts : List (ℕ × KeyMap)) (part : ℕ × KeyMap) (q : Name) → changed_in before (parts ++ part ∷ []) q ≡ option_or (change_at (before part.0) part.1 q) (changed_in before parts q)
 changed_in-snoc before [] part q = sym (or_none (change_at (before part.0) part.1 q))
 changed_in-snoc before (first ∷ parts) part q =
     ap (λ o. option_or o (change_at (before first.0) first.1 q)) (changed_in-snoc before parts part q)
     ∙ or_assoc (change_at (before part.0) part.1 q) (changed_in before parts q) (change_at (before first.0) first.1 q)
-
-find-both : (q : Name) (xs ys : List Change) → find name_cmp q (xs ++ ys) ≡ option_or (find name_cmp q xs) (find name_cmp q ys)
-find-both q [] ys = refl
-find-both q (x ∷ xs) ys = elim (eq_by_cmp name_cmp q x.0) as (λ b. cond b (Some x.1) (find name_cmp q (xs ++ ys)) ≡ option_or (cond b (Some x.1) (find name_cmp q xs)) (find name_cmp q ys)) [
-  | true ↦ refl
-  | false ↦ find-both q xs ys
-]
 
 find-changes : (before wanted : ℕ → KeyMap) (ms : List ℕ) (q : Name) → find name_cmp q (changes_of before wanted ms) ≡ changed_in before (over (λ m. (m, wanted m)) ms) q
 find-changes before wanted [] q = refl

@@ -1,5 +1,5 @@
 -- What is refused of the files of touched mounts, mount by mount, is what the definitions refuse of a set.
-use Rattle.std.proofs.Common.{◌≡◌, ◌⊎◌, ℕ, zero, suc, ◌+◌, nat_lt, Bool, true, false, cond, List, [], ◌∷◌, ◌++◌, length, take, filter_map, slice_get, Option, Some, None, option_and_then, IsSomeAnd, Result, Ok, Err, inl, inr, refl, sym, ap, ap₂, subst, ◌∙◌}
+use Rattle.std.proofs.Common.{◌≡◌, ◌⊎◌, ℕ, zero, suc, ◌+◌, nat_lt, Bool, true, false, cond, List, [], ◌∷◌, ◌++◌, length, take, filter_map, slice_get, Option, Some, None, option_and_then, IsSomeAnd, Result, Ok, Err, inl, inr, refl, sym, ap, ap₂, subst, ◌∙◌, append-nil}
 use Rattle.std.specs.List.{AllByRecursion, cons_option}
 use Rattle.std.specs.Option.{option_map, option_or}
 use Rattle.backend_files.specs.WholeFile.{longest_file}
@@ -260,12 +260,8 @@ files-more g parts k part o there is =
     ∙ filter_map-append g (numbered (take k parts)) ((part.mount, part.keys) ∷ [])
     ∙ ap (λ x. filter_map g (numbered (take k parts)) ++ cons_option x []) (sym is)
 
-nothing-behind : {A : Type 0} (xs : List A) → xs ++ [] ≡ xs
-nothing-behind [] = refl
-nothing-behind (x ∷ xs) = ap (λ l. x ∷ l) (nothing-behind xs)
-
 pub files-same : (g : ℕ × KeyMap → Option Change) (parts : List Part) (k : ℕ) (part : Part) → Some part ≡ slice_get parts k → None ≡ g (part.mount, part.keys) → filter_map g (numbered (take (k + 1) parts)) ≡ filter_map g (numbered (take k parts))
-files-same g parts k part there is = files-more g parts k part None there is ∙ nothing-behind _
+files-same g parts k part there is = files-more g parts k part None there is ∙ append-nil _
 
 shadow-short : (shadows : List KeyMap) → AllByRecursion AreShort shadows → (m : ℕ) → AreShort (shadow_at shadows m)
 shadow-short [] all m = each-none (λ _ (x : Entry). setting.long_text x ≡ None)

@@ -16,6 +16,7 @@ use Rattle.mount_table.specs.declared.mounts.Mount.{Mount}
 use Rattle.mounted_files.specs.Committing.{texts_of}
 use Rattle.mounted_files.specs.declared.changes.Change.{Change}
 use Rattle.store_verdict.proofs.FileLemmas.{made, file_for}
+use Rattle.model_store.proofs.Touched.{or_none}
 
 module _ (formats : Formats) (store : Store) (set : Prepared) (own : HaveOwnFiles store.mounts) where
   get-with : (m : ℕ) (mount : Mount) (texts : Texts) (q : List ℕ) → map.get (with_text formats store set.keys m (Some mount) texts) q ≡ cond (eq_by_cmp text_cmp q mount.file) (Some (text_of formats store set.keys m mount)) (map.get texts q)
@@ -68,10 +69,6 @@ module _ (formats : Formats) (store : Store) (set : Prepared) (own : HaveOwnFile
               at : (eq_by_cmp text_cmp q mount.file ≡ false) ⊎ ((eq_by_cmp text_cmp q mount.file ≡ true) × (q ≡ mount.file)) → x ≡ text_of formats store set.keys m mount
               at (inl differ) = absurd cc
               at (inr one) = own-text m mount is ms x (ap (map.get (texts_at formats store set.keys ms)) (sym one.1) ∙ found)
-
-  or_none : {A : Type 0} (o : Option A) → option_or o None ≡ o
-  or_none None = refl
-  or_none (Some x) = refl
 
   pub texts-are : (ms : List ℕ) → texts_of formats.text (filter_map (made formats store set) ms) ≡ texts_at formats store set.keys ms
   texts-are ms = map.same_map text_cmp-total text_cmp-IsAntisymmetric _ _ (λ q.
