@@ -43,7 +43,7 @@ use Rattle.store_verdict.specs.declared.records.Record.{Record}
 use Rattle.store_verdict.proofs.SetLemmas.{among-within, parts-within}
 
 -- telling of a number what was told changes nothing
-put-same : (r : ℕ) (x : model.Record) (records : ℕ → model.Record) → records r ≡ x → (n : ℕ) → put r x records n ≡ records n
+pub put-same : (r : ℕ) (x : model.Record) (records : ℕ → model.Record) → records r ≡ x → (n : ℕ) → put r x records n ≡ records n
 put-same r x records is n = elim (nat_eq n r) as (λ b. nat_eq n r ≡ b → cond b x (records n) ≡ records n) [
   | true ↦ λ e. sym is ∙ sym (ap records (eqb-true n r e))
   | false ↦ λ e. refl

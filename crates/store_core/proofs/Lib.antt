@@ -5,3 +5,5 @@ pub mod CommitLemmas
 pub mod VerdictLemmas
 pub mod EnteringLemmas
 pub mod AnswerLemmas
+pub mod PlanLemmas
+pub mod GetLemmas

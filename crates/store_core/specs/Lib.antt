@@ -3,6 +3,7 @@ pub mod Committing
 pub mod Cores
 pub mod Faults
 pub mod Frames
+pub mod Gets
 pub mod Joined
 pub mod Opened
 pub mod Plans

@@ -1,9 +1,10 @@
 -- What an opening fixes, as the definitions of a store have it. (This project's own.)
-use Rattle.std.specs.Prelude.{ℕ, Bool, true, false, List, map as over, slice_get}
+use Rattle.std.specs.Prelude.{ℕ, Bool, true, false, List, map as over, slice_get, Option, Some, None}
 use Rattle.std.specs.Option.{option_map_or}
 use Rattle.model_maps.specs.KeyMap.{KeyMap, no_keys}
 use Rattle.model_store.specs.Store.{Store}
 use Rattle.mounted_files.specs.Getting.{visible_keys}
+use Rattle.mounted_files.specs.declared.causes.Cause.{Cause}
 use Rattle.mounted_files.specs.declared.files.FileState.{FileState}
 use Rattle.mounted_files.specs.declared.files.FileState.TheVariants.{Good, Bad}
 use Rattle.mounted_files.specs.declared.files.MountedFile.{MountedFile}
@@ -12,6 +13,11 @@ use Rattle.mounted_files.specs.declared.files.MountedFile.{MountedFile}
 abbrev pub is_bad : FileState → Bool
 is_bad (Good visible shadow) = false
 is_bad (Bad cause) = true
+
+-- why it isn't
+abbrev pub cause_of : FileState → Option Cause
+cause_of (Good visible shadow) = None
+cause_of (Bad cause) = Some cause
 
 -- the keys that a file keeps for other mounts; a bad one is never written, and keeps none
 abbrev pub shadow_of : FileState → KeyMap

@@ -22,8 +22,10 @@ ghost use Rattle.store_core.specs.Faults.{RefusesStore};
 ghost use Rattle.store_core.specs.Frames.{OnlyReadsFiles};
 ghost use Rattle.store_core.specs.Opened.{disk_of, fault_of};
 ghost use Rattle.store_core.specs.Plans.{store_of};
+ghost use Rattle.store_verdict.specs.Preparing.{IsPlan};
 
 use crate::mounting::mount_files;
+use crate::plans::plan_of;
 use crate::visible::visible_keys;
 use crate::{Core, OpenFault, OpenRefused, Plan};
 use commit_log::History;
@@ -58,6 +60,7 @@ pub fn open_store<D: Disk, F: Formats + Drop>(
     ensures wrote { D.tells disk ≡ true → IfOk result (λ opened. opened.core.wrote ≡ is_some (open_entry (D.seen disk journal_name))) }
     ensures files { D.tells disk ≡ true → (files : Image) (doubt : Option (List Item)) → IsCalm (D.seen disk) (D.may_leave disk) files doubt
         → IfOk result (λ _. IsEither files doubt (opened_files (D.seen disk))) }
+    ensures fixed { IfOk result (λ opened. (procs : ℕ → KeyMap) → IsPlan (store_of opened.plan.mounted procs) opened.plan.fixed) }
     ensures keys { IfOk result (λ opened. opened.core.keys ≡ visible_keys opened.plan.mounted) }
     ensures none { IfOk result (λ opened. opened.core.history.commits ≡ []) }
     ensures refused { D.tells disk ≡ true → (files : Image) (doubt : Option (List Item)) → IsCalm (D.seen disk) (D.may_leave disk) files doubt
@@ -86,6 +89,7 @@ fn open_files<D: Disk, F: Formats + Drop>(
     ensures told { D.tells journal.disk ≡ true →
         MatchResult result (λ opened. IsOpened F.reads F.is_bad_at (D.seen journal.disk) opened.plan.mounted)
         (λ refused. RefusesStore F.reads F.is_bad_at (D.seen journal.disk own_mount.file) refused.fault) }
+    ensures fixed { IfOk result (λ opened. (procs : ℕ → KeyMap) → IsPlan (store_of opened.plan.mounted procs) opened.plan.fixed) }
     ensures keys { IfOk result (λ opened. opened.core.keys ≡ visible_keys opened.plan.mounted) }
     ensures none { IfOk result (λ opened. opened.core.history.commits ≡ []) }
     ensures wrote { IfOk result (λ opened. opened.core.wrote ≡ journal.recovered) }
@@ -100,11 +104,16 @@ fn open_files<D: Disk, F: Formats + Drop>(
         Ok(
             FirstState {
                 mounted,
+                fixed,
                 history,
                 keys,
             },
         ) => Ok(Opened {
-            plan: Plan { formats, mounted },
+            plan: Plan {
+                formats,
+                mounted,
+                fixed,
+            },
             core: Core {
                 journal,
                 history,
@@ -123,6 +132,7 @@ fn open_files<D: Disk, F: Formats + Drop>(
 #[derive(Drop)]
 struct FirstState {
     mounted: Mounted,
+    fixed: store_verdict::Plan,
     history: History,
     keys: KeySet,
 }
@@ -136,6 +146,7 @@ fn first_state<D: Disk, F: Formats>(
     ensures told { D.tells journal.old.disk ≡ true →
         MatchResult result (λ first. IsOpened F.reads F.is_bad_at (D.seen journal.old.disk) first.mounted)
         (RefusesStore F.reads F.is_bad_at (D.seen journal.old.disk own_mount.file)) }
+    ensures fixed { IfOk result (λ first. (procs : ℕ → KeyMap) → IsPlan (store_of first.mounted procs) first.fixed) }
     ensures keys { IfOk result (λ first. first.keys ≡ visible_keys first.mounted) }
     ensures none { IfOk result (λ first. first.history.commits ≡ []) }
     ensures own { (at : ℕ) → result ≡ Err (OpenFault.BadJournal at) → ⊥ }
@@ -143,10 +154,12 @@ fn first_state<D: Disk, F: Formats>(
     ensures reads { OnlyReadsFiles D.Disk journal.old journal.new }
 {
     let mounted = mount_files(alloc, journal, formats)?;
+    let fixed = plan_of(alloc, &mounted)?;
     let history = History::new(alloc, mounted.table().len())?;
     let keys = visible_keys(alloc, mounted.files())?;
     Ok(FirstState {
         mounted,
+        fixed,
         history,
         keys,
     })

@@ -1,0 +1,33 @@
+//! What a handle's set of keys makes against what its record keeps.
+ghost use Rattle.std.specs.Prelude.{IfErr, IfOk};
+ghost use Rattle.std.specs.List.{AllByRecursion};
+ghost use Rattle.general_words.specs.Memory.{UnlessMemory};
+ghost use Rattle.model_store.specs.Store.{Store};
+ghost use Rattle.mounted_files.specs.Short.{AreShort};
+ghost use Rattle.store_verdict.specs.Preparing.{IsMade, IsPlan, IsRefused};
+ghost use Rattle.store_verdict.specs.RecordView.{handle_of, record_of};
+ghost use Rattle.store_verdict.specs.declared.faults.PrepareFault.TheVariants as fault;
+
+use crate::Plan;
+use key_name::KeyName;
+use key_set::KeySet;
+use std::alloc::Global;
+use storage_api::Formats;
+use store_verdict::{PrepareFault, Prepared, Record, prepare};
+
+impl<F: Formats + Drop> Plan<F> {
+    /// What a set of keys at a parent makes, against what its handle keeps, or the first test that refuses it.
+    pub fn prepare(
+        &self,
+        alloc: Global,
+        rec: &Record,
+        parent: &KeyName,
+        keys: &KeySet,
+    ) -> Result<Prepared, PrepareFault>
+        requires shadows { AllByRecursion AreShort self.now.fixed.shadows }
+        ensures made { IfOk result (λ set. (store : Store) → IsPlan store self.now.fixed → IsMade (record { text = F.text; IsStorable = F.is_storable; BreaksAt = F.breaks_at }) store (handle_of rec.now) (record_of rec.now) parent.now keys.now set) }
+        ensures refused { IfErr result (λ why. UnlessMemory fault.Memory ((store : Store) → IsPlan store self.now.fixed → IsRefused (record { text = F.text; IsStorable = F.is_storable; BreaksAt = F.breaks_at }) store (handle_of rec.now) (record_of rec.now) parent.now keys.now why) why) }
+    {
+        prepare(alloc, &self.formats, &self.fixed, rec, parent, keys)
+    }
+}
