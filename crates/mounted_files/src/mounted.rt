@@ -69,9 +69,10 @@ impl Mounted {
         &self.table
     }
 
-    /// The files, in the order of the table.
+    /// The files, in the order of the table. No text of their keys is too long.
     pub fn files(&self) -> &[MountedFile]
-        ensures { result.now ≡ self.now }
+        ensures files { result.now ≡ self.now }
+        ensures short { HaveShortTexts self.now }
     {
         &self.files
     }

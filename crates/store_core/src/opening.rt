@@ -1,5 +1,6 @@
 //! The opening of a store: its journal first, and then its files.
 ghost use Rattle.std.specs.Prelude.{◌≡◌, ℕ, [], List, Option, Some, None, true, is_some, Err, IfOk, IfErr, MatchResult};
+ghost use Rattle.std.specs.List.{AllByRecursion};
 ghost use Rattle.kdb_outside.specs.Faults.{HasRisen};
 ghost use Rattle.kdb_outside.specs.Frames.{GoesOn, OnlyReads};
 ghost use Rattle.kdb_outside.specs.Images.{Image};
@@ -17,6 +18,7 @@ ghost use Rattle.model_store.specs.Worlds.{first_world};
 ghost use Rattle.mount_table.specs.Table.{own_mount};
 ghost use Rattle.mounted_files.specs.Getting.{visible_keys};
 ghost use Rattle.mounted_files.specs.Opening.{IsOpened};
+ghost use Rattle.mounted_files.specs.Short.{AreShort};
 ghost use Rattle.store_core.specs.Cores.{StandsFor};
 ghost use Rattle.store_core.specs.Faults.{RefusesStore};
 ghost use Rattle.store_core.specs.Frames.{OnlyReadsFiles};
@@ -61,6 +63,7 @@ pub fn open_store<D: Disk, F: Formats + Drop>(
     ensures files { D.tells disk ≡ true → (files : Image) (doubt : Option (List Item)) → IsCalm (D.seen disk) (D.may_leave disk) files doubt
         → IfOk result (λ _. IsEither files doubt (opened_files (D.seen disk))) }
     ensures fixed { IfOk result (λ opened. (procs : ℕ → KeyMap) → IsPlan (store_of opened.plan.mounted procs) opened.plan.fixed) }
+    ensures short { IfOk result (λ opened. AllByRecursion AreShort opened.plan.fixed.shadows) }
     ensures keys { IfOk result (λ opened. opened.core.keys ≡ visible_keys opened.plan.mounted) }
     ensures none { IfOk result (λ opened. opened.core.history.commits ≡ []) }
     ensures refused { D.tells disk ≡ true → (files : Image) (doubt : Option (List Item)) → IsCalm (D.seen disk) (D.may_leave disk) files doubt
@@ -90,6 +93,7 @@ fn open_files<D: Disk, F: Formats + Drop>(
         MatchResult result (λ opened. IsOpened F.reads F.is_bad_at (D.seen journal.disk) opened.plan.mounted)
         (λ refused. RefusesStore F.reads F.is_bad_at (D.seen journal.disk own_mount.file) refused.fault) }
     ensures fixed { IfOk result (λ opened. (procs : ℕ → KeyMap) → IsPlan (store_of opened.plan.mounted procs) opened.plan.fixed) }
+    ensures short { IfOk result (λ opened. AllByRecursion AreShort opened.plan.fixed.shadows) }
     ensures keys { IfOk result (λ opened. opened.core.keys ≡ visible_keys opened.plan.mounted) }
     ensures none { IfOk result (λ opened. opened.core.history.commits ≡ []) }
     ensures wrote { IfOk result (λ opened. opened.core.wrote ≡ journal.recovered) }
@@ -147,6 +151,7 @@ fn first_state<D: Disk, F: Formats>(
         MatchResult result (λ first. IsOpened F.reads F.is_bad_at (D.seen journal.old.disk) first.mounted)
         (RefusesStore F.reads F.is_bad_at (D.seen journal.old.disk own_mount.file)) }
     ensures fixed { IfOk result (λ first. (procs : ℕ → KeyMap) → IsPlan (store_of first.mounted procs) first.fixed) }
+    ensures short { IfOk result (λ first. AllByRecursion AreShort first.fixed.shadows) }
     ensures keys { IfOk result (λ first. first.keys ≡ visible_keys first.mounted) }
     ensures none { IfOk result (λ first. first.history.commits ≡ []) }
     ensures own { (at : ℕ) → result ≡ Err (OpenFault.BadJournal at) → ⊥ }

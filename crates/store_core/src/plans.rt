@@ -1,6 +1,8 @@
 //! What an opening fixes, as the verdict of the store needs it.
 ghost use Rattle.std.specs.Prelude.{◌≡◌, ℕ, IfOk, map as over};
+ghost use Rattle.std.specs.List.{AllByRecursion};
 ghost use Rattle.model_maps.specs.KeyMap.{KeyMap};
+ghost use Rattle.mounted_files.specs.Short.{AreShort};
 ghost use Rattle.store_core.specs.Plans.{cause_of, shadow_of, store_of};
 ghost use Rattle.store_verdict.specs.Preparing.{IsPlan};
 
@@ -12,7 +14,8 @@ use store_verdict::Plan as VerdictPlan;
 
 /// The mounts, the keys that their files keep for others, and why they are bad, if they are.
 pub(crate) fn plan_of(alloc: Global, mounted: &Mounted) -> Result<VerdictPlan, Memory>
-    ensures { IfOk result (λ plan. (procs : ℕ → KeyMap) → IsPlan (store_of mounted.now procs) plan) }
+    ensures plan { IfOk result (λ plan. (procs : ℕ → KeyMap) → IsPlan (store_of mounted.now procs) plan) }
+    ensures short { IfOk result (λ plan. AllByRecursion AreShort plan.shadows) }
 {
     let files = mounted.files();
     let table = mounted.table().copy()?;
