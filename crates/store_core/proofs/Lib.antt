@@ -7,3 +7,4 @@ pub mod EnteringLemmas
 pub mod AnswerLemmas
 pub mod PlanLemmas
 pub mod GetLemmas
+pub mod MadeLemmas

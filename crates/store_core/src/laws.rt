@@ -1,6 +1,9 @@
 //! How a core goes on standing for what the definitions say. Nothing here runs: each function stands for its contract.
-ghost use Rattle.std.specs.Prelude.{◌≡◌, ℕ, Option};
+ghost use Rattle.std.specs.Prelude.{◌≡◌, ◌≤◌, ℕ, Option, Some, true, length};
 ghost use Rattle.model_crashes.specs.Runs.{Run};
+ghost use Rattle.model_maps.specs.KeyMap.{KeyMap};
+ghost use Rattle.model_names.specs.Name.{Name};
+ghost use Rattle.model_store.specs.Cores.{accepts};
 ghost use Rattle.model_store.specs.Events.{Answer, Commit};
 ghost use Rattle.model_store.specs.Records.{Record};
 ghost use Rattle.model_store.specs.Sets.{Prepared};
@@ -8,10 +11,15 @@ ghost use Rattle.model_store.specs.Store.{Store};
 ghost use Rattle.model_store.specs.Worlds.{World, Meant};
 ghost use Rattle.store_core.specs.Committing.{IsCommitted};
 ghost use Rattle.store_core.specs.Cores.{StandsFor};
+ghost use Rattle.store_core.specs.Joined.{Belongs};
+ghost use Rattle.store_verdict.specs.Preparing.{IsMade};
+ghost use Rattle.store_verdict.specs.PreparedView.{prepared_of};
+ghost use Rattle.store_verdict.specs.RecordView.{handle_of, places_of, record_of};
 
 use crate::Core;
 use kdb_outside::Disk;
 use storage_api::Formats;
+use store_verdict as verdict;
 
 /// A core that stands for a world and a run stands, behind a commit with any answer, for what that answer means: for the next world of the handles,
 /// and for the run that goes on by it.
@@ -25,4 +33,19 @@ pub fn a_core_stands_after_each_commit<D: Disk, F: Formats>(
         → IsCommitted (record { text = F.text; IsStorable = F.is_storable; BreaksAt = F.breaks_at }) D.Disk store opened before.now after.now records next sets run later r p answer
         → (then_world : World) × Meant (record { text = F.text; IsStorable = F.is_storable; BreaksAt = F.breaks_at }) store world (Commit r p) answer then_world
         × StandsFor (record { text = F.text; IsStorable = F.is_storable; BreaksAt = F.breaks_at }) D.Disk store opened after.now next sets then_world later }
+{}
+
+/// A set that was prepared for a store, and that its record accepts now, may be committed, where the core stands with that record and that set.
+pub fn a_prepared_set_may_be_committed<D: Disk, F: Formats>(
+    core: &Core<D>,
+    rec: &verdict::Record,
+    prepared: &verdict::Prepared,
+    _formats: &F,
+)
+    ensures { (store : Store) (opened : D) (records : ℕ → Record) (sets : ℕ → Option Prepared) (world : World) (run : Run) (p handle : ℕ) (before : Record) (parent : Name) (keys : KeyMap)
+        → StandsFor (record { text = F.text; IsStorable = F.is_storable; BreaksAt = F.breaks_at }) D.Disk store opened core.now records sets world run
+        → records (handle_of rec.now) ≡ record_of rec.now → length store.mounts ≤ places_of rec.now → sets p ≡ Some (prepared_of prepared.now)
+        → accepts (record_of rec.now) (handle_of rec.now) (prepared_of prepared.now) ≡ true
+        → IsMade (record { text = F.text; IsStorable = F.is_storable; BreaksAt = F.breaks_at }) store handle before parent keys prepared.now
+        → Belongs (record { text = F.text; IsStorable = F.is_storable; BreaksAt = F.breaks_at }) D.Disk store.mounts store opened core.now records sets world run p rec.now prepared.now }
 {}
