@@ -3,6 +3,7 @@ ghost use Rattle.std.specs.Prelude.{◌≡◌, ◌≢◌, ◌≤◌, ℕ, List, 
 ghost use Rattle.kdb_outside.specs.Faults.{HasRisen};
 ghost use Rattle.kdb_outside.specs.Frames.{OnlyReads};
 ghost use Rattle.mounted_files.specs.Getting.{fault_of};
+ghost use Rattle.mounted_files.specs.Holding.{cause_of};
 ghost use Rattle.kdb_tool.specs.Answer.{refused};
 ghost use Rattle.kdb_tool.specs.AnswerView.{answer_of};
 ghost use Rattle.kdb_tool.specs.Answers.{AnswersImport, line_of_get};
@@ -17,7 +18,7 @@ use all_formats::AllFormats;
 use kdb_outside::{Disk, Kind, Source};
 use key_meta::Memory;
 use key_name::KeyName;
-use mounted_files::{Cause, GetFault, Holding, read_holding};
+use mounted_files::{FileCause, GetFault, Holding, read_holding};
 use std::alloc::Global;
 use tool_words::{Action, Question};
 
@@ -50,17 +51,13 @@ pub fn import<S: Source, D: Disk>(
 }
 
 /// The refusal of an input that holds no keys.
-fn refuse_input(alloc: Global, name: KeyName, cause: Cause) -> Result<Answer, Memory>
-    ensures told { IfOk result (λ answer. answer_of answer ≡ refused 5 (line_of_get (fault_of name cause))) }
+fn refuse_input(alloc: Global, name: KeyName, cause: FileCause) -> Result<Answer, Memory>
+    ensures told { IfOk result (λ answer. answer_of answer ≡ refused 5 (line_of_get (fault_of name (cause_of cause)))) }
     ensures status { IfOk result (λ answer. answer.report.status ≡ 5) }
 {
     let fault = match cause {
-        Cause::TooLong { bytes } => GetFault::TooLong { mount: name, bytes },
-        Cause::BadFile { line } => GetFault::BadFile { mount: name, line },
-        Cause::TooHeavy { weight } => GetFault::TooHeavy {
-            mount: name,
-            weight,
-        },
+        FileCause::TooLong { bytes } => GetFault::TooLong { mount: name, bytes },
+        FileCause::BadFile { line } => GetFault::BadFile { mount: name, line },
     };
     refuse_get(alloc, fault)
 }

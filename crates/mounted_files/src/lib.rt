@@ -20,7 +20,7 @@ mod weighing;
 mod whole;
 mod writing;
 
-pub use causes::Cause;
+pub use causes::{Cause, FileCause};
 pub use changes::Change;
 pub use files::{FileState, MountedFile};
 pub use holding::{Holding, read_holding};

@@ -3,7 +3,7 @@ use Rattle.std.proofs.Common.{◌≡◌, List, ℕ, subst}
 use Rattle.std.proofs.lemmas.Result.{IfOk-weaker}
 use Rattle.all_formats.specs.Meanings as all
 use Rattle.mounted_files.specs.Files.{Holds, IsCause}
-use Rattle.mounted_files.specs.Holding.{IsHolding}
+use Rattle.mounted_files.specs.Holding.{IsHolding, cause_of}
 use Rattle.mounted_files.specs.declared.holding.Holding.{Holding}
 use Rattle.kdb_tool.specs.Answers.{Held, Bad}
 use Rattle.kdb_tool.specs.Input.{taken}
@@ -18,5 +18,5 @@ returns-in-Keys-clause-told g c = λ tells bytes is.
 pub returns-clause-told : goal.returns-clause-told
 returns-clause-told g c = λ tells bytes is.
     let holding = c.in_ok-keys.ensures.is (taken bytes) (c.in_ok-read.ensures.told bytes is) in
-    let cause : IsCause all.Reads all.IsBadAt c.args.name c.args.kind (taken bytes) c.in-Bad.cause = subst (λ (h : Holding). IsHolding all.Reads all.IsBadAt c.args.name c.args.kind (taken bytes) h) c.in-Bad.is holding in
-    Bad c.in-Bad.cause cause c.in_ok-refuse_input-in-Bad.ensures.told
+    let cause : IsCause all.Reads all.IsBadAt c.args.name c.args.kind (taken bytes) (cause_of c.in-Bad.cause) = subst (λ (h : Holding). IsHolding all.Reads all.IsBadAt c.args.name c.args.kind (taken bytes) h) c.in-Bad.is holding in
+    Bad (cause_of c.in-Bad.cause) cause c.in_ok-refuse_input-in-Bad.ensures.told
