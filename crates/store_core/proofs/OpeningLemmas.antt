@@ -27,7 +27,8 @@ use Rattle.mounted_files.specs.Getting.{visible_keys}
 use Rattle.mounted_files.specs.Files.{Reading, Badness, IsState, points_of}
 use Rattle.mounted_files.specs.Opening.{MakesTable, IsOpened}
 use Rattle.mounted_files.specs.declared.files.MountedFile.{MountedFile}
-use Rattle.mounted_files.proofs.WeighLemmas.{weighed-mounts}
+use Rattle.mounted_files.proofs.WeighLemmas.{mounts-from}
+use Rattle.mounted_files.specs.Weighed.{own_weight}
 use Rattle.store_phases.specs.Stores.{IsStore}
 use Rattle.store_phases.proofs.Stores.{IsStore-read, IsStore-from_now}
 use Rattle.store_core.specs.Cores.{StandsFor}
@@ -75,7 +76,7 @@ module _ (Reads : Reading) (IsBad : Badness) (bytes_of others : Image) (same : S
 -- the mounts of opened files are those of a table
 pub opened_mounts : (Reads : Reading) (IsBad : Badness) (bytes_of : Image) (files : List MountedFile) → IsOpened Reads IsBad bytes_of files → HaveFiles (over (λ (file : MountedFile). file.mount) files)
 opened_mounts Reads IsBad bytes_of files opened =
-    subst HaveFiles (sym (weighed-mounts opened.unweighed) ∙ ap (over (λ (file : MountedFile). file.mount)) (sym opened.is))
+    subst HaveFiles (sym (mounts-from (own_weight opened.unweighed) opened.unweighed) ∙ ap (over (λ (file : MountedFile). file.mount)) (sym opened.is))
     (have_files opened.table.keys (over (λ (file : MountedFile). file.mount) opened.unweighed) opened.table.is)
 
 -- ---- what the reading leaves
