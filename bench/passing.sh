@@ -9,7 +9,7 @@ command -v git >/dev/null || { echo "install git first (apt-get install git)" >&
 work=$(mktemp -d)
 trap 'rm -rf "$work"' EXIT
 cd "$work"
-count=28000 runs=15
+count=35000 runs=15
 awk -v count=$count 'BEGIN {
   print "[s]" >"git.cfg"
   for (i = 0; i < count; i++) {
@@ -27,6 +27,8 @@ middle() {
   done | sort -n | awk '{ all[NR] = $1 } END { printf "%.1f", all[int((NR + 1) / 2)] / 1000 }'
 }
 
+# (the same keys as a dump are over the limit of a file)
+"$kdb" mount s.ini user:/s simpleini
 "$kdb" import user:/s simpleini <data.ini
 "$kdb" export user:/s simpleini >out.ini
 cmp out.ini data.ini
@@ -36,6 +38,6 @@ list=$(middle "git config --file git.cfg --list")
 echo "$(wc -c <data.ini) bytes, $count keys: export $export ms, import $import ms, git config --list $list ms"
 awk -v e="$export" -v i="$import" -v l="$list" 'BEGIN { printf "  export / git %.2f, import / git %.2f\n", e / l, i / l }'
 if command -v crudini >/dev/null; then
-  get=$(middle "crudini --get git.cfg s key27999")
+  get=$(middle "crudini --get git.cfg s key34999")
   awk -v e="$export" -v i="$import" -v l="$get" 'BEGIN { printf "  crudini --get %.1f ms: export / crudini %.2f, import / crudini %.2f\n", l, e / l, i / l }'
 fi
