@@ -8,7 +8,7 @@ use Rattle.std.specs.FinMap.{is_sorted}
 use Rattle.std.specs.FinMap.Entries.{below_all}
 use Rattle.std.specs.List.{AllByRecursion}
 use Rattle.std.specs.declared.cmp.Ordering.{Ordering}
-use Rattle.std.specs.declared.cmp.Ordering.TheVariants.{Less, Equal, Greater}
+use Rattle.std.specs.declared.cmp.Ordering.TheVariants.{Less, Greater}
 use Rattle.general_words.proofs.Entries.{below_at}
 use Rattle.general_words.proofs.Orders.{turned}
 use Rattle.general_words.proofs.Tests.{first, second}
@@ -43,23 +43,38 @@ one_more_step d e n size le some so_far =
     let within = le-mul_of_pos_right (2 ^ d) some in
     omega (arith, more, twice, within, so_far)
 
--- a chunk takes seven comparisons at most
-pub in_one_chunk : (b len : ℕ) → 2 ^ b ≤ 2 * len + 1 → len ≤ 64 → 2 ^ b ≤ 128
-in_one_chunk b len cost few = elim (cases_lt b 8) [
-  | inl lt ↦ let le : b ≤ 7 = omega arith in pow-le-pow_right {n = 2} (omega arith) le
-  | inr ge ↦ let more = pow-le-pow_right {n = 2} (omega arith) ge in absurd (omega (arith, more, cost, few))
+-- in a chunk whose last key is known to be larger it takes six comparisons at most
+pub in_one_chunk : (b len : ℕ) → 2 ^ b ≤ 2 * (len - 1) + 1 → 0 < len → len ≤ 64 → 2 ^ b ≤ 64
+in_one_chunk b len cost some few = elim (cases_lt b 7) [
+  | inl lt ↦ let le : b ≤ 6 = omega arith in pow-le-pow_right {n = 2} (omega arith) le
+  | inr ge ↦ let more = pow-le-pow_right {n = 2} (omega arith) ge in absurd (omega (arith, more, cost, some, few))
 ]
 
 -- the search among the chunks and the one in a chunk
-pub both_searches : (a b c m n len : ℕ) → c ≡ a + b → 2 ^ a ≤ 2 * m + 1 → 2 ^ b ≤ 2 * len + 1 → len ≤ 64 → m ≤ n → 2 ^ c ≤ 128 * (2 * n + 1)
-both_searches a b c m n len sum among inside few chunks =
+pub both_searches : (a b c m len : ℕ) → c ≡ a + b → 2 ^ a ≤ 2 * (m - 1) + 1 → 2 ^ b ≤ 2 * (len - 1) + 1 → 0 < len → len ≤ 64 → 2 ^ c ≤ 64 * (2 * (m - 1) + 1)
+both_searches a b c m len sum among inside some few =
     let parts : 2 ^ c ≡ 2 ^ a * 2 ^ b = ap (λ k. 2 ^ k) sum ∙ pow-add 2 a b in
-    let product = mul-le-mul among (in_one_chunk b len inside few) in
-    omega (arith, parts, product, chunks)
+    let product = mul-le-mul among (in_one_chunk b len inside some few) in
+    omega (arith, parts, product)
 
--- and where the key belongs behind all chunks, there is no second one
-pub first_search : (a m n : ℕ) → 2 ^ a ≤ 2 * m + 1 → m ≤ n → 2 ^ a ≤ 128 * (2 * n + 1)
-first_search a m n among chunks = omega (arith, among, chunks)
+-- and where the key is the last of a chunk, there is no second one
+pub first_search : (a m : ℕ) → 2 ^ a ≤ 2 * (m - 1) + 1 → 2 ^ a ≤ 64 * (2 * (m - 1) + 1)
+first_search a m among = omega (arith, among)
+
+-- the last key is looked at before
+pub looked_before : (a c m n : ℕ) → c ≤ suc a → 2 ^ a ≤ 64 * (2 * (m - 1) + 1) → 0 < m → m ≤ n → 2 ^ c ≤ 128 * (2 * n + 1)
+looked_before a c m n le cost some chunks =
+    let more = pow-le-pow_right {n = 2} (omega arith) le in
+    let twice = pow-suc 2 a in
+    omega (arith, more, twice, cost, some, chunks)
+
+-- nothing else is
+pub looked_once : (c n : ℕ) → c ≤ 1 → 2 ^ c ≤ 128 * (2 * n + 1)
+looked_once c n le = let more = pow-le-pow_right {n = 2} (omega arith) le in omega (arith, more)
+
+-- nothing is
+pub not_looked : (s n : ℕ) → 2 ^ (s - s) ≤ 128 * (2 * n + 1)
+not_looked s n = let none = no_cost s n in omega (arith, none)
 
 -- there are no more chunks than entries
 pub no_more_chunks : {A : Type 0} (cs : List (List A)) → AllByRecursion IsSized cs → length cs ≤ length (joined cs)

@@ -1,17 +1,16 @@
 -- How many entries have a key before another one, and the entries from a place on.
-use Rattle.std.proofs.Common.{◌≡◌, ℕ, zero, suc, ◌+◌, ◌<◌, ◌≤◌, ◌^◌, true, false, T, not, List, [], ◌∷◌, ◌++◌, length, take, drop, get_or, refl, sym, ap, ◌∙◌, subst, arith}
+use Rattle.std.proofs.Common.{◌≡◌, ℕ, zero, suc, ◌+◌, ◌<◌, ◌≤◌, false, T, not, List, [], ◌∷◌, ◌++◌, length, take, drop, get_or, refl, sym, ap, ◌∙◌, subst, arith}
 use Rattle.std.specs.Cmp.{IsTotalOrder}
 use Rattle.std.specs.FinMap.{is_sorted}
 use Rattle.std.specs.FinMap.Entries.{below_all}
-use Rattle.std.specs.List.{AllByRecursion}
 use Rattle.std.specs.Ordering.{is_lt}
 use Rattle.std.specs.declared.cmp.Ordering.{Ordering}
-use Rattle.std.specs.declared.cmp.Ordering.TheVariants.{Less, Greater}
+use Rattle.std.specs.declared.cmp.Ordering.TheVariants.{Less}
 use Rattle.std.proofs.lemmas.List.{length-append, length-take-le, take_all, drop_all}
 use Rattle.general_words.proofs.Entries.{below_at}
 use Rattle.general_words.proofs.Orders.{less, is_less, turned}
 use Rattle.general_words.proofs.Tests.{both, first, second}
-use Rattle.chunked_map.specs.Chunks.{joined, IsSized, AreChunks, IsChunkOf, all_before, none_before}
+use Rattle.chunked_map.specs.Chunks.{joined, AreChunks, IsChunkOf, all_before, none_before}
 use Rattle.chunked_map.proofs.JoinLemmas.{joined_at, same_default, sorted-take, sized-take}
 use Rattle.chunked_map.proofs.OrderLemmas.{all_before-append, behind_key}
 

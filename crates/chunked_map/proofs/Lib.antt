@@ -6,3 +6,6 @@ pub mod SplitLemmas
 pub mod RangeLemmas
 pub mod CountLemmas
 pub mod CostLemmas
+pub mod GapLemmas
+pub mod SearchLemmas
+pub mod SpotLemmas

@@ -1,10 +1,11 @@
 -- Entries in chunks: what the chunks hold together, and where a key belongs among them. (This project's own.)
-use Rattle.std.specs.Prelude.{ℕ, suc, ◌<◌, ◌≤◌, ◌^◌, ◌++◌, ◌∷◌, [], Bool, T, not, List, length, take, drop, slice_index_or}
+use Rattle.std.specs.Prelude.{◌≡◌, ℕ, suc, ◌-◌, ◌<◌, ◌≤◌, ◌^◌, ◌++◌, ◌∷◌, [], Bool, T, not, List, length, take, drop, slice_index_or}
 use Rattle.std.specs.FinMap.{is_sorted}
 use Rattle.std.specs.FinMap.Entries.{below_all}
 use Rattle.std.specs.List.{AllByRecursion, flat_map, list_all}
 use Rattle.std.specs.Ordering.{is_lt}
 use Rattle.std.specs.declared.cmp.Ordering.{Ordering}
+use Rattle.std.specs.declared.cmp.Ordering.TheVariants.{Greater}
 
 -- what stands in the chunks, one after the other
 abbrev pub joined : {A : Type 0} → List (List A) → List A
@@ -34,6 +35,10 @@ pub record IsChunkOf {K X : Type 0} (R : K → K → Ordering) (chunks : List (L
   pub within : at ≤ length chunks
   pub before : T (all_before R q (joined (take at chunks)))
   pub behind : T (below_all R q (joined (drop (suc at) chunks)))
+
+-- a key stands before the last of some entries
+pub record IsBeforeLast {K X : Type 0} (R : K → K → Ordering) (q : K) (es : List (K × X)) : Type 0 where
+  pub late : (d : K × X) → R (slice_index_or es (length es - 1) d).0 q ≡ Greater
 
 -- chunks with some others in the place of one
 abbrev pub in_place : {A : Type 0} → List A → ℕ → List A → List A

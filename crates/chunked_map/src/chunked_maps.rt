@@ -1,5 +1,5 @@
 //! A map over chunks of entries.
-ghost use Rattle.std.specs.Prelude.{◌≡◌, ◌<◌, ◌≤◌, ◌^◌, [], T, length, take, drop, not, None, IfOk, OnOk, OnErr, slice_get, slice_range};
+ghost use Rattle.std.specs.Prelude.{◌≡◌, ◌+◌, ◌-◌, ◌*◌, ◌<◌, ◌≤◌, ◌^◌, [], T, length, take, drop, not, IfOk, OnOk, OnErr, slice_get, slice_range};
 ghost use Rattle.std.specs.FinMap.{find, is_sorted};
 ghost use Rattle.std.specs.FinMap.Entries.{put, where_key};
 ghost use Rattle.std.specs.Option.{option_copied, option_map};
@@ -8,14 +8,15 @@ ghost use Rattle.std.specs.Ordering.{eq_by_cmp};
 ghost use Rattle.chunked_map.specs.Chunks.{joined, all_before, none_before};
 
 use crate::Copied;
-use crate::chunks::{
-    before_in, chunk_of, count_in, home_of, open_chunk, put_in, remove_in, room_in,
-};
+use crate::chunks::{before_in, chunk_of, count_in, put_at, remove_in, value_in};
+use crate::counted::{search, search_counted};
 use crate::iters::ChunkedIter;
 use crate::ranges::{chunks_from, entries_from, place_in, take_chunks};
 use crate::shared::Chunk;
 use std::alloc::{AllocError, Global};
 use std::marker::Model;
+use std::sync::ledger::Ledger;
+use step_count::Steps;
 
 /// A value for each of some keys, in the order of the keys.
 #[derive(Debug, Drop)]
@@ -76,11 +77,24 @@ impl<K: Ord, V> ChunkedMap<K, V> {
         ensures found { option_copied result ≡ find K.cmp key.now self.now }
         ensures sorted { T (is_sorted K.cmp self.now) }
     {
-        let at = chunk_of(&self.chunks, key);
-        if at < self.chunks.len() {
-            self.chunks[at].get(key)
-        } else {
-            None
+        let (at, place) = search(&self.chunks, key);
+        match place {
+            Ok(place) => Some(value_in(&self.chunks, at, place)),
+            Err(_) => None,
+        }
+    }
+
+    /// The value of a key, as `get` finds it. For n keys it takes s comparisons with 2^s ≤ 128 (2n + 1).
+    pub fn get_counted<L: Ledger>(&self, key: &K, steps: &mut Steps<L>) -> Option<&V>
+        ensures found { option_copied result ≡ find K.cmp key.now self.now }
+        ensures sorted { T (is_sorted K.cmp self.now) }
+        ensures more { steps.old ≤ steps.new }
+        ensures cost { 2 ^ (steps.new - steps.old) ≤ 128 * (2 * length self.now + 1) }
+    {
+        let (at, place) = search_counted(&self.chunks, key, steps);
+        match place {
+            Ok(place) => Some(value_in(&self.chunks, at, place)),
+            Err(_) => None,
         }
     }
 
@@ -136,13 +150,26 @@ impl<K: Ord + Drop, V: Copied<K> + Drop> ChunkedMap<K, V> {
         ensures err { OnErr result (self.new ≡ self.old) }
         ensures sorted { T (is_sorted K.cmp self.old) }
     {
-        let at = home_of(&self.chunks, &key);
-        if at == self.chunks.len() {
-            open_chunk(&mut self.chunks, key, value)?;
-            return Ok(None);
-        }
-        let at = room_in(&mut self.chunks, at, &key)?;
-        put_in(&mut self.chunks, at, key, value)
+        let (at, place) = search(&self.chunks, &key);
+        put_at(&mut self.chunks, at, place, key, value)
+    }
+
+    /// Gives a key a value, as `insert` does. For n keys before it takes s comparisons with 2^s ≤ 128 (2n + 1).
+    pub fn insert_counted<L: Ledger>(
+        &mut self,
+        key: K,
+        value: V,
+        steps: &mut Steps<L>,
+    ) -> Result<Option<V>, AllocError>
+        ensures former { IfOk result (λ former. former ≡ find K.cmp key self.old) }
+        ensures ok { OnOk result (self.new ≡ put K.cmp key value self.old) }
+        ensures err { OnErr result (self.new ≡ self.old) }
+        ensures sorted { T (is_sorted K.cmp self.old) }
+        ensures more { steps.old ≤ steps.new }
+        ensures cost { 2 ^ (steps.new - steps.old) ≤ 128 * (2 * length self.old + 1) }
+    {
+        let (at, place) = search_counted(&self.chunks, &key, steps);
+        put_at(&mut self.chunks, at, place, key, value)
     }
 
     /// Takes a key out, and answers the value that it had.
@@ -152,11 +179,10 @@ impl<K: Ord + Drop, V: Copied<K> + Drop> ChunkedMap<K, V> {
         ensures err { OnErr result (self.new ≡ self.old) }
         ensures sorted { T (is_sorted K.cmp self.old) }
     {
-        let at = chunk_of(&self.chunks, key);
-        if at < self.chunks.len() {
-            remove_in(&mut self.chunks, at, key)
-        } else {
-            Ok(None)
+        let (at, place) = search(&self.chunks, key);
+        match place {
+            Ok(place) => Ok(Some(remove_in(&mut self.chunks, at, place, key)?)),
+            Err(_) => Ok(None),
         }
     }
 

@@ -1,14 +1,13 @@
 //! Chunks of entries: where a key belongs among them, and what changes one of them.
-ghost use Rattle.std.specs.Prelude.{◌≡◌, ◌+◌, ◌^◌, ◌<◌, ◌≤◌, ◌++◌, ◌∷◌, [], T, length, take, drop, not, IfSome, IfOk, OnOk, OnErr, slice_index_or};
+ghost use Rattle.std.specs.Prelude.{◌≡◌, ◌+◌, ◌^◌, ◌<◌, ◌≤◌, ◌++◌, [], T, Some, length, take, drop, not, IfOk, IfErr, OnOk, OnErr, slice_index_or};
 ghost use Rattle.std.specs.FinMap.{find, is_sorted};
 ghost use Rattle.std.specs.FinMap.Entries.{below_all, put, where_key};
-ghost use Rattle.std.specs.List.{AllByRecursion};
 ghost use Rattle.std.specs.Ordering.{eq_by_cmp};
-ghost use Rattle.chunked_map.specs.Chunks.{joined, IsSized, AreChunks, all_before, none_before, IsChunkOf, parted};
+ghost use Rattle.sorted_map.specs.Place.{IsPlace, IsGap};
+ghost use Rattle.chunked_map.specs.Chunks.{joined, AreChunks, all_before, none_before, IsChunkOf, parted};
 
 use crate::Copied;
 use crate::shared::Chunk;
-use sorted_map::SortedMap;
 use std::alloc::AllocError;
 
 /// The most entries that a chunk has.
@@ -46,32 +45,8 @@ pub fn chunk_of<K: Ord, V>(chunks: &[Chunk<K, V>], key: &K) -> usize
     low
 }
 
-/// A key is behind all chunks.
-fn is_behind<K: Ord, V>(chunks: &[Chunk<K, V>], key: &K) -> bool
-    requires { AreChunks K.cmp chunks.now }
-    ensures { T result → IsChunkOf K.cmp chunks.now key.now (length chunks.now) }
-{
-    let len = chunks.len();
-    len == 0 || is_past(&chunks[len - 1], key)
-}
-
-/// The chunk into which a key is put. A key behind all goes into the last chunk while that has room, and is not searched for.
-pub fn home_of<K: Ord, V>(chunks: &[Chunk<K, V>], key: &K) -> usize
-    requires { AreChunks K.cmp chunks.now }
-    ensures { IsChunkOf K.cmp chunks.now key.now result }
-{
-    if !is_behind(chunks, key) {
-        return chunk_of(chunks, key);
-    }
-    let len = chunks.len();
-    if len > 0 && chunks[len - 1].len() < CHUNK_SIZE {
-        return len - 1;
-    }
-    len
-}
-
 /// Puts a key that is behind all chunks into a chunk of its own.
-pub fn open_chunk<K: Ord + Drop, V: Copied<K> + Drop>(
+fn open_chunk<K: Ord + Drop, V: Copied<K> + Drop>(
     chunks: &mut Vec<Chunk<K, V>>,
     key: K,
     value: V,
@@ -85,9 +60,10 @@ pub fn open_chunk<K: Ord + Drop, V: Copied<K> + Drop>(
     if chunks.len() >= MOST_CHUNKS {
         return Err(AllocError);
     }
-    let mut entries = SortedMap::new(*chunks.allocator());
-    entries.insert(key, value)?;
-    let chunk = Chunk::of(entries)?;
+    let alloc = *chunks.allocator();
+    let mut entries = Vec::new(alloc);
+    entries.push((key, value))?;
+    let chunk = Chunk::of(alloc, entries)?;
     chunks.push(chunk)?;
     Ok(())
 }
@@ -116,65 +92,169 @@ pub fn split_in<K: Ord + Drop, V: Copied<K> + Drop>(
     }
 }
 
-/// Makes room for a key in its chunk, and answers which one it is then.
-pub fn room_in<K: Ord + Drop, V: Copied<K> + Drop>(
-    chunks: &mut Vec<Chunk<K, V>>,
-    at: usize,
-    key: &K,
-) -> Result<usize, AllocError>
-    requires chunks { AreChunks K.cmp chunks.old.items }
-    requires within { at < length chunks.old.items }
-    requires place { IsChunkOf K.cmp chunks.old.items key.now at }
-    ensures same { joined chunks.new.items ≡ joined chunks.old.items }
-    ensures chunks { AreChunks K.cmp chunks.new.items }
-    ensures within { IfOk result (λ at. at < length chunks.new.items) }
-    ensures place { IfOk result (λ at. IsChunkOf K.cmp chunks.new.items key.now at) }
-    ensures room { IfOk result (λ at. (value : V) → length (put K.cmp key.now value (slice_index_or chunks.new.items at [])) ≤ 64) }
+/// The value at a place in a chunk.
+pub fn value_in<K: Ord, V>(chunks: &[Chunk<K, V>], at: usize, place: usize) -> &V
+    requires within { at < length chunks.now }
+    requires inside { place < length (slice_index_or chunks.now at []) }
+    ensures { (d : _) → result.now ≡ (slice_index_or (slice_index_or chunks.now at []) place d).1 }
 {
-    if chunks[at].len() < CHUNK_SIZE || chunks[at].get(key).is_some() {
-        return Ok(at);
-    }
-    split_in(chunks, at, CHUNK_SIZE / 2)?;
-    if is_past(&chunks[at], key) {
-        return Ok(at + 1);
-    }
-    Ok(at)
+    &chunks[at].entries()[place].1
 }
 
-/// Puts a key into its chunk, which has room for it.
-pub fn put_in<K: Ord + Drop, V: Copied<K> + Drop>(
+/// Gives a key a value where the search for it ended.
+pub fn put_at<K: Ord + Drop, V: Copied<K> + Drop>(
     chunks: &mut Vec<Chunk<K, V>>,
     at: usize,
+    place: Result<usize, usize>,
     key: K,
     value: V,
 ) -> Result<Option<V>, AllocError>
     requires chunks { AreChunks K.cmp chunks.old.items }
-    requires within { at < length chunks.old.items }
-    requires place { IsChunkOf K.cmp chunks.old.items key at }
-    requires room { (other : V) → length (put K.cmp key other (slice_index_or chunks.old.items at [])) ≤ 64 }
+    requires home { IsChunkOf K.cmp chunks.old.items key at }
+    requires within { IfOk place (λ place. at < length chunks.old.items) }
+    requires there { IfOk place (λ place. IsPlace K.cmp (slice_index_or chunks.old.items at []) key place) }
+    requires missing { IfErr place (λ place. at < length chunks.old.items → IsGap K.cmp (slice_index_or chunks.old.items at []) key place) }
     ensures former { IfOk result (λ former. former ≡ find K.cmp key (joined chunks.old.items)) }
+    ensures ok { OnOk result (joined chunks.new.items ≡ put K.cmp key value (joined chunks.old.items)) }
+    ensures err { OnErr result (joined chunks.new.items ≡ joined chunks.old.items) }
+    ensures chunks { AreChunks K.cmp chunks.new.items }
+{
+    match place {
+        Ok(place) => Ok(Some(replace_in(chunks, at, place, key, value)?)),
+        Err(place) => {
+            if at < chunks.len() {
+                put_in(chunks, at, place, key, value)?;
+            } else {
+                put_behind(chunks, key, value)?;
+            }
+            Ok(None)
+        }
+    }
+}
+
+/// Makes room in a chunk for a key that is to stand at a place in it, and answers in which chunk and at which place it is to stand then.
+fn room_in<K: Ord + Drop, V: Copied<K> + Drop>(
+    chunks: &mut Vec<Chunk<K, V>>,
+    at: usize,
+    place: usize,
+) -> Result<(usize, usize), AllocError>
+    requires chunks { AreChunks K.cmp chunks.old.items }
+    requires within { at < length chunks.old.items }
+    ensures same { joined chunks.new.items ≡ joined chunks.old.items }
+    ensures chunks { AreChunks K.cmp chunks.new.items }
+    ensures within { IfOk result (λ spot. spot.0 < length chunks.new.items) }
+    ensures home { IfOk result (λ spot. (key : K) → IsChunkOf K.cmp chunks.old.items key at → IsGap K.cmp (slice_index_or chunks.old.items at []) key place → IsChunkOf K.cmp chunks.new.items key spot.0) }
+    ensures gap { IfOk result (λ spot. (key : K) → IsGap K.cmp (slice_index_or chunks.old.items at []) key place → IsGap K.cmp (slice_index_or chunks.new.items spot.0 []) key spot.1) }
+    ensures room { IfOk result (λ spot. length (slice_index_or chunks.new.items spot.0 []) < 64) }
+{
+    if chunks[at].len() < CHUNK_SIZE {
+        return Ok((at, place));
+    }
+    split_in(chunks, at, CHUNK_SIZE / 2)?;
+    if place > CHUNK_SIZE / 2 {
+        return Ok((at + 1, place - CHUNK_SIZE / 2));
+    }
+    Ok((at, place))
+}
+
+/// Puts a key that no entry has into its gap in its chunk. A full chunk is cut in two before.
+fn put_in<K: Ord + Drop, V: Copied<K> + Drop>(
+    chunks: &mut Vec<Chunk<K, V>>,
+    at: usize,
+    place: usize,
+    key: K,
+    value: V,
+) -> Result<(), AllocError>
+    requires chunks { AreChunks K.cmp chunks.old.items }
+    requires within { at < length chunks.old.items }
+    requires home { IsChunkOf K.cmp chunks.old.items key at }
+    requires gap { IsGap K.cmp (slice_index_or chunks.old.items at []) key place }
+    ensures ok { OnOk result (joined chunks.new.items ≡ put K.cmp key value (joined chunks.old.items)) }
+    ensures err { OnErr result (joined chunks.new.items ≡ joined chunks.old.items) }
+    ensures chunks { AreChunks K.cmp chunks.new.items }
+{
+    let (at, place) = room_in(chunks, at, place)?;
+    put_here(chunks, at, place, key, value)
+}
+
+/// Puts a key that no entry has into its gap in its chunk, which has room for it.
+fn put_here<K: Ord + Drop, V: Copied<K> + Drop>(
+    chunks: &mut Vec<Chunk<K, V>>,
+    at: usize,
+    place: usize,
+    key: K,
+    value: V,
+) -> Result<(), AllocError>
+    requires chunks { AreChunks K.cmp chunks.old.items }
+    requires within { at < length chunks.old.items }
+    requires home { IsChunkOf K.cmp chunks.old.items key at }
+    requires gap { IsGap K.cmp (slice_index_or chunks.old.items at []) key place }
+    requires room { length (slice_index_or chunks.old.items at []) < 64 }
     ensures ok { OnOk result (joined chunks.new.items ≡ put K.cmp key value (joined chunks.old.items)) }
     ensures err { OnErr result (chunks.new.items ≡ chunks.old.items) }
     ensures chunks { AreChunks K.cmp chunks.new.items }
 {
-    chunks[at].insert(key, value)
+    chunks[at].insert_at(place, key, value)
 }
 
-/// Takes a key out of its chunk, and the chunk out where nothing is left of it.
+/// Puts a key that is behind all chunks at the end of the last one, or into one of its own where that is full.
+fn put_behind<K: Ord + Drop, V: Copied<K> + Drop>(
+    chunks: &mut Vec<Chunk<K, V>>,
+    key: K,
+    value: V,
+) -> Result<(), AllocError>
+    requires chunks { AreChunks K.cmp chunks.old.items }
+    requires behind { IsChunkOf K.cmp chunks.old.items key (length chunks.old.items) }
+    ensures ok { OnOk result (joined chunks.new.items ≡ put K.cmp key value (joined chunks.old.items)) }
+    ensures err { OnErr result (joined chunks.new.items ≡ joined chunks.old.items) }
+    ensures chunks { AreChunks K.cmp chunks.new.items }
+{
+    let len = chunks.len();
+    if len == 0 || chunks[len - 1].len() >= CHUNK_SIZE {
+        return open_chunk(chunks, key, value);
+    }
+    let end = chunks[len - 1].len();
+    put_here(chunks, len - 1, end, key, value)
+}
+
+/// Gives a key at its place in its chunk another value, and answers the one that it had. The key passed in is dropped.
+fn replace_in<K: Ord + Drop, V: Copied<K> + Drop>(
+    chunks: &mut Vec<Chunk<K, V>>,
+    at: usize,
+    place: usize,
+    key: K,
+    value: V,
+) -> Result<V, AllocError>
+    requires chunks { AreChunks K.cmp chunks.old.items }
+    requires within { at < length chunks.old.items }
+    requires home { IsChunkOf K.cmp chunks.old.items key at }
+    requires there { IsPlace K.cmp (slice_index_or chunks.old.items at []) key place }
+    ensures former { IfOk result (λ former. Some former ≡ find K.cmp key (joined chunks.old.items)) }
+    ensures ok { OnOk result (joined chunks.new.items ≡ put K.cmp key value (joined chunks.old.items)) }
+    ensures err { OnErr result (chunks.new.items ≡ chunks.old.items) }
+    ensures chunks { AreChunks K.cmp chunks.new.items }
+{
+    let _ = key;
+    chunks[at].replace_at(place, value)
+}
+
+/// Takes the key at a place out of its chunk, and the chunk out where nothing is left of it.
 pub fn remove_in<K: Ord + Drop, V: Copied<K> + Drop>(
     chunks: &mut Vec<Chunk<K, V>>,
     at: usize,
+    place: usize,
     key: &K,
-) -> Result<Option<V>, AllocError>
+) -> Result<V, AllocError>
     requires chunks { AreChunks K.cmp chunks.old.items }
     requires within { at < length chunks.old.items }
-    requires place { IsChunkOf K.cmp chunks.old.items key.now at }
-    ensures former { IfOk result (λ former. former ≡ find K.cmp key.now (joined chunks.old.items)) }
+    requires home { IsChunkOf K.cmp chunks.old.items key.now at }
+    requires place { IsPlace K.cmp (slice_index_or chunks.old.items at []) key.now place }
+    ensures former { IfOk result (λ former. Some former ≡ find K.cmp key.now (joined chunks.old.items)) }
     ensures ok { OnOk result (joined chunks.new.items ≡ where_key K.cmp (λ k. not (eq_by_cmp K.cmp key.now k)) (joined chunks.old.items)) }
     ensures err { OnErr result (chunks.new.items ≡ chunks.old.items) }
     ensures chunks { AreChunks K.cmp chunks.new.items }
 {
-    let former = chunks[at].remove(key)?;
+    let former = chunks[at].remove_at(place)?;
     if chunks[at].len() == 0 {
         chunks.remove(at);
         return Ok(former);

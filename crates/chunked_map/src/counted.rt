@@ -1,89 +1,130 @@
 //! The search for a key, with its comparisons counted.
-ghost use Rattle.std.specs.Prelude.{◌≡◌, ◌+◌, ◌-◌, ◌*◌, ◌^◌, ◌<◌, ◌≤◌, ◌++◌, T, length, not, IfOk, IfErr};
-ghost use Rattle.std.specs.FinMap.{find, is_sorted};
-ghost use Rattle.std.specs.FinMap.Entries.{below_all};
-ghost use Rattle.std.specs.Option.{option_copied};
+ghost use Rattle.std.specs.Prelude.{◌≡◌, ◌+◌, ◌-◌, ◌*◌, ◌^◌, ◌<◌, ◌≤◌, [], T, length, IfOk, IfErr, slice_index_or};
+ghost use Rattle.std.specs.FinMap.{is_sorted};
 ghost use Rattle.sorted_map.specs.Place.{IsPlace, IsGap};
-ghost use Rattle.chunked_map.specs.Chunks.{all_before, AreChunks, IsChunkOf};
+ghost use Rattle.chunked_map.specs.Chunks.{joined, AreChunks, IsChunkOf, IsBeforeLast};
 
-use crate::ChunkedMap;
 use crate::shared::Chunk;
 use std::cmp::Ordering;
-use std::sync::ledger::Ledger;
+use std::marker::Brand;
+use std::sync::ledger::{Blank, Ledger};
 use step_count::{Steps, compare_counted};
 
-impl<K: Ord, V> ChunkedMap<K, V> {
-    /// The value of a key. For n keys it takes s comparisons with 2^s ≤ 128 (2n + 1).
-    pub fn get_counted<L: Ledger>(&self, key: &K, steps: &mut Steps<L>) -> Option<&V>
-        ensures found { option_copied result ≡ find K.cmp key.now self.now }
-        ensures sorted { T (is_sorted K.cmp self.now) }
-        ensures more { steps.old ≤ steps.new }
-        ensures cost { 2 ^ (steps.new - steps.old) ≤ 128 * (2 * length self.now + 1) }
-    {
-        let at = chunk_counted(&self.chunks, key, steps);
-        if at < self.chunks.len() {
-            let entries = self.chunks[at].entries();
-            match place_counted(entries, key, steps) {
-                Ok(place) => Some(&entries[place].1),
-                Err(_) => None,
-            }
-        } else {
-            None
-        }
-    }
-}
-
-/// All keys of a chunk are before a key.
-fn is_past_counted<K: Ord, V, L: Ledger>(chunk: &Chunk<K, V>, key: &K, steps: &mut Steps<L>) -> bool
-    ensures yes { T result → T (all_before K.cmp key.now chunk.now) }
-    ensures no { T (not result) → (behind : _) → T (is_sorted K.cmp (chunk.now ++ behind)) → T (below_all K.cmp key.now behind) }
-    ensures more { steps.old ≤ steps.new }
-    ensures step { steps.new ≤ steps.old + 1 }
-{
-    match chunk.entries().last() {
-        Some(last) => compare_counted(&last.0, key, steps).is_lt(),
-        None => true,
-    }
-}
-
-/// The first chunk that is not before a key. It stands behind all of them where there is none.
-fn chunk_counted<K: Ord, V, L: Ledger>(
+/// In which chunk a key stands, and where in it, or would stand. A key behind all chunks would stand in none. The last key is looked at
+/// first, since keys mostly come in their order. For n entries it takes s comparisons with 2^s ≤ 128 (2n + 1).
+pub fn search_counted<K: Ord, V, L: Ledger>(
     chunks: &[Chunk<K, V>],
     key: &K,
     steps: &mut Steps<L>,
-) -> usize
+) -> (usize, Result<usize, usize>)
     requires { AreChunks K.cmp chunks.now }
-    ensures place { IsChunkOf K.cmp chunks.now key.now result }
+    ensures home { IsChunkOf K.cmp chunks.now key.now result.0 }
+    ensures within { IfOk result.1 (λ place. result.0 < length chunks.now) }
+    ensures there { IfOk result.1 (λ place. IsPlace K.cmp (slice_index_or chunks.now result.0 []) key.now place) }
+    ensures missing { IfErr result.1 (λ place. result.0 < length chunks.now → IsGap K.cmp (slice_index_or chunks.now result.0 []) key.now place) }
     ensures more { steps.old ≤ steps.new }
-    ensures cost { 2 ^ (steps.new - steps.old) ≤ 2 * length chunks.now + 1 }
+    ensures cost { 2 ^ (steps.new - steps.old) ≤ 128 * (2 * length (joined chunks.now) + 1) }
 {
-    let mut low = 0;
-    let mut high = chunks.len();
-    while low < high {
-        let middle = low + (high - low) / 2;
-        if is_past_counted(&chunks[middle], key, steps) {
-            low = middle + 1;
-        } else {
-            high = middle;
-        }
+    let len = chunks.len();
+    if len == 0 {
+        return (0, Err(0));
     }
-    low
+    match last_counted(&chunks[len - 1], key, steps) {
+        Ordering::Less => (len, Err(0)),
+        Ordering::Equal => (len - 1, Ok(chunks[len - 1].len() - 1)),
+        Ordering::Greater => search_before(chunks, key, steps),
+    }
 }
 
-/// Where a key stands among some entries, or would stand.
+/// The search for a caller that counts nothing.
+pub fn search<K: Ord, V>(chunks: &[Chunk<K, V>], key: &K) -> (usize, Result<usize, usize>)
+    requires { AreChunks K.cmp chunks.now }
+    ensures home { IsChunkOf K.cmp chunks.now key.now result.0 }
+    ensures within { IfOk result.1 (λ place. result.0 < length chunks.now) }
+    ensures there { IfOk result.1 (λ place. IsPlace K.cmp (slice_index_or chunks.now result.0 []) key.now place) }
+    ensures missing { IfErr result.1 (λ place. result.0 < length chunks.now → IsGap K.cmp (slice_index_or chunks.now result.0 []) key.now place) }
+{
+    search_from::<K, V, Brand>(chunks, key, Blank::new(1))
+}
+
+/// The search with a count of its own.
+fn search_from<K: Ord, V, L: Ledger>(
+    chunks: &[Chunk<K, V>],
+    key: &K,
+    blank: Blank,
+) -> (usize, Result<usize, usize>)
+    requires chunks { AreChunks K.cmp chunks.now }
+    requires name { blank.name ≡ L.name }
+    requires parts { blank.parts ≡ L.parts }
+    requires some { 0 < blank.parts }
+    ensures home { IsChunkOf K.cmp chunks.now key.now result.0 }
+    ensures within { IfOk result.1 (λ place. result.0 < length chunks.now) }
+    ensures there { IfOk result.1 (λ place. IsPlace K.cmp (slice_index_or chunks.now result.0 []) key.now place) }
+    ensures missing { IfErr result.1 (λ place. result.0 < length chunks.now → IsGap K.cmp (slice_index_or chunks.now result.0 []) key.now place) }
+{
+    let mut steps = Steps::<L>::none(blank);
+    search_counted(chunks, key, &mut steps)
+}
+
+/// How the last key of a chunk compares with a key.
+fn last_counted<K: Ord, V, L: Ledger>(
+    chunk: &Chunk<K, V>,
+    key: &K,
+    steps: &mut Steps<L>,
+) -> Ordering
+    requires { 0 < length chunk.now }
+    ensures order { (d : _) → K.cmp (slice_index_or chunk.now (length chunk.now - 1) d).0 key.now ≡ result }
+    ensures step { steps.new ≡ steps.old + 1 }
+{
+    let entries = chunk.entries();
+    compare_counted(&entries[entries.len() - 1].0, key, steps)
+}
+
+/// The search for a key that is before the last one.
+fn search_before<K: Ord, V, L: Ledger>(
+    chunks: &[Chunk<K, V>],
+    key: &K,
+    steps: &mut Steps<L>,
+) -> (usize, Result<usize, usize>)
+    requires chunks { AreChunks K.cmp chunks.now }
+    requires some { 0 < length chunks.now }
+    requires late { IsBeforeLast K.cmp key.now (slice_index_or chunks.now (length chunks.now - 1) []) }
+    ensures home { IsChunkOf K.cmp chunks.now key.now result.0 }
+    ensures within { result.0 < length chunks.now }
+    ensures there { IfOk result.1 (λ place. IsPlace K.cmp (slice_index_or chunks.now result.0 []) key.now place) }
+    ensures missing { IfErr result.1 (λ place. IsGap K.cmp (slice_index_or chunks.now result.0 []) key.now place) }
+    ensures more { steps.old ≤ steps.new }
+    ensures cost { 2 ^ (steps.new - steps.old) ≤ 64 * (2 * (length chunks.now - 1) + 1) }
+{
+    let mut low = 0;
+    let mut high = chunks.len() - 1;
+    while low < high {
+        let middle = low + (high - low) / 2;
+        match last_counted(&chunks[middle], key, steps) {
+            Ordering::Less => low = middle + 1,
+            Ordering::Equal => return (middle, Ok(chunks[middle].len() - 1)),
+            Ordering::Greater => high = middle,
+        }
+    }
+    (low, place_counted(chunks[low].entries(), key, steps))
+}
+
+/// Where a key that is before the last of some entries stands among them, or would stand.
 fn place_counted<K: Ord, V, L: Ledger>(
     entries: &[(K, V)],
     key: &K,
     steps: &mut Steps<L>,
 ) -> Result<usize, usize>
-    requires { T (is_sorted K.cmp entries.now) }
+    requires sorted { T (is_sorted K.cmp entries.now) }
+    requires some { 0 < length entries.now }
+    requires late { IsBeforeLast K.cmp key.now entries.now }
     ensures there { IfOk result (λ at. IsPlace K.cmp entries.now key.now at) }
     ensures missing { IfErr result (λ at. IsGap K.cmp entries.now key.now at) }
     ensures more { steps.old ≤ steps.new }
-    ensures cost { 2 ^ (steps.new - steps.old) ≤ 2 * length entries.now + 1 }
+    ensures cost { 2 ^ (steps.new - steps.old) ≤ 2 * (length entries.now - 1) + 1 }
 {
     let mut low = 0;
-    let mut high = entries.len();
+    let mut high = entries.len() - 1;
     while low < high {
         let middle = low + (high - low) / 2;
         match compare_counted(&entries[middle].0, key, steps) {

@@ -86,7 +86,7 @@ pub fn take_chunks<K: Ord + Drop, V: Copied<K> + Drop>(
 }
 
 /// Moves the elements from one place up to another into a vector of their own. Its memory is taken first.
-fn move_out<T: Drop>(items: &mut Vec<T>, from: usize, to: usize) -> Result<Vec<T>, AllocError>
+pub fn move_out<T: Drop>(items: &mut Vec<T>, from: usize, to: usize) -> Result<Vec<T>, AllocError>
     requires order { from ≤ to }
     requires bounds { to ≤ length items.old.items }
     ensures taken { IfOk result (λ taken. taken.items ≡ slice_range items.old.items from to) }

@@ -1,10 +1,11 @@
-//! Lookups whose comparisons are counted.
-ghost use Rattle.std.specs.Prelude.{◌≡◌, ℕ, ◌+◌, ◌-◌, ◌*◌, ◌^◌, ◌≤◌, length};
+//! Lookups and insertions whose comparisons are counted. They make the search that `lookup` and `append` make.
+ghost use Rattle.std.specs.Prelude.{◌≡◌, ℕ, ◌+◌, ◌-◌, ◌*◌, ◌^◌, ◌≤◌, length, IfOk, OnOk, OnErr};
 ghost use Rattle.std.specs.Option.{option_map};
 ghost use Rattle.std.specs.FinMap as map;
 ghost use Rattle.key_set.specs.EntryView.{entry_of};
 
 use crate::{Entry, KeySet};
+use key_meta::Memory;
 use key_name::KeyName;
 use std::sync::ledger::Ledger;
 use step_count::Steps;
@@ -17,6 +18,22 @@ impl KeySet {
         ensures cost { 2 ^ (steps.new - steps.old) ≤ 128 * (2 * length (map.entries self.now) + 1) }
     {
         self.keys.get_counted(name, steps)
+    }
+
+    /// Gives a name an entry, as `append` does. For n keys before the call it takes s comparisons with 2^s ≤ 128 (2n + 1).
+    pub fn append_counted<L: Ledger>(
+        &mut self,
+        name: KeyName,
+        entry: Entry,
+        steps: &mut Steps<L>,
+    ) -> Result<Option<Entry>, Memory>
+        ensures former { IfOk result (λ former. option_map entry_of former ≡ map.get self.old name) }
+        ensures ok { OnOk result (self.new ≡ map.insert self.old name (entry_of entry)) }
+        ensures err { OnErr result (self.new ≡ self.old) }
+        ensures more { steps.old ≤ steps.new }
+        ensures cost { 2 ^ (steps.new - steps.old) ≤ 128 * (2 * length (map.entries self.old) + 1) }
+    {
+        self.keys.insert_counted(name, entry, steps)
     }
 }
 

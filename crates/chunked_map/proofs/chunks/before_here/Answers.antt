@@ -1,6 +1,6 @@
 -- The key in the middle tells of those before it, or of those behind it.
-use Rattle.std.proofs.Common.{◌≡◌, ◌<◌, ◌+◌, ◌-◌, ◌/◌, T, suc, take, drop, length, get_or, true, false, sym, ap, ◌∙◌, subst, arith, is_lt}
-use Rattle.chunked_map.specs.Chunks.{all_before, none_before}
+use Rattle.std.proofs.Common.{◌≡◌, ◌<◌, ◌+◌, ◌-◌, ◌/◌, T, suc, take, length, get_or, true, false, sym, ap, ◌∙◌, subst, arith, is_lt}
+use Rattle.chunked_map.specs.Chunks.{all_before}
 use Rattle.chunked_map.proofs.CountLemmas.{before_up_to, none_from}
 use Rattle.chunked_map.proofs.chunks.before_here.Goals as goal
 

@@ -1,6 +1,6 @@
 -- The chunks before the key's have only keys before it, and those behind it none.
-use Rattle.std.proofs.Common.{◌≡◌, ◌+◌, ◌≤◌, T, List, take, drop, length, sym, ap, ◌∙◌, subst, arith}
-use Rattle.chunked_map.specs.Chunks.{joined, all_before, none_before}
+use Rattle.std.proofs.Common.{◌+◌, ◌≤◌, T, List, take, drop, length, sym, ap, subst, arith}
+use Rattle.chunked_map.specs.Chunks.{all_before, none_before}
 use Rattle.chunked_map.proofs.JoinLemmas.{length_sized}
 use Rattle.chunked_map.proofs.CountLemmas.{front_are, bounded_in, before_in_all, none_in_all}
 use Rattle.chunked_map.proofs.chunks.before_in.Goals as goal

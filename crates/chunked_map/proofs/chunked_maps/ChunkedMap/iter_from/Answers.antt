@@ -1,5 +1,5 @@
 -- The entries from the place on are those of its chunk from there on, and the chunks behind it.
-use Rattle.std.proofs.Common.{◌≡◌, ◌+◌, ◌<◌, ◌++◌, suc, [], List, length, take, drop, get_or, sym, ap, ◌∙◌, subst, arith}
+use Rattle.std.proofs.Common.{◌≡◌, ◌+◌, ◌<◌, ◌++◌, suc, [], length, take, drop, get_or, ap, ◌∙◌, subst, arith}
 use Rattle.chunked_map.specs.Chunks.{joined}
 use Rattle.chunked_map.proofs.CountLemmas.{drop_at_chunk}
 use Rattle.chunked_map.proofs.chunked_maps.ChunkedMap.iter_from.Goals as goal
