@@ -3,6 +3,8 @@ use Rattle.std.proofs.Common.{◌≡◌, ℕ, zero, suc, ◌*◌, ◌<◌, ◌�
 use Rattle.std.specs.List.{AllByRecursion}
 use Rattle.std.specs.FinMap.{is_sorted}
 use Rattle.std.specs.declared.cmp.Ordering.{Ordering}
+use Rattle.std.specs.FinMap.Entries.{put}
+use Rattle.sorted_map.specs.Merge.{put_all}
 use Rattle.std.proofs.lemmas.Grind.{flat_map-append}
 use Rattle.std.proofs.lemmas.List.{set_split, set-get_or, take-append-drop, length-append}
 use Rattle.chunked_map.specs.Chunks.{joined, IsSized, in_place}
@@ -97,3 +99,8 @@ module _ {K X : Type 0} (R : K → K → Ordering) (cs : List (List (K × X))) (
 
   pub sorted-drop : (at : ℕ) → T (is_sorted R (joined (drop at cs)))
   sorted-drop at = sorted_right R (joined (take at cs)) (joined (drop at cs)) (subst (λ es. T (is_sorted R es)) (sym (joined_parts cs at)) h)
+
+-- to put the entries of some chunks among others is to put those of the first, and then those of the rest
+pub put_all-append : {K X : Type 0} (R : K → K → Ordering) (xs ys es : List (K × X)) → put_all R (xs ++ ys) es ≡ put_all R ys (put_all R xs es)
+put_all-append R [] ys es = refl
+put_all-append R (x ∷ xs) ys es = put_all-append R xs ys (put R x.0 x.1 es)

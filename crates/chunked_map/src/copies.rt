@@ -23,22 +23,34 @@ impl<K: Ord + Drop, V: Copied<K> + Drop> ChunkedMap<K, V> {
         Ok(ChunkedMap { chunks })
     }
 
-    /// Gives each key of another map the value that it has there. A key that is there stays.
-    pub fn insert_all(&mut self, other: &ChunkedMap<K, V>) -> Result<(), AllocError>
-        ensures ok { OnOk result (self.new ≡ put_all K.cmp other.now self.old) }
+    /// Gives each key of another map the value that it has there. A key that is there stays. Entries that the other map alone has are
+    /// moved, and those that it shares are copied.
+    pub fn insert_all(&mut self, other: ChunkedMap<K, V>) -> Result<(), AllocError>
+        ensures ok { OnOk result (self.new ≡ put_all K.cmp other self.old) }
         ensures err { OnErr result (self.new ≡ self.old) }
         ensures sorted { T (is_sorted K.cmp self.old) }
-        ensures other_sorted { T (is_sorted K.cmp other.now) }
+        ensures other_sorted { T (is_sorted K.cmp other) }
     {
-        let entries = other.iter();
         let mut all = self.copy()?;
-        for (key, value) in entries {
-            let (key, value) = V::copied(key, value)?;
-            all.insert(key, value)?;
+        for chunk in other.chunks {
+            insert_entries(&mut all, chunk.into_entries()?)?;
         }
         *self = all;
         Ok(())
     }
+}
+
+/// Gives each key of some entries the value that it has there, one after another.
+fn insert_entries<K: Ord + Drop, V: Copied<K> + Drop>(
+    map: &mut ChunkedMap<K, V>,
+    entries: Vec<(K, V)>,
+) -> Result<(), AllocError>
+    ensures { OnOk result (map.new ≡ put_all K.cmp entries.items map.old) }
+{
+    for (key, value) in entries {
+        map.insert(key, value)?;
+    }
+    Ok(())
 }
 
 /// The same chunks once more.

@@ -195,6 +195,16 @@ impl<K: Ord + Drop, V: Copied<K> + Drop> Chunk<K, V> {
         Ok(Arc::make_mut(&mut self.shared)?.remove_at(at))
     }
 
+    /// The entries by themselves. They are moved where no other map has the chunk, and else copied.
+    pub fn into_entries(self) -> Result<Vec<(K, V)>, AllocError>
+        ensures { IfOk result (λ entries. entries.items ≡ self) }
+    {
+        match Arc::try_unwrap(self.shared) {
+            Ok(entries) => Ok(entries.sorted),
+            Err(shared) => copy_of(shared.allocator(), shared.list()),
+        }
+    }
+
     /// Takes out the entries from one place up to another. All memory is taken before one of them moves.
     pub fn take_range(&mut self, from: usize, to: usize) -> Result<Chunk<K, V>, AllocError>
         requires order { from ≤ to }

@@ -91,7 +91,7 @@ impl KeySet {
             *self = other;
             return Ok(());
         }
-        self.keys.insert_all(&other.keys)
+        self.keys.insert_all(other.keys)
     }
 
     /// Takes a name out, and answers the entry that it had.

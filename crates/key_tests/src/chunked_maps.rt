@@ -120,7 +120,7 @@ fn has_all_of_two_maps_and_leaves_a_copy_as_it_was(rt: HostRuntime) -> Result<()
         other.insert(key * 3, held(1000))?;
     }
     let copied = map.copy()?;
-    map.insert_all(&other)?;
+    map.insert_all(other)?;
     assert_eq!(rt; map.len(), 250);
     assert_eq!(rt; map.get(&6), Some(&held(1000)));
     assert_eq!(rt; map.get(&4), Some(&held(2)));
