@@ -4,13 +4,11 @@ use Rattle.std.specs.Cmp.{Equal-is}
 use Rattle.std.specs.FinMap as map
 use Rattle.std.specs.FinMap.{find, is_sorted}
 use Rattle.std.specs.FinMap.Entries.{put}
-use Rattle.std.specs.List.{AllByRecursion, list_any}
+use Rattle.std.specs.List.{AllByRecursion}
 use Rattle.std.specs.Option.{option_copied}
 use Rattle.std.specs.Ordering.{eq_by_cmp}
-use Rattle.std.proofs.lemmas.Bool.{and_parts, cond-true, cond-false, cases_Bool, leb-true, or_from}
+use Rattle.std.proofs.lemmas.Bool.{and_parts, cond-true, cond-false, cases_Bool, leb-true}
 use Rattle.std.proofs.lemmas.Cmp.{nat_list_cmp_total}
-use Rattle.std.proofs.lemmas.List.Folds.{list_any_more, list_any_at}
-use Rattle.std.proofs.lemmas.Option.{slice_get_within, get_or_from_slice_get}
 use Rattle.general_words.proofs.Texts.{text_cmp-IsAntisymmetric}
 use Rattle.model_names.specs.declared.namespaces.Namespace.{Namespace}
 use Rattle.model_names.specs.declared.namespaces.Namespace.TheVariants.{Cascading, Spec, Proc, Dir, User, System, Default}
@@ -165,12 +163,3 @@ HasNames-spelling at spells short =
       path = child_refusal-none (entry_name text) path_word refl refl (omega (arith, few, length-append (spelled text) (47 ∷ path_word)));
       plugin = child_refusal-none (entry_name text) plugin_word refl refl (omega (arith, few, length-append (spelled text) (47 ∷ plugin_word)));
     }
-
--- ---- keys one by one
-
-pub any-more : (p : Name × Entry → Bool) (keys : List (Name × Entry)) (i : ℕ) (key : Name × Entry) → Some key ≡ slice_get keys i → list_any p (take i keys) ≡ false → p key ≡ false → list_any p (take (i + 1) keys) ≡ false
-any-more p keys i key found before not_this =
-    list_any_more p keys i key (slice_get_within keys i key (sym found)) ∙ or_from _ _ before (ap p (get_or_from_slice_get keys i key key (sym found)) ∙ not_this)
-
-pub any-found : (p : Name × Entry → Bool) (keys : List (Name × Entry)) (i : ℕ) (key : Name × Entry) → Some key ≡ slice_get keys i → p key ≡ true → list_any p keys ≡ true
-any-found p keys i key found this = list_any_at p keys i key (slice_get_within keys i key (sym found)) (ap p (get_or_from_slice_get keys i key key (sym found)) ∙ this)

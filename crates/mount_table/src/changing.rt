@@ -91,10 +91,7 @@ fn has_entry(keys: &KeySet, text: &str) -> bool
     ensures has { result ≡ has_entry keys.now text.now }
     ensures name { result ≡ true → child_refusal mountpoints text.now ≡ None }
 {
-    for i in 0..keys.len() {
-        let Some((name, _)) = keys.at(i) else {
-            unreachable!()
-        };
+    for (name, _) in keys.iter() {
         if belongs_to(name, text) {
             return true;
         }
