@@ -1,14 +1,12 @@
 -- The test of keys decides whether they are the same.
-use Rattle.std.proofs.Common.{◌≡◌, ℕ, ◌&&◌, List, [], ◌∷◌, Bool, true, false, refl, sym, ap, ◌∙◌}
+use Rattle.std.proofs.Common.{◌≡◌, ◌&&◌, [], ◌∷◌, refl, ap}
 use Rattle.std.specs.Bool.{Decides}
 use Rattle.std.specs.Cmp.Lexicographic.{pointwise, pointwise_decides, bytes_decides}
 use Rattle.std.specs.FinMap as map
-use Rattle.std.proofs.lemmas.Bool.Decides.{Decides-eqb}
-use Rattle.model_names.specs.Name.{Name, namespace_at, namespace_at-rank, rank}
+use Rattle.model_names.specs.Name.{Name}
 use Rattle.model_names.specs.Order.{name_eq}
-use Rattle.model_maps.specs.Entry.{Entry, Meta}
+use Rattle.model_maps.specs.Entry.{Entry}
 use Rattle.model_maps.specs.KeyMap.{KeyMap}
-use Rattle.key_meta.specs.Same.{same_item, same_meta}
 use Rattle.sorted_map.proofs.SeenLemmas.{seen}
 use Rattle.model_names.specs.Order.{name_cmp}
 use Rattle.key_set.specs.EntryView.{entry_of}

@@ -1,5 +1,5 @@
 -- How many comparisons a bound on their power of two allows.
-use Rattle.std.proofs.Common.{ℕ, suc, ◌<◌, ◌≤◌, ◌^◌, ◌+◌, ◌*◌, inl, inr, arith}
+use Rattle.std.proofs.Common.{ℕ, ◌≤◌, ◌^◌, ◌+◌, ◌*◌, inl, inr, arith}
 use Rattle.std.proofs.Math.Nat.{pow-le-pow_right}
 use Rattle.std.proofs.lemmas.Bool.{cases_lt}
 

@@ -1,5 +1,5 @@
 -- What an entry that is added or removed changes.
-use Rattle.std.proofs.Common.{◌≡◌, ℕ, ◌+◌, ◌*◌, ◌≤◌, Bool, true, false, cond, not, ◌&&◌, T, List, [], ◌∷◌, ◌++◌, length, take, drop, slice_get, is_some, unwrap_or, Option, Some, None, Ok, Err, refl, sym, ap, ap₂, subst, ◌∙◌, inl, inr, ◌⊎◌, codes, arith, length-append, Bor}
+use Rattle.std.proofs.Common.{◌≡◌, ℕ, ◌+◌, ◌*◌, ◌≤◌, Bool, true, false, cond, not, ◌&&◌, T, List, [], ◌∷◌, ◌++◌, length, drop, is_some, unwrap_or, Option, Some, None, Ok, Err, refl, sym, ap, ap₂, subst, ◌∙◌, inl, inr, ◌⊎◌, codes, arith, length-append, Bor}
 use Rattle.std.specs.Cmp.{Equal-is}
 use Rattle.std.specs.FinMap as map
 use Rattle.std.specs.FinMap.{find, is_sorted}
@@ -21,7 +21,7 @@ use Rattle.model_names.specs.WellFormed.{IsName, IsPart}
 use Rattle.model_names.proofs.BelowLemmas.{at_or_below-rest}
 use Rattle.model_names.proofs.RefusesLemmas.{position-no_nul}
 use Rattle.general_words.specs.Texts.{text_cmp}
-use Rattle.model_maps.specs.Entry.{Entry, plain_entry}
+use Rattle.model_maps.specs.Entry.{plain_entry}
 use Rattle.model_maps.specs.KeyMap.{KeyMap}
 use Rattle.kdb_outside.specs.Kind.{kind_word}
 use Rattle.kdb_outside.specs.declared.kinds.Kind.{Kind}

@@ -5,7 +5,6 @@ use Rattle.kdb_outside.specs.FileName.{is_file_name}
 use Rattle.model_names.specs.declared.namespaces.Namespace.TheVariants.{System}
 use Rattle.model_names.specs.Below.{is_at_or_below}
 use Rattle.model_names.specs.Name.{Name}
-use Rattle.general_words.specs.Searches.{first_some}
 use Rattle.general_words.specs.Texts.{is_text}
 use Rattle.model_names.specs.NameOf.{name_of}
 use Rattle.model_names.specs.Namespaces.{has_files}

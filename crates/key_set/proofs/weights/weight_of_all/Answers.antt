@@ -1,6 +1,4 @@
 -- The next key's weight goes from those to come to the weight so far.
-use Rattle.std.proofs.Common.{sum_by}
-use Rattle.general_words.specs.Saturated.{saturated}
 use Rattle.model_maps.specs.KeyMap.{weight_of_key}
 use Rattle.key_set.specs.EntryView.{entry_of}
 use Rattle.key_set.proofs.SetLemmas.{Key, weighed-more, weighed-all}

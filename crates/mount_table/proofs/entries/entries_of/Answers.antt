@@ -1,5 +1,5 @@
 -- Each turn notes one more key, and in the end all are noted.
-use Rattle.std.proofs.Common.{◌≡◌, arith, ap, sym, ◌∙◌, refl}
+use Rattle.std.proofs.Common.{arith, ap, sym, ◌∙◌}
 use Rattle.std.specs.FinMap as map
 use Rattle.general_words.proofs.Maps.{from_sorted-nil}
 use Rattle.model_names.specs.Name.{Name}
@@ -31,9 +31,9 @@ loop-i-preserved c =
     let key : Name × Entry = (c.in-Some.name.now, entry) in
     let there = walk-first (map.entries keys) c.loop-i.i c.loop-i.rest c.next.new.self key c.loop-i.invariant.1 c.in-Some.ensures.steps in (
       c.in_ok-note.ensures
-      ∙ ap (λ entries. noted entries c.in-Some.name.now entry.value) c.loop-i.invariant.0
-      ∙ sym (entries_of-insert (front keys c.loop-i.i) c.in-Some.name.now entry)
-      ∙ ap entries_of (sym (front-next name_cmp_total name_cmp-IsAntisymmetric keys c.loop-i.i key there)),
+          ∙ ap (λ entries. noted entries c.in-Some.name.now entry.value) c.loop-i.invariant.0
+          ∙ sym (entries_of-insert (front keys c.loop-i.i) c.in-Some.name.now entry)
+          ∙ ap entries_of (sym (front-next name_cmp_total name_cmp-IsAntisymmetric keys c.loop-i.i key there)),
       walk-rest (map.entries keys) c.loop-i.i c.loop-i.rest c.next.new.self key c.loop-i.invariant.1 c.in-Some.ensures.steps,
     )
 

@@ -1,10 +1,8 @@
 -- The maps have the keys for entries.
-use Rattle.std.proofs.Common.{◌&&◌, ap, ◌∙◌, sym}
+use Rattle.std.proofs.Common.{ap, ◌∙◌, sym}
 use Rattle.std.specs.FinMap as map
 use Rattle.std.specs.Cmp.Lexicographic.{pointwise}
-use Rattle.model_names.specs.Order.{name_eq}
-use Rattle.key_set.specs.EntryView.{entry_of}
-use Rattle.key_set.specs.Same.{same_entry, same_key}
+use Rattle.key_set.specs.Same.{same_key}
 use Rattle.key_set.proofs.SetLemmas.{entries-keys}
 use Rattle.key_set.proofs.SameLemmas.{pointwise-seen}
 use Rattle.key_set.proofs.key_sets.KeySetPartialEq.eq.Goals as goal
