@@ -1,5 +1,5 @@
 -- Where a key belongs among chunks.
-use Rattle.std.proofs.Common.{◌≡◌, ℕ, zero, suc, ◌+◌, ◌^◌, ◌<◌, ◌≤◌, T, List, [], ◌∷◌, ◌++◌, length, take, drop, get_or, refl, sym, ap, ◌∙◌, subst, arith}
+use Rattle.std.proofs.Common.{◌≡◌, ℕ, suc, ◌+◌, ◌^◌, ◌<◌, ◌≤◌, T, List, [], ◌∷◌, ◌++◌, length, take, drop, get_or, sym, ap, ◌∙◌, subst, arith}
 use Rattle.std.specs.Cmp.{IsTotalOrder}
 use Rattle.std.specs.FinMap.{is_sorted}
 use Rattle.std.specs.FinMap.Entries.{below_all}
@@ -8,8 +8,8 @@ use Rattle.general_words.proofs.Tests.{first}
 use Rattle.general_words.proofs.Orders.{less}
 use Rattle.std.proofs.lemmas.List.{drop_all, length-append, length-take-le}
 use Rattle.chunked_map.specs.Chunks.{joined, AreChunks, IsChunkOf, all_before}
-use Rattle.chunked_map.proofs.OrderLemmas.{all_before-append, all_before-front, all_before-left}
-use Rattle.chunked_map.proofs.JoinLemmas.{take_one_more, drop_one_less, sorted-take, sorted-drop, sized_at, sized-take, length_sized, joined_parts}
+use Rattle.chunked_map.proofs.OrderLemmas.{all_before-append, all_before-front}
+use Rattle.chunked_map.proofs.JoinLemmas.{take_one_more, drop_one_less, sorted-take, sorted-drop, sized_at, sized-take, length_sized}
 
 module _ {K X : Type 0} (R : K → K → Ordering) (q : K) where
   -- a chunk before q has only such chunks before it
@@ -29,24 +29,6 @@ module _ {K X : Type 0} (R : K → K → Ordering) (q : K) where
 
     pub sorted_here : T (is_sorted R (c ++ joined (drop (suc at) cs)))
     sorted_here = subst (λ (es : List (K × X)). T (is_sorted R (es ++ joined (drop (suc at) cs)))) (sym is) (subst (λ es. T (is_sorted R es)) (drop_one_less cs at c lt) (sorted-drop R cs are.sorted at))
-
-  -- the last chunk may take a key that is behind all
-  pub last_of : (cs : List (List (K × X))) (at : ℕ) (n : ℕ) → IsChunkOf R cs q n → suc at ≡ n → n ≡ length cs → IsChunkOf R cs q at
-  last_of cs at n place next all =
-      let fewer : T (all_before R q (joined (take at (take n cs)) ++ joined (drop at (take n cs)))) = subst (λ es. T (all_before R q es)) (sym (joined_parts (take n cs) at)) place.before in
-      let le : at ≤ n = omega arith in
-      let within = place.within in
-      record {
-        within = omega arith;
-        before = subst (λ es. T (all_before R q es)) (ap joined (fronts cs at n le)) (all_before-left R q (joined (take at (take n cs))) (joined (drop at (take n cs))) fewer);
-        behind = subst (λ es. T (below_all R q (joined es))) (sym (drop_all (suc at) cs (omega arith))) tt;
-      }
-    where
-      fronts : (cs : List (List (K × X))) (m n : ℕ) → m ≤ n → take m (take n cs) ≡ take m cs
-      fronts cs zero n le = refl
-      fronts cs (suc m) zero le = absurd (omega arith)
-      fronts [] (suc m) (suc n) le = refl
-      fronts (c ∷ cs) (suc m) (suc n) le = ap (λ ds. c ∷ ds) (fronts cs m n (omega arith))
 
   -- a key before none is behind all
   pub behind_none : (cs : List (List (K × X))) → T (all_before R q (joined (take (length cs) cs))) → IsChunkOf R cs q (length cs)

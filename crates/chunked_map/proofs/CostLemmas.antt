@@ -68,14 +68,6 @@ looked_before a c m n le cost some chunks =
     let twice = pow-suc 2 a in
     omega (arith, more, twice, cost, some, chunks)
 
--- nothing else is
-pub looked_once : (c n : ℕ) → c ≤ 1 → 2 ^ c ≤ 128 * (2 * n + 1)
-looked_once c n le = let more = pow-le-pow_right {n = 2} (omega arith) le in omega (arith, more)
-
--- nothing is
-pub not_looked : (s n : ℕ) → 2 ^ (s - s) ≤ 128 * (2 * n + 1)
-not_looked s n = let none = no_cost s n in omega (arith, none)
-
 -- there are no more chunks than entries
 pub no_more_chunks : {A : Type 0} (cs : List (List A)) → AllByRecursion IsSized cs → length cs ≤ length (joined cs)
 no_more_chunks [] h = omega arith

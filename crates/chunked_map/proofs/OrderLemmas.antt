@@ -32,10 +32,6 @@ module _ {K X : Type 0} (R : K → K → Ordering) where
   all_before-append q [] ys g h = h
   all_before-append q (x ∷ xs) ys g h = both _ _ (first _ _ g) (all_before-append q xs ys (second _ _ g) h)
 
-  pub all_before-left : (q : K) (xs ys : List (K × X)) → T (all_before R q (xs ++ ys)) → T (all_before R q xs)
-  all_before-left q [] ys h = tt
-  all_before-left q (x ∷ xs) ys h = both _ _ (first _ _ h) (all_before-left q xs ys (second _ _ h))
-
   module _ (o : IsTotalOrder R) where
     -- what stands before the first of some keys that are all before q is before q
     pub all_before-front : (q : K) (xs : List (K × X)) (y : K × X) (ys : List (K × X)) → T (is_sorted R (xs ++ y ∷ ys)) → R y.0 q ≡ Less → T (all_before R q xs)

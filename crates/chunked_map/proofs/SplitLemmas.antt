@@ -1,16 +1,11 @@
 -- Chunks with one cut in two.
-use Rattle.std.proofs.Common.{◌≡◌, ℕ, zero, suc, ◌+◌, ◌<◌, ◌≤◌, ◌^◌, ◌-◌, T, List, [], ◌∷◌, ◌++◌, length, take, drop, get_or, set, slice_range, Bor, Option, Some, None, true, refl, sym, ap, ◌∙◌, subst, arith}
+use Rattle.std.proofs.Common.{◌≡◌, ℕ, zero, suc, ◌+◌, ◌<◌, ◌≤◌, ◌^◌, ◌-◌, T, List, [], ◌∷◌, ◌++◌, length, take, drop, get_or, set, slice_range, refl, sym, ap, ◌∙◌, subst, arith}
 use Rattle.std.specs.FinMap.{is_sorted}
-use Rattle.std.specs.FinMap.Entries.{below_all, put}
+use Rattle.std.specs.FinMap.Entries.{below_all}
 use Rattle.std.specs.List.{insert, remove_range}
 use Rattle.std.specs.declared.cmp.Ordering.{Ordering}
 use Rattle.std.proofs.lemmas.List.{take-append-drop, take_all, drop_all, length-take-le, length-drop}
 use Rattle.chunked_map.specs.Chunks.{joined, AreChunks, IsChunkOf, all_before, in_place, parted}
-use Rattle.std.specs.Cmp.{IsTotalOrder}
-use Rattle.std.specs.FinMap.{find}
-use Rattle.std.specs.Option.{is_some, option_copied}
-use Rattle.chunked_map.proofs.OrderLemmas.{length-put, length-put_there}
-use Rattle.chunked_map.proofs.ChunkLemmas.{before_more, sorted_here}
 use Rattle.chunked_map.proofs.JoinLemmas.{joined-in_place, joined_at, no_more, sized-in_place, sized_at, same_default}
 
 module _ {A : Type 0} where
@@ -89,19 +84,6 @@ module _ {K X : Type 0} (R : K → K → Ordering) (cs : List (List (K × X))) (
     pub halved_are : length cs < 2 ^ 57 → AreChunks R (parted cs at 32)
     halved_are room = parted_are are 32 (omega arith) (omega arith) room
 
-    module _ (q : K) (v : X) where
-      pub front_room : length (put R q v (get_or (parted cs at 32) at [])) ≤ 64
-      front_room =
-          let front = front_few in
-          let more = length-put R q v (take 32 cut_one) in
-          subst (λ es. length (put R q v es) ≤ 64) (sym (first_of cs at (take 32 cut_one) (drop 32 cut_one ∷ []) [] lt)) (omega arith)
-
-      pub back_room : length (put R q v (get_or (parted cs at 32) (suc at) [])) ≤ 64
-      back_room =
-          let back = back_few in
-          let more = length-put R q v (drop 32 cut_one) in
-          subst (λ es. length (put R q v es) ≤ 64) (sym (second_of cs at (take 32 cut_one) (drop 32 cut_one) [] lt)) (omega arith)
-
   module _ (q : K) (place : IsChunkOf R cs q at) where
     pub front_place : T (below_all R q (joined (drop (suc at) (parted cs at 32)))) → IsChunkOf R (parted cs at 32) q at
     front_place behind = record {
@@ -116,35 +98,3 @@ module _ {K X : Type 0} (R : K → K → Ordering) (cs : List (List (K × X))) (
       before = before;
       behind = subst (λ es. T (below_all R q (joined es))) (sym (drop_two cs at (take 32 cut_one) (drop 32 cut_one) lt)) place.behind;
     }
-
--- a chunk that is not full has room for a key, and so has one that has it
-module _ {K X : Type 0} (R : K → K → Ordering) (cs : List (List (K × X))) (at : ℕ) (lt : at < length cs) (q : K) (v : X) (c : List (K × X)) (is : c ≡ get_or cs at c) where
-  pub room_left : length c < 64 → length (put R q v (get_or cs at [])) ≤ 64
-  room_left few =
-      let more = length-put R q v c in
-      subst (λ es. length (put R q v es) ≤ 64) (is ∙ same_default cs at c [] lt) (omega arith)
-
-  pub room_there : (o : IsTotalOrder R) → AreChunks R cs → (r : Option (Bor X)) → is_some r ≡ true → option_copied r ≡ find R q c → T (is_sorted R c) → length (put R q v (get_or cs at [])) ≤ 64
-  room_there o are None some found sorted = absurd cc
-  room_there o are (Some w) some found sorted =
-      let few = (sized_at cs at c lt are.sizes).few in
-      let len = ap length is in
-      let same = length-put_there R q v w.now c o sorted (sym found) in
-      subst (λ es. length (put R q v es) ≤ 64) (is ∙ same_default cs at c [] lt) (omega arith)
-
--- the half of a chunk into which a key belongs
-module _ {K X : Type 0} (R : K → K → Ordering) (o : IsTotalOrder R) (q : K) (cs ds : List (List (K × X))) (at : ℕ) (lt : at < length cs) (place : IsChunkOf R cs q at) (are : AreChunks R ds) (e : ds ≡ parted cs at 32) (c : List (K × X)) (is : c ≡ get_or ds at c) where
-  pub within_halves : suc at < length ds
-  within_halves = let n = length_two cs at (take 32 (get_or cs at [])) (drop 32 (get_or cs at [])) lt in let m = ap length e in omega arith
-
-  pub in_front : ((es : List (K × X)) → T (is_sorted R (c ++ es)) → T (below_all R q es)) → IsChunkOf R ds q at
-  in_front larger =
-      let within = within_halves in
-      let behind = larger (joined (drop (suc at) ds)) (sorted_here R q o ds are at c (omega arith) is) in
-      subst (λ ds. IsChunkOf R ds q at) (sym e) (front_place R cs at lt q place (subst (λ ds. T (below_all R q (joined (drop (suc at) ds)))) e behind))
-
-  pub in_back : (n : ℕ) → n ≡ suc at → T (all_before R q c) → IsChunkOf R ds q n
-  in_back n next past =
-      let within = within_halves in
-      let before = before_more R q o ds are at c (omega arith) is (suc at) refl past in
-      subst (λ n. IsChunkOf R ds q n) (sym next) (subst (λ ds. IsChunkOf R ds q (suc at)) (sym e) (back_place R cs at lt q place (subst (λ ds. T (all_before R q (joined (take (suc at) ds)))) e before)))
