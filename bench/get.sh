@@ -1,5 +1,6 @@
 #!/usr/bin/env bash
-# Times `kdb get` on a small and on a 1 MiB user.ecf beside `git config --get` and sqlite3 on the same data, in one run.
+# Times `kdb get` on files of 20, 1,000 and 18,270 short keys (1 MiB), of these in falling order, and of 1,000 keys of a kilobyte each,
+# beside `git config --get` and sqlite3 on the same data, in one run: wall clock, processor time and, with valgrind, instructions.
 # Wants build/kdb (first-use.sh makes it), git, and hyperfine and sqlite3 of Debian's packages. Not part of the gate.
 set -eu
 cd "$(dirname "$0")/.."
@@ -11,18 +12,21 @@ done
 work=$(mktemp -d)
 trap 'rm -rf "$work"' EXIT
 
-# data COUNT: that many keys, as a dump, as git's configuration and as a table
+# data FOLDER COUNT BYTES ORDER: that many keys, with values of some bytes at least, as a dump, as git's configuration and as a table
 data() {
   mkdir -p "$work/$1/.kdb"
-  awk -v count="$1" -v folder="$work/$1" 'BEGIN {
+  awk -v count="$2" -v bytes="$3" -v order="$4" -v folder="$work/$1" 'BEGIN {
     dump = folder "/.kdb/user.ecf"; git = folder "/git.cfg"; sql = folder "/rows.sql"
     printf "kdbOpen 2\n" >dump
     print "create table settings(name text primary key, value text); begin;" >sql
-    for (i = 0; i < count; i++) {
+    for (turn = 0; turn < count; turn++) {
+      i = order == "falling" ? count - 1 - turn : turn
       group = sprintf("app%05d", int(i / 20)); key = sprintf("key%05d", i); value = "value number " i
+      while (length(value) < bytes) value = value " and some more"
       name = "sw/" group "/" key
       printf "$key string %d %d\n%s\n%s\n", length(name), length(value), name, value >dump
-      if (i % 20 == 0) printf "[sw \"%s\"]\n", group >git
+      if (group != last) printf "[sw \"%s\"]\n", group >git
+      last = group
       printf "\t%s = %s\n", key, value >git
       printf "insert into settings values(\"%s\", \"%s\");\n", name, value >sql
     }
@@ -32,26 +36,39 @@ data() {
   sqlite3 "$work/$1/rows.db" <"$work/$1/rows.sql"
 }
 
-# measure COUNT: the mean times in milliseconds, and those of kdb over those of the others
+# instructions COMMAND..: how many it takes, where valgrind is there to count them
+instructions() {
+  command -v valgrind >/dev/null || { echo 0; return; }
+  valgrind --tool=callgrind --callgrind-out-file=/dev/null "$@" 2>&1 >/dev/null | awk '/Collected/ { print $4 }'
+}
+
+# measure COUNT BYTES ORDER: the mean times in milliseconds, and those of kdb over those of the others
 measure() {
-  data "$1"
-  cd "$work/$1"
+  folder=$1-$2-$3
+  data "$folder" "$1" "$2" "$3"
+  cd "$work/$folder"
   group=$(printf 'app%05d' $((($1 - 1) / 20)))
   key=$(printf 'key%05d' $(($1 - 1)))
-  [ "$("$kdb" get "user:/sw/$group/$key")" = "value number $(($1 - 1))" ]
-  [ "$(git config --file git.cfg --get "sw.$group.$key")" = "value number $(($1 - 1))" ]
-  hyperfine -N --warmup 5 --runs 60 --export-csv "$work/$1.csv" \
+  case "$("$kdb" get "user:/sw/$group/$key")" in "value number $(($1 - 1))"*) ;; *) exit 1 ;; esac
+  case "$(git config --file git.cfg --get "sw.$group.$key")" in "value number $(($1 - 1))"*) ;; *) exit 1 ;; esac
+  hyperfine -N --warmup 5 --runs 60 --export-csv "$work/times.csv" \
     "$kdb get user:/sw/$group/$key" \
     "git config --file git.cfg --get sw.$group.$key" \
     "sqlite3 rows.db \"select value from settings where name = 'sw/$group/$key'\"" >/dev/null 2>&1
-  awk -F, -v count="$1" -v bytes="$(wc -c <.kdb/user.ecf)" '
-    NR > 1 { mean[NR - 1] = $(NF - 6) * 1000 }
+  awk -F, -v count="$1" -v order="$3" -v bytes="$(wc -c <.kdb/user.ecf)" \
+    -v ours="$(instructions "$kdb" get "user:/sw/$group/$key")" \
+    -v theirs="$(instructions git config --file git.cfg --get "sw.$group.$key")" '
+    NR > 1 { median[NR - 1] = $(NF - 4) * 1000; cpu[NR - 1] = ($(NF - 3) + $(NF - 2)) * 1000 }
     END {
-      printf "%d keys, %d bytes: kdb %.2f ms, git config %.2f ms, sqlite3 %.2f ms\n", count, bytes, mean[1], mean[2], mean[3]
-      printf "  kdb / git config %.2f, kdb / sqlite3 %.2f\n", mean[1] / mean[2], mean[1] / mean[3]
-    }' "$work/$1.csv"
+      printf "%d keys, %d bytes, %s: kdb %.2f ms, git config %.2f ms, sqlite3 %.2f ms\n", count, bytes, order, median[1], median[2], median[3]
+      printf "  kdb / git config %.2f, kdb / sqlite3 %.2f; processor time %.2f and %.2f ms, kdb / git config %.2f\n", median[1] / median[2], median[1] / median[3], cpu[1], cpu[2], cpu[1] / cpu[2]
+      if (ours) printf "  instructions %.2f and %.2f million, kdb / git config %.2f\n", ours / 1e6, theirs / 1e6, ours / theirs
+    }' "$work/times.csv"
   cd - >/dev/null
 }
 
-measure 20
-measure 18270
+measure 20 0 rising
+measure 1000 0 rising
+measure 18270 0 rising
+measure 18270 0 falling
+measure 1000 980 rising

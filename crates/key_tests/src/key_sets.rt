@@ -6,6 +6,7 @@ use key_set::{Entry, KeySet, the_keys_set_last_are_found};
 use std::alloc::Global;
 use std::test::Fail;
 
+mod counted;
 mod slow;
 
 fn name(alloc: Global, text: &str) -> Result<KeyName, Fail> {
