@@ -7,3 +7,4 @@ mod Kept
 mod Committing
 pub mod Owning
 mod Others
+pub mod OneVerdict
