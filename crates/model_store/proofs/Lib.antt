@@ -8,3 +8,5 @@ mod Committing
 pub mod Owning
 mod Others
 pub mod OneVerdict
+mod Weights
+pub mod FirstSets

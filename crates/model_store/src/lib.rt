@@ -4,16 +4,18 @@
 
 mod examples;
 
-ghost use Rattle.std.specs.Prelude.{◌≡◌, ◌≢◌, ℕ, ◌+◌, List, slice_get, Option, Some};
+ghost use Rattle.std.specs.Prelude.{◌≡◌, ◌≢◌, ℕ, ◌+◌, ◌≤◌, List, [], slice_get, Option, Some};
 ghost use Rattle.model_history.specs.History as past;
-ghost use Rattle.model_maps.specs.KeyMap.{KeyMap};
+ghost use Rattle.model_maps.specs.KeyMap.{KeyMap, weight, heaviest_map};
+ghost use Rattle.model_names.specs.Name.{Name};
 ghost use Rattle.model_store.specs.Store.{Store};
 ghost use Rattle.model_store.specs.Events.{Event, Answer};
 ghost use Rattle.model_store.specs.Cores.{Core, first_core, Made};
-ghost use Rattle.model_store.specs.Fitting.{Early};
+ghost use Rattle.model_store.specs.First.{first_set};
+ghost use Rattle.model_store.specs.Fitting.{Early, NotFetched};
 ghost use Rattle.model_store.specs.Promise.{Runs, IsOneOwner};
 ghost use Rattle.model_store.specs.Sets.{Prepared};
-ghost use Rattle.model_store.specs.Verdicts.{IsEarly, IsLate, Late, blocking};
+ghost use Rattle.model_store.specs.Verdicts.{Conflict, HistoryFull, IsEarly, IsLate, Late, blocking};
 ghost use Rattle.model_store.specs.Worlds.{World, first_world, Meant};
 
 pub use examples::{
@@ -40,4 +42,14 @@ pub fn a_set_has_one_verdict<F: Formats>(_formats: &F)
         IsEarly (record { text = F.text; IsStorable = F.is_storable; BreaksAt = F.breaks_at }) store set early → IsEarly (record { text = F.text; IsStorable = F.is_storable; BreaksAt = F.breaks_at }) store set other → early ≡ other }
     ensures some_late { (history : List past.Commit) (keys : KeyMap) (set : Prepared) → (late : Late) × IsLate history keys set late }
     ensures one_late { (history : List past.Commit) (keys : KeyMap) (set : Prepared) (late other : Late) → IsLate history keys set late → IsLate history keys set other → late ≡ other }
+{}
+
+/// The set of a handle that got its parent before any commit is judged by itself: it has seen the mounts that it involves, no commit blocks it, and
+/// where the first map isn't too heavy the history has room for it.
+pub fn a_first_set_is_judged_alone<F: Formats>(_formats: &F)
+    ensures fetched { (store : Store) (handle : ℕ) (parent : Name) (keys : KeyMap) (early : Option Early) (m : ℕ) →
+        IsEarly (record { text = F.text; IsStorable = F.is_storable; BreaksAt = F.breaks_at }) store (first_set store handle parent keys) early → early ≢ Some (NotFetched m) }
+    ensures free { (store : Store) (handle : ℕ) (parent : Name) (keys : KeyMap) (late : Late) (m by : ℕ) → IsLate [] store.start (first_set store handle parent keys) late → late ≢ Conflict m by }
+    ensures room { (store : Store) (handle : ℕ) (parent : Name) (keys : KeyMap) (late : Late) (n : ℕ) →
+        weight store.start ≤ heaviest_map → IsLate [] store.start (first_set store handle parent keys) late → late ≢ HistoryFull n }
 {}
