@@ -7,3 +7,6 @@ mod Kept
 mod Committing
 pub mod Owning
 mod Others
+pub mod OneVerdict
+mod Weights
+pub mod FirstSets

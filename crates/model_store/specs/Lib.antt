@@ -8,3 +8,4 @@ pub mod Events
 pub mod Worlds
 pub mod Cores
 pub mod Promise
+pub mod First

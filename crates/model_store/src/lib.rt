@@ -4,13 +4,18 @@
 
 mod examples;
 
-ghost use Rattle.std.specs.Prelude.{◌≡◌, ◌≢◌, ℕ, ◌+◌, List, slice_get, Some};
+ghost use Rattle.std.specs.Prelude.{◌≡◌, ◌≢◌, ℕ, ◌+◌, ◌≤◌, List, [], slice_get, Option, Some};
 ghost use Rattle.model_history.specs.History as past;
+ghost use Rattle.model_maps.specs.KeyMap.{KeyMap, weight, heaviest_map};
+ghost use Rattle.model_names.specs.Name.{Name};
 ghost use Rattle.model_store.specs.Store.{Store};
 ghost use Rattle.model_store.specs.Events.{Event, Answer};
 ghost use Rattle.model_store.specs.Cores.{Core, first_core, Made};
+ghost use Rattle.model_store.specs.First.{first_set};
+ghost use Rattle.model_store.specs.Fitting.{Early, NotFetched};
 ghost use Rattle.model_store.specs.Promise.{Runs, IsOneOwner};
-ghost use Rattle.model_store.specs.Verdicts.{blocking};
+ghost use Rattle.model_store.specs.Sets.{Prepared};
+ghost use Rattle.model_store.specs.Verdicts.{Conflict, HistoryFull, IsEarly, IsLate, Late, blocking};
 ghost use Rattle.model_store.specs.Worlds.{World, first_world, Meant};
 
 pub use examples::{
@@ -28,4 +33,23 @@ pub fn a_store_has_one_owner<F: Formats>(_formats: &F)
 /// The commit that blocks a mount of a handle is another handle's, since an own commit is seen as it is made.
 pub fn only_others_block<F: Formats>(_formats: &F)
     ensures { (store : Store) (calls : List (Event × Answer)) (world : World) → Runs (Meant (record { text = F.text; IsStorable = F.is_storable; BreaksAt = F.breaks_at }) store) first_world calls world → (r m number : ℕ) (commit : past.Commit) → blocking world.history (world.fronts r) m ≡ Some (number + 1) → slice_get world.history number ≡ Some commit → commit.handle ≢ r }
+{}
+
+/// A set has one verdict before the history is asked, and one by the history.
+pub fn a_set_has_one_verdict<F: Formats>(_formats: &F)
+    ensures some_early { (store : Store) (set : Prepared) → (early : Option Early) × IsEarly (record { text = F.text; IsStorable = F.is_storable; BreaksAt = F.breaks_at }) store set early }
+    ensures one_early { (store : Store) (set : Prepared) (early other : Option Early) →
+        IsEarly (record { text = F.text; IsStorable = F.is_storable; BreaksAt = F.breaks_at }) store set early → IsEarly (record { text = F.text; IsStorable = F.is_storable; BreaksAt = F.breaks_at }) store set other → early ≡ other }
+    ensures some_late { (history : List past.Commit) (keys : KeyMap) (set : Prepared) → (late : Late) × IsLate history keys set late }
+    ensures one_late { (history : List past.Commit) (keys : KeyMap) (set : Prepared) (late other : Late) → IsLate history keys set late → IsLate history keys set other → late ≡ other }
+{}
+
+/// The set of a handle that got its parent before any commit is judged by itself: it has seen the mounts that it involves, no commit blocks it, and
+/// where the first map isn't too heavy the history has room for it.
+pub fn a_first_set_is_judged_alone<F: Formats>(_formats: &F)
+    ensures fetched { (store : Store) (handle : ℕ) (parent : Name) (keys : KeyMap) (early : Option Early) (m : ℕ) →
+        IsEarly (record { text = F.text; IsStorable = F.is_storable; BreaksAt = F.breaks_at }) store (first_set store handle parent keys) early → early ≢ Some (NotFetched m) }
+    ensures free { (store : Store) (handle : ℕ) (parent : Name) (keys : KeyMap) (late : Late) (m by : ℕ) → IsLate [] store.start (first_set store handle parent keys) late → late ≢ Conflict m by }
+    ensures room { (store : Store) (handle : ℕ) (parent : Name) (keys : KeyMap) (late : Late) (n : ℕ) →
+        weight store.start ≤ heaviest_map → IsLate [] store.start (first_set store handle parent keys) late → late ≢ HistoryFull n }
 {}

@@ -8,3 +8,4 @@ pub mod AnswerLemmas
 pub mod PlanLemmas
 pub mod GetLemmas
 pub mod MadeLemmas
+pub mod FileGets

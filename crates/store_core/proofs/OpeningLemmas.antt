@@ -4,8 +4,12 @@ use Rattle.std.specs.List.{starts_with}
 use Rattle.std.specs.Option.{option_map}
 use Rattle.std.proofs.lemmas.Option.{slice_get-map}
 use Rattle.kdb_outside.specs.declared.disks.Disk.{Ghosts}
+use Rattle.kdb_outside.specs.Crashes.{EveryImage}
 use Rattle.kdb_outside.specs.Frames.{GoesOn, OnlyReads}
 use Rattle.kdb_outside.specs.Images.{Image}
+use Rattle.intent_journal.specs.declared.faults.JournalFault.{JournalFault}
+use Rattle.intent_journal.specs.declared.faults.JournalFault.TheVariants as journal_fault
+use Rattle.intent_journal.specs.declared.states.State.TheVariants.{Doubt as IsDoubt}
 use Rattle.intent_journal.specs.JournalBytes.{IsOwnFile}
 use Rattle.intent_journal.specs.Journal.{JournalValue}
 use Rattle.intent_journal.specs.Moments.{LeavesOnly}
@@ -32,11 +36,12 @@ use Rattle.mounted_files.specs.Weighed.{own_weight}
 use Rattle.store_phases.specs.Stores.{IsStore}
 use Rattle.store_phases.proofs.Stores.{IsStore-read, IsStore-from_now}
 use Rattle.store_core.specs.Cores.{StandsFor}
-use Rattle.store_core.specs.Faults.{RefusesStore}
+use Rattle.store_core.specs.Faults.{RefusesStore, of_journal}
 use Rattle.store_core.specs.Frames.{OnlyReadsFiles}
 use Rattle.store_core.specs.Plans.{store_of}
 use Rattle.store_core.specs.declared.cores.Core.{Core}
 use Rattle.store_core.specs.declared.faults.OpenFault.{OpenFault}
+use Rattle.store_core.specs.declared.faults.OpenFault.TheVariants.{BadJournal}
 use Rattle.store_core.specs.declared.faults.OpenRefused.{OpenRefused}
 use Rattle.store_core.specs.declared.opening.Opened.{Opened}
 
@@ -90,6 +95,22 @@ still_only g old mid new P tells goes only reads =
 
 pub store_read : {D : Type 0} (g : Ghosts D) (opened : D) (old new : JournalValue D) (run : Run) → OnlyReadsFiles g old new → IsStore g opened old run → IsStore g new.disk new run
 store_read g opened old new run reads store = IsStore-from_now g opened new run (IsStore-read g opened old new run reads.reads reads.state reads.entry store)
+
+-- what each crash left before the reading, it leaves behind it
+pub rests_read : {D : Type 0} (g : Ghosts D) (old new : D) (P : Image → Type 0) → g.tells old ≡ true → OnlyReads g old new → EveryImage (g.may_leave old) P → EveryImage (g.may_leave new) P
+rests_read g old new P tells reads every image is = every image (λ file. (reads.images tells file).no_more (image file) (is file))
+
+-- the gate stays in doubt
+pub in_doubt : {D F : Type 0} (g : Ghosts D) (journal : JournalValue D) (result : Result (Opened D F) (OpenRefused D)) → journal.state ≡ IsDoubt → IfOk result (λ o. OnlyReadsFiles g journal o.core.journal) → IfOk result (λ o. o.core.journal.state ≡ IsDoubt)
+in_doubt g journal (Ok o) doubt reads = reads.state ∙ doubt
+in_doubt g journal (Err r) doubt reads = tt
+
+-- ---- what the opening of the journal is refused for
+
+pub of_journal-bad : (fault : JournalFault) (at : ℕ) → of_journal fault ≡ BadJournal at → fault ≡ journal_fault.BadJournal at
+of_journal-bad journal_fault.DiskFault at is = absurd cc
+of_journal-bad (journal_fault.BadJournal n) at is = cc
+of_journal-bad journal_fault.Memory at is = absurd cc
 
 -- ---- the first core
 

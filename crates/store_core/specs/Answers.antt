@@ -1,5 +1,5 @@
 -- What a commit answers, as the definitions of a store have it. (This project's own.)
-use Rattle.std.specs.Prelude.{◌≡◌, ℕ, ◌+◌, List, slice_get, Option, Some, Result, Ok, Err}
+use Rattle.std.specs.Prelude.{◌≡◌, ℕ, ◌+◌, Bool, true, false, List, slice_get, Option, Some, Result, Ok, Err}
 use Rattle.std.specs.Option.{option_map}
 use Rattle.model_names.specs.Name.{Name}
 use Rattle.model_store.specs.Events as event
@@ -24,6 +24,16 @@ IsAnswer mounts found set (Err (DatabaseFull weight front)) answer = answer ≡ 
 IsAnswer mounts found set (Err (HistoryFull weight front)) answer = answer ≡ event.Judged front (late.HistoryFull weight)
 IsAnswer mounts found set (Err (DiskFault front)) answer = answer ≡ event.Failed front
 IsAnswer mounts found set (Err Memory) answer = answer ≡ event.Memory
+
+-- an answer before which the disk was written: the commit is stored, or a fault came amid it
+abbrev pub has_written : Result Done CommitFault → Bool
+has_written (Ok (Committed number aside)) = true
+has_written (Ok (Same front aside)) = false
+has_written (Err (Conflict mount by front)) = false
+has_written (Err (DatabaseFull weight front)) = false
+has_written (Err (HistoryFull weight front)) = false
+has_written (Err (DiskFault front)) = true
+has_written (Err Memory) = false
 
 -- a conflict at the mount of a number, or want of memory for its name
 abbrev pub IsConflict : List Mount → ℕ → ℕ → ℕ → CommitFault → Type 0

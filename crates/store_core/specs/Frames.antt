@@ -1,11 +1,19 @@
--- What reading the files of a store leaves of its journal. (This project's own.)
+-- What a call leaves of an open store as it was. (This project's own.)
 use Rattle.std.specs.Prelude.{◌≡◌}
 use Rattle.kdb_outside.specs.declared.disks.Disk.{Ghosts}
 use Rattle.kdb_outside.specs.Frames.{OnlyReads}
 use Rattle.intent_journal.specs.Journal.{JournalValue}
+use Rattle.store_core.specs.declared.cores.Core.{Core}
 
 -- the disk is only read, and what is known of the gate stays
 pub record OnlyReadsFiles {D : Type 0} (g : Ghosts D) (old new : JournalValue D) : Type 0 where
   pub reads : OnlyReads g old.disk new.disk
   pub state : new.state ≡ old.state
   pub entry : new.entry ≡ old.entry
+
+-- nothing is written, and nothing of what is kept moves; the history may have got room for further commits
+pub record IsUnwritten {D : Type 0} (old new : Core D) : Type 0 where
+  pub journal : new.journal ≡ old.journal
+  pub history : new.history.commits ≡ old.history.commits
+  pub keys : new.keys ≡ old.keys
+  pub wrote : new.wrote ≡ old.wrote

@@ -1,6 +1,7 @@
 -- What an opening answers: the disk and, where it was refused, why. (This project's own.)
-use Rattle.std.specs.Prelude.{Option, Some, None, Result, Ok, Err}
+use Rattle.std.specs.Prelude.{Bool, true, false, Option, Some, None, Result, Ok, Err}
 use Rattle.store_core.specs.declared.faults.OpenFault.{OpenFault}
+use Rattle.store_core.specs.declared.faults.OpenFault.TheVariants.{DiskFault, BadJournal, BadTable, TooLong, BadFile, Memory}
 use Rattle.store_core.specs.declared.faults.OpenRefused.{OpenRefused}
 use Rattle.store_core.specs.declared.opening.Opened.{Opened}
 
@@ -13,3 +14,13 @@ disk_of (Err refused) = refused.disk
 abbrev pub fault_of : {D F : Type 0} → Result (Opened D F) (OpenRefused D) → Option OpenFault
 fault_of (Ok opened) = None
 fault_of (Err refused) = Some refused.fault
+
+-- the opening of the journal may be refused so too; the other causes are found in a file of the store, behind it
+abbrev pub may_be_of_journal : Option OpenFault → Bool
+may_be_of_journal None = false
+may_be_of_journal (Some DiskFault) = true
+may_be_of_journal (Some (BadJournal at)) = true
+may_be_of_journal (Some (BadTable fault)) = false
+may_be_of_journal (Some (TooLong bytes)) = false
+may_be_of_journal (Some (BadFile line)) = false
+may_be_of_journal (Some Memory) = true

@@ -1,5 +1,5 @@
 //! A commit of a handle's prepared set: the history decides, then memory is taken, then the disk is written, and then the record moves.
-ghost use Rattle.std.specs.Prelude.{◌≡◌, ◌≢◌, ◌≤◌, ◌<◌, ◌+◌, ◌++◌, ◌∷◌, ℕ, [], All, List, Option, Some, Err, IfOk, IfErr, OnOk, OnErr, ◌⊎◌, length, map as over};
+ghost use Rattle.std.specs.Prelude.{◌≡◌, ◌≢◌, ◌≤◌, ◌<◌, ◌+◌, ◌++◌, ◌∷◌, ℕ, [], true, false, All, List, Option, Some, Err, IfOk, IfErr, OnOk, OnErr, ◌⊎◌, length, map as over};
 ghost use Rattle.kdb_outside.specs.Faults.{HasRisen};
 ghost use Rattle.kdb_outside.specs.Frames.{GoesOn};
 ghost use Rattle.commit_log.specs.CommitView as log;
@@ -17,7 +17,8 @@ ghost use Rattle.model_store.specs.Store.{Store};
 ghost use Rattle.model_store.specs.Verdicts.{IsLate};
 ghost use Rattle.model_store.specs.Worlds.{World};
 ghost use Rattle.set_split.specs.Seen.{numbered};
-ghost use Rattle.store_core.specs.Answers.{IsConflict};
+ghost use Rattle.store_core.specs.Answers.{IsConflict, has_written};
+ghost use Rattle.store_core.specs.Frames.{IsUnwritten};
 ghost use Rattle.store_core.specs.Joined.{Belongs, HasAnswered, IsReady};
 ghost use Rattle.store_core.specs.declared.committing.CommitFault.TheVariants as fault;
 ghost use Rattle.store_core.specs.declared.committing.Done.TheVariants as done;
@@ -94,6 +95,8 @@ impl<D: Disk> Core<D> {
             → LeavesOnly D.Disk self.old.journal.disk self.new.journal.disk (IsAmid (files_of run) run.doubt prepared.texts) }
         ensures goes { GoesOn D.Disk self.old.journal.disk self.new.journal.disk }
         ensures cause { (front : ℕ) → result ≡ Err (fault.DiskFault front) → HasRisen (D.faults self.old.journal.disk) (D.faults self.new.journal.disk) }
+        ensures unwritten { has_written result ≡ false → IsUnwritten self.old self.new }
+        ensures wrote { has_written result ≡ true → self.new.wrote ≡ true }
         ensures handle { handle_of rec.new ≡ handle_of rec.old }
         ensures places { places_of rec.new ≡ places_of rec.old }
         ensures proc { proc_of rec.new ≡ proc_of rec.old }
@@ -145,7 +148,8 @@ impl<D: Disk> Core<D> {
         ensures kept { OnOk result ((mounts : List ℕ) (kept : ℕ → KeyMap) → numbered prepared.wanted ≡ over (λ m. (m, kept m)) mounts → record_of rec.new ≡ keeping mounts (length self.old.history.commits + 1) kept (record_of rec.old)) }
         ensures same { OnErr result ((self.new.history.commits ≡ self.old.history.commits) × (self.new.keys ≡ self.old.keys)) }
         ensures fetched { OnErr result (record_of rec.new ≡ record_of rec.old) }
-        ensures memory { result ≡ Err fault.Memory → self.new.journal ≡ self.old.journal }
+        ensures unwritten { has_written result ≡ false → IsUnwritten self.old self.new }
+        ensures wrote { has_written result ≡ true → self.new.wrote ≡ true }
         ensures committed { (opened : D) (run : Run) → IsStore D.Disk opened self.old.journal run
             → OnOk result (IsStore D.Disk opened self.new.journal (after_commit run prepared.texts)) }
         ensures failed { (opened : D) (run : Run) (front : ℕ) → IsStore D.Disk opened self.old.journal run → result ≡ Err (fault.DiskFault front)

@@ -1,11 +1,13 @@
 //! The opening of a store: its journal first, and then its files.
-ghost use Rattle.std.specs.Prelude.{◌≡◌, ℕ, [], List, Option, Some, None, true, is_some, Err, IfOk, IfErr, MatchResult};
+ghost use Rattle.std.specs.Prelude.{◌≡◌, ◌≢◌, ℕ, [], false, List, Option, Some, None, true, is_some, Err, IfOk, IfErr, MatchResult};
 ghost use Rattle.std.specs.List.{AllByRecursion};
+ghost use Rattle.kdb_outside.specs.Crashes.{EveryImage};
 ghost use Rattle.kdb_outside.specs.Faults.{HasRisen};
 ghost use Rattle.kdb_outside.specs.Frames.{GoesOn, OnlyReads};
-ghost use Rattle.kdb_outside.specs.Images.{Image};
+ghost use Rattle.kdb_outside.specs.Images.{Image, KeepsImages};
 ghost use Rattle.journal_codec.specs.declared.files.FileText.{FileText as Item};
 ghost use Rattle.journal_codec.specs.Entry.{journal_name};
+ghost use Rattle.intent_journal.specs.declared.states.State.TheVariants.{Doubt as IsDoubt};
 ghost use Rattle.intent_journal.specs.BadJournals.{bad_place, open_entry, opened_files, opened_doubt};
 ghost use Rattle.intent_journal.specs.Moments.{LeavesOnly};
 ghost use Rattle.intent_journal.specs.Outcomes.{HasOnly, IsEither};
@@ -22,7 +24,7 @@ ghost use Rattle.mounted_files.specs.Short.{AreShort};
 ghost use Rattle.store_core.specs.Cores.{StandsFor};
 ghost use Rattle.store_core.specs.Faults.{RefusesStore};
 ghost use Rattle.store_core.specs.Frames.{OnlyReadsFiles};
-ghost use Rattle.store_core.specs.Opened.{disk_of, fault_of};
+ghost use Rattle.store_core.specs.Opened.{disk_of, fault_of, may_be_of_journal};
 ghost use Rattle.store_core.specs.Plans.{store_of};
 ghost use Rattle.store_verdict.specs.Preparing.{IsPlan};
 
@@ -60,6 +62,9 @@ pub fn open_store<D: Disk, F: Formats + Drop>(
         StandsFor (record { text = F.text; IsStorable = F.is_storable; BreaksAt = F.breaks_at }) D.Disk (store_of opened.plan.mounted procs) opened.core.journal.disk
         opened.core (λ r m. None) (λ p. None) first_world (new_run (opened_files (D.seen disk)) (D.faults disk) (opened_doubt (D.seen disk)))) }
     ensures wrote { D.tells disk ≡ true → IfOk result (λ opened. opened.core.wrote ≡ is_some (open_entry (D.seen disk journal_name))) }
+    ensures doubt { IfOk result (λ opened. opened.core.journal.state ≡ IsDoubt) }
+    ensures left_alone { D.tells disk ≡ true → open_entry (D.seen disk journal_name) ≡ None → may_be_of_journal (fault_of result) ≡ false → OnlyReads D.Disk disk (disk_of result) }
+    ensures kept { D.tells disk ≡ true → open_entry (D.seen disk journal_name) ≡ None → fault_of result ≢ Some OpenFault.DiskFault → KeepsImages (D.may_leave disk) (D.may_leave (disk_of result)) }
     ensures files { D.tells disk ≡ true → (files : Image) (doubt : Option (List Item)) → IsCalm (D.seen disk) (D.may_leave disk) files doubt
         → IfOk result (λ _. IsEither files doubt (opened_files (D.seen disk))) }
     ensures fixed { IfOk result (λ opened. (procs : ℕ → KeyMap) → IsPlan (store_of opened.plan.mounted procs) opened.plan.fixed) }
@@ -69,8 +74,12 @@ pub fn open_store<D: Disk, F: Formats + Drop>(
     ensures refused { D.tells disk ≡ true → (files : Image) (doubt : Option (List Item)) → IsCalm (D.seen disk) (D.may_leave disk) files doubt
         → IfErr result (λ refused. RefusesStore F.reads F.is_bad_at (opened_files (D.seen disk) own_mount.file) refused.fault) }
     ensures bad { D.tells disk ≡ true → (at : ℕ) → fault_of result ≡ Some (OpenFault.BadJournal at) → bad_place (D.seen disk journal_name) ≡ Some at }
+    ensures calm { D.tells disk ≡ true → (files : Image) (doubt : Option (List Item)) → IsCalm (D.seen disk) (D.may_leave disk) files doubt
+        → (at : ℕ) → fault_of result ≡ Some (OpenFault.BadJournal at) → ⊥ }
     ensures any_moment { D.tells disk ≡ true → (files : Image) (doubt : Option (List Item)) → IsCalm (D.seen disk) (D.may_leave disk) files doubt
         → LeavesOnly D.Disk disk (disk_of result) (HasOnly (IsEither files doubt)) }
+    ensures rests { D.tells disk ≡ true → (files : Image) (doubt : Option (List Item)) → IsCalm (D.seen disk) (D.may_leave disk) files doubt
+        → EveryImage (D.may_leave (disk_of result)) (HasOnly (IsEither files doubt)) }
     ensures goes { GoesOn D.Disk disk (disk_of result) }
     ensures cause { fault_of result ≡ Some OpenFault.DiskFault → HasRisen (D.faults disk) (D.faults (disk_of result)) }
 {

@@ -1,5 +1,5 @@
 //! A commit on an open store: memory is taken first, then the disk is written, and then the commit is kept.
-ghost use Rattle.std.specs.Prelude.{◌≡◌, ◌≤◌, ◌++◌, ◌∷◌, [], List, Option, Err, OnOk, OnErr, length};
+ghost use Rattle.std.specs.Prelude.{◌≡◌, ◌≢◌, ◌≤◌, ◌++◌, ◌∷◌, [], true, List, Option, Err, OnOk, OnErr, length};
 ghost use Rattle.kdb_outside.specs.Faults.{HasRisen};
 ghost use Rattle.kdb_outside.specs.Frames.{GoesOn};
 ghost use Rattle.commit_log.specs.CommitView.{commit_of};
@@ -8,6 +8,7 @@ ghost use Rattle.journal_codec.specs.Entry.{IsEntry};
 ghost use Rattle.intent_journal.specs.Moments.{LeavesOnly};
 ghost use Rattle.model_crashes.specs.Runs.{Run, files_of, IsAmid, IsOneOf, after_begun, after_commit};
 ghost use Rattle.model_history.specs.History.{history_weight, heaviest_history};
+ghost use Rattle.store_core.specs.Frames.{IsUnwritten};
 ghost use Rattle.store_core.specs.declared.storing.StoreFault.TheVariants.{Memory as OfMemory, DiskFault as OfDisk};
 ghost use Rattle.store_phases.specs.Stores.{IsStore};
 
@@ -60,7 +61,8 @@ impl<D: Disk> Core<D> {
         ensures history { OnOk result (self.new.history.commits ≡ self.old.history.commits ++ commit_of entering.commit ∷ []) }
         ensures keys { OnOk result (self.new.keys ≡ entering.keys) }
         ensures same { OnErr result ((self.new.history.commits ≡ self.old.history.commits) × (self.new.keys ≡ self.old.keys)) }
-        ensures memory { result ≡ Err StoreFault.Memory → (self.new.journal ≡ self.old.journal) × (self.new.wrote ≡ self.old.wrote) }
+        ensures unwritten { result ≡ Err StoreFault.Memory → IsUnwritten self.old self.new }
+        ensures wrote { result ≢ Err StoreFault.Memory → self.new.wrote ≡ true }
         ensures committed { (opened : D) (run : Run) → IsStore D.Disk opened self.old.journal run
             → OnOk result (IsStore D.Disk opened self.new.journal (after_commit run entering.texts)) }
         ensures failed { (opened : D) (run : Run) → IsStore D.Disk opened self.old.journal run → result ≡ Err StoreFault.DiskFault

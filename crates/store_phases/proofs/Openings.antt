@@ -1,7 +1,8 @@
 -- The run that an opening begins.
-use Rattle.std.proofs.Common.{◌≡◌, List, Bool, true, false, inl, Option, Some, None, Result, Ok, Err, refl, sym, ◌∙◌}
+use Rattle.std.proofs.Common.{◌≡◌, List, Bool, true, false, inl, Option, Some, None, Result, Ok, Err, refl, sym, ap, ◌∙◌}
 use Rattle.std.specs.Prelude.{IfOk, is_some}
 use Rattle.kdb_outside.specs.declared.disks.Disk.{Ghosts}
+use Rattle.kdb_outside.specs.Crashes.{EveryImage}
 use Rattle.kdb_outside.specs.Frames.{GoesOn, OnlyReads}
 use Rattle.kdb_outside.specs.Images.{Image}
 use Rattle.journal_codec.specs.declared.files.FileText.{FileText}
@@ -10,6 +11,7 @@ use Rattle.intent_journal.specs.declared.faults.JournalRefused.{JournalRefused}
 use Rattle.intent_journal.specs.declared.states.State.TheVariants.{Clean, Doubt, Lag}
 use Rattle.intent_journal.specs.BadJournals.{open_entry, opened_files, opened_doubt}
 use Rattle.intent_journal.specs.Journal.{JournalValue}
+use Rattle.intent_journal.specs.Moments.{LeavesOnly}
 use Rattle.intent_journal.specs.Opened.{disk_of}
 use Rattle.intent_journal.specs.Outcomes.{SameFiles}
 use Rattle.intent_journal.specs.States.{IsSettled, IsDoubtful, IsCalm}
@@ -70,3 +72,17 @@ pub opened_shown : {D : Type 0} (g : Ghosts D) (disk : D) (result : Result (Jour
     → IfOk result (λ j. IsDoubtful (g.may_leave j.disk) (opened_files (g.seen disk)) (opened_doubt (g.seen disk))) → IfOk result (λ j. SameFiles (g.seen j.disk) (opened_files (g.seen disk)))
 opened_shown g disk (Ok j) tells goes doubtful = λ file own. doubtful.same file own (g.seen j.disk file) (g.read_is_image j.disk (goes.tells ∙ tells) file)
 opened_shown g disk (Err refused) tells goes doubtful = tt
+
+-- an opening that finds no open entry only reads
+pub opened_alone : {D : Type 0} (g : Ghosts D) (disk : D) (result : Result (JournalValue D) (JournalRefused D)) → open_entry (g.seen disk journal_name) ≡ None
+    → IfOk result (λ j. j.recovered ≡ is_some (open_entry (g.seen disk journal_name))) → IfOk result (λ j. j.recovered ≡ false → OnlyReads g disk j.disk) → IfOk result (λ j. OnlyReads g disk j.disk)
+opened_alone g disk (Ok j) none told left = left (told ∙ ap is_some none)
+opened_alone g disk (Err refused) none told left = tt
+
+pub opened_in_doubt : {D : Type 0} (result : Result (JournalValue D) (JournalRefused D)) → IfOk result (λ j. (j.state ≡ Doubt) × (j.found ≡ false)) → IfOk result (λ j. j.state ≡ Doubt)
+opened_in_doubt (Ok j) state = state.0
+opened_in_doubt (Err refused) state = tt
+
+-- what held of each crash since a moment holds of each that comes now
+pub rests_since : {D : Type 0} (g : Ghosts D) (old new : D) (P : Image → Type 0) → g.tells old ≡ true → GoesOn g old new → LeavesOnly g old new P → EveryImage (g.may_leave new) P
+rests_since g old new P tells goes only image is = only.each image (g.counts_now new (g.moment old) image (goes.tells ∙ tells) goes.moment is)

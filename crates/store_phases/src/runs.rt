@@ -1,12 +1,13 @@
 //! A run of commits on a journal, from its opening to its close.
-ghost use Rattle.std.specs.Prelude.{◌≡◌, ℕ, ◌++◌, length, List, Option, Some, true, is_some, Err, IfOk, OnOk, OnErr};
+ghost use Rattle.std.specs.Prelude.{◌≡◌, ◌≢◌, ℕ, ◌++◌, length, List, Option, Some, None, true, is_some, Err, IfOk, IfErr, OnOk, OnErr};
 ghost use Rattle.backend_files.specs.WholeFile.{IsWhole, IsShort};
 ghost use Rattle.kdb_outside.specs.Crashes.{EveryImage};
 ghost use Rattle.kdb_outside.specs.Faults.{HasCause, HasRisen};
 ghost use Rattle.kdb_outside.specs.Frames.{GoesOn, OnlyReads};
-ghost use Rattle.kdb_outside.specs.Images.{Image};
+ghost use Rattle.kdb_outside.specs.Images.{Image, KeepsImages};
 ghost use Rattle.journal_codec.specs.declared.files.FileText.{FileText as Item};
 ghost use Rattle.journal_codec.specs.Entry.{IsEntry, journal_name, length_bytes, spelled};
+ghost use Rattle.intent_journal.specs.declared.states.State.TheVariants.{Doubt as IsDoubt};
 ghost use Rattle.intent_journal.specs.BadJournals.{bad_place, open_entry, opened_files, opened_doubt};
 ghost use Rattle.intent_journal.specs.JournalBytes.{IsOwnFile};
 ghost use Rattle.intent_journal.specs.Moments.{LeavesOnly};
@@ -35,11 +36,16 @@ pub fn open<D: Disk>(alloc: Global, disk: D) -> Result<Journal<D>, JournalRefuse
     ensures shown { D.tells disk ≡ true → (files : Image) (doubt : Option (List Item)) → IsCalm (D.seen disk) (D.may_leave disk) files doubt
         → IfOk result (λ journal. SameFiles (D.seen journal.disk) (opened_files (D.seen disk))) }
     ensures recovered { D.tells disk ≡ true → IfOk result (λ journal. journal.recovered ≡ is_some (open_entry (D.seen disk journal_name))) }
+    ensures left_alone { D.tells disk ≡ true → open_entry (D.seen disk journal_name) ≡ None → IfOk result (λ journal. OnlyReads D.Disk disk journal.disk) }
+    ensures kept { D.tells disk ≡ true → IfErr result (λ refused. refused.fault ≢ JournalFault.DiskFault → KeepsImages (D.may_leave disk) (D.may_leave refused.disk)) }
+    ensures doubt { IfOk result (λ journal. journal.state ≡ IsDoubt) }
     ensures bad { D.tells disk ≡ true → (at : ℕ) → fault_of result ≡ Some (JournalFault.BadJournal at) → bad_place (D.seen disk journal_name) ≡ Some at }
     ensures calm { D.tells disk ≡ true → (files : Image) (doubt : Option (List Item)) → IsCalm (D.seen disk) (D.may_leave disk) files doubt
         → (at : ℕ) → fault_of result ≡ Some (JournalFault.BadJournal at) → ⊥ }
     ensures any_moment { D.tells disk ≡ true → (files : Image) (doubt : Option (List Item)) → IsCalm (D.seen disk) (D.may_leave disk) files doubt
         → LeavesOnly D.Disk disk (disk_of result) (HasOnly (IsEither files doubt)) }
+    ensures rests { D.tells disk ≡ true → (files : Image) (doubt : Option (List Item)) → IsCalm (D.seen disk) (D.may_leave disk) files doubt
+        → EveryImage (D.may_leave (disk_of result)) (HasOnly (IsEither files doubt)) }
     ensures goes { GoesOn D.Disk disk (disk_of result) }
     ensures cause { fault_of result ≡ Some JournalFault.DiskFault → HasRisen (D.faults disk) (D.faults (disk_of result)) }
 {

@@ -1,10 +1,13 @@
 -- The opened journal shows the files that it leaves, and reading them changes nothing.
-use Rattle.std.proofs.Common.{refl}
+use Rattle.std.proofs.Common.{Some, refl, sym, ap, ◌∙◌}
+use Rattle.general_words.proofs.Lists.{some_is}
+use Rattle.kdb_outside.proofs.Frames.{OnlyReads-then}
 use Rattle.intent_journal.specs.BadJournals.{opened_files, opened_doubt}
 use Rattle.intent_journal.specs.Outcomes.{HasOnly, IsEither}
 use Rattle.model_crashes.specs.Runs.{new_run}
 use Rattle.store_core.specs.Opened.{disk_of}
-use Rattle.store_core.proofs.OpeningLemmas.{told_alike, stands_opened, still_only, whatever}
+use Rattle.store_core.specs.declared.faults.OpenFault.TheVariants.{BadJournal}
+use Rattle.store_core.proofs.OpeningLemmas.{told_alike, in_doubt, of_journal-bad, rests_read, stands_opened, still_only, whatever}
 use Rattle.store_core.proofs.opening.open_store.Goals as goal
 
 pub returns-in-Ok-clause-opened : goal.returns-in-Ok-clause-opened
@@ -34,3 +37,22 @@ pub returns-in-Ok-clause-any_moment : goal.returns-in-Ok-clause-any_moment
 returns-in-Ok-clause-any_moment g c tells files doubt calm =
     still_only g.D.Disk c.args.disk c.in-Ok.journal.disk (disk_of c.open_files.result) (HasOnly (IsEither files doubt)) tells c.in-Ok.ensures.goes (c.in-Ok.ensures.any_moment tells files doubt calm)
     c.open_files.ensures.reads
+
+pub returns-in-Ok-clause-doubt : goal.returns-in-Ok-clause-doubt
+returns-in-Ok-clause-doubt g c = in_doubt g.D.Disk c.in-Ok.journal c.open_files.result c.in-Ok.ensures.doubt c.open_files.ensures.journal
+
+pub returns-in-Ok-clause-left_alone : goal.returns-in-Ok-clause-left_alone
+returns-in-Ok-clause-left_alone g c tells none isnt =
+    OnlyReads-then g.D.Disk c.args.disk c.in-Ok.journal.disk (disk_of c.open_files.result) (c.in-Ok.ensures.left_alone tells none) c.open_files.ensures.reads
+
+pub returns-in-Ok-clause-kept : goal.returns-in-Ok-clause-kept
+returns-in-Ok-clause-kept g c tells none isnt =
+    (OnlyReads-then g.D.Disk c.args.disk c.in-Ok.journal.disk (disk_of c.open_files.result) (c.in-Ok.ensures.left_alone tells none) c.open_files.ensures.reads).images tells
+
+pub returns-in-Ok-clause-rests : goal.returns-in-Ok-clause-rests
+returns-in-Ok-clause-rests g c tells files doubt calm =
+    rests_read g.D.Disk c.in-Ok.journal.disk (disk_of c.open_files.result) (HasOnly (IsEither files doubt)) (c.in-Ok.ensures.goes.tells ∙ tells) c.open_files.ensures.reads (c.in-Ok.ensures.rests tells files doubt calm)
+
+pub returns-in-Err-clause-calm : goal.returns-in-Err-clause-calm
+returns-in-Err-clause-calm g c tells files doubt calm at is =
+    c.in-Err.ensures.calm tells files doubt calm at (ap Some (of_journal-bad c.in-Err.field-0.fault at (sym c.into.ensures ∙ some_is c.into.result (BadJournal at) is)))

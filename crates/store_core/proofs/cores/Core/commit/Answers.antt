@@ -6,7 +6,7 @@ use Rattle.model_store.specs.Verdicts.{IsLate}
 use Rattle.model_store.specs.Verdicts as verdicts
 use Rattle.mount_table.specs.declared.mounts.Mount.{Mount}
 use Rattle.mounted_files.specs.declared.files.MountedFile.{MountedFile}
-use Rattle.store_core.specs.Answers.{IsConflict}
+use Rattle.store_core.specs.Answers.{IsConflict, has_written}
 use Rattle.store_core.specs.declared.committing.CommitFault.TheVariants as fault
 use Rattle.store_core.specs.declared.committing.Done.TheVariants as done
 use Rattle.store_core.proofs.AnswerLemmas.{told, wanting, conflicting, conflict_within, parts_within, not_full, is_entry, answered}
@@ -95,5 +95,5 @@ returns-in-Commits-clause-committed g c store opened records made world run p b 
     let late : IsLate c.args.self.now.history.commits c.args.self.now.keys (prepared_of c.args.prepared) (late_of (code.Commits c.in-Commits.commit c.in-Commits.left_aside)) =
     subst (λ (l : Late). IsLate c.args.self.now.history.commits c.args.self.now.keys (prepared_of c.args.prepared) (late_of l)) verdict c.in-Ok.ensures.late in
     answered (record { text = g.F.Formats.text; IsStorable = g.F.Formats.is_storable; BreaksAt = g.F.Formats.breaks_at }) g.D.Disk (over (λ (file : MountedFile). file.mount) c.args.plan.now.mounted) store opened c.args.self.now records made world run p c.args.rec.now c.args.prepared b (log.commit_of c.in-Commits.commit) c.in-Commits.left_aside late c.enter.new.self c.enter.new.rec c.in-Ok.judged.keys c.in-Ok.ensures.keys c.enter.result
-    c.enter.ensures.ok c.enter.ensures.err c.enter.ensures.history c.enter.ensures.keys c.enter.ensures.kept c.enter.ensures.same c.enter.ensures.fetched c.enter.ensures.memory
+    c.enter.ensures.ok c.enter.ensures.err c.enter.ensures.history c.enter.ensures.keys c.enter.ensures.kept c.enter.ensures.same c.enter.ensures.fetched (λ is. (c.enter.ensures.unwritten (ap has_written is)).journal)
     (c.enter.ensures.committed opened run b.stands.on_disk) (λ front. c.enter.ensures.failed opened run front b.stands.on_disk)
