@@ -1,0 +1,1 @@
+-- A get of a handle that is there.
