@@ -1,4 +1,6 @@
 //! What a disk begins with.
+ghost use Rattle.std.specs.Prelude.{IfOk};
+ghost use Rattle.store_cases.specs.Disks.{IsAlone};
 
 use disk_memory::MemDisk;
 use kdb_outside::FileName;
@@ -36,7 +38,9 @@ impl Start {
     }
 
     /// A disk that begins so, and of which so many calls go through. Of two files of one name it has the first.
-    pub fn disk(&self, stop_after: Option<u64>) -> Result<MemDisk, Memory> {
+    pub fn disk(&self, stop_after: Option<u64>) -> Result<MemDisk, Memory>
+        ensures { IfOk result IsAlone }
+    {
         let failing = self.failing.clone()?;
         let alloc = self.alloc;
         match (&self.first, &self.second) {
@@ -61,7 +65,9 @@ fn disk_of_two(
     two: (FileName, Vec<u8>),
     failing: Vec<u64>,
     stop_after: Option<u64>,
-) -> Result<MemDisk, Memory> {
+) -> Result<MemDisk, Memory>
+    ensures { IfOk result IsAlone }
+{
     if one.0 == two.0 {
         return MemDisk::new(alloc, vec![in alloc; one]?, failing, stop_after);
     }

@@ -1,4 +1,11 @@
 //! A store over a disk in memory, whose crashes leave calm disks.
+ghost use Rattle.std.specs.Prelude.{◌≡◌, IfOk, length};
+ghost use Rattle.std.specs.List.{AllByRecursion};
+ghost use Rattle.disk_memory.specs.DiskState.{seen_of};
+ghost use Rattle.intent_journal.specs.JournalBytes.{IsBroken};
+ghost use Rattle.journal_codec.specs.Entry.{journal_name};
+ghost use Rattle.store_cases.specs.Disks.{IsAlone, IsNeverBroken};
+ghost use Rattle.store_verdict.specs.ProcKeys.{AreProc};
 
 use crate::starts::Start;
 use all_formats::AllFormats;
@@ -19,12 +26,15 @@ const PLACES: usize = 8;
 #[derive(Drop)]
 pub struct Quiet {
     disk: MemDisk,
+    ghost alone: { IsAlone disk },
+    ghost sound: { ¬ IsBroken (seen_of disk journal_name) },
 }
 
 /// A disk behind a run, of which no crash leaves a broken journal.
 #[derive(Drop)]
 pub struct Left {
     disk: MemDisk,
+    ghost sound: { IsNeverBroken disk },
 }
 
 impl Quiet {
@@ -90,7 +100,10 @@ impl Left {
 }
 
 /// No handle has keys of its own.
-fn no_procs(alloc: Global) -> Result<Vec<KeySet>, Memory> {
+fn no_procs(alloc: Global) -> Result<Vec<KeySet>, Memory>
+    ensures few { IfOk result (λ procs. length procs.items ≡ 4) }
+    ensures proc { IfOk result (λ procs. AllByRecursion AreProc procs.items) }
+{
     let mut procs = Vec::new(alloc);
     for _ in 0..HANDLES {
         procs.push(KeySet::new(alloc))?;

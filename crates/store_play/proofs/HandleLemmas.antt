@@ -1,11 +1,11 @@
 -- Handles that have fetched nothing yet.
-use Rattle.std.proofs.Common.{◌≡◌, ◌≢◌, ◌⊎◌, inl, inr, ℕ, zero, suc, ◌+◌, ◌<◌, List, [], ◌∷◌, ◌++◌, length, slice_get, Option, Some, None, refl, sym, ap, subst, ◌∙◌, arith}
+use Rattle.std.proofs.Common.{◌≡◌, ◌≢◌, ◌⊎◌, inl, inr, ℕ, zero, suc, ◌+◌, ◌<◌, List, [], ◌∷◌, ◌++◌, length, get_or, slice_get, Option, Some, None, refl, sym, ap, subst, ◌∙◌, arith}
 use Rattle.std.specs.List.{AllByRecursion}
-use Rattle.std.specs.Option.{option_map, option_map_or}
-use Rattle.general_words.proofs.Lists.{some_is}
-use Rattle.model_maps.specs.KeyMap.{KeyMap}
+use Rattle.std.specs.Option.{option_map, option_map_or, unwrap_or}
+use Rattle.general_words.proofs.Lists.{at_place, some_is}
+use Rattle.model_maps.specs.KeyMap.{KeyMap, no_keys}
 use Rattle.model_store.specs.Records as model
-use Rattle.store_play.specs.Handles.{IsHandle, AreHandlesOf, AreNew, HoldNothing, held_at, held_in, nothing, records_of}
+use Rattle.store_play.specs.Handles.{IsHandle, AreHandlesOf, AreNew, HoldNothing, held_at, held_in, nothing, procs_at, records_of}
 use Rattle.store_verdict.specs.PreparedView.{prepared_of}
 use Rattle.store_verdict.specs.RecordView.{record_of}
 use Rattle.store_verdict.specs.declared.prepared.Prepared.{Prepared}
@@ -40,3 +40,7 @@ new-nothing records new = let all : (r m : ℕ) → None ≡ records_of records 
 
 pub held-nothing : (places : List (Option Prepared)) → HoldNothing places → (λ p. None) ≡ held_in places
 held-nothing places none = let all : (p : ℕ) → None ≡ held_in places p = λ p. sym (ap (option_map prepared_of) (none p)) in λ i p. all p i
+
+-- the keys of a handle that is there
+pub proc_there : (procs : List KeyMap) (r : ℕ) (proc : KeyMap) → r < length procs → proc ≡ get_or procs r proc → procs_at procs r ≡ proc
+proc_there procs r proc lt is = ap (λ (o : Option KeyMap). unwrap_or o no_keys) (sym (at_place procs r proc lt is))

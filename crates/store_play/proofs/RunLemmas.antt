@@ -1,6 +1,7 @@
 -- A store from its opening to its close.
-use Rattle.std.proofs.Common.{◌≡◌, ℕ, ◌≤◌, List, [], ◌∷◌, ◌++◌, length, Option, Some, None, Result, Ok, Err, inl, inr, true, refl, sym, ap, ap₂, subst, ◌∙◌}
+use Rattle.std.proofs.Common.{◌≡◌, ℕ, ◌≤◌, List, [], ◌∷◌, ◌++◌, length, Option, Some, None, Result, Ok, Err, IfOk, inl, inr, true, refl, sym, ap, ap₂, subst, ◌∙◌}
 use Rattle.kdb_outside.specs.Crashes.{EveryImage}
+use Rattle.kdb_outside.specs.Frames.{GoesOn}
 use Rattle.kdb_outside.specs.Images.{Image}
 use Rattle.kdb_outside.specs.declared.disks.Disk.{Ghosts}
 use Rattle.intent_journal.specs.BadJournals.{opened_files, opened_doubt}
@@ -26,7 +27,7 @@ use Rattle.store_core.specs.Cores.{StandsFor, core_with}
 use Rattle.store_core.specs.declared.cores.Core.{Core}
 use Rattle.store_play.specs.Handles.{Holds, AreHandles, AreNew, HoldNothing, held_at, procs_at, records_of}
 use Rattle.store_play.specs.Plays.{Does, HasPlayed, Plays}
-use Rattle.store_play.specs.Ran.{HasPlayedNew, HasRun, WasOrReached, first_stage, store_with}
+use Rattle.store_play.specs.Ran.{HasPlayedNew, HasRun, HasRunOpened, IsNeverBroken, WasOrReached, first_stage, store_with}
 use Rattle.store_play.specs.Stages.{Stage, set_asked, stage_of}
 use Rattle.store_play.specs.Told.{asked_of}
 use Rattle.store_play.specs.declared.events.Answer.{Answer}
@@ -115,32 +116,43 @@ module _ (formats : Formats) {D : Type 0} (g : Ghosts D) (mounted : List Mounted
 
 -- ---- from the opening to the close
 
-module _ (formats : Formats) {D : Type 0} (g : Ghosts D) (mounted : List MountedFile) (procs : List KeyMap) (places : ℕ) (disk opened : D) (files : Image) (doubt : Option (List FileText)) (events : List Event) (core : Core D) (ran : Ran D)
-    (played : HasPlayedNew formats g mounted procs places opened (new_run (opened_files (g.seen disk)) (g.faults disk) (opened_doubt (g.seen disk))) events ran.answers core) where
+module _ (formats : Formats) {D : Type 0} (g : Ghosts D) (mounted : List MountedFile) (procs : List KeyMap) (places : ℕ) (disk opened : D) (files : Image) (doubt : Option (List FileText)) (events : List Event) (ran : Ran D)
+    (has : HasRunOpened formats g mounted procs places opened (new_run (opened_files (g.seen disk)) (g.faults disk) (opened_doubt (g.seen disk))) events ran) where
   abbrev store : Store
   store = store_with mounted procs
 
   abbrev first : Stage
   first = first_stage store (new_run (opened_files (g.seen disk)) (g.faults disk) (opened_doubt (g.seen disk))) (length procs) places
 
-  pub has_run : ran.history.commits ≡ core.history.commits → g.moment disk ≤ g.moment opened → LeavesOnly g disk opened (HasOnly (IsEither files doubt))
-      → LeavesOnly g opened ran.disk (IsReached played.last.run.files played.last.run.commits played.last.run.begun)
-      → EveryImage (g.may_leave ran.disk) (HasOnly (IsEither (files_of played.last.run) played.last.run.doubt))
-      → HasRun formats g mounted procs places disk files doubt events ran
-  has_run history later opening reached now =
+  pub has_run : g.moment disk ≤ g.moment opened → LeavesOnly g disk opened (HasOnly (IsEither files doubt)) → HasRun formats g mounted procs places disk files doubt events ran
+  has_run later opening =
+      let played = has.played in
       let run = played.last.run in
       let calls = called formats store mounted first played.last events ran.answers played.plays in
-      let same : core.history.commits ≡ played.last.core.history = sym (ap (λ (c : cores.Core). c.history) played.core_is) in
+      let same : has.core.history.commits ≡ played.last.core.history = sym (ap (λ (c : cores.Core). c.history) played.core_is) in
       record {
         last = played.last;
         plays = played.plays;
         calls = calls.calls;
         are_calls = calls.are;
         one_owner = one_owner formats store calls.calls played.last.core calls.runs;
-        history = history ∙ same;
+        history = has.history ∙ same;
         entries = played.stands.entries ∙ ap (entries_of formats store) same;
         files_stay = files_played formats store mounted first played.last events ran.answers played.plays;
         any_moment = only_both g disk opened ran.disk (HasOnly (IsEither files doubt)) (IsReached run.files run.commits run.begun) (WasOrReached files doubt run)
-            (λ image has. inl has) (λ image has. inr has) later opening reached;
-        now = now;
+            (λ image held. inl held) (λ image held. inr held) later opening has.reached;
+        now = has.now;
       }
+
+-- ---- a journal that isn't broken
+
+pub sound_now : {D : Type 0} (g : Ghosts D) (disk : D) (P : Image → Type 0) → EveryImage (g.may_leave disk) (HasOnly P) → IsNeverBroken g disk
+sound_now g disk P every image is = (every image is).not_broken
+
+pub sound_since : {D : Type 0} (g : Ghosts D) (old new : D) (P : Image → Type 0) → g.tells old ≡ true → GoesOn g old new → LeavesOnly g old new (HasOnly P) → IsNeverBroken g new
+sound_since g old new P tells goes only image is = (only.each image (g.counts_now new (g.moment old) image (goes.tells ∙ tells) goes.moment is)).not_broken
+
+-- what an answer has from which something follows
+pub if_ok : {A E : Type 0} (P Q : A → Type 0) (result : Result A E) → ((a : A) → P a → Q a) → IfOk result P → IfOk result Q
+if_ok P Q (Ok a) follows holds = follows a holds
+if_ok P Q (Err e) follows holds = tt

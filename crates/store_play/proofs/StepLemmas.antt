@@ -1,9 +1,10 @@
 -- What each event leaves, from the clause of its call.
-use Rattle.std.proofs.Common.{◌≡◌, ◌≢◌, ◌⊎◌, inl, inr, ℕ, ◌<◌, ◌≤◌, true, false, cond, nat_eq, List, [], ◌∷◌, length, map as over, slice_get, Option, Some, None, option_and_then, Result, Ok, Err, refl, sym, ap, ap₂, subst, ◌∙◌, eqb-true, eq-eqb, arith}
+use Rattle.std.proofs.Common.{◌≡◌, ◌≢◌, ◌⊎◌, inl, inr, ℕ, ◌<◌, ◌≤◌, true, false, cond, nat_eq, List, [], ◌∷◌, length, map as over, slice_get, Option, Some, None, option_and_then, Result, Ok, Err, IfOk, IfErr, OnErr, get_or, refl, sym, ap, ap₂, subst, ◌∙◌, eqb-true, eq-eqb, arith}
 use Rattle.std.proofs.lemmas.Bool.{cond-true}
-use Rattle.std.proofs.lemmas.List.{length-map, length-set}
+use Rattle.std.proofs.lemmas.List.{length-map, length-set, set-get_or}
+use Rattle.std.proofs.lemmas.Option.{slice_get-get_or}
 use Rattle.std.proofs.Math.ListN.{set}
-use Rattle.std.specs.Option.{option_map_or}
+use Rattle.std.specs.Option.{option_map, option_map_or}
 use Rattle.general_words.proofs.Lists.{some_is}
 use Rattle.general_words.specs.Memory.{UnlessMemory}
 use Rattle.kdb_outside.specs.declared.disks.Disk.{Ghosts}
@@ -37,19 +38,21 @@ use Rattle.store_core.specs.declared.getting.Got.{Got}
 use Rattle.store_core.proofs.CommitLemmas.{stands_committed}
 use Rattle.store_core.proofs.MadeLemmas.{belongs_made}
 use Rattle.store_play.specs.Handles.{Holds, IsHandle, AreHandles, IsHeld, AreHeld, WasMade, records_of, nothing, held_at, held_in}
-use Rattle.store_play.specs.Plays.{Stepped, Does, IsSkipped}
+use Rattle.store_play.specs.Plays.{Stepped, Does, IsKeptBack, IsSkipped}
 use Rattle.store_play.specs.Stages.{stage_of, Stage}
 use Rattle.store_play.specs.Told.{IsReady, mounts_of}
 use Rattle.store_play.specs.declared.events.Answer.TheVariants as told
 use Rattle.store_play.specs.declared.events.Event.{Event}
 use Rattle.store_play.specs.declared.events.Event.TheVariants as asked
 use Rattle.store_play.specs.declared.events.Skip.{Skip}
+use Rattle.store_play.specs.declared.events.Skip.TheVariants as skip
 use Rattle.store_play.proofs.PlaceLemmas.{set-cases, records_of-set, held_in-set}
-use Rattle.store_verdict.specs.Preparing.{IsMade, IsRefused}
+use Rattle.store_verdict.specs.Preparing.{IsMade, IsPlan, IsRefused}
 use Rattle.store_verdict.specs.PreparedView.{prepared_of}
 use Rattle.store_verdict.specs.RecordView.{handle_of, places_of, proc_of, record_of}
 use Rattle.store_verdict.specs.declared.faults.PrepareFault.{PrepareFault}
 use Rattle.store_verdict.specs.declared.faults.PrepareFault.TheVariants as fault
+use Rattle.store_verdict.specs.declared.plans.Plan.{Plan}
 use Rattle.store_verdict.specs.declared.prepared.Prepared.{Prepared}
 use Rattle.store_verdict.specs.declared.records.Record.{Record}
 
@@ -147,9 +150,9 @@ module _ (formats : Formats) {D : Type 0} (g : Ghosts D) (files : List MountedFi
     set_is : sets.prepared (points_of store) (handle_of rec) (record_of rec) parent keys ≡ set_made store first.core r parent keys
     set_is = ap₂ (λ (n : ℕ) (x : model.Record). sets.prepared (points_of store) n x parent keys) (h.handles r rec there).number (sym (record_at r rec there))
 
-    pub readied : (new : Prepared) → p < length places → IsMade formats store (handle_of rec) (record_of rec) parent keys new
-        → Stepped formats g files procs opened first (asked.Prepare r p parent keys) (told.Prepared (Ok tt)) core records (set places p (Some new))
-    readied new lt is_made =
+    pub readied : (done : Unit {0}) (new : Prepared) → p < length places → IsMade formats store (handle_of rec) (record_of rec) parent keys new
+        → Stepped formats g files procs opened first (asked.Prepare r p parent keys) (told.Prepared (Ok done)) core records (set places p (Some new))
+    readied done new lt is_made =
         let is : prepared_of new ≡ set_made store first.core r parent keys = is_made.is ∙ set_is in
         let later : ℕ → Option sets.Prepared = put p (Some (prepared_of new)) known in
         let next : cores.Core = core_with core (records_of records) later in
@@ -220,7 +223,44 @@ module _ (formats : Formats) {D : Type 0} (g : Ghosts D) (files : List MountedFi
       holds = h;
     }
 
+    -- what became of a prepare, by its answer
+    pub prepared_so : (result : Result (Unit {0}) PrepareFault) (place d : Option Prepared) (plan : Plan) → p < length places → IsPlan store plan
+        → IfOk result (λ done. (new : Prepared) × (place ≡ Some new) × ((of : Store) → IsPlan of plan → IsMade formats of (handle_of rec) (record_of rec) parent keys new))
+        → IfErr result (λ why. UnlessMemory fault.Memory ((of : Store) → IsPlan of plan → IsRefused formats of (handle_of rec) (record_of rec) parent keys why) why)
+        → OnErr result (place ≡ get_or places p d)
+        → Stepped formats g files procs opened first (asked.Prepare r p parent keys) (told.Prepared result) core records (set places p place)
+    prepared_so (Ok done) place d plan lt is_plan made refused same =
+        subst (λ (o : Option Prepared). Stepped formats g files procs opened first (asked.Prepare r p parent keys) (told.Prepared (Ok done)) core records (set places p o)) (sym made.1) (readied done made.0 lt (made.2 store is_plan))
+    prepared_so (Err why) place d plan lt is_plan made refused same =
+        subst (λ (ps : List (Option Prepared)). Stepped formats g files procs opened first (asked.Prepare r p parent keys) (told.Prepared (Err why)) core records ps) (sym (ap (set places p) same ∙ set-get_or places p d))
+        (unready why (λ ne. refused ne store is_plan))
+
   -- ---- a commit
+
+  -- the set in a place that is there
+  held_there : (p : ℕ) (d : Option Prepared) → p < length places → held_at places p ≡ get_or places p d
+  held_there p d lt = ap (λ (o : Option (Option Prepared)). option_and_then (λ s. s) o) (slice_get-get_or places p d lt)
+
+  kept_back : (r p : ℕ) (rec : Record) (place : Option Prepared) (why : Skip) → slice_get records r ≡ Some rec → held_at places p ≡ place → IsKeptBack rec place why → IsSkipped first (asked.Commit r p) why
+  kept_back r p rec place skip.NoHandle there is kept = absurd kept
+  kept_back r p rec place skip.NoPlace there is kept = absurd kept
+  kept_back r p rec place skip.NoSet there is kept = ap (λ (o : Option Prepared). option_map prepared_of o) (is ∙ kept)
+  kept_back r p rec None skip.NotAccepted there is kept = absurd kept
+  kept_back r p rec (Some one) skip.NotAccepted there is kept = record {
+    set = prepared_of one;
+    is_held = ap (λ (o : Option Prepared). option_map prepared_of o) is;
+    declined = subst (λ n. accepts (records_of records r) n (prepared_of one) ≡ false) (h.handles r rec there).number
+        (subst (λ (x : model.Record). accepts x (handle_of rec) (prepared_of one) ≡ false) (sym (record_at r rec there)) kept);
+  }
+
+  pub declined : (r p : ℕ) (rec : Record) (place d : Option Prepared) (why : Skip) → slice_get records r ≡ Some rec → p < length places → IsKeptBack rec (get_or places p d) why → place ≡ get_or places p d
+      → Stepped formats g files procs opened first (asked.Commit r p) (told.Skipped why) core records (set places p place)
+  declined r p rec place d why there lt kept same =
+      subst (λ (ps : List (Option Prepared)). Stepped formats g files procs opened first (asked.Commit r p) (told.Skipped why) core records ps) (sym (ap (set places p) same ∙ set-get_or places p d))
+      (skipped (asked.Commit r p) why (kept_back r p rec (get_or places p d) why there (held_there p d lt) kept))
+
+  pub held_by : (p : ℕ) (d : Option Prepared) (prepared : Prepared) → p < length places → get_or places p d ≡ Some prepared → held_at places p ≡ Some prepared
+  held_by p d prepared lt is = held_there p d lt ∙ is
 
   module _ (r p : ℕ) (old : Record) (prepared : Prepared) (there : slice_get records r ≡ Some old) (is_held : held_at places p ≡ Some prepared) (accepted : accepts (record_of old) (handle_of old) (prepared_of prepared) ≡ true) where
     pub belongs : Belongs formats g (mounts_of files) store opened core (records_of records) known world run p old prepared
@@ -230,7 +270,7 @@ module _ (formats : Formats) {D : Type 0} (g : Ghosts D) (files : List MountedFi
         belongs_made formats g store opened core (records_of records) known world run p old prepared made.handle made.before made.parent made.keys h.stands (record_is r old there)
         (omega (arith, length-map files (λ (file : MountedFile). file.mount), (h.handles r old there).places)) is.is accepted made.made
 
-    pub committed : (after : Core D) (new : Record) (result : Result Done CommitFault) → r < length records → p < length places → Moves old new
+    committed : (after : Core D) (new : Record) (result : Result Done CommitFault) → r < length records → p < length places → Moves old new
         → HasAnswered formats g (mounts_of files) store opened core after (records_of records) known run p old new prepared result
         → Stepped formats g files procs opened first (asked.Commit r p) (told.Committed result) after (set records r new) (set places p None)
     committed after new result lt free moves has =
@@ -260,3 +300,9 @@ module _ (formats : Formats) {D : Type 0} (g : Ghosts D) (files : List MountedFi
             set-cases (λ (o : Option (Option Prepared)). option_and_then (λ s. s) o ≡ Some one → IsHeld formats store (known n) one) places p n None free
             (λ same e. absurd cc)
             (λ other e. h.held n one e)
+
+    pub committed_so : (after : Core D) (new : Record) (result : Result Done CommitFault) (place : Option Prepared) → place ≡ None → r < length records → p < length places → Moves old new
+        → HasAnswered formats g (mounts_of files) store opened core after (records_of records) known run p old new prepared result
+        → Stepped formats g files procs opened first (asked.Commit r p) (told.Committed result) after (set records r new) (set places p place)
+    committed_so after new result place free lt there_is moves has =
+        subst (λ (o : Option Prepared). Stepped formats g files procs opened first (asked.Commit r p) (told.Committed result) after (set records r new) (set places p o)) (sym free) (committed after new result lt there_is moves has)

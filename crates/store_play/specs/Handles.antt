@@ -14,11 +14,19 @@ use Rattle.mounted_files.specs.declared.files.MountedFile.{MountedFile}
 use Rattle.store_core.specs.Cores.{StandsFor}
 use Rattle.store_core.specs.Plans.{store_of}
 use Rattle.store_core.specs.declared.cores.Core.{Core}
+use Rattle.store_play.specs.declared.handles.Handles.{Handles}
 use Rattle.store_verdict.specs.Preparing.{IsMade}
 use Rattle.store_verdict.specs.PreparedView.{prepared_of}
 use Rattle.store_verdict.specs.RecordView.{handle_of, places_of, proc_of, record_of}
 use Rattle.store_verdict.specs.declared.prepared.Prepared.{Prepared}
 use Rattle.store_verdict.specs.declared.records.Record.{Record}
+
+-- the records of some handles, and the places of their sets
+abbrev pub records_in : Handles → List Record
+records_in handles = handles.records.items
+
+abbrev pub places_in : Handles → List (Option Prepared)
+places_in handles = handles.places.items
 
 -- a record that keeps nothing
 abbrev pub nothing : model.Record

@@ -52,12 +52,12 @@ IsSkipped stage (Commit handle number) NotAccepted = Declines stage handle numbe
 IsSkipped stage event why = ⊥
 
 -- a call was made, with an answer: what is kept goes on as the definitions of a store say, and so does the run on the disk
-pub record Calls (formats : Formats) (store : Store) (files : List MountedFile) (before : Stage) (event : Event) (told : Answer) (after : Stage) : Type 0 where
+pub record Calls (formats : Formats) (store : Store) (files : List MountedFile) (before : Stage) (asked : Event) (told : Answer) (after : Stage) : Type 0 where
   pub answer : event.Answer
-  pub tells : Tells files event told answer
-  pub made : Made formats store before.core (asked_of event) answer after.core
-  pub runs_on : RunsOn formats store before.core.keys before.run (set_asked before.core.sets (asked_of event)) answer after.run
-  pub held : after.held ≡ held_after (asked_of event) answer after.core.sets before.held
+  pub tells : Tells files asked told answer
+  pub made : Made formats store before.core (asked_of asked) answer after.core
+  pub runs_on : RunsOn formats store before.core.keys before.run (set_asked before.core.sets (asked_of asked)) answer after.run
+  pub held : after.held ≡ held_after (asked_of asked) answer after.core.sets before.held
   pub handles : after.handles ≡ before.handles
   pub places : after.places ≡ before.places
 

@@ -1,11 +1,13 @@
 -- What a whole run of a store promises: it was opened on a calm disk, played, and closed. (This project's own.)
-use Rattle.std.specs.Prelude.{◌≡◌, ◌⊎◌, ℕ, List, [], length, Option, None}
+use Rattle.std.specs.Prelude.{◌≡◌, ◌⊎◌, ℕ, List, [], length, Option, None, Result, Ok, Err}
 use Rattle.kdb_outside.specs.Crashes.{EveryImage}
 use Rattle.kdb_outside.specs.Images.{Image}
 use Rattle.kdb_outside.specs.declared.disks.Disk.{Ghosts}
 use Rattle.intent_journal.specs.BadJournals.{opened_files, opened_doubt}
+use Rattle.intent_journal.specs.JournalBytes.{IsBroken}
 use Rattle.intent_journal.specs.Moments.{LeavesOnly}
 use Rattle.intent_journal.specs.Outcomes.{HasOnly, IsEither}
+use Rattle.journal_codec.specs.Entry.{journal_name}
 use Rattle.journal_codec.specs.declared.files.FileText.{FileText}
 use Rattle.model_crashes.specs.Runs.{Run, files_of, IsReached, new_run}
 use Rattle.model_files.specs.Texts.{entries_of}
@@ -21,6 +23,7 @@ use Rattle.mounted_files.specs.declared.files.MountedFile.{MountedFile}
 use Rattle.store_core.specs.Cores.{StandsFor, core_with}
 use Rattle.store_core.specs.Plans.{store_of}
 use Rattle.store_core.specs.declared.cores.Core.{Core}
+use Rattle.store_core.specs.declared.faults.OpenRefused.{OpenRefused}
 use Rattle.store_play.specs.Handles.{procs_at}
 use Rattle.store_play.specs.Plays.{AreCalls, Plays}
 use Rattle.store_play.specs.Stages.{Stage}
@@ -45,6 +48,23 @@ pub record HasPlayedNew (formats : Formats) {D : Type 0} (g : Ghosts D) (mounted
   pub world : World
   pub core_is : last.core ≡ core_with core records known
   pub stands : StandsFor formats g (store_with mounted procs) opened core records known world last.run
+
+-- and the store was closed: a crash since the opening leaves what the run reached, and now its files or these with its doubt
+pub record HasRunOpened (formats : Formats) {D : Type 0} (g : Ghosts D) (mounted : List MountedFile) (procs : List KeyMap) (places : ℕ) (opened : D) (first : Run) (events : List Event) (ran : Ran D) : Type 0 where
+  pub core : Core D
+  pub played : HasPlayedNew formats g mounted procs places opened first events ran.answers core
+  pub history : ran.history.commits ≡ core.history.commits
+  pub reached : LeavesOnly g opened ran.disk (IsReached played.last.run.files played.last.run.commits played.last.run.begun)
+  pub now : EveryImage (g.may_leave ran.disk) (HasOnly (IsEither (files_of played.last.run) played.last.run.doubt))
+
+-- the disk of a run, or the one that was handed back
+abbrev pub disk_of : {D : Type 0} → Result (Ran D) (OpenRefused D) → D
+disk_of (Ok ran) = ran.disk
+disk_of (Err refused) = refused.disk
+
+-- no crash leaves a broken journal
+abbrev pub IsNeverBroken : {D : Type 0} → Ghosts D → D → Type 0
+IsNeverBroken g disk = EveryImage (g.may_leave disk) (λ image. ¬ IsBroken (image journal_name))
 
 -- an image that stands for what a calm disk stood for, or for what a run reached
 abbrev pub WasOrReached : Image → Option (List FileText) → Run → Image → Type 0

@@ -1,7 +1,7 @@
 //! What the handles of a store keep.
 ghost use Rattle.std.specs.Prelude.{◌≡◌, ◌<◌, ◌≤◌, ◌^◌, ℕ, IfOk, length};
 ghost use Rattle.std.specs.List.{AllByRecursion};
-ghost use Rattle.store_play.specs.Handles.{AreHandles, AreHandlesOf, AreNew, HoldNothing, procs_at};
+ghost use Rattle.store_play.specs.Handles.{AreHandles, AreHandlesOf, AreNew, HoldNothing, places_in, procs_at, records_in};
 ghost use Rattle.store_verdict.specs.ProcKeys.{AreProc};
 
 use key_meta::Memory;
@@ -29,11 +29,11 @@ impl Handles {
     ) -> Result<Handles, Memory>
         requires few { length procs.now < 2 ^ 32 }
         requires proc { AllByRecursion AreProc procs.now }
-        ensures handles { IfOk result (λ made. AreHandles plan.now.mounted (procs_at procs.now) made.records.items) }
-        ensures count { IfOk result (λ made. length made.records.items ≡ length procs.now) }
-        ensures new { IfOk result (λ made. AreNew made.records.items) }
-        ensures places { IfOk result (λ made. length made.places.items ≡ places) }
-        ensures empty { IfOk result (λ made. HoldNothing made.places.items) }
+        ensures handles { IfOk result (λ made. AreHandles plan.now.mounted (procs_at procs.now) (records_in made)) }
+        ensures count { IfOk result (λ made. length (records_in made) ≡ length procs.now) }
+        ensures new { IfOk result (λ made. AreNew (records_in made)) }
+        ensures places { IfOk result (λ made. length (places_in made) ≡ places) }
+        ensures empty { IfOk result (λ made. HoldNothing (places_in made)) }
     {
         let records = new_records(alloc, plan.table().len(), procs)?;
         let places = no_sets(alloc, places)?;

@@ -7,7 +7,7 @@ ghost use Rattle.model_store.specs.Sets as sets;
 ghost use Rattle.model_store.specs.Worlds.{World};
 ghost use Rattle.mounted_files.specs.Short.{AreShort};
 ghost use Rattle.store_core.specs.Plans.{store_of};
-ghost use Rattle.store_play.specs.Handles.{Holds, IsHolding};
+ghost use Rattle.store_play.specs.Handles.{Holds, IsHolding, places_in, records_in};
 ghost use Rattle.store_play.specs.Plays.{HasPlayed, Stepped};
 ghost use Rattle.store_play.specs.Stages.{stage_of};
 ghost use Rattle.store_verdict.specs.Preparing.{IsPlan};
@@ -36,10 +36,10 @@ pub fn play<D: Disk, F: Formats + Drop>(
 ) -> Result<List<Answer>, Memory>
     requires fixed { (procs : ℕ → KeyMap) → IsPlan (store_of plan.now.mounted procs) plan.now.fixed }
     requires short { AllByRecursion AreShort plan.now.fixed.shadows }
-    requires holding { IsHolding (record { text = F.text; IsStorable = F.is_storable; BreaksAt = F.breaks_at }) D.Disk plan.now.mounted core.old handles.old.records.items handles.old.places.items }
+    requires holding { IsHolding (record { text = F.text; IsStorable = F.is_storable; BreaksAt = F.breaks_at }) D.Disk plan.now.mounted core.old (records_in handles.old) (places_in handles.old) }
     ensures played { (procs : ℕ → KeyMap) (opened : D) (known : ℕ → Option sets.Prepared) (world : World) (run : Run)
-        → Holds (record { text = F.text; IsStorable = F.is_storable; BreaksAt = F.breaks_at }) D.Disk plan.now.mounted procs opened core.old handles.old.records.items handles.old.places.items known world run
-        → IfOk result (λ answers. HasPlayed (record { text = F.text; IsStorable = F.is_storable; BreaksAt = F.breaks_at }) D.Disk plan.now.mounted procs opened (stage_of core.old handles.old.records.items handles.old.places.items known run) events.now answers core.new handles.new.records.items handles.new.places.items) }
+        → Holds (record { text = F.text; IsStorable = F.is_storable; BreaksAt = F.breaks_at }) D.Disk plan.now.mounted procs opened core.old (records_in handles.old) (places_in handles.old) known world run
+        → IfOk result (λ answers. HasPlayed (record { text = F.text; IsStorable = F.is_storable; BreaksAt = F.breaks_at }) D.Disk plan.now.mounted procs opened (stage_of core.old (records_in handles.old) (places_in handles.old) known run) events.now answers core.new (records_in handles.new) (places_in handles.new)) }
     ensures none { OnErr result ((core.new ≡ core.old) × (handles.new ≡ handles.old)) }
 {
     let mut answers = Vec::with_capacity(alloc, events.len())?;
@@ -60,10 +60,10 @@ fn step<D: Disk, F: Formats + Drop>(
 ) -> Answer
     requires fixed { (procs : ℕ → KeyMap) → IsPlan (store_of plan.now.mounted procs) plan.now.fixed }
     requires short { AllByRecursion AreShort plan.now.fixed.shadows }
-    requires holding { IsHolding (record { text = F.text; IsStorable = F.is_storable; BreaksAt = F.breaks_at }) D.Disk plan.now.mounted core.old handles.old.records.items handles.old.places.items }
+    requires holding { IsHolding (record { text = F.text; IsStorable = F.is_storable; BreaksAt = F.breaks_at }) D.Disk plan.now.mounted core.old (records_in handles.old) (places_in handles.old) }
     ensures { (procs : ℕ → KeyMap) (opened : D) (known : ℕ → Option sets.Prepared) (world : World) (run : Run)
-        → Holds (record { text = F.text; IsStorable = F.is_storable; BreaksAt = F.breaks_at }) D.Disk plan.now.mounted procs opened core.old handles.old.records.items handles.old.places.items known world run
-        → Stepped (record { text = F.text; IsStorable = F.is_storable; BreaksAt = F.breaks_at }) D.Disk plan.now.mounted procs opened (stage_of core.old handles.old.records.items handles.old.places.items known run) event.now result core.new handles.new.records.items handles.new.places.items }
+        → Holds (record { text = F.text; IsStorable = F.is_storable; BreaksAt = F.breaks_at }) D.Disk plan.now.mounted procs opened core.old (records_in handles.old) (places_in handles.old) known world run
+        → Stepped (record { text = F.text; IsStorable = F.is_storable; BreaksAt = F.breaks_at }) D.Disk plan.now.mounted procs opened (stage_of core.old (records_in handles.old) (places_in handles.old) known run) event.now result core.new (records_in handles.new) (places_in handles.new) }
 {
     match event {
         Event::Get { handle, parent } => {

@@ -15,7 +15,7 @@ ghost use Rattle.mounted_files.specs.declared.files.MountedFile.{MountedFile};
 ghost use Rattle.store_core.specs.Cores.{StandsFor};
 ghost use Rattle.store_core.specs.Plans.{store_of};
 ghost use Rattle.store_play.specs.Handles.{procs_at};
-ghost use Rattle.store_play.specs.Ran.{HasPlayedNew, HasRun};
+ghost use Rattle.store_play.specs.Ran.{HasPlayedNew, HasRun, HasRunOpened, IsNeverBroken, disk_of};
 ghost use Rattle.store_verdict.specs.Preparing.{IsPlan};
 ghost use Rattle.store_verdict.specs.ProcKeys.{AreProc};
 
@@ -26,7 +26,7 @@ use key_meta::{List, Memory};
 use key_set::KeySet;
 use std::alloc::Global;
 use storage_api::Formats;
-use store_core::{Closed, Core, OpenFault, OpenRefused, Plan, open_store};
+use store_core::{Closed, Core, OpenFault, OpenRefused, Opened, Plan, open_store};
 
 /// A store that was opened, played and closed: its disk, the commits since its opening, and the answers.
 #[derive(Drop)]
@@ -36,7 +36,8 @@ pub struct Ran<D: Disk> {
     pub answers: List<Answer>,
 }
 
-/// Opens the store of a calm disk, plays events by new handles, and closes it. It is refused where the store isn't opened, and where memory is wanting
+/// Opens the store of a calm disk, plays events by new handles, and closes it. No crash then leaves a broken journal, so
+/// that the disk that a crash leaves is calm again. It is refused where the store isn't opened, and where memory is wanting
 /// before the first event; the disk is then handed back.
 pub fn run<D: Disk, F: Formats + Drop>(
     alloc: Global,
@@ -50,11 +51,34 @@ pub fn run<D: Disk, F: Formats + Drop>(
     requires calm { (files : Image) × (doubt : Option (List Item)) × IsCalm (D.seen disk) (D.may_leave disk) files doubt }
     requires few { length procs.now < 2 ^ 32 }
     requires proc { AllByRecursion AreProc procs.now }
+    ensures sound { IsNeverBroken D.Disk (disk_of result) }
     ensures ran { (files : Image) (doubt : Option (List Item)) → IsCalm (D.seen disk) (D.may_leave disk) files doubt
         → IfOk result (λ ran. (mounted : List MountedFile) × IsOpened F.reads F.is_bad_at (opened_files (D.seen disk)) mounted
         × HasRun (record { text = F.text; IsStorable = F.is_storable; BreaksAt = F.breaks_at }) D.Disk mounted procs.now places disk files doubt events.now ran) }
 {
-    let opened = open_store(alloc, disk, formats)?;
+    match open_store(alloc, disk, formats) {
+        Ok(opened) => run_opened(alloc, opened, procs, places, events),
+        Err(refused) => Err(refused),
+    }
+}
+
+/// Plays events by new handles on a store that was just opened, and closes it.
+fn run_opened<D: Disk, F: Formats + Drop>(
+    alloc: Global,
+    opened: Opened<D, F>,
+    procs: &[KeySet],
+    places: usize,
+    events: &[Event],
+) -> Result<Ran<D>, OpenRefused<D>>
+    requires fixed { (procs : ℕ → KeyMap) → IsPlan (store_of opened.plan.mounted procs) opened.plan.fixed }
+    requires short { AllByRecursion AreShort opened.plan.fixed.shadows }
+    requires stands { (start : D) × (run : Run) × StandsFor (record { text = F.text; IsStorable = F.is_storable; BreaksAt = F.breaks_at }) D.Disk (store_of opened.plan.mounted (procs_at procs.now)) start opened.core (λ r m. None) (λ p. None) first_world run }
+    requires few { length procs.now < 2 ^ 32 }
+    requires proc { AllByRecursion AreProc procs.now }
+    ensures ran { (start : D) (run : Run) → StandsFor (record { text = F.text; IsStorable = F.is_storable; BreaksAt = F.breaks_at }) D.Disk (store_of opened.plan.mounted (procs_at procs.now)) start opened.core (λ r m. None) (λ p. None) first_world run
+        → IfOk result (λ ran. HasRunOpened (record { text = F.text; IsStorable = F.is_storable; BreaksAt = F.breaks_at }) D.Disk opened.plan.mounted procs.now places start run events.now ran) }
+    ensures sound { IsNeverBroken D.Disk (disk_of result) }
+{
     let plan = opened.plan;
     let mut core = opened.core;
     let played = play_new(alloc, &plan, &mut core, procs, places, events);
