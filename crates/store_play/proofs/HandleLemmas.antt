@@ -1,11 +1,9 @@
 -- Handles that have fetched nothing yet.
-use Rattle.std.proofs.Common.{◌≡◌, ◌≢◌, ◌⊎◌, inl, inr, ℕ, zero, suc, ◌+◌, ◌<◌, List, [], ◌∷◌, ◌++◌, length, get_or, slice_get, Option, Some, None, refl, sym, ap, subst, ◌∙◌, arith}
-use Rattle.std.specs.List.{AllByRecursion}
+use Rattle.std.proofs.Common.{◌≡◌, ◌⊎◌, inl, inr, ℕ, zero, suc, ◌<◌, List, [], ◌∷◌, ◌++◌, length, get_or, slice_get, Option, Some, None, refl, sym, ap, subst}
 use Rattle.std.specs.Option.{option_map, option_map_or, unwrap_or}
 use Rattle.general_words.proofs.Lists.{at_place, some_is}
 use Rattle.model_maps.specs.KeyMap.{KeyMap, no_keys}
-use Rattle.model_store.specs.Records as model
-use Rattle.store_play.specs.Handles.{IsHandle, AreHandlesOf, AreNew, HoldNothing, held_at, held_in, nothing, procs_at, records_of}
+use Rattle.store_play.specs.Handles.{AreNew, HoldNothing, held_in, nothing, procs_at, records_of}
 use Rattle.store_verdict.specs.PreparedView.{prepared_of}
 use Rattle.store_verdict.specs.RecordView.{record_of}
 use Rattle.store_verdict.specs.declared.prepared.Prepared.{Prepared}

@@ -1,11 +1,10 @@
 -- One place of a list changes.
-use Rattle.std.proofs.Common.{◌≡◌, ◌≢◌, ℕ, zero, suc, ◌<◌, Bool, true, false, cond, nat_eq, List, [], ◌∷◌, length, slice_get, Option, Some, None, option_and_then, refl, sym, ap, subst, ◌∙◌, eqb-true, eq-eqb, arith}
+use Rattle.std.proofs.Common.{◌≡◌, ◌≢◌, ℕ, zero, suc, ◌<◌, Bool, true, false, cond, nat_eq, List, [], ◌∷◌, length, slice_get, Option, Some, option_and_then, refl, sym, ap, subst, ◌∙◌, eqb-true, eq-eqb, arith}
 use Rattle.std.proofs.Math.ListN.{set}
 use Rattle.std.specs.Option.{option_map, option_map_or}
 use Rattle.model_store.specs.Events.{put}
-use Rattle.model_store.specs.Records as model
 use Rattle.model_store.specs.Sets as sets
-use Rattle.store_play.specs.Handles.{records_of, nothing, held_at, held_in}
+use Rattle.store_play.specs.Handles.{records_of, nothing, held_in}
 use Rattle.store_verdict.specs.PreparedView.{prepared_of}
 use Rattle.store_verdict.specs.RecordView.{record_of}
 use Rattle.store_verdict.specs.declared.prepared.Prepared.{Prepared}

@@ -1,11 +1,10 @@
 -- Events one after the other.
-use Rattle.std.proofs.Common.{◌≡◌, ℕ, ◌+◌, ◌≤◌, List, [], ◌∷◌, ◌++◌, length, take, slice_get, Option, Some, refl, sym, ap, subst, ◌∙◌}
+use Rattle.std.proofs.Common.{◌≡◌, ℕ, ◌+◌, ◌≤◌, List, [], ◌∷◌, ◌++◌, length, take, slice_get, Option, Some, refl, sym, ap, subst}
 use Rattle.std.proofs.lemmas.List.{take_all}
 use Rattle.general_words.proofs.Lists.{take-next}
 use Rattle.kdb_outside.specs.declared.disks.Disk.{Ghosts}
 use Rattle.model_crashes.specs.Runs.{Run}
 use Rattle.model_maps.specs.KeyMap.{KeyMap}
-use Rattle.model_store.specs.Cores as cores
 use Rattle.model_store.specs.Cores.{Made, first_core}
 use Rattle.model_store.specs.Events as event
 use Rattle.model_store.specs.Promise.{Runs}
@@ -17,7 +16,7 @@ use Rattle.mounted_files.specs.declared.files.MountedFile.{MountedFile}
 use Rattle.store_core.specs.Plans.{store_of}
 use Rattle.store_core.specs.declared.cores.Core.{Core}
 use Rattle.store_play.specs.Handles.{Holds}
-use Rattle.store_play.specs.Plays.{AreCalls, Calls, Does, HasPlayed, Plays, Stepped, Stood}
+use Rattle.store_play.specs.Plays.{AreCalls, Does, HasPlayed, Plays, Stepped, Stood}
 use Rattle.store_play.specs.Stages.{Stage, stage_of}
 use Rattle.store_play.specs.Told.{asked_of}
 use Rattle.store_play.specs.declared.events.Answer.{Answer}

@@ -1,5 +1,5 @@
 -- A store from its opening to its close.
-use Rattle.std.proofs.Common.{◌≡◌, ℕ, ◌≤◌, List, [], ◌∷◌, ◌++◌, length, Option, Some, None, Result, Ok, Err, IfOk, inl, inr, true, refl, sym, ap, ap₂, subst, ◌∙◌}
+use Rattle.std.proofs.Common.{◌≡◌, ℕ, ◌≤◌, List, [], ◌∷◌, length, Option, Some, None, Result, Ok, Err, IfOk, inl, inr, true, refl, sym, ap, subst, ◌∙◌}
 use Rattle.kdb_outside.specs.Crashes.{EveryImage}
 use Rattle.kdb_outside.specs.Frames.{GoesOn}
 use Rattle.kdb_outside.specs.Images.{Image}
@@ -8,7 +8,7 @@ use Rattle.intent_journal.specs.BadJournals.{opened_files, opened_doubt}
 use Rattle.intent_journal.specs.Moments.{LeavesOnly}
 use Rattle.intent_journal.specs.Outcomes.{HasOnly, IsEither}
 use Rattle.journal_codec.specs.declared.files.FileText.{FileText}
-use Rattle.model_crashes.specs.Runs.{Run, files_of, IsReached, new_run}
+use Rattle.model_crashes.specs.Runs.{Run, IsReached, new_run}
 use Rattle.model_crashes.proofs.Moments.{only_both}
 use Rattle.model_maps.specs.KeyMap.{KeyMap}
 use Rattle.model_files.specs.Texts.{entries_of}
@@ -19,13 +19,13 @@ use Rattle.model_store.specs.Records as model
 use Rattle.model_store.specs.Sets as sets
 use Rattle.model_store.specs.Store.{Store, Formats}
 use Rattle.model_store.specs.Verdicts.{Late, Same, Conflict, DatabaseFull, HistoryFull, Commits}
-use Rattle.model_store.specs.Worlds.{World, first_world}
+use Rattle.model_store.specs.Worlds.{first_world}
 use Rattle.model_store.proofs.Owning.{one_owner}
 use Rattle.mounted_files.specs.declared.files.MountedFile.{MountedFile}
 use Rattle.store_core.specs.Committing.{BeginsSet, RunsOn}
-use Rattle.store_core.specs.Cores.{StandsFor, core_with}
+use Rattle.store_core.specs.Cores.{StandsFor}
 use Rattle.store_core.specs.declared.cores.Core.{Core}
-use Rattle.store_play.specs.Handles.{Holds, AreHandles, AreNew, HoldNothing, held_at, procs_at, records_of}
+use Rattle.store_play.specs.Handles.{Holds, AreHandles, AreNew, HoldNothing, procs_at, records_of}
 use Rattle.store_play.specs.Plays.{Does, HasPlayed, Plays}
 use Rattle.store_play.specs.Ran.{HasPlayedNew, HasRun, HasRunOpened, IsNeverBroken, WasOrReached, first_stage, store_with}
 use Rattle.store_play.specs.Stages.{Stage, set_asked, stage_of}

@@ -1,5 +1,5 @@
 -- What each event leaves, from the clause of its call.
-use Rattle.std.proofs.Common.{◌≡◌, ◌≢◌, ◌⊎◌, inl, inr, ℕ, ◌<◌, ◌≤◌, true, false, cond, nat_eq, List, [], ◌∷◌, length, map as over, slice_get, Option, Some, None, option_and_then, Result, Ok, Err, IfOk, IfErr, OnErr, get_or, refl, sym, ap, ap₂, subst, ◌∙◌, eqb-true, eq-eqb, arith}
+use Rattle.std.proofs.Common.{◌≡◌, ◌≢◌, inl, inr, ℕ, ◌<◌, ◌≤◌, true, false, cond, nat_eq, List, length, slice_get, Option, Some, None, option_and_then, Result, Ok, Err, IfOk, IfErr, OnErr, get_or, refl, sym, ap, ap₂, subst, ◌∙◌, eqb-true, eq-eqb, arith}
 use Rattle.std.proofs.lemmas.Bool.{cond-true}
 use Rattle.std.proofs.lemmas.List.{length-map, length-set, set-get_or}
 use Rattle.std.proofs.lemmas.Option.{slice_get-get_or}
@@ -15,17 +15,14 @@ use Rattle.model_store.specs.Cores as cores
 use Rattle.model_store.specs.Cores.{Made, accepts, set_made}
 use Rattle.model_store.specs.Events as event
 use Rattle.model_store.specs.Events.{put}
-use Rattle.model_store.specs.Fitting.{Early}
 use Rattle.model_store.specs.Records as model
 use Rattle.model_store.specs.Sets as sets
 use Rattle.model_store.specs.Store.{Store, Formats, points_of}
 use Rattle.model_store.specs.Verdicts.{IsEarly}
 use Rattle.model_store.specs.Worlds.{World}
 use Rattle.model_store.proofs.Owning.{follows}
-use Rattle.mount_table.specs.declared.mounts.Mount.{Mount}
 use Rattle.mounted_files.specs.declared.files.MountedFile.{MountedFile}
 use Rattle.mounted_files.specs.declared.refusals.GetFault.{GetFault}
-use Rattle.store_core.specs.Answers.{IsAnswer}
 use Rattle.store_core.specs.Committing.{IsCommitted, RunsOn}
 use Rattle.store_core.specs.Cores.{core_with}
 use Rattle.store_core.specs.Gets.{HasGot}
@@ -37,10 +34,10 @@ use Rattle.store_core.specs.declared.cores.Core.{Core}
 use Rattle.store_core.specs.declared.getting.Got.{Got}
 use Rattle.store_core.proofs.CommitLemmas.{stands_committed}
 use Rattle.store_core.proofs.MadeLemmas.{belongs_made}
-use Rattle.store_play.specs.Handles.{Holds, IsHandle, AreHandles, IsHeld, AreHeld, WasMade, records_of, nothing, held_at, held_in}
-use Rattle.store_play.specs.Plays.{Stepped, Does, IsKeptBack, IsSkipped}
+use Rattle.store_play.specs.Handles.{Holds, IsHandle, AreHandles, IsHeld, AreHeld, records_of, nothing, held_at, held_in}
+use Rattle.store_play.specs.Plays.{Stepped, IsKeptBack, IsSkipped}
 use Rattle.store_play.specs.Stages.{stage_of, Stage}
-use Rattle.store_play.specs.Told.{IsReady, mounts_of}
+use Rattle.store_play.specs.Told.{mounts_of}
 use Rattle.store_play.specs.declared.events.Answer.TheVariants as told
 use Rattle.store_play.specs.declared.events.Event.{Event}
 use Rattle.store_play.specs.declared.events.Event.TheVariants as asked

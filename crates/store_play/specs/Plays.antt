@@ -3,7 +3,6 @@ use Rattle.std.specs.Prelude.{◌≡◌, ℕ, ◌≤◌, false, List, [], ◌∷
 use Rattle.kdb_outside.specs.declared.disks.Disk.{Ghosts}
 use Rattle.model_crashes.specs.Runs.{Run}
 use Rattle.model_maps.specs.KeyMap.{KeyMap}
-use Rattle.model_store.specs.Cores as cores
 use Rattle.model_store.specs.Cores.{Made, accepts, first_core}
 use Rattle.model_store.specs.Events as event
 use Rattle.model_store.specs.Promise.{IsOneOwner, Runs}
@@ -19,7 +18,7 @@ use Rattle.store_play.specs.Handles.{Holds, records_of}
 use Rattle.store_play.specs.Stages.{Stage, stage_of, set_asked, held_after}
 use Rattle.store_play.specs.Told.{asked_of, Tells}
 use Rattle.store_play.specs.declared.events.Answer.{Answer}
-use Rattle.store_play.specs.declared.events.Answer.TheVariants.{Got, Prepared as IsPrepared, Committed, Skipped}
+use Rattle.store_play.specs.declared.events.Answer.TheVariants.{Skipped}
 use Rattle.store_play.specs.declared.events.Event.{Event}
 use Rattle.store_play.specs.declared.events.Event.TheVariants.{Get, Prepare, Commit}
 use Rattle.store_play.specs.declared.events.Skip.{Skip}

@@ -1,5 +1,5 @@
 -- What an event and its answer are in the words of the definitions. (This project's own.)
-use Rattle.std.specs.Prelude.{◌≡◌, ◌⊎◌, ℕ, List, [], ◌∷◌, map as over, Some, Result, Ok, Err}
+use Rattle.std.specs.Prelude.{◌≡◌, ◌⊎◌, ℕ, List, map as over, Some, Result, Ok, Err}
 use Rattle.model_store.specs.Events as event
 use Rattle.model_store.specs.Fitting.{Early}
 use Rattle.model_store.specs.Sets.{Prepared}
@@ -10,7 +10,7 @@ use Rattle.store_core.specs.Gets.{IsGot}
 use Rattle.store_core.specs.declared.committing.CommitFault.{CommitFault}
 use Rattle.store_core.specs.declared.committing.Done.{Done}
 use Rattle.store_play.specs.declared.events.Answer.{Answer}
-use Rattle.store_play.specs.declared.events.Answer.TheVariants.{Got, Prepared as IsPrepared, Committed, Skipped}
+use Rattle.store_play.specs.declared.events.Answer.TheVariants.{Got, Prepared as IsPrepared, Committed}
 use Rattle.store_play.specs.declared.events.Event.{Event}
 use Rattle.store_play.specs.declared.events.Event.TheVariants.{Get, Prepare, Commit}
 use Rattle.store_verdict.specs.Preparing.{fault_of}

@@ -1,5 +1,5 @@
 -- Handle by handle.
-use Rattle.std.proofs.Common.{◌≡◌, ℕ, ◌+◌, ◌≤◌, List, [], length, slice_get, Some, None, get_or, refl, sym, ap, subst, ◌∙◌, arith}
+use Rattle.std.proofs.Common.{◌≡◌, ℕ, ◌+◌, List, length, None, sym, ap, subst, ◌∙◌, arith}
 use Rattle.std.proofs.lemmas.List.{length_push}
 use Rattle.store_play.specs.Handles.{AreHandlesOf, AreNew, IsHandle, procs_at}
 use Rattle.store_play.proofs.HandleLemmas.{each-next, proc_there}

@@ -1,5 +1,5 @@
 -- Event by event.
-use Rattle.std.proofs.Common.{refl, sym, get_or, ◌∙◌, arith}
+use Rattle.std.proofs.Common.{refl, ◌∙◌, arith}
 use Rattle.general_words.proofs.Lists.{at_place}
 use Rattle.store_play.specs.Handles.{places_in, records_in}
 use Rattle.store_play.specs.Stages.{stage_of}

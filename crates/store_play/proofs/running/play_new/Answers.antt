@@ -1,5 +1,5 @@
 -- New handles hold on a store that was just opened.
-use Rattle.std.proofs.Common.{ℕ, List, Option, None}
+use Rattle.std.proofs.Common.{List, None}
 use Rattle.model_store.specs.Worlds.{first_world}
 use Rattle.store_play.specs.Handles.{places_in, procs_at, records_in}
 use Rattle.store_play.specs.Plays.{HasPlayed}
