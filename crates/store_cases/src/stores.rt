@@ -5,6 +5,7 @@ ghost use Rattle.disk_memory.specs.DiskState.{seen_of};
 ghost use Rattle.intent_journal.specs.JournalBytes.{IsBroken};
 ghost use Rattle.journal_codec.specs.Entry.{journal_name};
 ghost use Rattle.store_cases.specs.Disks.{IsAlone, IsNeverBroken};
+ghost use Rattle.store_play.specs.Ran.{disk_of};
 ghost use Rattle.store_verdict.specs.ProcKeys.{AreProc};
 
 use crate::starts::Start;
@@ -58,18 +59,24 @@ impl Quiet {
     /// Opens the store, plays the events, and closes it.
     pub fn play(self, alloc: Global, events: &[Event]) -> Result<Played, Memory> {
         let procs = no_procs(alloc)?;
-        Ok(
-            match run(alloc, self.disk, AllFormats, &procs, PLACES, events) {
-                Ok(Ran { disk, answers, .. }) => Played {
-                    left: Left { disk },
-                    answers: Ok(answers),
-                },
-                Err(OpenRefused { disk, fault }) => Played {
-                    left: Left { disk },
-                    answers: Err(fault),
-                },
-            },
-        )
+        let disk = self.disk;
+        Ok(played_of(run(alloc, disk, AllFormats, &procs, PLACES, events)))
+    }
+}
+
+/// The disk and the answers of a run, or why the store wasn't opened.
+fn played_of(ended: Result<Ran<MemDisk>, OpenRefused<MemDisk>>) -> Played
+    requires { IsNeverBroken (disk_of ended) }
+{
+    match ended {
+        Ok(Ran { disk, answers, .. }) => Played {
+            left: Left { disk },
+            answers: Ok(answers),
+        },
+        Err(OpenRefused { disk, fault }) => Played {
+            left: Left { disk },
+            answers: Err(fault),
+        },
     }
 }
 
