@@ -1,5 +1,5 @@
 -- Which disks in memory a store may be opened on. (This project's own.)
-use Rattle.std.specs.Prelude.{ℕ, List, IfOk}
+use Rattle.std.specs.Prelude.{ℕ, List}
 use Rattle.disk_memory.specs.DiskState.{DiskState, seen_of, left_of}
 use Rattle.intent_journal.specs.JournalBytes.{IsBroken}
 use Rattle.journal_codec.specs.Entry.{journal_name}
