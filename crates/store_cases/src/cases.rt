@@ -1,0 +1,187 @@
+//! A case is a line: a word that says what is done, and what it is done with.
+
+use crate::answers::lines_of;
+use crate::asking::{event_of, put};
+use crate::starts::Start;
+use crate::stops::{faults_of, recovered, stops_of};
+use crate::stores::{Left, Played, Quiet};
+use kdb_outside::FileName;
+use key_meta::Memory;
+use key_set::KeySet;
+use std::alloc::Global;
+use std::mem;
+use store_play::Event;
+
+/// A disk, what it begins with, the keys that are prepared next, and the events that are played next.
+#[derive(Drop)]
+pub struct Cases {
+    alloc: Global,
+    start: Start,
+    quiet: Option<Quiet>,
+    left: Option<Left>,
+    keys: KeySet,
+    events: Vec<Event>,
+}
+
+impl Cases {
+    pub fn new(alloc: Global) -> Cases {
+        Cases {
+            alloc,
+            start: Start::new(alloc),
+            quiet: None,
+            left: None,
+            keys: KeySet::new(alloc),
+            events: Vec::new(alloc),
+        }
+    }
+
+    /// What comes of a line. Nothing comes of a blank one and of a comment.
+    pub fn answer_to(&mut self, line: &str) -> Result<String, Memory> {
+        let (word, rest) = line.split_once(' ').unwrap_or((line, ""));
+        match word {
+            "" | "#" => {}
+            "disk" => *self = Cases::new(self.alloc),
+            "file" => self.add_file(rest)?,
+            "fail" => self.fail(rest)?,
+            "stop" => self.start.stop_after = rest.parse().ok(),
+            "keys" => self.keys = KeySet::new(self.alloc),
+            "put" => return self.put(rest),
+            "get" | "prepare" | "commit" => return self.ask(word, rest),
+            _ => return self.look(word, rest),
+        }
+        Ok(String::new(self.alloc))
+    }
+
+    fn look(&mut self, word: &str, rest: &str) -> Result<String, Memory> {
+        match word {
+            "play" => self.play(),
+            "crash" => self.crash(rest.parse().unwrap_or(0)),
+            "show" => self.show(rest),
+            "calls" => self.calls(),
+            "stops" | "faults" | "recover" => self.tried(word, rest.parse().unwrap_or(0)),
+            _ => String::from_str(self.alloc, "  no such case\n"),
+        }
+    }
+
+    /// Adds a file, whose lines are parted by `|n`.
+    fn add_file(&mut self, rest: &str) -> Result<(), Memory> {
+        let (name, text) = rest.split_once(' ').unwrap_or((rest, ""));
+        let mut bytes = Vec::new(self.alloc);
+        let mut parts = text.split("|n");
+        if let Some(first) = parts.next() {
+            bytes.extend_from_slice(first.as_bytes())?;
+        }
+        for part in parts {
+            bytes.push(b'\n')?;
+            bytes.extend_from_slice(part.as_bytes())?;
+        }
+        if let Some(name) = FileName::new(self.alloc, name)? {
+            self.start.add(name, bytes);
+        }
+        Ok(())
+    }
+
+    fn fail(&mut self, rest: &str) -> Result<(), Memory> {
+        let mut calls = Vec::new(self.alloc);
+        for call in rest.split(' ') {
+            if let Ok(call) = call.parse() {
+                calls.push(call)?;
+            }
+        }
+        self.start.failing = calls;
+        Ok(())
+    }
+
+    fn put(&mut self, rest: &str) -> Result<String, Memory> {
+        if put(self.alloc, &mut self.keys, rest)? {
+            Ok(String::new(self.alloc))
+        } else {
+            String::from_str(self.alloc, "  no name\n")
+        }
+    }
+
+    fn ask(&mut self, word: &str, rest: &str) -> Result<String, Memory> {
+        match event_of(self.alloc, word, rest, &self.keys)? {
+            Some(event) => {
+                self.events.push(event)?;
+                Ok(String::new(self.alloc))
+            }
+            None => String::from_str(self.alloc, "  no name\n"),
+        }
+    }
+
+    /// Plays the events on the disk that a crash left, or on the one that the case begins with.
+    fn play(&mut self) -> Result<String, Memory> {
+        let events = mem::replace(&mut self.events, Vec::new(self.alloc));
+        let quiet = match self.quiet.take() {
+            Some(quiet) => Some(quiet),
+            None => Quiet::of(self.alloc, &self.start, self.start.stop_after)?,
+        };
+        let Some(quiet) = quiet else {
+            return String::from_str(self.alloc, "  no disk\n");
+        };
+        let Played { left, answers } = quiet.play(self.alloc, &events)?;
+        self.left = Some(left);
+        lines_of(self.alloc, &answers)
+    }
+
+    /// The events, tried over and over: stopped after each call, with each call failing alone, or with each crash behind them.
+    fn tried(&mut self, word: &str, count: u64) -> Result<String, Memory> {
+        let events = mem::replace(&mut self.events, Vec::new(self.alloc));
+        match word {
+            "stops" => stops_of(self.alloc, &mut self.start, &events, count),
+            "faults" => faults_of(self.alloc, &mut self.start, &events, count),
+            _ => recovered(self.alloc, &self.start, &events, count),
+        }
+    }
+
+    fn crash(&mut self, choice: u64) -> Result<String, Memory> {
+        match self.left.take() {
+            Some(left) => {
+                self.quiet = Some(left.crash(choice)?);
+                Ok(String::new(self.alloc))
+            }
+            None => String::from_str(self.alloc, "  no disk\n"),
+        }
+    }
+
+    /// The lines of a file behind the last run.
+    fn show(&self, name: &str) -> Result<String, Memory> {
+        let (Some(left), Some(name)) = (&self.left, FileName::new(self.alloc, name)?) else {
+            return String::from_str(self.alloc, "  no disk\n");
+        };
+        let mut shown = String::from_str(self.alloc, "  ")?;
+        push_bytes(self.alloc, &mut shown, left.bytes(&name))?;
+        shown.push_str("\n")?;
+        Ok(shown)
+    }
+
+    fn calls(&self) -> Result<String, Memory> {
+        match &self.left {
+            Some(left) => {
+                let calls = left.calls();
+                format!(in self.alloc; "  {calls}\n")
+            }
+            None => String::from_str(self.alloc, "  no disk\n"),
+        }
+    }
+}
+
+/// Bytes on one line: letters as they are, a line feed as `|n`, and any other byte by its digits.
+fn push_bytes(alloc: Global, shown: &mut String, bytes: &[u8]) -> Result<(), Memory> {
+    if bytes.len() > 400 {
+        let count = bytes.len();
+        return shown.push_str(format!(in alloc; "{count} bytes")?.as_str());
+    }
+    if bytes.is_empty() {
+        return shown.push_str("nothing");
+    }
+    for byte in bytes {
+        match byte {
+            b'\n' => shown.push_str("|n")?,
+            b' '..=b'~' => shown.push(*byte as char)?,
+            _ => shown.push_str(format!(in alloc; "|x{byte:02x}")?.as_str())?,
+        }
+    }
+    Ok(())
+}

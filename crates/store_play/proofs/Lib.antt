@@ -1,0 +1,5 @@
+pub mod PlaceLemmas
+pub mod HandleLemmas
+pub mod StepLemmas
+pub mod PlayLemmas
+pub mod RunLemmas

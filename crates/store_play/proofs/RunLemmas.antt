@@ -1,0 +1,158 @@
+-- A store from its opening to its close.
+use Rattle.std.proofs.Common.{◌≡◌, ℕ, ◌≤◌, List, [], ◌∷◌, length, Option, Some, None, Result, Ok, Err, IfOk, inl, inr, true, refl, sym, ap, subst, ◌∙◌}
+use Rattle.kdb_outside.specs.Crashes.{EveryImage}
+use Rattle.kdb_outside.specs.Frames.{GoesOn}
+use Rattle.kdb_outside.specs.Images.{Image}
+use Rattle.kdb_outside.specs.declared.disks.Disk.{Ghosts}
+use Rattle.intent_journal.specs.BadJournals.{opened_files, opened_doubt}
+use Rattle.intent_journal.specs.Moments.{LeavesOnly}
+use Rattle.intent_journal.specs.Outcomes.{HasOnly, IsEither}
+use Rattle.journal_codec.specs.declared.files.FileText.{FileText}
+use Rattle.model_crashes.specs.Runs.{Run, IsReached, new_run}
+use Rattle.model_crashes.proofs.Moments.{only_both}
+use Rattle.model_maps.specs.KeyMap.{KeyMap}
+use Rattle.model_files.specs.Texts.{entries_of}
+use Rattle.model_store.specs.Cores as cores
+use Rattle.model_store.specs.Cores.{first_core}
+use Rattle.model_store.specs.Events as event
+use Rattle.model_store.specs.Records as model
+use Rattle.model_store.specs.Sets as sets
+use Rattle.model_store.specs.Store.{Store, Formats}
+use Rattle.model_store.specs.Verdicts.{Late, Same, Conflict, DatabaseFull, HistoryFull, Commits}
+use Rattle.model_store.specs.Worlds.{first_world}
+use Rattle.model_store.proofs.Owning.{one_owner}
+use Rattle.mounted_files.specs.declared.files.MountedFile.{MountedFile}
+use Rattle.store_core.specs.Committing.{BeginsSet, RunsOn}
+use Rattle.store_core.specs.Cores.{StandsFor}
+use Rattle.store_core.specs.declared.cores.Core.{Core}
+use Rattle.store_play.specs.Handles.{Holds, AreHandles, AreNew, HoldNothing, procs_at, records_of}
+use Rattle.store_play.specs.Plays.{Does, HasPlayed, Plays}
+use Rattle.store_play.specs.Ran.{HasPlayedNew, HasRun, HasRunOpened, IsNeverBroken, WasOrReached, first_stage, store_with}
+use Rattle.store_play.specs.Stages.{Stage, set_asked, stage_of}
+use Rattle.store_play.specs.Told.{asked_of}
+use Rattle.store_play.specs.declared.events.Answer.{Answer}
+use Rattle.store_play.specs.declared.events.Answer.TheVariants as told
+use Rattle.store_play.specs.declared.events.Event.{Event}
+use Rattle.store_play.specs.declared.running.Ran.{Ran}
+use Rattle.store_play.proofs.HandleLemmas.{new-nothing, held-nothing}
+use Rattle.store_play.proofs.PlayLemmas.{called}
+use Rattle.store_verdict.specs.declared.prepared.Prepared.{Prepared}
+use Rattle.store_verdict.specs.declared.records.Record.{Record}
+
+-- ---- the files of a run's beginning stay
+
+module _ (formats : Formats) (store : Store) (keys : KeyMap) (run later : Run) where
+  files_begun : (set : Option sets.Prepared) → BeginsSet formats store keys run set later → later.files ≡ run.files
+  files_begun None begun = absurd begun
+  files_begun (Some set) begun = ap (λ (x : Run). x.files) begun.2
+
+  files_judged : (set : Option sets.Prepared) (front : ℕ) (late : Late) → RunsOn formats store keys run set (event.Judged front late) later → later.files ≡ run.files
+  files_judged set front (Same aside) on = ap (λ (x : Run). x.files) on
+  files_judged set front (Conflict m by) on = ap (λ (x : Run). x.files) on
+  files_judged set front (DatabaseFull n) on = ap (λ (x : Run). x.files) on
+  files_judged set front (HistoryFull n) on = ap (λ (x : Run). x.files) on
+  files_judged set front (Commits commit aside) on = ap (λ (x : Run). x.files) on
+
+  files_on : (set : Option sets.Prepared) (answer : event.Answer) → RunsOn formats store keys run set answer later → later.files ≡ run.files
+  files_on set event.Memory on = ap (λ (x : Run). x.files) on
+  files_on set (event.Bad m) on = ap (λ (x : Run). x.files) on
+  files_on set (event.Got front got) on = ap (λ (x : Run). x.files) on
+  files_on set (event.Refused why) on = ap (λ (x : Run). x.files) on
+  files_on set event.Ready on = ap (λ (x : Run). x.files) on
+  files_on set (event.Judged front late) on = files_judged set front late on
+  files_on set (event.Failed front) on = files_begun set on
+
+module _ (formats : Formats) (store : Store) (files : List MountedFile) where
+  files_done : (before after : Stage) (event : Event) (answer : Answer) → Does formats store files before event answer after → after.run.files ≡ before.run.files
+  files_done before after event (told.Skipped why) does = ap (λ (s : Stage). s.run.files) does.1
+  files_done before after event (told.Got result) does = files_on formats store before.core.keys before.run after.run (set_asked before.core.sets (asked_of event)) does.answer does.runs_on
+  files_done before after event (told.Prepared result) does = files_on formats store before.core.keys before.run after.run (set_asked before.core.sets (asked_of event)) does.answer does.runs_on
+  files_done before after event (told.Committed result) does = files_on formats store before.core.keys before.run after.run (set_asked before.core.sets (asked_of event)) does.answer does.runs_on
+
+  pub files_played : (first last : Stage) (events : List Event) (answers : List Answer) → Plays formats store files first events answers last → last.run.files ≡ first.run.files
+  files_played first last [] [] plays = ap (λ (s : Stage). s.run.files) plays
+  files_played first last [] (a ∷ answers) plays = absurd plays
+  files_played first last (e ∷ events) [] plays = absurd plays
+  files_played first last (e ∷ events) (a ∷ answers) plays = files_played plays.0 last events answers plays.2 ∙ files_done first plays.0 e a plays.1
+
+-- ---- new handles
+
+module _ (formats : Formats) {D : Type 0} (g : Ghosts D) (mounted : List MountedFile) (procs : List KeyMap) (opened : D) (core : Core D) (run : Run) (stands : StandsFor formats g (store_with mounted procs) opened core (λ r m. None) (λ p. None) first_world run)
+    (records : List Record) (places : List (Option Prepared)) (handles : AreHandles mounted (procs_at procs) records) (new : AreNew records) (empty : HoldNothing places) where
+  -- new handles hold on a store that was just opened
+  pub holds_first : Holds formats g mounted (procs_at procs) opened core records places (λ p. None) first_world run
+  holds_first = record {
+    stands = subst (λ (rs : ℕ → model.Record). StandsFor formats g (store_with mounted procs) opened core rs (λ p. None) first_world run) (new-nothing records new) stands;
+    handles = handles;
+    held = λ p set e. let none : None ≡ Some set = sym (empty p) ∙ e in absurd cc;
+  }
+
+  -- and the stage is the first one
+  stage_first : core.history.commits ≡ [] → core.keys ≡ (store_with mounted procs).start → (count room : ℕ) → length records ≡ count → length places ≡ room
+      → stage_of core records places (λ p. None) run ≡ first_stage (store_with mounted procs) run count room
+  stage_first none keys count room counts rooms = λ i. record {
+    core = record { history = none i; keys = keys i; records = sym (new-nothing records new) i; sets = λ p. None };
+    run = run;
+    held = sym (held-nothing places empty) i;
+    handles = counts i;
+    places = rooms i;
+  }
+
+  pub played_new : (events : List Event) (answers : List Answer) (after : Core D) (later_records : List Record) (later_places : List (Option Prepared)) (room : ℕ) → length records ≡ length procs → length places ≡ room
+      → HasPlayed formats g mounted (procs_at procs) opened (stage_of core records places (λ p. None) run) events answers after later_records later_places
+      → HasPlayedNew formats g mounted procs room opened run events answers after
+  played_new events answers after later_records later_places room counts rooms played =
+      let stood = played.stood in
+      record {
+        last = stage_of after later_records later_places stood.known stood.run;
+        plays = subst (λ (first : Stage). Plays formats (store_with mounted procs) mounted first events answers (stage_of after later_records later_places stood.known stood.run))
+            (stage_first stands.stands.history stands.stands.keys (length procs) room counts rooms) stood.plays;
+        records = records_of later_records;
+        known = stood.known;
+        world = stood.world;
+        core_is = refl;
+        stands = stood.holds.stands;
+      }
+
+-- ---- from the opening to the close
+
+module _ (formats : Formats) {D : Type 0} (g : Ghosts D) (mounted : List MountedFile) (procs : List KeyMap) (places : ℕ) (disk opened : D) (files : Image) (doubt : Option (List FileText)) (events : List Event) (ran : Ran D)
+    (has : HasRunOpened formats g mounted procs places opened (new_run (opened_files (g.seen disk)) (g.faults disk) (opened_doubt (g.seen disk))) events ran) where
+  abbrev store : Store
+  store = store_with mounted procs
+
+  abbrev first : Stage
+  first = first_stage store (new_run (opened_files (g.seen disk)) (g.faults disk) (opened_doubt (g.seen disk))) (length procs) places
+
+  pub has_run : g.moment disk ≤ g.moment opened → LeavesOnly g disk opened (HasOnly (IsEither files doubt)) → HasRun formats g mounted procs places disk files doubt events ran
+  has_run later opening =
+      let played = has.played in
+      let run = played.last.run in
+      let calls = called formats store mounted first played.last events ran.answers played.plays in
+      let same : has.core.history.commits ≡ played.last.core.history = sym (ap (λ (c : cores.Core). c.history) played.core_is) in
+      record {
+        last = played.last;
+        plays = played.plays;
+        calls = calls.calls;
+        are_calls = calls.are;
+        one_owner = one_owner formats store calls.calls played.last.core calls.runs;
+        history = has.history ∙ same;
+        entries = played.stands.entries ∙ ap (entries_of formats store) same;
+        files_stay = files_played formats store mounted first played.last events ran.answers played.plays;
+        any_moment = only_both g disk opened ran.disk (HasOnly (IsEither files doubt)) (IsReached run.files run.commits run.begun) (WasOrReached files doubt run)
+            (λ image held. inl held) (λ image held. inr held) later opening has.reached;
+        now = has.now;
+      }
+
+-- ---- a journal that isn't broken
+
+pub sound_now : {D : Type 0} (g : Ghosts D) (disk : D) (P : Image → Type 0) → EveryImage (g.may_leave disk) (HasOnly P) → IsNeverBroken g disk
+sound_now g disk P every image is = (every image is).not_broken
+
+pub sound_since : {D : Type 0} (g : Ghosts D) (old new : D) (P : Image → Type 0) → g.tells old ≡ true → GoesOn g old new → LeavesOnly g old new (HasOnly P) → IsNeverBroken g new
+sound_since g old new P tells goes only image is = (only.each image (g.counts_now new (g.moment old) image (goes.tells ∙ tells) goes.moment is)).not_broken
+
+-- what an answer has from which something follows
+pub if_ok : {A E : Type 0} (P Q : A → Type 0) (result : Result A E) → ((a : A) → P a → Q a) → IfOk result P → IfOk result Q
+if_ok P Q (Ok a) follows holds = follows a holds
+if_ok P Q (Err e) follows holds = tt

@@ -1,0 +1,9 @@
+-- The records are those of the handles.
+use Rattle.std.proofs.Common.{List, length, sym, subst}
+use Rattle.store_play.specs.Handles.{AreHandlesOf}
+use Rattle.store_verdict.specs.declared.records.Record.{Record}
+use Rattle.store_play.proofs.playing.step.Goals as goal
+
+pub play_get-requires-clause-handles : goal.play_get-requires-clause-handles
+play_get-requires-clause-handles g c =
+    (c.requires.holding.procs, subst (λ (records : List Record). AreHandlesOf (length c.args.plan.now.mounted) c.requires.holding.procs records) (sym c.deref_mut.ensures.value) c.requires.holding.holds.handles)

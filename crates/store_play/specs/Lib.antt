@@ -1,0 +1,5 @@
+pub mod Handles
+pub mod Stages
+pub mod Told
+pub mod Plays
+pub mod Ran

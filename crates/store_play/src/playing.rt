@@ -1,0 +1,98 @@
+//! Events that are played one after the other.
+ghost use Rattle.std.specs.Prelude.{◌≡◌, ℕ, IfOk, List, OnErr, Option};
+ghost use Rattle.std.specs.List.{AllByRecursion};
+ghost use Rattle.model_crashes.specs.Runs.{Run};
+ghost use Rattle.model_maps.specs.KeyMap.{KeyMap};
+ghost use Rattle.model_store.specs.Sets as sets;
+ghost use Rattle.model_store.specs.Worlds.{World};
+ghost use Rattle.mounted_files.specs.Short.{AreShort};
+ghost use Rattle.store_core.specs.Plans.{store_of};
+ghost use Rattle.store_play.specs.Handles.{Holds, IsHolding, places_in, records_in};
+ghost use Rattle.store_play.specs.Plays.{HasPlayed, Stepped};
+ghost use Rattle.store_play.specs.Stages.{stage_of};
+ghost use Rattle.store_verdict.specs.Preparing.{IsPlan};
+
+use crate::committing::play_commit;
+use crate::getting::play_get;
+use crate::preparing::play_prepare;
+use crate::{Answer, Event, Handles};
+use kdb_outside::Disk;
+use key_meta::{List, Memory};
+use std::alloc::Global;
+use storage_api::Formats;
+use store_core::{Core, Plan};
+
+/// Plays events one after the other. Where memory for the answers is wanting, none is played.
+///
+/// Each call that an event makes is judged as the definitions of a store say, and the store has one owner: each answer is the one that is meant by
+/// the history, the handle's fronts and what was asked. The core stands again, with a run that went on by these answers, so that a crash at any moment
+/// since the opening leaves what the run says.
+pub fn play<D: Disk, F: Formats + Drop>(
+    alloc: Global,
+    plan: &Plan<F>,
+    core: &mut Core<D>,
+    handles: &mut Handles,
+    events: &[Event],
+) -> Result<List<Answer>, Memory>
+    requires fixed { (procs : ℕ → KeyMap) → IsPlan (store_of plan.now.mounted procs) plan.now.fixed }
+    requires short { AllByRecursion AreShort plan.now.fixed.shadows }
+    requires holding { IsHolding (record { text = F.text; IsStorable = F.is_storable; BreaksAt = F.breaks_at }) D.Disk plan.now.mounted core.old (records_in handles.old) (places_in handles.old) }
+    ensures played { (procs : ℕ → KeyMap) (opened : D) (known : ℕ → Option sets.Prepared) (world : World) (run : Run)
+        → Holds (record { text = F.text; IsStorable = F.is_storable; BreaksAt = F.breaks_at }) D.Disk plan.now.mounted procs opened core.old (records_in handles.old) (places_in handles.old) known world run
+        → IfOk result (λ answers. HasPlayed (record { text = F.text; IsStorable = F.is_storable; BreaksAt = F.breaks_at }) D.Disk plan.now.mounted procs opened (stage_of core.old (records_in handles.old) (places_in handles.old) known run) events.now answers core.new (records_in handles.new) (places_in handles.new)) }
+    ensures none { OnErr result ((core.new ≡ core.old) × (handles.new ≡ handles.old)) }
+{
+    let mut answers = Vec::with_capacity(alloc, events.len())?;
+    for event in events {
+        let answer = step(alloc, plan, core, handles, event);
+        answers.push_reserved(answer);
+    }
+    Ok(List::from_vec(answers))
+}
+
+/// Plays one event.
+fn step<D: Disk, F: Formats + Drop>(
+    alloc: Global,
+    plan: &Plan<F>,
+    core: &mut Core<D>,
+    handles: &mut Handles,
+    event: &Event,
+) -> Answer
+    requires fixed { (procs : ℕ → KeyMap) → IsPlan (store_of plan.now.mounted procs) plan.now.fixed }
+    requires short { AllByRecursion AreShort plan.now.fixed.shadows }
+    requires holding { IsHolding (record { text = F.text; IsStorable = F.is_storable; BreaksAt = F.breaks_at }) D.Disk plan.now.mounted core.old (records_in handles.old) (places_in handles.old) }
+    ensures { (procs : ℕ → KeyMap) (opened : D) (known : ℕ → Option sets.Prepared) (world : World) (run : Run)
+        → Holds (record { text = F.text; IsStorable = F.is_storable; BreaksAt = F.breaks_at }) D.Disk plan.now.mounted procs opened core.old (records_in handles.old) (places_in handles.old) known world run
+        → Stepped (record { text = F.text; IsStorable = F.is_storable; BreaksAt = F.breaks_at }) D.Disk plan.now.mounted procs opened (stage_of core.old (records_in handles.old) (places_in handles.old) known run) event.now result core.new (records_in handles.new) (places_in handles.new) }
+{
+    match event {
+        Event::Get { handle, parent } => {
+            play_get(alloc, plan, core, &mut handles.records, *handle, parent)
+        }
+        Event::Prepare {
+            handle,
+            number,
+            parent,
+            keys,
+        } => play_prepare(
+            alloc,
+            plan,
+            core,
+            &handles.records,
+            &mut handles.places,
+            *handle,
+            *number,
+            parent,
+            keys,
+        ),
+        Event::Commit { handle, number } => play_commit(
+            alloc,
+            plan,
+            core,
+            &mut handles.records,
+            &mut handles.places,
+            *handle,
+            *number,
+        ),
+    }
+}

@@ -1,0 +1,119 @@
+//! A store from its opening to its close.
+ghost use Rattle.std.specs.Prelude.{◌≡◌, ◌<◌, ◌^◌, ℕ, IfErr, IfOk, List, OnErr, Option, None, length, true};
+ghost use Rattle.std.specs.List.{AllByRecursion};
+ghost use Rattle.kdb_outside.specs.Images.{Image};
+ghost use Rattle.intent_journal.specs.BadJournals.{opened_files};
+ghost use Rattle.intent_journal.specs.Moments.{LeavesOnly};
+ghost use Rattle.intent_journal.specs.States.{IsCalm};
+ghost use Rattle.journal_codec.specs.declared.files.FileText.{FileText as Item};
+ghost use Rattle.model_crashes.specs.Runs.{Run};
+ghost use Rattle.model_maps.specs.KeyMap.{KeyMap};
+ghost use Rattle.model_store.specs.Worlds.{first_world};
+ghost use Rattle.mounted_files.specs.Opening.{IsOpened};
+ghost use Rattle.mounted_files.specs.Short.{AreShort};
+ghost use Rattle.mounted_files.specs.declared.files.MountedFile.{MountedFile};
+ghost use Rattle.store_core.specs.Cores.{StandsFor};
+ghost use Rattle.store_core.specs.Plans.{store_of};
+ghost use Rattle.store_play.specs.Handles.{procs_at};
+ghost use Rattle.store_play.specs.Ran.{HasPlayedNew, HasRun, HasRunOpened, IsNeverBroken, disk_of};
+ghost use Rattle.store_verdict.specs.Preparing.{IsPlan};
+ghost use Rattle.store_verdict.specs.ProcKeys.{AreProc};
+
+use crate::{Answer, Event, Handles, play};
+use commit_log::History;
+use kdb_outside::Disk;
+use key_meta::{List, Memory};
+use key_set::KeySet;
+use std::alloc::Global;
+use storage_api::Formats;
+use store_core::{Closed, Core, OpenFault, OpenRefused, Opened, Plan, open_store};
+
+/// A store that was opened, played and closed: its disk, the commits since its opening, and the answers.
+#[derive(Drop)]
+pub struct Ran<D: Disk> {
+    pub disk: D,
+    pub history: History,
+    pub answers: List<Answer>,
+}
+
+/// Opens the store of a calm disk, plays events by new handles, and closes it. No crash then leaves a broken journal, so
+/// that the disk that a crash leaves is calm again. It is refused where the store isn't opened, and where memory is wanting
+/// before the first event; the disk is then handed back.
+pub fn run<D: Disk, F: Formats + Drop>(
+    alloc: Global,
+    disk: D,
+    formats: F,
+    procs: &[KeySet],
+    places: usize,
+    events: &[Event],
+) -> Result<Ran<D>, OpenRefused<D>>
+    requires tells { D.tells disk ≡ true }
+    requires calm { (files : Image) × (doubt : Option (List Item)) × IsCalm (D.seen disk) (D.may_leave disk) files doubt }
+    requires few { length procs.now < 2 ^ 32 }
+    requires proc { AllByRecursion AreProc procs.now }
+    ensures sound { IsNeverBroken D.Disk (disk_of result) }
+    ensures ran { (files : Image) (doubt : Option (List Item)) → IsCalm (D.seen disk) (D.may_leave disk) files doubt
+        → IfOk result (λ ran. (mounted : List MountedFile) × IsOpened F.reads F.is_bad_at (opened_files (D.seen disk)) mounted
+        × HasRun (record { text = F.text; IsStorable = F.is_storable; BreaksAt = F.breaks_at }) D.Disk mounted procs.now places disk files doubt events.now ran) }
+{
+    match open_store(alloc, disk, formats) {
+        Ok(opened) => run_opened(alloc, opened, procs, places, events),
+        Err(refused) => Err(refused),
+    }
+}
+
+/// Plays events by new handles on a store that was just opened, and closes it.
+fn run_opened<D: Disk, F: Formats + Drop>(
+    alloc: Global,
+    opened: Opened<D, F>,
+    procs: &[KeySet],
+    places: usize,
+    events: &[Event],
+) -> Result<Ran<D>, OpenRefused<D>>
+    requires fixed { (procs : ℕ → KeyMap) → IsPlan (store_of opened.plan.mounted procs) opened.plan.fixed }
+    requires short { AllByRecursion AreShort opened.plan.fixed.shadows }
+    requires stands { (start : D) × (run : Run) × StandsFor (record { text = F.text; IsStorable = F.is_storable; BreaksAt = F.breaks_at }) D.Disk (store_of opened.plan.mounted (procs_at procs.now)) start opened.core (λ r m. None) (λ p. None) first_world run }
+    requires few { length procs.now < 2 ^ 32 }
+    requires proc { AllByRecursion AreProc procs.now }
+    ensures ran { (start : D) (run : Run) → StandsFor (record { text = F.text; IsStorable = F.is_storable; BreaksAt = F.breaks_at }) D.Disk (store_of opened.plan.mounted (procs_at procs.now)) start opened.core (λ r m. None) (λ p. None) first_world run
+        → IfOk result (λ ran. HasRunOpened (record { text = F.text; IsStorable = F.is_storable; BreaksAt = F.breaks_at }) D.Disk opened.plan.mounted procs.now places start run events.now ran) }
+    ensures sound { IsNeverBroken D.Disk (disk_of result) }
+{
+    let plan = opened.plan;
+    let mut core = opened.core;
+    let played = play_new(alloc, &plan, &mut core, procs, places, events);
+    let Closed { disk, history } = core.close();
+    match played {
+        Ok(answers) => Ok(Ran {
+            disk,
+            history,
+            answers,
+        }),
+        Err(_) => Err(OpenRefused {
+            fault: OpenFault::Memory,
+            disk,
+        }),
+    }
+}
+
+/// Plays events by new handles, on a store that was just opened.
+fn play_new<D: Disk, F: Formats + Drop>(
+    alloc: Global,
+    plan: &Plan<F>,
+    core: &mut Core<D>,
+    procs: &[KeySet],
+    places: usize,
+    events: &[Event],
+) -> Result<List<Answer>, Memory>
+    requires fixed { (procs : ℕ → KeyMap) → IsPlan (store_of plan.now.mounted procs) plan.now.fixed }
+    requires short { AllByRecursion AreShort plan.now.fixed.shadows }
+    requires stands { (opened : D) × (run : Run) × StandsFor (record { text = F.text; IsStorable = F.is_storable; BreaksAt = F.breaks_at }) D.Disk (store_of plan.now.mounted (procs_at procs.now)) opened core.old (λ r m. None) (λ p. None) first_world run }
+    requires few { length procs.now < 2 ^ 32 }
+    requires proc { AllByRecursion AreProc procs.now }
+    ensures played { (opened : D) (run : Run) → StandsFor (record { text = F.text; IsStorable = F.is_storable; BreaksAt = F.breaks_at }) D.Disk (store_of plan.now.mounted (procs_at procs.now)) opened core.old (λ r m. None) (λ p. None) first_world run
+        → IfOk result (λ answers. HasPlayedNew (record { text = F.text; IsStorable = F.is_storable; BreaksAt = F.breaks_at }) D.Disk plan.now.mounted procs.now places opened run events.now answers core.new) }
+    ensures none { OnErr result (core.new ≡ core.old) }
+{
+    let mut handles = Handles::new(alloc, plan, procs, places)?;
+    play(alloc, plan, core, &mut handles, events)
+}
