@@ -2,7 +2,7 @@
 
 use crate::runs::Runs;
 use crate::sets::Keys;
-use crate::{bodies, dumps, merges, names, texts};
+use crate::{bodies, formats, merges, names, texts};
 use key_meta::Memory;
 use std::alloc::Global;
 
@@ -46,7 +46,7 @@ impl Cases {
         if let Some(answer) = texts::answer_to(self.alloc, word, rest)? {
             return Ok(answer);
         }
-        if let Some(answer) = dumps::answer_to(self.alloc, word, rest)? {
+        if let Some(answer) = formats::answer_to(self.alloc, word, rest)? {
             return Ok(answer);
         }
         if let Some(answer) = merges::answer_to(self.alloc, word, rest)? {

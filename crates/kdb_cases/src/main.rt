@@ -4,7 +4,7 @@
 mod bodies;
 mod calls;
 mod cases;
-mod dumps;
+mod formats;
 mod merges;
 mod names;
 mod notation;

@@ -1,0 +1,77 @@
+//! Files by their formats: whether bytes are one, and what they read as.
+
+use crate::notation::{bytes_of, shown};
+use kdb_outside::Kind;
+use key_meta::Memory;
+use key_set::KeySet;
+use std::alloc::{AllocError, Global};
+use storage_api::ReadRefusal;
+
+/// What comes of a line, if it is one of formats.
+pub fn answer_to(alloc: Global, word: &str, rest: &str) -> Result<Option<String>, Memory> {
+    if let Some(kind) = Kind::of(word) {
+        let bytes = bytes_of(alloc, rest)?;
+        return Ok(Some(read_of(alloc, kind, &bytes)?));
+    }
+    let (format, text) = rest.split_once(' ').unwrap_or((rest, ""));
+    let Some(kind) = Kind::of(format) else {
+        return Ok(None);
+    };
+    match word {
+        "again" => Ok(Some(written(alloc, kind, kind, text)?)),
+        "as-dump" => Ok(Some(written(alloc, kind, Kind::Dump, text)?)),
+        "first" => Ok(Some(first_of(alloc, kind, text)?)),
+        _ => Ok(None),
+    }
+}
+
+fn read(alloc: Global, kind: Kind, bytes: &[u8]) -> Result<KeySet, ReadRefusal> {
+    match kind {
+        Kind::Dump => dump_storage::read(alloc, bytes),
+        Kind::SimpleIni => ini_storage::read(alloc, bytes),
+        Kind::Hosts => hosts_storage::read(alloc, bytes),
+    }
+}
+
+/// The text of keys; none where the format can't hold them.
+fn write(alloc: Global, kind: Kind, keys: &KeySet) -> Option<Vec<u8>> {
+    match kind {
+        Kind::Dump => dump_storage::write(alloc, keys).ok(),
+        Kind::SimpleIni => ini_storage::write(alloc, keys).ok(),
+        Kind::Hosts => hosts_storage::write(alloc, keys).ok(),
+    }
+}
+
+/// How many keys there are, or the line of the first fault.
+fn read_of(alloc: Global, kind: Kind, bytes: &[u8]) -> Result<String, Memory> {
+    match read(alloc, kind, bytes) {
+        Ok(keys) => format!(in alloc; "  {} keys\n", keys.len()),
+        Err(ReadRefusal::BadFile { line }) => format!(in alloc; "  bad at line {line}\n"),
+        Err(ReadRefusal::Memory) => Err(AllocError),
+    }
+}
+
+/// The text of the keys of a file in a format, or that the file is none.
+fn written(alloc: Global, from: Kind, to: Kind, text: &str) -> Result<String, Memory> {
+    let bytes = bytes_of(alloc, text)?;
+    let Ok(keys) = read(alloc, from, &bytes) else {
+        return format!(in alloc; "  no {}\n", from.word());
+    };
+    let Some(text) = write(alloc, to, &keys) else {
+        return Err(AllocError);
+    };
+    let text = shown(alloc, &text)?;
+    format!(in alloc; "  {text}\n")
+}
+
+/// The name of the first key, in name order.
+fn first_of(alloc: Global, kind: Kind, text: &str) -> Result<String, Memory> {
+    let bytes = bytes_of(alloc, text)?;
+    let Ok(keys) = read(alloc, kind, &bytes) else {
+        return format!(in alloc; "  no {}\n", kind.word());
+    };
+    match keys.at(0) {
+        Some((name, _)) => format!(in alloc; "  {}\n", name.text()?),
+        None => String::from_str(alloc, "  no keys\n"),
+    }
+}
