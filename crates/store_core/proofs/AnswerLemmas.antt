@@ -27,7 +27,7 @@ use Rattle.set_split.specs.declared.parts.Part.{Part}
 use Rattle.store_core.specs.Answers.{IsAnswer, IsConflict}
 use Rattle.store_core.specs.Committing.{BeginsSet, BeginsOnly, RunsOn}
 use Rattle.store_core.specs.Cores.{core_with}
-use Rattle.store_core.specs.Joined.{Belongs, HasAnswered}
+use Rattle.store_core.specs.Joined.{Belongs, BelongsIn, HasAnswered}
 use Rattle.store_core.specs.declared.committing.CommitFault.{CommitFault}
 use Rattle.store_core.specs.declared.committing.CommitFault.TheVariants as fault
 use Rattle.store_core.specs.declared.committing.Done.{Done}
@@ -49,6 +49,39 @@ put-same r x records is n = elim (nat_eq n r) as (λ b. nat_eq n r ≡ b → con
   | false ↦ λ e. refl
 ] refl
 
+module _ (formats : Formats) {D : Type 0} (mounts : List Mount) (store : Store) (core : Core D) (records : ℕ → model.Record) (made : ℕ → Option sets.Prepared) (world : World) (p : ℕ) (rec : Record) (prepared : Prepared)
+    (b : BelongsIn formats mounts store core records made world p rec prepared) where
+  taken : accepts (records (handle_of rec)) (handle_of rec) (prepared_of prepared) ≡ true
+  taken = subst (λ (x : model.Record). accepts x (handle_of rec) (prepared_of prepared) ≡ true) (sym b.record_is) b.accepted
+
+  pub conflict_within : (m by : ℕ) → IsLate core.history.commits core.keys (prepared_of prepared) (Conflict m by) → m < length mounts
+  conflict_within m by late =
+      subst (λ (ms : List Mount). m < length ms) b.mounts_are
+      (among-within (length store.mounts) prepared.touched m (within formats store core records made world b.stands (handle_of rec) p (prepared_of prepared) b.set_is taken) (conflict_touched m by core.history.commits core.keys (prepared_of prepared) late))
+
+  pub parts_within : All (λ (part : Part). part.mount < places_of rec) prepared.wanted
+  parts_within =
+      All-from_recursion (λ (part : Part). part.mount < places_of rec) prepared.wanted
+      (parts-within (places_of rec) (wants (points_of store) prepared.keys) prepared.wanted prepared.touched b.wanted
+      (all-below prepared.touched (within formats store core records made world b.stands (handle_of rec) p (prepared_of prepared) b.set_is taken)))
+    where
+      all-below : (ms : List ℕ) → AllByRecursion (λ m. m < length store.mounts) ms → AllByRecursion (λ m. m < places_of rec) ms
+      all-below [] all = tt
+      all-below (m ∷ ms) all = (omega (arith, all.0, b.places), all-below ms all.1)
+
+  module _ (commit : past.Commit) (aside : ℕ) (late : IsLate core.history.commits core.keys (prepared_of prepared) (Commits commit aside)) where
+    pub not_full : history_weight (core.history.commits ++ commit ∷ []) ≤ heaviest_history
+    not_full = light formats store core records made world b.stands (handle_of rec) p (prepared_of prepared) b.set_is taken commit aside late
+
+    pub is_entry : IsEntry prepared.texts
+    is_entry = subst IsEntry (sym b.texts) (entry formats store core records made world b.stands (handle_of rec) p (prepared_of prepared) b.set_is taken commit aside late)
+
+    commit_is : commit ≡ commit_of (prepared_of prepared)
+    commit_is = commit_is_set formats store core records made world b.stands (handle_of rec) p (prepared_of prepared) b.set_is taken commit aside late
+
+    pub texts_are : prepared.texts ≡ entry_of formats store core.keys (commit_of (prepared_of prepared))
+    texts_are = b.texts ∙ entry_is formats store core records made world b.stands (handle_of rec) p (prepared_of prepared) b.set_is taken commit aside late
+
 module _ (formats : Formats) {D : Type 0} (g : Ghosts D) (mounts : List Mount) (store : Store) (opened : D) (core : Core D) (records : ℕ → model.Record) (made : ℕ → Option sets.Prepared) (world : World) (run : Run) (p : ℕ) (rec : Record) (prepared : Prepared)
     (b : Belongs formats g mounts store opened core records made world run p rec prepared) where
   abbrev r : ℕ
@@ -63,11 +96,8 @@ module _ (formats : Formats) {D : Type 0} (g : Ghosts D) (mounts : List Mount) (
   abbrev old : cores.Core
   old = core_with core records made
 
-  accepted : accepts (records r) r set ≡ true
-  accepted = subst (λ (x : model.Record). accepts x r set ≡ true) (sym b.record_is) b.accepted
-
   abbrev judged : (late : Late) → IsLate core.history.commits core.keys set late → JudgementMade store old r p found late
-  judged late is = judgement formats g store opened core records made world run b.stands r p set b.set_is accepted late is
+  judged late is = judgement formats store core records made world b.here.stands r p set b.here.set_is (taken formats mounts store core records made world p rec prepared b.here) late is
 
   -- nothing of what is kept changed
   record Stays (after : Core D) (new : Record) : Type 0 where
@@ -77,7 +107,7 @@ module _ (formats : Formats) {D : Type 0} (g : Ghosts D) (mounts : List Mount) (
 
   kept : (after : Core D) (new : Record) → Stays after new → core_with after (put r (record_of new) records) made ≡ old
   kept after new same =
-      let each : (n : ℕ) → put r (record_of new) records n ≡ records n = put-same r (record_of new) records (b.record_is ∙ sym same.fetched) in
+      let each : (n : ℕ) → put r (record_of new) records n ≡ records n = put-same r (record_of new) records (b.here.record_is ∙ sym same.fetched) in
       λ i. record { history = same.history i; keys = same.keys i; records = λ n. each n i; sets = made }
 
   -- ---- before the disk is touched
@@ -91,7 +121,7 @@ module _ (formats : Formats) {D : Type 0} (g : Ghosts D) (mounts : List Mount) (
     later = run;
     answer = Judged found late;
     is_answer = answer;
-    committed = record { made = record { judged = judged late is; next_is = kept core rec unchanged ∙ sym nothing }; runs_on = on; on_disk = b.stands.on_disk };
+    committed = record { made = record { judged = judged late is; next_is = kept core rec unchanged ∙ sym nothing }; runs_on = on; on_disk = b.on_disk };
   }
 
   pub wanting : HasAnswered formats g mounts store opened core core records made run p rec rec prepared (Err fault.Memory)
@@ -99,7 +129,7 @@ module _ (formats : Formats) {D : Type 0} (g : Ghosts D) (mounts : List Mount) (
     later = run;
     answer = Memory;
     is_answer = refl;
-    committed = record { made = kept core rec unchanged; runs_on = refl; on_disk = b.stands.on_disk };
+    committed = record { made = kept core rec unchanged; runs_on = refl; on_disk = b.on_disk };
   }
 
   pub conflicting : (m by : ℕ) (why : CommitFault) → IsLate core.history.commits core.keys set (Conflict m by) → IsConflict mounts m by found why
@@ -111,36 +141,9 @@ module _ (formats : Formats) {D : Type 0} (g : Ghosts D) (mounts : List Mount) (
   conflicting m by (fault.HistoryFull weight front) late is = absurd is
   conflicting m by (fault.DiskFault front) late is = absurd is
 
-  pub conflict_within : (m by : ℕ) → IsLate core.history.commits core.keys set (Conflict m by) → m < length mounts
-  conflict_within m by late =
-      subst (λ (ms : List Mount). m < length ms) b.mounts_are
-      (among-within (length store.mounts) set.touched m (within formats g store opened core records made world run b.stands r p set b.set_is accepted) (conflict_touched m by core.history.commits core.keys set late))
-
   -- ---- where the set is a commit
 
-  pub parts_within : All (λ (part : Part). part.mount < places_of rec) prepared.wanted
-  parts_within =
-      All-from_recursion (λ (part : Part). part.mount < places_of rec) prepared.wanted
-      (parts-within (places_of rec) (wants (points_of store) prepared.keys) prepared.wanted prepared.touched b.wanted
-      (all-below prepared.touched (within formats g store opened core records made world run b.stands r p set b.set_is accepted)))
-    where
-      all-below : (ms : List ℕ) → AllByRecursion (λ m. m < length store.mounts) ms → AllByRecursion (λ m. m < places_of rec) ms
-      all-below [] all = tt
-      all-below (m ∷ ms) all = (omega (arith, all.0, b.places), all-below ms all.1)
-
   module _ (commit : past.Commit) (aside : ℕ) (late : IsLate core.history.commits core.keys set (Commits commit aside)) where
-    pub not_full : history_weight (core.history.commits ++ commit ∷ []) ≤ heaviest_history
-    not_full = light formats g store opened core records made world run b.stands r p set b.set_is accepted commit aside late
-
-    pub is_entry : IsEntry prepared.texts
-    is_entry = subst IsEntry (sym b.texts) (entry formats g store opened core records made world run b.stands r p set b.set_is accepted commit aside late)
-
-    commit_is : commit ≡ commit_of set
-    commit_is = commit_is_set formats g store opened core records made world run b.stands r p set b.set_is accepted commit aside late
-
-    texts_are : prepared.texts ≡ entry_of formats store core.keys (commit_of set)
-    texts_are = b.texts ∙ entry_is formats g store opened core records made world run b.stands r p set b.set_is accepted commit aside late
-
     -- what a stored set leaves, by the answer
     module _ (after_core : Core D) (new : Record) (keys : KeyMap) (keys_are : keys ≡ after core.keys set.changes) where
       record Keeps : Type 0 where
@@ -152,15 +155,15 @@ module _ (formats : Formats) {D : Type 0} (g : Ghosts D) (mounts : List Mount) (
       entered : (made_of : Done) → made_of ≡ done.Committed (found + 1) aside → Keeps → HasAnswered formats g mounts store opened core after_core records made run p rec new prepared (Ok made_of)
       entered made_of is keeps =
           let moved : record_of new ≡ keeping set.touched (found + 1) (wants (points_of store) set.keys) (records r) =
-          keeps.fetched prepared.touched (wants (points_of store) prepared.keys) b.wanted ∙ ap (keeping set.touched (found + 1) (wants (points_of store) set.keys)) (sym b.record_is) in
+          keeps.fetched prepared.touched (wants (points_of store) prepared.keys) b.here.wanted ∙ ap (keeping set.touched (found + 1) (wants (points_of store) set.keys)) (sym b.here.record_is) in
           let all : after_core.keys ≡ after core.keys set.changes = keeps.keys_kept ∙ keys_are in
           record {
             later = after_commit run prepared.texts;
             answer = Judged found (Commits commit aside);
-            is_answer = subst (λ (d : Done). IsAnswer mounts found set (Ok d) (Judged found (Commits commit aside))) (sym is) (refl, ap (λ (c : past.Commit). Judged found (Commits c aside)) commit_is);
+            is_answer = subst (λ (d : Done). IsAnswer mounts found set (Ok d) (Judged found (Commits commit aside))) (sym is) (refl, ap (λ (c : past.Commit). Judged found (Commits c aside)) (commit_is formats mounts store core records made world p rec prepared b.here commit aside late));
             committed = record {
               made = record { judged = judged (Commits commit aside) late; next_is = λ i. record { history = keeps.history i; keys = all i; records = put r (moved i) records; sets = made } };
-              runs_on = ap (after_commit run) (texts_are ∙ ap (entry_of formats store core.keys) (sym commit_is));
+              runs_on = ap (after_commit run) (texts_are formats mounts store core records made world p rec prepared b.here commit aside late ∙ ap (entry_of formats store core.keys) (sym (commit_is formats mounts store core records made world p rec prepared b.here commit aside late)));
               on_disk = keeps.stored;
             };
           }
@@ -173,8 +176,8 @@ module _ (formats : Formats) {D : Type 0} (g : Ghosts D) (mounts : List Mount) (
         is_answer = refl;
         committed = record {
           made = record { commit = commit; aside = aside; judged = judged (Commits commit aside) late; next_is = kept after_core new same };
-          runs_on = subst (λ (o : Option sets.Prepared). BeginsSet formats store core.keys run o (after_begun run prepared.texts later)) (sym b.set_is)
-              (subst (λ (es : List FileText). BeginsOnly run es (after_begun run prepared.texts later)) texts_are (later, one, refl));
+          runs_on = subst (λ (o : Option sets.Prepared). BeginsSet formats store core.keys run o (after_begun run prepared.texts later)) (sym b.here.set_is)
+              (subst (λ (es : List FileText). BeginsOnly run es (after_begun run prepared.texts later)) (texts_are formats mounts store core records made world p rec prepared b.here commit aside late) (later, one, refl));
           on_disk = stored;
         };
       }
@@ -184,7 +187,7 @@ module _ (formats : Formats) {D : Type 0} (g : Ghosts D) (mounts : List Mount) (
         later = run;
         answer = Memory;
         is_answer = refl;
-        committed = record { made = kept after_core new same; runs_on = refl; on_disk = subst (λ (j : JournalValue D). IsStore g opened j run) (sym journal) b.stands.on_disk };
+        committed = record { made = kept after_core new same; runs_on = refl; on_disk = subst (λ (j : JournalValue D). IsStore g opened j run) (sym journal) b.on_disk };
       }
 
       pub answered : (result : Result Done CommitFault) → IfOk result (λ m. m ≡ done.Committed (found + 1) aside) → IfErr result (λ why. (why ≡ fault.Memory) ⊎ (why ≡ fault.DiskFault found))

@@ -44,7 +44,7 @@ module _ (formats : Formats) (store : Store) where
     entries-stay same none = none ∙ st.entries ∙ ap (λ (c : cores.Core). entries_of formats store c.history) (sym same)
 
     present : replay store.start before.history.commits ≡ before.keys
-    present = ap (replay store.start) st.stands.history ∙ sym st.stands.keys
+    present = ap (replay store.start) st.here.stands.history ∙ sym st.here.stands.keys
 
     -- a commit joined the history, and its texts the run
     entries-joined : (commit : past.Commit) → after.history.commits ≡ before.history.commits ++ commit ∷ [] → later ≡ after_commit run (entry_of formats store before.keys commit)
@@ -78,8 +78,8 @@ module _ (formats : Formats) (store : Store) where
     pub stands_committed : (answer : Answer) → IsCommitted formats g store opened before after records next sets run later r p answer
         → (then_world : World) × Meant formats store world (Commit r p) answer then_world × StandsFor formats g store opened after next sets then_world later
     stands_committed answer committed =
-        let goes = follows formats store world old (Commit r p) answer new st.stands committed.made in
-        (goes.after, goes.meant, record { files = st.files; stands = goes.stands; on_disk = committed.on_disk; entries = entries-are answer committed.made committed.runs_on })
+        let goes = follows formats store world old (Commit r p) answer new st.here.stands committed.made in
+        (goes.after, goes.meant, record { here = record { files = st.here.files; stands = goes.stands }; on_disk = committed.on_disk; entries = entries-are answer committed.made committed.runs_on })
 
 -- ---- without a call
 

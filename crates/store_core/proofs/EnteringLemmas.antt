@@ -6,9 +6,7 @@ use Rattle.std.proofs.lemmas.Bool.{cond-true}
 use Rattle.std.proofs.lemmas.List.{length-map, take_all}
 use Rattle.std.specs.FinMap as map
 use Rattle.general_words.proofs.Lists.{some_is}
-use Rattle.kdb_outside.specs.declared.disks.Disk.{Ghosts}
 use Rattle.journal_codec.specs.Entry.{IsEntry}
-use Rattle.model_crashes.specs.Runs.{Run}
 use Rattle.model_files.specs.Texts.{Texts, as_entry, entry_of, texts_at, with_text}
 use Rattle.model_files.proofs.EntryLemmas.{is_entry}
 use Rattle.model_history.specs.Changes.{after, changed_by}
@@ -31,7 +29,7 @@ use Rattle.model_store.proofs.Owning.{Goes, follows}
 use Rattle.mount_table.specs.declared.mounts.Mount.{Mount}
 use Rattle.set_split.specs.Involved.{involved_in}
 use Rattle.set_split.specs.Parts.{owned_by}
-use Rattle.store_core.specs.Cores.{StandsFor, core_with}
+use Rattle.store_core.specs.Cores.{StandsIn, core_with}
 use Rattle.store_core.specs.declared.cores.Core.{Core}
 use Rattle.store_core.proofs.VerdictLemmas.{commit_is}
 use Rattle.store_verdict.proofs.SetLemmas.{filter-within, involved-within}
@@ -74,7 +72,7 @@ set-within formats store history (Some asked) set is =
     subst (λ (s : Prepared). AllByRecursion (λ m. m < k) s.touched) (sym is.is)
     (filter-within k _ (involved_in points asked.parent) (involved-within points asked.parent k (omega (arith, count))))
 
-module _ (formats : Formats) {D : Type 0} (g : Ghosts D) (store : Store) (opened : D) (core : Core D) (records : ℕ → Record) (sets : ℕ → Option Prepared) (world : World) (run : Run) (st : StandsFor formats g store opened core records sets world run)
+module _ (formats : Formats) {D : Type 0} (store : Store) (core : Core D) (records : ℕ → Record) (sets : ℕ → Option Prepared) (world : World) (st : StandsIn formats store core records sets world)
     (r p : ℕ) (set : Prepared) (is_set : sets p ≡ Some set) (accepted : accepts (records r) r set ≡ true) where
   abbrev old : cores.Core
   old = core_with core records sets

@@ -5,6 +5,7 @@ pub mod CommitLemmas
 pub mod VerdictLemmas
 pub mod EnteringLemmas
 pub mod AnswerLemmas
+pub mod JudgedLemmas
 pub mod PlanLemmas
 pub mod GetLemmas
 pub mod MadeLemmas

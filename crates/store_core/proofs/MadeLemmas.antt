@@ -1,7 +1,5 @@
 -- A prepared set that its record accepts may be committed.
 use Rattle.std.proofs.Common.{◌≡◌, ℕ, ◌≤◌, true, List, length, map as over, Option, Some, refl, sym, ap, ◌∙◌}
-use Rattle.kdb_outside.specs.declared.disks.Disk.{Ghosts}
-use Rattle.model_crashes.specs.Runs.{Run}
 use Rattle.model_files.specs.Texts.{as_entry, texts_at}
 use Rattle.model_maps.specs.KeyMap.{KeyMap}
 use Rattle.model_names.specs.Name.{Name}
@@ -11,8 +9,8 @@ use Rattle.model_store.specs.Sets as sets
 use Rattle.model_store.specs.Sets.{wants}
 use Rattle.model_store.specs.Store.{Store, Formats, points_of}
 use Rattle.model_store.specs.Worlds.{World}
-use Rattle.store_core.specs.Cores.{StandsFor}
-use Rattle.store_core.specs.Joined.{Belongs}
+use Rattle.store_core.specs.Cores.{StandsIn}
+use Rattle.store_core.specs.Joined.{BelongsIn}
 use Rattle.store_core.specs.declared.cores.Core.{Core}
 use Rattle.store_verdict.specs.Preparing.{IsMade}
 use Rattle.store_verdict.specs.PreparedView.{prepared_of}
@@ -20,10 +18,10 @@ use Rattle.store_verdict.specs.RecordView.{handle_of, places_of, record_of}
 use Rattle.store_verdict.specs.declared.prepared.Prepared.{Prepared}
 use Rattle.store_verdict.specs.declared.records.Record.{Record}
 
-pub belongs_made : (formats : Formats) {D : Type 0} (g : Ghosts D) (store : Store) (opened : D) (core : Core D) (records : ℕ → model.Record) (made : ℕ → Option sets.Prepared) (world : World) (run : Run) (p : ℕ) (rec : Record) (set : Prepared) (handle : ℕ) (before : model.Record) (parent : Name) (keys : KeyMap)
-    → StandsFor formats g store opened core records made world run → records (handle_of rec) ≡ record_of rec → length store.mounts ≤ places_of rec → made p ≡ Some (prepared_of set) → accepts (record_of rec) (handle_of rec) (prepared_of set) ≡ true
-    → IsMade formats store handle before parent keys set → Belongs formats g store.mounts store opened core records made world run p rec set
-belongs_made formats g store opened core records made world run p rec set handle before parent keys stands record_is places set_is accepted is_made =
+pub belongs_made : (formats : Formats) {D : Type 0} (store : Store) (core : Core D) (records : ℕ → model.Record) (made : ℕ → Option sets.Prepared) (world : World) (p : ℕ) (rec : Record) (set : Prepared) (handle : ℕ) (before : model.Record) (parent : Name) (keys : KeyMap)
+    → StandsIn formats store core records made world → records (handle_of rec) ≡ record_of rec → length store.mounts ≤ places_of rec → made p ≡ Some (prepared_of set) → accepts (record_of rec) (handle_of rec) (prepared_of set) ≡ true
+    → IsMade formats store handle before parent keys set → BelongsIn formats store.mounts store core records made world p rec set
+belongs_made formats store core records made world p rec set handle before parent keys stands record_is places set_is accepted is_made =
     let same : keys ≡ set.keys = sym (ap (λ (s : sets.Prepared). s.keys) is_made.is) in
     record {
       mounts_are = refl;

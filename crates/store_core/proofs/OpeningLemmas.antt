@@ -1,5 +1,5 @@
 -- What the files of a store mean at its opening, and what the reading of them leaves.
-use Rattle.std.proofs.Common.{◌≡◌, ℕ, true, false, true≢false, List, [], map as over, None, Result, Ok, Err, IfOk, IfErr, MatchResult, codes, nat_eq, refl, sym, ap, ap₂, subst, ◌∙◌}
+use Rattle.std.proofs.Common.{◌≡◌, ℕ, true, false, true≢false, List, [], map as over, Option, Some, None, Result, Ok, Err, IfOk, IfErr, MatchResult, codes, nat_eq, refl, sym, ap, ap₂, subst, ◌∙◌}
 use Rattle.std.specs.List.{starts_with}
 use Rattle.std.specs.Option.{option_map}
 use Rattle.std.proofs.lemmas.Option.{slice_get-map}
@@ -35,9 +35,10 @@ use Rattle.mounted_files.proofs.WeighLemmas.{mounts-from}
 use Rattle.mounted_files.specs.Weighed.{own_weight}
 use Rattle.store_phases.specs.Stores.{IsStore}
 use Rattle.store_phases.proofs.Stores.{IsStore-read, IsStore-from_now}
-use Rattle.store_core.specs.Cores.{StandsFor}
+use Rattle.store_core.specs.Cores.{StandsFor, StandsIn}
 use Rattle.store_core.specs.Faults.{RefusesStore, of_journal}
 use Rattle.store_core.specs.Frames.{OnlyReadsFiles}
+use Rattle.store_core.specs.Opened.{may_be_of_journal}
 use Rattle.store_core.specs.Plans.{store_of}
 use Rattle.store_core.specs.declared.cores.Core.{Core}
 use Rattle.store_core.specs.declared.faults.OpenFault.{OpenFault}
@@ -114,12 +115,18 @@ of_journal-bad journal_fault.Memory at is = absurd cc
 
 -- ---- the first core
 
--- the first core stands for the first world
+-- the first core stands for the first world, whatever the disk tells
+pub first_core_in : (formats : Formats) {D : Type 0} (store : Store) (core : Core D) → HaveFiles store.mounts → core.history.commits ≡ [] → core.keys ≡ store.start → StandsIn formats store core (λ r m. None) (λ p. None) first_world
+first_core_in formats store core files none keys = record {
+  files = files;
+  stands = subst (λ c. Stands formats store first_world c) (sym (ap₂ (λ (h : List Commit) (k : KeyMap). record { history = h; keys = k; records = λ r m. None; sets = λ p. None }) none keys)) (first_stands formats store);
+}
+
+-- and, with its journal, for a run without a commit
 pub first_core_stands : (formats : Formats) {D : Type 0} (g : Ghosts D) (store : Store) (core : Core D) (run : Run) → HaveFiles store.mounts → core.history.commits ≡ [] → core.keys ≡ store.start → IsStore g core.journal.disk core.journal run → run.commits ≡ []
     → StandsFor formats g store core.journal.disk core (λ r m. None) (λ p. None) first_world run
 first_core_stands formats g store core run files none keys on_disk empty = record {
-  files = files;
-  stands = subst (λ c. Stands formats store first_world c) (sym (ap₂ (λ (h : List Commit) (k : KeyMap). record { history = h; keys = k; records = λ r m. None; sets = λ p. None }) none keys)) (first_stands formats store);
+  here = first_core_in formats store core files none keys;
   on_disk = on_disk;
   entries = empty ∙ sym (ap (entries_of formats store) none);
 }
@@ -136,3 +143,9 @@ stands_opened formats g Reads IsBad journal run (Err r) empty store told keys no
 pub whatever : {O R : Type 0} (result : Result O R) (P : Type 0) → P → IfOk result (λ o. P)
 whatever (Ok o) P is = is
 whatever (Err r) P is = tt
+
+-- where the journal isn't opened, the files weren't read
+pub unread_files : (fault : JournalFault) → may_be_of_journal (Some (of_journal fault)) ≡ false → ⊥
+unread_files journal_fault.DiskFault read = absurd cc
+unread_files (journal_fault.BadJournal at) read = absurd cc
+unread_files journal_fault.Memory read = absurd cc

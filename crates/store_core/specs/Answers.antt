@@ -1,6 +1,8 @@
 -- What a commit answers, as the definitions of a store have it. (This project's own.)
-use Rattle.std.specs.Prelude.{◌≡◌, ℕ, ◌+◌, Bool, true, false, List, slice_get, Option, Some, Result, Ok, Err}
+use Rattle.std.specs.Prelude.{◌≡◌, ℕ, ◌+◌, Bool, true, false, List, length, slice_get, Option, Some, Result, Ok, Err}
 use Rattle.std.specs.Option.{option_map}
+use Rattle.model_history.specs.History.{Commit}
+use Rattle.model_maps.specs.KeyMap.{KeyMap}
 use Rattle.model_names.specs.Name.{Name}
 use Rattle.model_store.specs.Events as event
 use Rattle.model_store.specs.Sets.{Prepared}
@@ -24,6 +26,16 @@ IsAnswer mounts found set (Err (DatabaseFull weight front)) answer = answer ≡ 
 IsAnswer mounts found set (Err (HistoryFull weight front)) answer = answer ≡ event.Judged front (late.HistoryFull weight)
 IsAnswer mounts found set (Err (DiskFault front)) answer = answer ≡ event.Failed front
 IsAnswer mounts found set (Err Memory) answer = answer ≡ event.Memory
+
+-- what the history decides of a set, by the answer to its commit, whatever the disk tells: it decides before the disk is touched
+abbrev pub IsJudged : List Mount → List Commit → KeyMap → Prepared → Result Done CommitFault → Type 0
+IsJudged mounts history keys set (Ok (Committed number aside)) = (number ≡ length history + 1) × late.IsLate history keys set (late.Commits (late.commit_of set) aside)
+IsJudged mounts history keys set (Ok (Same front aside)) = (front ≡ length history) × late.IsLate history keys set (late.Same aside)
+IsJudged mounts history keys set (Err (Conflict mount by front)) = (m : ℕ) × (point_at mounts m ≡ Some mount) × (front ≡ length history) × late.IsLate history keys set (late.Conflict m by)
+IsJudged mounts history keys set (Err (DatabaseFull weight front)) = (front ≡ length history) × late.IsLate history keys set (late.DatabaseFull weight)
+IsJudged mounts history keys set (Err (HistoryFull weight front)) = (front ≡ length history) × late.IsLate history keys set (late.HistoryFull weight)
+IsJudged mounts history keys set (Err (DiskFault front)) = (aside : ℕ) × (front ≡ length history) × late.IsLate history keys set (late.Commits (late.commit_of set) aside)
+IsJudged mounts history keys set (Err Memory) = Unit {0}
 
 -- an answer before which the disk was written: the commit is stored, or a fault came amid it
 abbrev pub has_written : Result Done CommitFault → Bool

@@ -14,20 +14,21 @@ use Rattle.mount_table.specs.declared.mounts.Mount.{Mount}
 use Rattle.set_split.specs.Seen.{numbered}
 use Rattle.store_core.specs.Answers.{IsAnswer}
 use Rattle.store_core.specs.Committing.{IsCommitted}
-use Rattle.store_core.specs.Cores.{StandsFor}
+use Rattle.store_core.specs.Cores.{StandsIn}
 use Rattle.store_core.specs.declared.committing.CommitFault.{CommitFault}
 use Rattle.store_core.specs.declared.committing.Done.{Done}
 use Rattle.store_core.specs.declared.cores.Core.{Core}
+use Rattle.store_phases.specs.Stores.{IsStore}
 use Rattle.store_verdict.specs.PreparedView.{prepared_of}
 use Rattle.store_verdict.specs.RecordView.{handle_of, places_of, record_of}
 use Rattle.store_verdict.specs.declared.prepared.Prepared.{Prepared}
 use Rattle.store_verdict.specs.declared.records.Record.{Record}
 
--- the core stands for a world and a run, with this record as that of its handle and with this set as that of a number; the record accepts
--- the set, which holds what is wanted for each touched mount, and the texts that the formats give of it
-pub record Belongs (formats : Formats) {D : Type 0} (g : Ghosts D) (mounts : List Mount) (store : Store) (opened : D) (core : Core D) (records : ℕ → model.Record) (made : ℕ → Option sets.Prepared) (world : World) (run : Run) (p : ℕ) (rec : Record) (set : Prepared) : Type 0 where
+-- the core stands for a world, with this record as that of its handle and with this set as that of a number; the record accepts
+-- the set, which holds what is wanted for each touched mount, and the texts that the formats give of it. The disk has no part in it
+pub record BelongsIn (formats : Formats) {D : Type 0} (mounts : List Mount) (store : Store) (core : Core D) (records : ℕ → model.Record) (made : ℕ → Option sets.Prepared) (world : World) (p : ℕ) (rec : Record) (set : Prepared) : Type 0 where
   pub mounts_are : store.mounts ≡ mounts
-  pub stands : StandsFor formats g store opened core records made world run
+  pub stands : StandsIn formats store core records made world
   pub record_is : records (handle_of rec) ≡ record_of rec
   pub places : length store.mounts ≤ places_of rec
   pub set_is : made p ≡ Some (prepared_of set)
@@ -35,16 +36,19 @@ pub record Belongs (formats : Formats) {D : Type 0} (g : Ghosts D) (mounts : Lis
   pub wanted : numbered set.wanted ≡ over (λ m. (m, wants (points_of store) set.keys m)) set.touched
   pub texts : set.texts ≡ as_entry (texts_at formats store set.keys set.touched)
 
--- there is such a store, such a world, and such a run
-pub record IsReady (formats : Formats) {D : Type 0} (g : Ghosts D) (mounts : List Mount) (core : Core D) (rec : Record) (set : Prepared) : Type 0 where
+-- and its journal stands for a run since the disk was opened
+pub record Belongs (formats : Formats) {D : Type 0} (g : Ghosts D) (mounts : List Mount) (store : Store) (opened : D) (core : Core D) (records : ℕ → model.Record) (made : ℕ → Option sets.Prepared) (world : World) (run : Run) (p : ℕ) (rec : Record) (set : Prepared) : Type 0 where
+  pub here : BelongsIn formats mounts store core records made world p rec set
+  pub on_disk : IsStore g opened core.journal run
+
+-- there is such a store and such a world, whatever the disk tells
+pub record IsReady (formats : Formats) {D : Type 0} (mounts : List Mount) (core : Core D) (rec : Record) (set : Prepared) : Type 0 where
   pub store : Store
-  pub opened : D
   pub records : ℕ → model.Record
   pub made : ℕ → Option sets.Prepared
   pub world : World
-  pub run : Run
   pub number : ℕ
-  pub belongs : Belongs formats g mounts store opened core records made world run number rec set
+  pub belongs : BelongsIn formats mounts store core records made world number rec set
 
 -- the set was committed as the definitions say, with this answer
 pub record HasAnswered (formats : Formats) {D : Type 0} (g : Ghosts D) (mounts : List Mount) (store : Store) (opened : D) (before after : Core D) (records : ℕ → model.Record) (made : ℕ → Option sets.Prepared) (run : Run) (p : ℕ) (old new : Record) (set : Prepared) (result : Result Done CommitFault) : Type 0 where

@@ -17,7 +17,7 @@ ghost use Rattle.model_store.specs.Store.{Store};
 ghost use Rattle.model_store.specs.Verdicts.{IsLate};
 ghost use Rattle.model_store.specs.Worlds.{World};
 ghost use Rattle.set_split.specs.Seen.{numbered};
-ghost use Rattle.store_core.specs.Answers.{IsConflict, has_written};
+ghost use Rattle.store_core.specs.Answers.{IsConflict, IsJudged, has_written};
 ghost use Rattle.store_core.specs.Frames.{IsUnwritten};
 ghost use Rattle.store_core.specs.Joined.{Belongs, HasAnswered, IsReady};
 ghost use Rattle.store_core.specs.declared.committing.CommitFault.TheVariants as fault;
@@ -87,7 +87,8 @@ impl<D: Disk> Core<D> {
         rec: &mut Record,
         prepared: Prepared,
     ) -> Result<Done, CommitFault>
-        requires ready { IsReady (record { text = F.text; IsStorable = F.is_storable; BreaksAt = F.breaks_at }) D.Disk (over (λ file. file.mount) plan.now.mounted) self.old rec.old prepared }
+        requires ready { IsReady (record { text = F.text; IsStorable = F.is_storable; BreaksAt = F.breaks_at }) (over (λ file. file.mount) plan.now.mounted) self.old rec.old prepared }
+        ensures judged { IsJudged (over (λ file. file.mount) plan.now.mounted) self.old.history.commits self.old.keys (prepared_of prepared) result }
         ensures committed { (store : Store) (opened : D) (records : ℕ → model.Record) (made : ℕ → Option sets.Prepared) (world : World) (run : Run) (p : ℕ)
             → Belongs (record { text = F.text; IsStorable = F.is_storable; BreaksAt = F.breaks_at }) D.Disk (over (λ file. file.mount) plan.now.mounted) store opened self.old records made world run p rec.old prepared
             → HasAnswered (record { text = F.text; IsStorable = F.is_storable; BreaksAt = F.breaks_at }) D.Disk (over (λ file. file.mount) plan.now.mounted) store opened self.old self.new records made run p rec.old rec.new prepared result }

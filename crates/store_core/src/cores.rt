@@ -25,6 +25,13 @@ impl<F: Formats + Drop> Plan<F> {
     {
         self.mounted.table()
     }
+
+    /// The mounts with what their files held when the store was opened.
+    pub fn mounted(&self) -> &Mounted
+        ensures { result.now ≡ self.now.mounted }
+    {
+        &self.mounted
+    }
 }
 
 /// What changes: the journal over the disk, the commits since the opening, the keys of all mounts after them, and whether anything

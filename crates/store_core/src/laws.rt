@@ -15,9 +15,9 @@ ghost use Rattle.mounted_files.specs.Opening.{IsOpened};
 ghost use Rattle.mounted_files.specs.declared.files.MountedFile.{MountedFile};
 ghost use Rattle.mounted_files.specs.declared.refusals.GetFault.{GetFault};
 ghost use Rattle.store_core.specs.Committing.{IsCommitted};
-ghost use Rattle.store_core.specs.Cores.{StandsFor};
+ghost use Rattle.store_core.specs.Cores.{StandsFor, StandsIn};
 ghost use Rattle.store_core.specs.Gets.{fault_at};
-ghost use Rattle.store_core.specs.Joined.{Belongs};
+ghost use Rattle.store_core.specs.Joined.{BelongsIn};
 ghost use Rattle.store_core.specs.Plans.{store_of};
 ghost use Rattle.store_verdict.specs.Preparing.{IsMade};
 ghost use Rattle.store_verdict.specs.PreparedView.{prepared_of};
@@ -49,12 +49,12 @@ pub fn a_prepared_set_may_be_committed<D: Disk, F: Formats>(
     prepared: &verdict::Prepared,
     _formats: &F,
 )
-    ensures { (store : Store) (opened : D) (records : ℕ → Record) (sets : ℕ → Option Prepared) (world : World) (run : Run) (p handle : ℕ) (before : Record) (parent : Name) (keys : KeyMap)
-        → StandsFor (record { text = F.text; IsStorable = F.is_storable; BreaksAt = F.breaks_at }) D.Disk store opened core.now records sets world run
+    ensures { (store : Store) (records : ℕ → Record) (sets : ℕ → Option Prepared) (world : World) (p handle : ℕ) (before : Record) (parent : Name) (keys : KeyMap)
+        → StandsIn (record { text = F.text; IsStorable = F.is_storable; BreaksAt = F.breaks_at }) store core.now records sets world
         → records (handle_of rec.now) ≡ record_of rec.now → length store.mounts ≤ places_of rec.now → sets p ≡ Some (prepared_of prepared.now)
         → accepts (record_of rec.now) (handle_of rec.now) (prepared_of prepared.now) ≡ true
         → IsMade (record { text = F.text; IsStorable = F.is_storable; BreaksAt = F.breaks_at }) store handle before parent keys prepared.now
-        → Belongs (record { text = F.text; IsStorable = F.is_storable; BreaksAt = F.breaks_at }) D.Disk store.mounts store opened core.now records sets world run p rec.now prepared.now }
+        → BelongsIn (record { text = F.text; IsStorable = F.is_storable; BreaksAt = F.breaks_at }) store.mounts store core.now records sets world p rec.now prepared.now }
 {}
 
 /// What a get gives before any commit, to a handle without keys of its own, is what the files of the mounts give; and a bad mount is told for the same cause.

@@ -1,5 +1,5 @@
 //! The opening of a store: its journal first, and then its files.
-ghost use Rattle.std.specs.Prelude.{◌≡◌, ◌≢◌, ℕ, [], false, List, Option, Some, None, true, is_some, Err, IfOk, IfErr, MatchResult};
+ghost use Rattle.std.specs.Prelude.{◌≡◌, ◌≢◌, ℕ, [], false, List, Option, Some, None, true, is_some, Err, IfOk, IfErr, MatchResult, map as over};
 ghost use Rattle.std.specs.List.{AllByRecursion};
 ghost use Rattle.kdb_outside.specs.Crashes.{EveryImage};
 ghost use Rattle.kdb_outside.specs.Faults.{HasRisen};
@@ -10,9 +10,10 @@ ghost use Rattle.journal_codec.specs.Entry.{journal_name};
 ghost use Rattle.intent_journal.specs.declared.states.State.TheVariants.{Doubt as IsDoubt};
 ghost use Rattle.intent_journal.specs.BadJournals.{bad_place, open_entry, opened_files, opened_doubt};
 ghost use Rattle.intent_journal.specs.Moments.{LeavesOnly};
-ghost use Rattle.intent_journal.specs.Outcomes.{HasOnly, IsEither};
+ghost use Rattle.intent_journal.specs.Outcomes.{SameFiles, HasOnly, IsEither};
 ghost use Rattle.intent_journal.specs.States.{IsCalm};
 ghost use Rattle.model_crashes.specs.Runs.{new_run};
+ghost use Rattle.model_files.specs.Files.{HaveFiles};
 ghost use Rattle.model_maps.specs.KeyMap.{KeyMap};
 ghost use Rattle.model_store.specs.Records.{Record};
 ghost use Rattle.model_store.specs.Sets.{Prepared};
@@ -21,7 +22,7 @@ ghost use Rattle.mount_table.specs.Table.{own_mount};
 ghost use Rattle.mounted_files.specs.Getting.{visible_keys};
 ghost use Rattle.mounted_files.specs.Opening.{IsOpened};
 ghost use Rattle.mounted_files.specs.Short.{AreShort};
-ghost use Rattle.store_core.specs.Cores.{StandsFor};
+ghost use Rattle.store_core.specs.Cores.{StandsFor, StandsIn};
 ghost use Rattle.store_core.specs.Faults.{RefusesStore};
 ghost use Rattle.store_core.specs.Frames.{OnlyReadsFiles};
 ghost use Rattle.store_core.specs.Opened.{disk_of, fault_of, may_be_of_journal};
@@ -61,6 +62,13 @@ pub fn open_store<D: Disk, F: Formats + Drop>(
         → IfOk result (λ opened. (procs : ℕ → KeyMap) →
         StandsFor (record { text = F.text; IsStorable = F.is_storable; BreaksAt = F.breaks_at }) D.Disk (store_of opened.plan.mounted procs) opened.core.journal.disk
         opened.core (λ r m. None) (λ p. None) first_world (new_run (opened_files (D.seen disk)) (D.faults disk) (opened_doubt (D.seen disk)))) }
+    ensures own { D.tells disk ≡ true → (files : Image) (doubt : Option (List Item)) → IsCalm (D.seen disk) (D.may_leave disk) files doubt → SameFiles files (opened_files (D.seen disk))
+        → IfOk result (λ opened. (procs : ℕ → KeyMap) →
+        StandsFor (record { text = F.text; IsStorable = F.is_storable; BreaksAt = F.breaks_at }) D.Disk (store_of opened.plan.mounted procs) opened.core.journal.disk
+        opened.core (λ r m. None) (λ p. None) first_world (new_run files (D.faults disk) doubt)) }
+    ensures shown { D.tells disk ≡ true → (files : Image) (doubt : Option (List Item)) → IsCalm (D.seen disk) (D.may_leave disk) files doubt → may_be_of_journal (fault_of result) ≡ false
+        → SameFiles (D.seen (disk_of result)) (opened_files (D.seen disk)) }
+    ensures world { IfOk result (λ opened. (procs : ℕ → KeyMap) → StandsIn (record { text = F.text; IsStorable = F.is_storable; BreaksAt = F.breaks_at }) (store_of opened.plan.mounted procs) opened.core (λ r m. None) (λ p. None) first_world) }
     ensures wrote { D.tells disk ≡ true → IfOk result (λ opened. opened.core.wrote ≡ is_some (open_entry (D.seen disk journal_name))) }
     ensures doubt { IfOk result (λ opened. opened.core.journal.state ≡ IsDoubt) }
     ensures left_alone { D.tells disk ≡ true → open_entry (D.seen disk journal_name) ≡ None → may_be_of_journal (fault_of result) ≡ false → OnlyReads D.Disk disk (disk_of result) }
@@ -101,6 +109,7 @@ fn open_files<D: Disk, F: Formats + Drop>(
     ensures told { D.tells journal.disk ≡ true →
         MatchResult result (λ opened. IsOpened F.reads F.is_bad_at (D.seen journal.disk) opened.plan.mounted)
         (λ refused. RefusesStore F.reads F.is_bad_at (D.seen journal.disk own_mount.file) refused.fault) }
+    ensures world { IfOk result (λ opened. (procs : ℕ → KeyMap) → StandsIn (record { text = F.text; IsStorable = F.is_storable; BreaksAt = F.breaks_at }) (store_of opened.plan.mounted procs) opened.core (λ r m. None) (λ p. None) first_world) }
     ensures fixed { IfOk result (λ opened. (procs : ℕ → KeyMap) → IsPlan (store_of opened.plan.mounted procs) opened.plan.fixed) }
     ensures short { IfOk result (λ opened. AllByRecursion AreShort opened.plan.fixed.shadows) }
     ensures keys { IfOk result (λ opened. opened.core.keys ≡ visible_keys opened.plan.mounted) }
@@ -159,6 +168,7 @@ fn first_state<D: Disk, F: Formats>(
     ensures told { D.tells journal.old.disk ≡ true →
         MatchResult result (λ first. IsOpened F.reads F.is_bad_at (D.seen journal.old.disk) first.mounted)
         (RefusesStore F.reads F.is_bad_at (D.seen journal.old.disk own_mount.file)) }
+    ensures files { IfOk result (λ first. HaveFiles (over (λ file. file.mount) first.mounted)) }
     ensures fixed { IfOk result (λ first. (procs : ℕ → KeyMap) → IsPlan (store_of first.mounted procs) first.fixed) }
     ensures short { IfOk result (λ first. AllByRecursion AreShort first.fixed.shadows) }
     ensures keys { IfOk result (λ first. first.keys ≡ visible_keys first.mounted) }

@@ -106,7 +106,7 @@ module _ (formats : Formats) {D : Type 0} (g : Ghosts D) (mounted : List Mounted
       record {
         last = stage_of after later_records later_places stood.known stood.run;
         plays = subst (λ (first : Stage). Plays formats (store_with mounted procs) mounted first events answers (stage_of after later_records later_places stood.known stood.run))
-            (stage_first stands.stands.history stands.stands.keys (length procs) room counts rooms) stood.plays;
+            (stage_first stands.here.stands.history stands.here.stands.keys (length procs) room counts rooms) stood.plays;
         records = records_of later_records;
         known = stood.known;
         world = stood.world;

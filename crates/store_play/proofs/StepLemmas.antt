@@ -26,7 +26,7 @@ use Rattle.mounted_files.specs.declared.refusals.GetFault.{GetFault}
 use Rattle.store_core.specs.Committing.{IsCommitted, RunsOn}
 use Rattle.store_core.specs.Cores.{core_with}
 use Rattle.store_core.specs.Gets.{HasGot}
-use Rattle.store_core.specs.Joined.{Belongs, HasAnswered}
+use Rattle.store_core.specs.Joined.{Belongs, BelongsIn, HasAnswered}
 use Rattle.store_core.specs.Plans.{store_of}
 use Rattle.store_core.specs.declared.committing.CommitFault.{CommitFault}
 use Rattle.store_core.specs.declared.committing.Done.{Done}
@@ -119,7 +119,7 @@ module _ (formats : Formats) {D : Type 0} (g : Ghosts D) (files : List MountedFi
       let made : Made formats store first.core (event.Get r parent) has.answer next =
       subst (λ (c : cores.Core). Made formats store first.core (event.Get r parent) has.answer c) (ap (λ (rs : ℕ → model.Record). core_with core rs known) (records_of-set records r new lt))
       (subst (λ n. Made formats store first.core (event.Get n parent) has.answer (core_with core (put n (record_of new) (records_of records)) known)) number has.made) in
-      let goes = follows formats store world first.core (event.Get r parent) has.answer next h.stands.stands made in
+      let goes = follows formats store world first.core (event.Get r parent) has.answer next h.stands.here.stands made in
       record {
         known = known;
         world = goes.after;
@@ -134,7 +134,7 @@ module _ (formats : Formats) {D : Type 0} (g : Ghosts D) (files : List MountedFi
           places = refl;
         };
         holds = record {
-          stands = record { files = h.stands.files; stands = goes.stands; on_disk = h.stands.on_disk; entries = h.stands.entries };
+          stands = record { here = record { files = h.stands.here.files; stands = goes.stands }; on_disk = h.stands.on_disk; entries = h.stands.entries };
           handles = moved r old new there lt moves;
           held = h.held;
         };
@@ -157,7 +157,7 @@ module _ (formats : Formats) {D : Type 0} (g : Ghosts D) (files : List MountedFi
           early = subst (λ (s : sets.Prepared). IsEarly formats store s None) is is_made.early;
           next_is = ap (λ (s : sets.Prepared). core_with core (records_of records) (put p (Some s) known)) is;
         } in
-        let goes = follows formats store world first.core (event.Prepare r p parent keys) event.Ready next h.stands.stands made in
+        let goes = follows formats store world first.core (event.Prepare r p parent keys) event.Ready next h.stands.here.stands made in
         record {
           known = later;
           world = goes.after;
@@ -172,7 +172,7 @@ module _ (formats : Formats) {D : Type 0} (g : Ghosts D) (files : List MountedFi
             places = length-set places p (Some new);
           };
           holds = record {
-            stands = record { files = h.stands.files; stands = goes.stands; on_disk = h.stands.on_disk; entries = h.stands.entries };
+            stands = record { here = record { files = h.stands.here.files; stands = goes.stands }; on_disk = h.stands.on_disk; entries = h.stands.entries };
             handles = h.handles;
             held = held_with new lt is_made;
           };
@@ -260,12 +260,15 @@ module _ (formats : Formats) {D : Type 0} (g : Ghosts D) (files : List MountedFi
   held_by p d prepared lt is = held_there p d lt ∙ is
 
   module _ (r p : ℕ) (old : Record) (prepared : Prepared) (there : slice_get records r ≡ Some old) (is_held : held_at places p ≡ Some prepared) (accepted : accepts (record_of old) (handle_of old) (prepared_of prepared) ≡ true) where
-    pub belongs : Belongs formats g (mounts_of files) store opened core (records_of records) known world run p old prepared
-    belongs =
+    pub belongs_here : BelongsIn formats (mounts_of files) store core (records_of records) known world p old prepared
+    belongs_here =
         let is = h.held p prepared is_held in
         let made = is.was_made in
-        belongs_made formats g store opened core (records_of records) known world run p old prepared made.handle made.before made.parent made.keys h.stands (record_is r old there)
+        belongs_made formats store core (records_of records) known world p old prepared made.handle made.before made.parent made.keys h.stands.here (record_is r old there)
         (omega (arith, length-map files (λ (file : MountedFile). file.mount), (h.handles r old there).places)) is.is accepted made.made
+
+    pub belongs : Belongs formats g (mounts_of files) store opened core (records_of records) known world run p old prepared
+    belongs = record { here = belongs_here; on_disk = h.stands.on_disk }
 
     committed : (after : Core D) (new : Record) (result : Result Done CommitFault) → r < length records → p < length places → Moves old new
         → HasAnswered formats g (mounts_of files) store opened core after (records_of records) known run p old new prepared result

@@ -3,6 +3,6 @@ use Rattle.store_core.proofs.MadeLemmas.{belongs_made}
 use Rattle.store_core.proofs.laws.a_prepared_set_may_be_committed.Goals as goal
 
 pub returns : goal.returns
-returns g c store opened records sets world run p handle before parent keys stands record_is places set_is accepted made =
-    belongs_made (record { text = g.F.Formats.text; IsStorable = g.F.Formats.is_storable; BreaksAt = g.F.Formats.breaks_at }) g.D.Disk store opened c.args.core.now records sets world run p c.args.rec.now c.args.prepared.now handle before parent keys
+returns g c store records sets world p handle before parent keys stands record_is places set_is accepted made =
+    belongs_made (record { text = g.F.Formats.text; IsStorable = g.F.Formats.is_storable; BreaksAt = g.F.Formats.breaks_at }) store c.args.core.now records sets world p c.args.rec.now c.args.prepared.now handle before parent keys
     stands record_is places set_is accepted made

@@ -1,13 +1,15 @@
 -- The opened journal shows the files that it leaves, and reading them changes nothing.
-use Rattle.std.proofs.Common.{Some, refl, sym, ap, ◌∙◌}
+use Rattle.std.proofs.Common.{◌≡◌, false, refl, sym, ap, subst, Some, ◌∙◌}
 use Rattle.general_words.proofs.Lists.{some_is}
+use Rattle.kdb_outside.specs.Images.{Image}
 use Rattle.kdb_outside.proofs.Frames.{OnlyReads-then}
 use Rattle.intent_journal.specs.BadJournals.{opened_files, opened_doubt}
-use Rattle.intent_journal.specs.Outcomes.{HasOnly, IsEither}
+use Rattle.intent_journal.specs.Outcomes.{SameFiles, HasOnly, IsEither}
 use Rattle.model_crashes.specs.Runs.{new_run}
-use Rattle.store_core.specs.Opened.{disk_of}
+use Rattle.store_core.specs.Opened.{disk_of, may_be_of_journal}
+use Rattle.store_core.specs.declared.faults.OpenFault.{OpenFault}
 use Rattle.store_core.specs.declared.faults.OpenFault.TheVariants.{BadJournal}
-use Rattle.store_core.proofs.OpeningLemmas.{told_alike, in_doubt, of_journal-bad, rests_read, stands_opened, still_only, whatever}
+use Rattle.store_core.proofs.OpeningLemmas.{told_alike, in_doubt, of_journal-bad, rests_read, stands_opened, still_only, whatever, unread_files}
 use Rattle.store_core.proofs.opening.open_store.Goals as goal
 
 pub returns-in-Ok-clause-opened : goal.returns-in-Ok-clause-opened
@@ -37,6 +39,21 @@ pub returns-in-Ok-clause-any_moment : goal.returns-in-Ok-clause-any_moment
 returns-in-Ok-clause-any_moment g c tells files doubt calm =
     still_only g.D.Disk c.args.disk c.in-Ok.journal.disk (disk_of c.open_files.result) (HasOnly (IsEither files doubt)) tells c.in-Ok.ensures.goes (c.in-Ok.ensures.any_moment tells files doubt calm)
     c.open_files.ensures.reads
+
+pub returns-in-Ok-clause-own : goal.returns-in-Ok-clause-own
+returns-in-Ok-clause-own g c tells files doubt calm same =
+    let store = c.in-Ok.ensures.own tells files doubt calm same in
+    stands_opened (record { text = g.F.Formats.text; IsStorable = g.F.Formats.is_storable; BreaksAt = g.F.Formats.breaks_at }) g.D.Disk g.F.Formats.reads g.F.Formats.is_bad_at c.in-Ok.journal
+    (new_run files (g.D.Disk.faults c.args.disk) doubt) c.open_files.result refl store
+    (c.open_files.ensures.told store.rests.tells) c.open_files.ensures.keys c.open_files.ensures.none c.open_files.ensures.journal
+
+pub returns-in-Ok-clause-shown : goal.returns-in-Ok-clause-shown
+returns-in-Ok-clause-shown g c tells files doubt calm of_files =
+    let store = c.in-Ok.ensures.opened tells files doubt calm in
+    subst (λ (seen : Image). SameFiles seen (opened_files (g.D.Disk.seen c.args.disk))) (sym (c.open_files.ensures.reads.same store.rests.tells)) (c.in-Ok.ensures.shown tells files doubt calm)
+
+pub returns-in-Err-clause-shown : goal.returns-in-Err-clause-shown
+returns-in-Err-clause-shown g c tells files doubt calm of_files = absurd (unread_files c.in-Err.field-0.fault (subst (λ (f : OpenFault). may_be_of_journal (Some f) ≡ false) c.into.ensures of_files))
 
 pub returns-in-Ok-clause-doubt : goal.returns-in-Ok-clause-doubt
 returns-in-Ok-clause-doubt g c = in_doubt g.D.Disk c.in-Ok.journal c.open_files.result c.in-Ok.ensures.doubt c.open_files.ensures.journal

@@ -5,7 +5,7 @@ use Rattle.std.proofs.lemmas.Option.{slice_get-get_or}
 use Rattle.model_store.specs.Cores.{accepts}
 use Rattle.store_core.specs.Plans.{store_of}
 use Rattle.store_play.specs.Handles.{records_of}
-use Rattle.store_play.proofs.StepLemmas.{belongs, committed_so, declined, held_by}
+use Rattle.store_play.proofs.StepLemmas.{belongs, belongs_here, committed_so, declined, held_by}
 use Rattle.store_verdict.specs.PreparedView.{prepared_of}
 use Rattle.store_verdict.specs.RecordView.{handle_of, record_of}
 use Rattle.store_verdict.specs.declared.records.Record.{Record}
@@ -21,13 +21,11 @@ commit-requires g c =
     record {
       ready = record {
         store = store_of c.args.plan.now.mounted w.procs;
-        opened = w.opened;
         records = records_of c.args.records.now;
         made = w.known;
         world = w.world;
-        run = w.run;
         number = c.args.number;
-        belongs = belongs (record { text = g.F.Formats.text; IsStorable = g.F.Formats.is_storable; BreaksAt = g.F.Formats.breaks_at }) g.D.Disk c.args.plan.now.mounted w.procs w.opened c.args.core.now c.args.records.now c.args.places.now w.known w.world w.run w.holds c.args.handle c.args.number rec c.in-Ok.set
+        belongs = belongs_here (record { text = g.F.Formats.text; IsStorable = g.F.Formats.is_storable; BreaksAt = g.F.Formats.breaks_at }) g.D.Disk c.args.plan.now.mounted w.procs w.opened c.args.core.now c.args.records.now c.args.places.now w.known w.world w.run w.holds c.args.handle c.args.number rec c.in-Ok.set
             (slice_get-get_or c.args.records.now c.args.handle d c.if-handle-records.false)
             (held_by (record { text = g.F.Formats.text; IsStorable = g.F.Formats.is_storable; BreaksAt = g.F.Formats.breaks_at }) g.D.Disk c.args.plan.now.mounted w.procs w.opened c.args.core.now c.args.records.now c.args.places.now w.known w.world w.run w.holds c.args.number c.index-places-number.result c.in-Ok.set c.if-number-places.false c.in-Ok.ensures.ok) accepted;
       };

@@ -11,6 +11,7 @@ use Rattle.store_core.specs.declared.committing.CommitFault.TheVariants as fault
 use Rattle.store_core.specs.declared.committing.Done.TheVariants as done
 use Rattle.store_core.proofs.AnswerLemmas.{told, wanting, conflicting, conflict_within, parts_within, not_full, is_entry, answered}
 use Rattle.store_core.proofs.CommitLemmas.{nothing_stored}
+use Rattle.store_core.proofs.JudgedLemmas.{judged_commit, judged_conflict}
 use Rattle.store_verdict.specs.LateView.{late_of}
 use Rattle.store_verdict.specs.PreparedView.{prepared_of}
 use Rattle.store_verdict.specs.declared.judging.Late.{Late}
@@ -28,24 +29,24 @@ conflict-requires g c =
     let verdict : c.in-Ok.judged.late ≡ code.Conflict c.in-Conflict.mount c.in-Conflict.by = c.in-Conflict.is in
     let late : IsLate c.args.self.now.history.commits c.args.self.now.keys (prepared_of c.args.prepared) (late_of (code.Conflict c.in-Conflict.mount c.in-Conflict.by)) =
     subst (λ (l : Late). IsLate c.args.self.now.history.commits c.args.self.now.keys (prepared_of c.args.prepared) (late_of l)) verdict c.in-Ok.ensures.late in
-    subst (λ (ms : List Mount). c.in-Conflict.mount < length ms) (sym c.table.ensures) (conflict_within (record { text = g.F.Formats.text; IsStorable = g.F.Formats.is_storable; BreaksAt = g.F.Formats.breaks_at }) g.D.Disk (over (λ (file : MountedFile). file.mount) c.args.plan.now.mounted) c.requires.ready.store c.requires.ready.opened c.args.self.now c.requires.ready.records c.requires.ready.made c.requires.ready.world c.requires.ready.run c.requires.ready.number c.args.rec.now c.args.prepared c.requires.ready.belongs c.in-Conflict.mount c.in-Conflict.by late)
+    subst (λ (ms : List Mount). c.in-Conflict.mount < length ms) (sym c.table.ensures) (conflict_within (record { text = g.F.Formats.text; IsStorable = g.F.Formats.is_storable; BreaksAt = g.F.Formats.breaks_at }) (over (λ (file : MountedFile). file.mount) c.args.plan.now.mounted) c.requires.ready.store c.args.self.now c.requires.ready.records c.requires.ready.made c.requires.ready.world c.requires.ready.number c.args.rec.now c.args.prepared c.requires.ready.belongs c.in-Conflict.mount c.in-Conflict.by late)
 
 pub enter-requires-clause-entry : goal.enter-requires-clause-entry
 enter-requires-clause-entry g c =
     let verdict : c.in-Ok.judged.late ≡ code.Commits c.in-Commits.commit c.in-Commits.left_aside = c.in-Commits.is in
     let late : IsLate c.args.self.now.history.commits c.args.self.now.keys (prepared_of c.args.prepared) (late_of (code.Commits c.in-Commits.commit c.in-Commits.left_aside)) =
     subst (λ (l : Late). IsLate c.args.self.now.history.commits c.args.self.now.keys (prepared_of c.args.prepared) (late_of l)) verdict c.in-Ok.ensures.late in
-    is_entry (record { text = g.F.Formats.text; IsStorable = g.F.Formats.is_storable; BreaksAt = g.F.Formats.breaks_at }) g.D.Disk (over (λ (file : MountedFile). file.mount) c.args.plan.now.mounted) c.requires.ready.store c.requires.ready.opened c.args.self.now c.requires.ready.records c.requires.ready.made c.requires.ready.world c.requires.ready.run c.requires.ready.number c.args.rec.now c.args.prepared c.requires.ready.belongs (log.commit_of c.in-Commits.commit) c.in-Commits.left_aside late
+    is_entry (record { text = g.F.Formats.text; IsStorable = g.F.Formats.is_storable; BreaksAt = g.F.Formats.breaks_at }) (over (λ (file : MountedFile). file.mount) c.args.plan.now.mounted) c.requires.ready.store c.args.self.now c.requires.ready.records c.requires.ready.made c.requires.ready.world c.requires.ready.number c.args.rec.now c.args.prepared c.requires.ready.belongs (log.commit_of c.in-Commits.commit) c.in-Commits.left_aside late
 
 pub enter-requires-clause-light : goal.enter-requires-clause-light
 enter-requires-clause-light g c =
     let verdict : c.in-Ok.judged.late ≡ code.Commits c.in-Commits.commit c.in-Commits.left_aside = c.in-Commits.is in
     let late : IsLate c.args.self.now.history.commits c.args.self.now.keys (prepared_of c.args.prepared) (late_of (code.Commits c.in-Commits.commit c.in-Commits.left_aside)) =
     subst (λ (l : Late). IsLate c.args.self.now.history.commits c.args.self.now.keys (prepared_of c.args.prepared) (late_of l)) verdict c.in-Ok.ensures.late in
-    not_full (record { text = g.F.Formats.text; IsStorable = g.F.Formats.is_storable; BreaksAt = g.F.Formats.breaks_at }) g.D.Disk (over (λ (file : MountedFile). file.mount) c.args.plan.now.mounted) c.requires.ready.store c.requires.ready.opened c.args.self.now c.requires.ready.records c.requires.ready.made c.requires.ready.world c.requires.ready.run c.requires.ready.number c.args.rec.now c.args.prepared c.requires.ready.belongs (log.commit_of c.in-Commits.commit) c.in-Commits.left_aside late
+    not_full (record { text = g.F.Formats.text; IsStorable = g.F.Formats.is_storable; BreaksAt = g.F.Formats.breaks_at }) (over (λ (file : MountedFile). file.mount) c.args.plan.now.mounted) c.requires.ready.store c.args.self.now c.requires.ready.records c.requires.ready.made c.requires.ready.world c.requires.ready.number c.args.rec.now c.args.prepared c.requires.ready.belongs (log.commit_of c.in-Commits.commit) c.in-Commits.left_aside late
 
 pub enter-requires-clause-places : goal.enter-requires-clause-places
-enter-requires-clause-places g c = parts_within (record { text = g.F.Formats.text; IsStorable = g.F.Formats.is_storable; BreaksAt = g.F.Formats.breaks_at }) g.D.Disk (over (λ (file : MountedFile). file.mount) c.args.plan.now.mounted) c.requires.ready.store c.requires.ready.opened c.args.self.now c.requires.ready.records c.requires.ready.made c.requires.ready.world c.requires.ready.run c.requires.ready.number c.args.rec.now c.args.prepared c.requires.ready.belongs
+enter-requires-clause-places g c = parts_within (record { text = g.F.Formats.text; IsStorable = g.F.Formats.is_storable; BreaksAt = g.F.Formats.breaks_at }) (over (λ (file : MountedFile). file.mount) c.args.plan.now.mounted) c.requires.ready.store c.args.self.now c.requires.ready.records c.requires.ready.made c.requires.ready.world c.requires.ready.number c.args.rec.now c.args.prepared c.requires.ready.belongs
 
 pub returns-in-Same-clause-committed : goal.returns-in-Same-clause-committed
 returns-in-Same-clause-committed g c store opened records made world run p b =
@@ -96,4 +97,41 @@ returns-in-Commits-clause-committed g c store opened records made world run p b 
     subst (λ (l : Late). IsLate c.args.self.now.history.commits c.args.self.now.keys (prepared_of c.args.prepared) (late_of l)) verdict c.in-Ok.ensures.late in
     answered (record { text = g.F.Formats.text; IsStorable = g.F.Formats.is_storable; BreaksAt = g.F.Formats.breaks_at }) g.D.Disk (over (λ (file : MountedFile). file.mount) c.args.plan.now.mounted) store opened c.args.self.now records made world run p c.args.rec.now c.args.prepared b (log.commit_of c.in-Commits.commit) c.in-Commits.left_aside late c.enter.new.self c.enter.new.rec c.in-Ok.judged.keys c.in-Ok.ensures.keys c.enter.result
     c.enter.ensures.ok c.enter.ensures.err c.enter.ensures.history c.enter.ensures.keys c.enter.ensures.kept c.enter.ensures.same c.enter.ensures.fetched (λ is. (c.enter.ensures.unwritten (ap has_written is)).journal)
-    (c.enter.ensures.committed opened run b.stands.on_disk) (λ front. c.enter.ensures.failed opened run front b.stands.on_disk)
+    (c.enter.ensures.committed opened run b.on_disk) (λ front. c.enter.ensures.failed opened run front b.on_disk)
+
+pub returns-in-Same-clause-judged : goal.returns-in-Same-clause-judged
+returns-in-Same-clause-judged g c =
+    let verdict : c.in-Ok.judged.late ≡ code.Same c.in-Same.left_aside = c.in-Same.is in
+    let late : IsLate c.args.self.now.history.commits c.args.self.now.keys (prepared_of c.args.prepared) (late_of (code.Same c.in-Same.left_aside)) =
+    subst (λ (l : Late). IsLate c.args.self.now.history.commits c.args.self.now.keys (prepared_of c.args.prepared) (late_of l)) verdict c.in-Ok.ensures.late in
+    (c.len-front.ensures, late)
+
+pub returns-in-DatabaseFull-clause-judged : goal.returns-in-DatabaseFull-clause-judged
+returns-in-DatabaseFull-clause-judged g c =
+    let verdict : c.in-Ok.judged.late ≡ code.DatabaseFull c.in-DatabaseFull.weight = c.in-DatabaseFull.is in
+    let late : IsLate c.args.self.now.history.commits c.args.self.now.keys (prepared_of c.args.prepared) (late_of (code.DatabaseFull c.in-DatabaseFull.weight)) =
+    subst (λ (l : Late). IsLate c.args.self.now.history.commits c.args.self.now.keys (prepared_of c.args.prepared) (late_of l)) verdict c.in-Ok.ensures.late in
+    (c.len-front.ensures, late)
+
+pub returns-in-HistoryFull-clause-judged : goal.returns-in-HistoryFull-clause-judged
+returns-in-HistoryFull-clause-judged g c =
+    let verdict : c.in-Ok.judged.late ≡ code.HistoryFull c.in-HistoryFull.weight = c.in-HistoryFull.is in
+    let late : IsLate c.args.self.now.history.commits c.args.self.now.keys (prepared_of c.args.prepared) (late_of (code.HistoryFull c.in-HistoryFull.weight)) =
+    subst (λ (l : Late). IsLate c.args.self.now.history.commits c.args.self.now.keys (prepared_of c.args.prepared) (late_of l)) verdict c.in-Ok.ensures.late in
+    (c.len-front.ensures, late)
+
+pub returns-in-Conflict-clause-judged : goal.returns-in-Conflict-clause-judged
+returns-in-Conflict-clause-judged g c =
+    let verdict : c.in-Ok.judged.late ≡ code.Conflict c.in-Conflict.mount c.in-Conflict.by = c.in-Conflict.is in
+    let late : IsLate c.args.self.now.history.commits c.args.self.now.keys (prepared_of c.args.prepared) (late_of (code.Conflict c.in-Conflict.mount c.in-Conflict.by)) =
+    subst (λ (l : Late). IsLate c.args.self.now.history.commits c.args.self.now.keys (prepared_of c.args.prepared) (late_of l)) verdict c.in-Ok.ensures.late in
+    judged_conflict (over (λ (file : MountedFile). file.mount) c.args.plan.now.mounted) c.args.self.now.history.commits c.args.self.now.keys (prepared_of c.args.prepared) c.in-Conflict.mount c.in-Conflict.by c.conflict.result late
+    (subst (λ (ms : List Mount). IsConflict ms c.in-Conflict.mount c.in-Conflict.by (length c.args.self.now.history.commits) c.conflict.result) c.table.ensures
+    (subst (λ n. IsConflict c.table.result.now c.in-Conflict.mount c.in-Conflict.by n c.conflict.result) c.len-front.ensures c.conflict.ensures))
+
+pub returns-in-Commits-clause-judged : goal.returns-in-Commits-clause-judged
+returns-in-Commits-clause-judged g c =
+    let verdict : c.in-Ok.judged.late ≡ code.Commits c.in-Commits.commit c.in-Commits.left_aside = c.in-Commits.is in
+    let late : IsLate c.args.self.now.history.commits c.args.self.now.keys (prepared_of c.args.prepared) (late_of (code.Commits c.in-Commits.commit c.in-Commits.left_aside)) =
+    subst (λ (l : Late). IsLate c.args.self.now.history.commits c.args.self.now.keys (prepared_of c.args.prepared) (late_of l)) verdict c.in-Ok.ensures.late in
+    judged_commit (over (λ (file : MountedFile). file.mount) c.args.plan.now.mounted) c.args.self.now.history.commits c.args.self.now.keys (prepared_of c.args.prepared) (log.commit_of c.in-Commits.commit) c.in-Commits.left_aside late c.enter.result c.enter.ensures.ok c.enter.ensures.err
