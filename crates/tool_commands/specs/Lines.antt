@@ -55,6 +55,13 @@ abbrev pub not_storable : Name → Name → List ℕ
 not_storable mount key = codes "C03200 not-storable " ++ (shown mount ++ (32 ∷ shown key))
 
 -- all keys of the store would be too heavy
+abbrev pub history_full : ℕ → List ℕ
+history_full weight = codes "C01100 history-full " ++ decimal weight
+
+-- the journal's gate is open, and no whole body of an entry stands behind it: the place in the body
+abbrev pub bad_journal : ℕ → List ℕ
+bad_journal at = codes "C03100 bad-journal " ++ decimal at
+
 abbrev pub database_full : ℕ → List ℕ
 database_full weight = codes "C01100 database-full " ++ decimal weight
 

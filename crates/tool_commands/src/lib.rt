@@ -16,6 +16,6 @@ pub use reports::{Report, tell, tell_bytes, warn, warn_not_found};
 pub use status::{FAULT, OUT_OF_MEMORY, REFUSED, Status};
 pub use steps::Step;
 pub use store_lines::{
-    bad_file, bad_table, database_full, file_too_large, not_storable, too_heavy, too_long,
-    value_too_long,
+    bad_file, bad_journal, bad_table, database_full, file_too_large, history_full, not_storable,
+    too_heavy, too_long, value_too_long,
 };

@@ -1,6 +1,6 @@
 //! The lines of what a store refuses.
 ghost use Rattle.std.specs.Prelude.{◌≡◌, ◌≢◌, IfOk, OnOk, string_bytes};
-ghost use Rattle.tool_commands.specs.Lines.{too_long, bad_file, too_heavy, bad_table, value_too_long, file_too_large, not_storable, database_full, bad_entry};
+ghost use Rattle.tool_commands.specs.Lines.{too_long, bad_file, too_heavy, bad_table, value_too_long, file_too_large, not_storable, database_full, history_full, bad_journal, bad_entry};
 ghost use Rattle.mount_table.specs.declared.faults.TableFault.TheVariants.{Memory as OutOfMemory};
 
 use kdb_text::{quoted, shown};
@@ -57,6 +57,19 @@ pub fn database_full(alloc: Global, weight: u64) -> Result<String, Memory>
     ensures { IfOk result (λ text. string_bytes text ≡ database_full weight) }
 {
     format!(in alloc; "C01100 database-full {weight}")
+}
+
+pub fn history_full(alloc: Global, weight: u64) -> Result<String, Memory>
+    ensures { IfOk result (λ text. string_bytes text ≡ history_full weight) }
+{
+    format!(in alloc; "C01100 history-full {weight}")
+}
+
+/// The journal's gate is open, and no whole body of an entry stands behind it: the place in the body.
+pub fn bad_journal(alloc: Global, at: u64) -> Result<String, Memory>
+    ensures { IfOk result (λ text. string_bytes text ≡ bad_journal at) }
+{
+    format!(in alloc; "C03100 bad-journal {at}")
 }
 
 /// What is wrong with a mount table. Want of memory has no such line.
