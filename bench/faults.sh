@@ -3,19 +3,19 @@
 # each; then over file systems that are nearly full. Prints a table, and ends with 1 where something that must hold doesn't:
 #
 #   - EINTR changes nothing: status, out, err and files are those of a run without it;
-#   - every other failure is status 74 with its line on err and nothing on out; only a failing close tells nothing, since
-#     what was written is synced after it by a call that tells;
+#   - every other failure is status 74 with its line on err and nothing on out, or comes behind the commit and changes nothing of what
+#     is told; only a failing close tells nothing, since what was written is synced after it by a call that tells;
+#   - whatever failed and whenever the run was killed, its files are the old ones or the new ones once the next run has opened the
+#     store, and the new ones where it told that they are stored;
 #   - each file that a run stores is synced behind its last change, and then its folder; a folder that is made is synced in
 #     the one above before anything is put into it.
 #
-# Files are old, new, mixed (some old and some new) or torn. Until the tool stands on the journal they are written in place,
-# so mixed and torn are shown and let through; with the word `whole` behind it the script ends with 1 at those too.
+# Files are old, new, mixed (some old and some new) or torn, as the next run leaves them, which is a `kdb mounts`.
 # Wants build/kdb (first-use.sh makes it) and strace of Debian's packages; the full file systems want the right to mount.
 # It takes some minutes. Not part of the gate.
 set -u
 cd "$(dirname "$0")/.."
 kdb=${KDB:-$PWD/build/kdb}
-whole=${1:-}
 [ -x "$kdb" ] || { echo "run ./first-use.sh first" >&2; exit 1; }
 command -v strace >/dev/null || { echo "install strace first (apt-get install strace)" >&2; exit 1; }
 work=$(mktemp -d)
@@ -147,6 +147,7 @@ for case in get set rm mv mount first; do
       { timeout 60 strace -qq -o /dev/null -e trace="$name" -e inject="$name:$how:when=$number" \
         "$kdb" "${words[@]}" >"$work/got" 2>"$work/said"; } 2>/dev/null
       status=$?
+      [ $case = first ] && [ ! -e .kdb ] || "$kdb" mounts >/dev/null 2>"$work/next" || complain "$case, $fault at $name $number: the next run says $(cat "$work/next")"
       files=$(state)
       line=$(head -c 200 "$work/said" | tr '\n' ' ')
       at="$case, $fault at $name $number"
@@ -162,18 +163,20 @@ for case in get set rm mv mount first; do
             cmp -s "$work/said" "$work/err" || complain "$at: err has $line"
             [ "$files" = new ] || [ "$files" = same ] || complain "$at: files are $files"
           else
-            [ $status = 74 ] || complain "$at: status $status, $line"
-            [ -s "$work/got" ] && complain "$at: out has $(cat "$work/got")"
-            case $line in
-              'kdb: C01100 disk-fault ' | 'kdb: C01100 write-fault ') ;;
-              *) complain "$at: err has $line" ;;
-            esac
+            if [ $status = "$wanted" ] && cmp -s "$work/got" "$work/out" && cmp -s "$work/said" "$work/err"; then
+              [ "$files" = new ] || [ "$files" = same ] || complain "$at: files are $files"
+            else
+              [ $status = 74 ] || complain "$at: status $status, $line"
+              [ -s "$work/got" ] && complain "$at: out has $(cat "$work/got")"
+              case $line in
+                'kdb: C01100 disk-fault ' | 'kdb: C01100 write-fault ') ;;
+                *) complain "$at: err has $line" ;;
+              esac
+            fi
           fi
           ;;
       esac
-      if [ "$whole" = whole ]; then
-        case $files in mixed | torn) complain "$at: files are $files" ;; esac
-      fi
+      case $files in mixed | torn) complain "$at: files are $files" ;; esac
       echo "$status $files ($line)" >>"$work/rows"
     done 3<"$work/calls"
     printf '%-6s %-7s %5s   %s\n' $case $fault "$(wc -l <"$work/rows")" \
@@ -196,13 +199,15 @@ if mount -t tmpfs -o size=32k none "$work/full" 2>/dev/null; then
     head -c $(((7 - left) * 4096)) /dev/zero >filler
     "$kdb" set user:/sw/a "$long" >"$work/got" 2>"$work/said"
     status=$?
+    rm -f filler
+    "$kdb" mounts >/dev/null 2>"$work/next" || complain "a full file system with $left pages left: the next run says $(cat "$work/next")"
     files=torn
     cmp -s .kdb/user.ecf "$work/before.ecf" && files=old
     printf 'full, %s pages left: %s %s (%s)\n' $left $status $files "$(tr '\n' ' ' <"$work/said" | sed 's/ $//')"
     [ $status = 74 ] || complain "a full file system with $left pages left: status $status"
     [ -s "$work/got" ] && complain "a full file system with $left pages left: out has $(cat "$work/got")"
     [ "$(cat "$work/said")" = 'kdb: C01100 disk-fault' ] || complain "a full file system with $left pages left: err has $(cat "$work/said")"
-    [ "$whole" = whole ] && [ $files = torn ] && complain "a full file system with $left pages left: files are torn"
+    [ $files = torn ] && complain "a full file system with $left pages left: files are torn"
     cd "$work" || exit 1
   done
   umount "$work/full"

@@ -22,18 +22,16 @@ use Rattle.kdb_tool.specs.Input.{taken}
 use Rattle.mounted_files.specs.Files.{Holds, IsCause}
 use Rattle.mounted_files.specs.Getting.{below, fault_of}
 use Rattle.mounted_files.specs.declared.causes.Cause.{Cause}
-use Rattle.kdb_tool.specs.Answers.{AnswersBelow, AnswersImport, AnswersText, Written, NotHeld, Held, Bad, AnswersStep, AnswersGot, AnswersIn, AnswersOpened, AnswersOver, AnswersRequest, Answers, answer_by, file_told, mounts_told, line_of_get, line_of_opening}
+use Rattle.kdb_tool.specs.Answers.{AnswersBelow, AnswersImport, AnswersText, Written, NotHeld, Held, Bad, AnswersStep, AnswersGot, AnswersIn, AnswersOpened, AnswersOver, AnswersRequest, Answers, file_told, mounts_told, line_of_get, line_of_opening}
 use Rattle.mounted_files.specs.Opening.{IsMade, IsMadeByKeys, Opens}
-use Rattle.mounted_files.proofs.OneVerdict.{Verdict-some}
 use Rattle.mounted_files.proofs.SomeOpening.{Opens-some, Holds-or_bad, opened-made}
 use Rattle.tool_words.proofs.RowLemmas.{request-names_files}
 use Rattle.kdb_tool.proofs.AnswerLemmas.{owner_in-there}
+use Rattle.kdb_tool.proofs.SetLemmas.{Set-some}
 
 step_exists : (files : List MountedFile) (parent : Name) (step : Step) → (answer : Answer) × AnswersStep files parent step answer
 step_exists files parent (Tells report) = (tells report, refl)
-step_exists files parent (Sets keys out) =
-    let found = Verdict-some all.text all.IsStorable all.BreaksAt laws.storable-or_breaks files parent keys in
-    (answer_by found.0 out, record { verdict = found.0; judged = found.1; is = refl })
+step_exists files parent (Sets keys out) = Set-some files parent keys out
 
 got_exists : (files : List MountedFile) (name : Name) (action : Action) (keys : Result KeyMap GetFault) → (answer : Answer) × AnswersGot files name action keys answer
 got_exists files name action (Ok keys) = step_exists files (parent_of name action) (step_of keys name action)

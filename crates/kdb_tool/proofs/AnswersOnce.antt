@@ -19,16 +19,17 @@ use Rattle.kdb_tool.specs.Answer.{refused}
 use Rattle.kdb_tool.specs.Input.{taken}
 use Rattle.mounted_files.specs.Getting.{below, fault_of}
 use Rattle.mounted_files.specs.declared.causes.Cause.{Cause}
-use Rattle.kdb_tool.specs.Answers.{AnswersBelow, AnswersImport, AnswersText, Written, NotHeld, Held, Bad, line_of_get, AnswersStep, AnswersGot, AnswersIn, AnswersOpened, AnswersOver, AnswersRequest, Answers, answer_by, file_told, owner_in}
+use Rattle.kdb_tool.specs.Answers.{AnswersBelow, AnswersImport, AnswersText, Written, NotHeld, Held, Bad, line_of_get, AnswersStep, AnswersGot, AnswersIn, AnswersOpened, AnswersOver, AnswersRequest, Answers, file_told, owner_in}
 use Rattle.all_formats.specs.Meanings as all
 use Rattle.all_formats.specs.Laws as laws
+use Rattle.mounted_files.specs.Files.{Holds}
 use Rattle.mounted_files.specs.Opening.{IsMade}
 use Rattle.mounted_files.proofs.OneOpening.{Opens-once, Holds-once, Holds-not_bad, Cause-once}
-use Rattle.mounted_files.proofs.OneVerdict.{Verdict-once}
+use Rattle.kdb_tool.proofs.SetLemmas.{Set-once}
 
 step_once : (files : List MountedFile) (parent : Name) (step : Step) (a b : Answer) → AnswersStep files parent step a → AnswersStep files parent step b → a ≡ b
 step_once files parent (Tells report) a b p q = p ∙ sym q
-step_once files parent (Sets keys out) a b p q = p.is ∙ (ap (λ v. answer_by v out) (Verdict-once all.text all.IsStorable all.BreaksAt laws.storable-breaks_nowhere laws.BreaksAt-once files parent keys p.verdict q.verdict p.judged q.judged) ∙ sym q.is)
+step_once files parent (Sets keys out) a b p q = Set-once files parent keys out a b p q
 
 got_once : (files : List MountedFile) (name : Name) (action : Action) (keys : Result KeyMap GetFault) (a b : Answer) → AnswersGot files name action keys a → AnswersGot files name action keys b → a ≡ b
 got_once files name action (Ok keys) a b p q = step_once files (parent_of name action) (step_of keys name action) a b p q
@@ -63,7 +64,7 @@ is_made : (opened : Result (List MountedFile) OpenRefusal) (question : Question)
 is_made (Ok files) question answer answers = tt
 is_made (Err refusal) question answer answers = answers.0
 
-over_once : (question : Question) (bytes_of : List ℕ → List ℕ) (a b : Answer) → AnswersOver question bytes_of a → AnswersOver question bytes_of b → a ≡ b
+pub over_once : (question : Question) (bytes_of : List ℕ → List ℕ) (a b : Answer) → AnswersOver question bytes_of a → AnswersOver question bytes_of b → a ≡ b
 over_once question bytes_of a b p q =
     let same = Opens-once all.Reads all.IsBadAt laws.Reads-once laws.Reads-not_bad laws.IsBadAt-once bytes_of p.opened q.opened p.opens q.opens (is_made p.opened question a p.answers) (is_made q.opened question b q.answers) in
     opened_once p.opened question a b p.answers (subst (λ opened. AnswersOpened opened question b) (sym same) q.answers)
@@ -76,6 +77,13 @@ import_once name kind bytes bytes_of a b (Held keys holds p) (Bad cause bad q) =
 import_once name kind bytes bytes_of a b (Bad cause bad p) (Held keys holds q) = absurd (Holds-not_bad all.Reads all.IsBadAt laws.Reads-once laws.Reads-not_bad laws.IsBadAt-once name kind bytes keys cause holds bad)
 import_once name kind bytes bytes_of a b (Bad cause bad p) (Bad other again q) =
     p ∙ (ap (λ c. refused 5 (line_of_get (fault_of name c))) (Cause-once all.Reads all.IsBadAt laws.Reads-once laws.Reads-not_bad laws.IsBadAt-once name kind bytes cause other bad again) ∙ sym q)
+
+-- an import of some keys is answered as the question with these keys
+pub import-over : (name : Name) (kind : Kind) (bytes : List ℕ) (bytes_of : List ℕ → List ℕ) (keys : KeyMap) (answer : Answer) → Holds all.Reads name kind bytes keys → AnswersImport name kind bytes bytes_of answer → AnswersOver (On name (Replace keys)) bytes_of answer
+import-over name kind bytes bytes_of keys answer holds (Held other again q) =
+    let same = Holds-once all.Reads all.IsBadAt laws.Reads-once laws.Reads-not_bad laws.IsBadAt-once name kind bytes keys other holds again in
+    subst (λ (k : KeyMap). AnswersOver (On name (Replace k)) bytes_of answer) (sym same) q
+import-over name kind bytes bytes_of keys answer holds (Bad cause bad q) = absurd (Holds-not_bad all.Reads all.IsBadAt laws.Reads-once laws.Reads-not_bad laws.IsBadAt-once name kind bytes keys cause holds bad)
 
 request_once : (asked : Request) (input : List ℕ) (bytes_of : List ℕ → List ℕ) (a b : Answer) → AnswersRequest asked input bytes_of a → AnswersRequest asked input bytes_of b → a ≡ b
 request_once (Refuses status text) input bytes_of a b p q = p ∙ sym q

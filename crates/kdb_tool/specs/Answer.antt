@@ -1,7 +1,9 @@
 -- What a command answers: what it tells, and the files that get other bytes. (This project's own.)
-use Rattle.std.specs.Prelude.{◌≡◌, ℕ, Bool, false, List, []}
-use Rattle.std.specs.List.{AllByRecursion, list_any}
-use Rattle.general_words.specs.Texts.{is_text}
+use Rattle.std.specs.Prelude.{ℕ, List, [], map as over}
+use Rattle.intent_journal.specs.Outcomes.{with_entry}
+use Rattle.journal_codec.specs.declared.files.FileText.{FileText}
+use Rattle.kdb_outside.specs.Images.{Image}
+use Rattle.model_files.specs.Texts.{as_file}
 use Rattle.tool_commands.specs.Report.{Report, told, warned}
 
 -- files by their names, with the bytes that they get
@@ -29,15 +31,10 @@ stores texts out = record { report = told out; stored = texts }
 abbrev pub refused : ℕ → List ℕ → Answer
 refused status text = tells (warned status text)
 
--- a file is one of those that are stored
-abbrev pub is_stored : Texts → List ℕ → Bool
-is_stored texts file = list_any (λ text. is_text text.0 file) texts
-
--- all files that are not stored are as they were
-abbrev pub KeepsUnnamed : Texts → (List ℕ → List ℕ) → (List ℕ → List ℕ) → Type 0
-KeepsUnnamed texts before after = (file : List ℕ) → is_stored texts file ≡ false → after file ≡ before file
+-- what is stored, as the one entry of the journal
+abbrev pub entry_of : Texts → List FileText
+entry_of texts = over as_file texts
 
 -- the files behind a command: those that are stored have their bytes, and all others are as they were
-pub record LeavesFiles (texts : Texts) (before after : List ℕ → List ℕ) : Type 0 where
-  pub each : AllByRecursion (λ text. after text.0 ≡ text.1) texts
-  pub others : KeepsUnnamed texts before after
+abbrev pub with_stored : Texts → Image → Image
+with_stored texts files = with_entry files (entry_of texts)

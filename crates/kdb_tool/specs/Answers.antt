@@ -10,7 +10,6 @@ use Rattle.model_maps.specs.KeyMap.{KeyMap}
 use Rattle.mount_table.specs.Points.{own_point}
 use Rattle.mounted_files.specs.Files.{points_of, Holds, IsCause}
 use Rattle.mounted_files.specs.Getting.{below, fault_of, got}
-use Rattle.mounted_files.specs.Judging.{IsVerdict}
 use Rattle.mounted_files.specs.Opening.{Opens}
 use Rattle.mounted_files.specs.declared.causes.Cause.{Cause}
 use Rattle.mounted_files.specs.declared.files.MountedFile.{MountedFile}
@@ -18,33 +17,16 @@ use Rattle.mounted_files.specs.declared.refusals.GetFault.{GetFault}
 use Rattle.mounted_files.specs.declared.refusals.GetFault.TheVariants as faults
 use Rattle.mounted_files.specs.declared.refusals.OpenRefusal.{OpenRefusal}
 use Rattle.mounted_files.specs.declared.refusals.OpenRefusal.TheVariants as refusals
-use Rattle.mounted_files.specs.declared.verdicts.Verdict.{Verdict}
-use Rattle.mounted_files.specs.declared.verdicts.Verdict.TheVariants.{ValueTooLong, FileTooLarge, NotStorable, BadTable, DatabaseFull, Same, Stores}
-use Rattle.tool_commands.specs.Lines.{too_long, bad_file, too_heavy, bad_table, value_too_long, file_too_large, not_storable, database_full, line_of_mount}
+use Rattle.tool_commands.specs.Lines.{too_long, bad_file, too_heavy, bad_table, not_storable, line_of_mount}
 use Rattle.tool_words.specs.Lines.{out_of_memory}
-use Rattle.kdb_tool.specs.Answer.{Answer, tells, done, stores, refused}
+use Rattle.kdb_tool.specs.Answer.{Answer, tells, done, refused}
 use Rattle.kdb_tool.specs.Input.{taken}
+use Rattle.kdb_tool.specs.Sets.{AnswersSet}
 use Rattle.tool_words.specs.Uses.{barred}
 use Rattle.tool_words.specs.Request.{Action, Replace, Question, Mounts, FileOf, TextOf, On, Request, Refuses, Bars, Asks, Imports}
 use Rattle.tool_words.specs.Rows.{request}
 use Rattle.tool_commands.specs.Step.{Step, Tells, Sets}
 use Rattle.tool_commands.specs.Commands.{parent_of, step_of}
-
--- the answer that a verdict on a set gives, with what is put out where nothing is refused
-abbrev pub answer_by : Verdict → List ℕ → Answer
-answer_by (ValueTooLong key bytes) out = refused 5 (value_too_long key bytes)
-answer_by (FileTooLarge mount amount) out = refused 5 (file_too_large mount amount)
-answer_by (NotStorable mount key) out = refused 5 (not_storable mount key)
-answer_by (BadTable fault) out = refused 5 (bad_table fault)
-answer_by (DatabaseFull weight) out = refused 5 (database_full weight)
-answer_by (Same aside) out = done out
-answer_by (Stores texts aside) out = stores texts out
-
--- the answer where keys are set at a parent whose keys were got
-pub record AnswersSet (files : List MountedFile) (parent : Name) (keys : KeyMap) (out : List ℕ) (answer : Answer) : Type 0 where
-  pub verdict : Verdict
-  pub judged : IsVerdict all.text all.IsStorable all.BreaksAt files parent keys verdict
-  pub is : answer ≡ answer_by verdict out
 
 -- the answer by what a command makes of the keys that it got
 abbrev pub AnswersStep : List MountedFile → Name → Step → Answer → Type 0

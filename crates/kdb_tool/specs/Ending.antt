@@ -1,12 +1,12 @@
 -- What a run puts out in the end: its answer, or why there is none. (This project's own.)
 use Rattle.std.specs.Prelude.{Result, Ok, Err}
-use Rattle.kdb_tool.specs.declared.answers.Answer as code
 use Rattle.kdb_tool.specs.declared.answers.Stop.{Stop}
 use Rattle.kdb_tool.specs.declared.answers.Stop.TheVariants as stops
 use Rattle.tool_commands.specs.Lines.{disk_fault, read_fault}
 use Rattle.tool_words.specs.Lines.{out_of_memory}
 use Rattle.tool_commands.specs.Report.{Report, warned}
 use Rattle.tool_commands.specs.StepView.{report_of}
+use Rattle.tool_commands.specs.declared.reports.Report as code
 
 -- the line that tells why there is no answer, with its status
 abbrev pub stopped : Stop → Report
@@ -14,6 +14,6 @@ stopped stops.Memory = warned 70 out_of_memory
 stopped stops.DiskFault = warned 74 disk_fault
 stopped stops.ReadFault = warned 74 read_fault
 
-abbrev pub ending : Result code.Answer Stop → Report
-ending (Ok answer) = report_of answer.report
+abbrev pub ending : Result code.Report Stop → Report
+ending (Ok report) = report_of report
 ending (Err stop) = stopped stop

@@ -1,12 +1,14 @@
 pub mod Answer
-pub mod Lasting
-pub mod AnswerView
 pub mod Input
+pub mod Lines
+pub mod Sets
 pub mod Answers
 pub mod Untold
+pub mod Crashing
+pub mod Serving
 pub mod Outcome
 pub mod Ends
 pub mod Ending
 pub mod Delivery
 pub mod Stops
-pub mod Work
+pub mod Refusing

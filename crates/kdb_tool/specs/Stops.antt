@@ -1,9 +1,8 @@
--- What a fault of reading a file stops. (This project's own.)
-use Rattle.backend_files.specs.declared.reading.FileFault.{FileFault}
-use Rattle.backend_files.specs.declared.reading.FileFault.TheVariants as faults
+-- Results whose only fault is want of memory, as they end a run. (This project's own.)
+use Rattle.std.specs.Prelude.{Result, Ok, Err}
 use Rattle.kdb_tool.specs.declared.answers.Stop.{Stop}
-use Rattle.kdb_tool.specs.declared.answers.Stop.TheVariants as stops
+use Rattle.kdb_tool.specs.declared.answers.Stop.TheVariants.{Memory}
 
-abbrev pub stop_of : FileFault → Stop
-stop_of faults.DiskFault = stops.DiskFault
-stop_of faults.Memory = stops.Memory
+abbrev pub or_memory : {A E : Type 0} → Result A E → Result A Stop
+or_memory (Ok made) = Ok made
+or_memory (Err fault) = Err Memory

@@ -1,10 +1,9 @@
--- What is known of an answer whatever a disk tells. (This project's own.)
+-- What is known of a report whatever a disk tells. (This project's own.)
 use Rattle.std.specs.Prelude.{◌≡◌, ℕ, List, []}
 use Rattle.tool_words.specs.Request.{Question, Mounts, FileOf, TextOf, On, Request, Refuses, Bars, Asks, Imports}
 use Rattle.tool_words.specs.Uses.{barred}
 use Rattle.tool_commands.specs.Commands.{row_of}
-use Rattle.tool_commands.specs.Report.{IsEnd}
-use Rattle.kdb_tool.specs.Answer.{Answer, refused}
+use Rattle.tool_commands.specs.Report.{IsEnd, Report, warned}
 
 -- the statuses that a question to the store may end with, beside 0 and 5
 abbrev pub own_statuses : Question → List ℕ
@@ -24,9 +23,9 @@ AsksStore (Bars by name) = ⊥
 AsksStore (Asks question) = Unit {0}
 AsksStore (Imports name kind) = Unit {0}
 
--- of a request: all where it asks the store for nothing, and else a status
-abbrev pub AnswersUntold : Request → Answer → Type 0
-AnswersUntold (Refuses status text) answer = answer ≡ refused status text
-AnswersUntold (Bars by name) answer = answer ≡ refused 2 (barred by name)
-AnswersUntold (Asks question) answer = IsStatusOf question answer.report.status
-AnswersUntold (Imports name kind) answer = IsEnd [] answer.report.status
+-- of a request: all that is told where it asks the store for nothing, and else a status
+abbrev pub ReportsUntold : Request → Report → Type 0
+ReportsUntold (Refuses status text) report = report ≡ warned status text
+ReportsUntold (Bars by name) report = report ≡ warned 2 (barred by name)
+ReportsUntold (Asks question) report = IsStatusOf question report.status
+ReportsUntold (Imports name kind) report = IsEnd [] report.status

@@ -1,18 +1,24 @@
-//! The answer to a question over the mounted files.
-ghost use Rattle.std.specs.Prelude.{◌≡◌, ◌≢◌, ℕ, true, List, ◌++◌, ◌∷◌, [], Some, IfOk, OnOk, IsSomeAnd, string_bytes};
+//! The answer to a question to an open store.
+ghost use Rattle.std.specs.Prelude.{◌≡◌, ◌≢◌, ℕ, true, List, ◌++◌, ◌∷◌, [], Some, Ok, Err, IfOk, IfErr, OnOk, IsSomeAnd, string_bytes};
 ghost use Rattle.std.specs.List.{flat_map};
 ghost use Rattle.std.specs.Option.{option_map};
+ghost use Rattle.all_formats.specs.Meanings.{Reads, IsBadAt};
+ghost use Rattle.kdb_outside.specs.Faults.{HasRisen};
+ghost use Rattle.kdb_outside.specs.Frames.{GoesOn};
+ghost use Rattle.model_crashes.specs.Runs.{Run};
 ghost use Rattle.model_maps.specs.Limits.{IsLimited};
-ghost use Rattle.mounted_files.specs.Getting.{below, got};
-ghost use Rattle.kdb_tool.specs.AnswerView.{answer_of};
-ghost use Rattle.tool_commands.specs.StepView.{seen_step};
+ghost use Rattle.mounted_files.specs.Getting.{below, got, Gets};
+ghost use Rattle.store_core.specs.Frames.{IsUnwritten};
+ghost use Rattle.mounted_files.specs.Opening.{IsOpened};
+ghost use Rattle.store_phases.specs.Stores.{IsStore};
+ghost use Rattle.tool_commands.specs.StepView.{report_of, seen_step};
 ghost use Rattle.mounted_files.specs.declared.refusals.GetFault.TheVariants.{Memory as OutOfMemory};
-ghost use Rattle.mounted_files.specs.declared.refusals.OpenRefusal.TheVariants.{Memory as NoMemory};
-ghost use Rattle.kdb_tool.specs.Answer.{done, refused};
-ghost use Rattle.tool_commands.specs.Report.{IsEnd};
+ghost use Rattle.kdb_tool.specs.Answer.{done, refused, tells};
+ghost use Rattle.tool_commands.specs.Report.{IsEnd, warned};
 ghost use Rattle.tool_commands.specs.Step.{TellsEnd};
 ghost use Rattle.kdb_tool.specs.Untold.{IsStatusOf};
-ghost use Rattle.kdb_tool.specs.Answers.{AnswersOpened, AnswersBelow, AnswersIn, AnswersGot, AnswersText, AnswersStep, AnswersSet, IsRefusedBy, answer_by, file_told, mounts_told, owner_in, line_of_get, line_of_opening};
+ghost use Rattle.kdb_tool.specs.Answers.{AnswersBelow, AnswersIn, AnswersGot, AnswersText, AnswersStep, file_told, mounts_told, owner_in, line_of_get};
+ghost use Rattle.kdb_tool.specs.Serving.{HasFetched, IsNew, IsOpen, Serving};
 ghost use Rattle.tool_commands.specs.Commands.{parent_of, row_of};
 ghost use Rattle.key_name.specs.Joining.{joined};
 ghost use Rattle.model_names.specs.WellFormed.{IsName};
@@ -23,88 +29,59 @@ ghost use Rattle.tool_words.specs.Request.{NamesFiles};
 ghost use Rattle.tool_words.specs.RequestView.{action_of, question_of};
 ghost use Rattle.model_names.specs.Namespaces.{has_files};
 
-use crate::answers::{Answer, refuse, stores, tells};
+use crate::answers::Stop;
+use crate::setting::set_keys;
 use all_formats::AllFormats;
-use kdb_outside::{FileName, Kind};
+use kdb_outside::{Disk, FileName, Kind};
 use kdb_text::shown;
 use key_meta::Memory;
 use key_name::{KeyName, NameFault, owner};
 use key_set::KeySet;
 use mount_table::Mount;
-use mounted_files::{GetFault, Mounted, OpenRefusal, Verdict};
+use mounted_files::{GetFault, Mounted};
 use std::alloc::{AllocError, Global};
 use storage_api::{Formats, WriteRefusal};
+use store_core::{Core, Plan};
+use store_verdict::Record;
 use tool_commands::{
-    REFUSED, Step, bad_file, bad_table, database_full, file_too_large, not_storable, own_point,
-    parent_of, step, tell, tell_bytes, too_heavy, too_long, value_too_long,
+    REFUSED, Report, Step, bad_file, not_storable, parent_of, step, tell, tell_bytes, too_heavy,
+    too_long, warn,
 };
 use tool_words::{Action, Question};
 
-/// The answer to a question, by what came of the opening.
-pub fn answer_opened(
+/// The answer to a question to an open store. What it stores is committed by then.
+pub fn answer_in<D: Disk>(
     alloc: Global,
-    opened: Result<Mounted, OpenRefusal>,
+    plan: &Plan<AllFormats>,
+    core: &mut Core<D>,
     question: Question<'_>,
-) -> Result<Answer, Memory>
-    requires { NamesFiles (question_of question) }
-    ensures answers { IfOk result (λ answer. AnswersOpened opened (question_of question.entry) (answer_of answer)) }
-    ensures status { IfOk result (λ answer. IsStatusOf (question_of question.entry) answer.report.status) }
+) -> Result<Report, Stop>
+    requires names { NamesFiles (question_of question) }
+    requires open { IsOpen plan.now core.old }
+    ensures serving { (opened : D) (run : Run) (bytes_of : List ℕ → List ℕ) → IsStore D.Disk opened core.old.journal run → IsOpened Reads IsBadAt bytes_of plan.now.mounted
+        → Serving D.Disk opened run (AnswersIn plan.now.mounted (question_of question.entry)) result core.old core.new }
+    ensures memory { result ≡ Err Stop.Memory → IsUnwritten core.old core.new }
+    ensures status { IfOk result (λ report. IsStatusOf (question_of question.entry) report.status) }
+    ensures cause { result ≡ Err Stop.DiskFault → HasRisen (D.faults core.old.journal.disk) (D.faults core.new.journal.disk) }
+    ensures input { result ≢ Err Stop.ReadFault }
+    ensures goes { GoesOn D.Disk core.old.journal.disk core.new.journal.disk }
 {
-    match opened {
-        Ok(mounted) => answer_in(alloc, &mounted, question),
-        Err(refusal) => refuse_opening(alloc, refusal),
-    }
-}
-
-/// The answer where the store isn't opened.
-fn refuse_opening(alloc: Global, refusal: OpenRefusal) -> Result<Answer, Memory>
-    ensures refused { IfOk result (λ answer. IsRefusedBy refusal (answer_of answer)) }
-    ensures status { IfOk result (λ answer. answer.report.status ≡ 5) }
-{
-    let text = line_of_opening(alloc, &refusal)?;
-    refuse(alloc, REFUSED, text.as_str())
-}
-
-/// The line of what refuses an opening. Want of memory has none.
-fn line_of_opening(alloc: Global, refusal: &OpenRefusal) -> Result<String, Memory>
-    ensures text { IfOk result (λ text. string_bytes text ≡ line_of_opening refusal.now) }
-    ensures memory { OnOk result (refusal.now ≢ NoMemory) }
-{
-    match refusal {
-        OpenRefusal::TooLong { bytes } => {
-            let own = own_point(alloc)?;
-            too_long(alloc, &own, *bytes)
-        }
-        OpenRefusal::BadFile { line } => {
-            let own = own_point(alloc)?;
-            bad_file(alloc, &own, *line)
-        }
-        OpenRefusal::BadTable { fault } => bad_table(alloc, fault),
-        OpenRefusal::Memory => Err(AllocError),
-    }
-}
-
-/// The answer to a question over the mounted files.
-fn answer_in(alloc: Global, mounted: &Mounted, question: Question<'_>) -> Result<Answer, Memory>
-    requires { NamesFiles (question_of question) }
-    ensures answers { IfOk result (λ answer. AnswersIn mounted.now (question_of question.entry) (answer_of answer)) }
-    ensures status { IfOk result (λ answer. IsStatusOf (question_of question.entry) answer.report.status) }
-{
+    let mounted = plan.mounted();
     match question {
-        Question::Mounts => tell_mounts(alloc, mounted),
-        Question::FileOf(name) => tell_file(alloc, mounted, &name),
-        Question::TextOf { name, kind } => tell_text(alloc, mounted, &name, kind),
-        Question::On { name, action } => act(alloc, mounted, &name, action),
+        Question::Mounts => Ok(tell_mounts(alloc, mounted)?),
+        Question::FileOf(name) => Ok(tell_file(alloc, mounted, &name)?),
+        Question::TextOf { name, kind } => Ok(tell_text(alloc, mounted, &name, kind)?),
+        Question::On { name, action } => act(alloc, plan, core, &name, action),
     }
 }
 
 /// `mounts`: a line for each mount.
-fn tell_mounts(alloc: Global, mounted: &Mounted) -> Result<Answer, Memory>
-    ensures told { IfOk result (λ answer. answer_of answer ≡ mounts_told mounted.now) }
-    ensures status { IfOk result (λ answer. answer.report.status ≡ 0) }
+fn tell_mounts(alloc: Global, mounted: &Mounted) -> Result<Report, Memory>
+    ensures told { IfOk result (λ report. tells (report_of report) ≡ mounts_told mounted.now) }
+    ensures status { IfOk result (λ report. report.status ≡ 0) }
 {
     let lines = lines_of_mounts(alloc, mounted)?;
-    Ok(tells(alloc, tell(alloc, lines)))
+    Ok(tell(alloc, lines))
 }
 
 /// The lines of all mounts, in the order of the table.
@@ -134,28 +111,28 @@ fn push_line_of_mount(alloc: Global, lines: &mut String, mount: &Mount) -> Resul
 }
 
 /// `file`: the file of the mount that owns a key.
-fn tell_file(alloc: Global, mounted: &Mounted, name: &KeyName) -> Result<Answer, Memory>
+fn tell_file(alloc: Global, mounted: &Mounted, name: &KeyName) -> Result<Report, Memory>
     requires { has_files name.now.namespace ≡ true }
-    ensures told { IfOk result (λ answer. IsSomeAnd (owner_in mounted.now name.now) (λ file. answer_of answer ≡ file_told file)) }
-    ensures status { IfOk result (λ answer. answer.report.status ≡ 0) }
+    ensures told { IfOk result (λ report. IsSomeAnd (owner_in mounted.now name.now) (λ file. tells (report_of report) ≡ file_told file)) }
+    ensures status { IfOk result (λ report. report.status ≡ 0) }
 {
     let mount = owner_in(mounted, name);
     tell_name_of(alloc, &mount.file)
 }
 
-fn tell_name_of(alloc: Global, file: &FileName) -> Result<Answer, Memory>
-    ensures told { IfOk result (λ answer. answer_of answer ≡ done (file.now ++ 10 ∷ [])) }
-    ensures status { IfOk result (λ answer. answer.report.status ≡ 0) }
+fn tell_name_of(alloc: Global, file: &FileName) -> Result<Report, Memory>
+    ensures told { IfOk result (λ report. tells (report_of report) ≡ done (file.now ++ 10 ∷ [])) }
+    ensures status { IfOk result (λ report. report.status ≡ 0) }
 {
     let file = file.text();
     let out = format!(in alloc; "{file}\n")?;
-    Ok(tells(alloc, tell(alloc, out)))
+    Ok(tell(alloc, out))
 }
 
 /// `export`: what a file at a name would hold, as its text in a format.
-fn tell_text(alloc: Global, mounted: &Mounted, name: &KeyName, kind: Kind) -> Result<Answer, Memory>
-    ensures answers { IfOk result (λ answer. AnswersBelow name.now kind (below mounted.now name.now) (answer_of answer)) }
-    ensures status { IfOk result (λ answer. IsEnd [] answer.report.status) }
+fn tell_text(alloc: Global, mounted: &Mounted, name: &KeyName, kind: Kind) -> Result<Report, Memory>
+    ensures answers { IfOk result (λ report. AnswersBelow name.now kind (below mounted.now name.now) (tells (report_of report))) }
+    ensures status { IfOk result (λ report. IsEnd [] report.status) }
 {
     match mounted.below(alloc, name) {
         Ok(keys) => tell_keys(alloc, name, kind, &keys),
@@ -164,28 +141,28 @@ fn tell_text(alloc: Global, mounted: &Mounted, name: &KeyName, kind: Kind) -> Re
 }
 
 /// The text of some keys in a format, or the refusal of the first that the format can't hold.
-fn tell_keys(alloc: Global, name: &KeyName, kind: Kind, keys: &KeySet) -> Result<Answer, Memory>
+fn tell_keys(alloc: Global, name: &KeyName, kind: Kind, keys: &KeySet) -> Result<Report, Memory>
     requires limited { IsLimited keys.now }
     requires whole { AreNames name.now keys.now }
-    ensures answers { IfOk result (λ answer. AnswersText name.now kind keys.now (answer_of answer)) }
-    ensures status { IfOk result (λ answer. IsEnd [] answer.report.status) }
+    ensures answers { IfOk result (λ report. AnswersText name.now kind keys.now (tells (report_of report))) }
+    ensures status { IfOk result (λ report. IsEnd [] report.status) }
 {
     match AllFormats.write(alloc, kind, keys) {
-        Ok(bytes) => Ok(tells(alloc, tell_bytes(alloc, bytes))),
+        Ok(bytes) => Ok(tell_bytes(alloc, bytes)),
         Err(WriteRefusal::NotStorable { key }) => refuse_key(alloc, name, &key),
         Err(WriteRefusal::Memory) => Err(AllocError),
     }
 }
 
 /// The refusal of a key that a format can't hold, whose whole name is told.
-fn refuse_key(alloc: Global, name: &KeyName, key: &KeyName) -> Result<Answer, Memory>
+fn refuse_key(alloc: Global, name: &KeyName, key: &KeyName) -> Result<Report, Memory>
     requires cascading { key.now.namespace ≡ Cascading }
     requires name { IsName (joined name.now key.now) }
-    ensures told { IfOk result (λ answer. answer_of answer ≡ refused 5 (not_storable name.now (joined name.now key.now))) }
-    ensures status { IfOk result (λ answer. answer.report.status ≡ 5) }
+    ensures told { IfOk result (λ report. tells (report_of report) ≡ refused 5 (not_storable name.now (joined name.now key.now))) }
+    ensures status { IfOk result (λ report. report.status ≡ 5) }
 {
     match name.join(key) {
-        Ok(key) => refuse(alloc, REFUSED, &not_storable(alloc, name, &key)?),
+        Ok(key) => warn(alloc, REFUSED, &not_storable(alloc, name, &key)?),
         Err(NameFault::Memory) => Err(AllocError),
         Err(_) => unreachable!(),
     }
@@ -207,32 +184,67 @@ fn owner_in<'a>(mounted: &'a Mounted, name: &KeyName) -> &'a Mount
 }
 
 /// The answer to an action on a key.
-fn act(
+fn act<D: Disk>(
     alloc: Global,
-    mounted: &Mounted,
+    plan: &Plan<AllFormats>,
+    core: &mut Core<D>,
     name: &KeyName,
     action: Action<'_>,
-) -> Result<Answer, Memory>
-    ensures answers { IfOk result (λ answer. AnswersGot mounted.now name.now (action_of action.entry) (got mounted.now (parent_of name.now (action_of action.entry))) (answer_of answer)) }
-    ensures status { IfOk result (λ answer. IsEnd (row_of name.now (action_of action.entry)).statuses answer.report.status) }
+) -> Result<Report, Stop>
+    requires open { IsOpen plan.now core.old }
+    ensures serving { (opened : D) (run : Run) (bytes_of : List ℕ → List ℕ) → IsStore D.Disk opened core.old.journal run → IsOpened Reads IsBadAt bytes_of plan.now.mounted
+        → Serving D.Disk opened run (AnswersGot plan.now.mounted name.now (action_of action.entry) (got plan.now.mounted (parent_of name.now (action_of action.entry)))) result core.old core.new }
+    ensures memory { result ≡ Err Stop.Memory → IsUnwritten core.old core.new }
+    ensures status { IfOk result (λ report. IsEnd (row_of name.now (action_of action.entry)).statuses report.status) }
+    ensures cause { result ≡ Err Stop.DiskFault → HasRisen (D.faults core.old.journal.disk) (D.faults core.new.journal.disk) }
+    ensures input { result ≢ Err Stop.ReadFault }
+    ensures goes { GoesOn D.Disk core.old.journal.disk core.new.journal.disk }
 {
     let parent = parent_of(alloc, name, &action)?;
-    match mounted.get(alloc, &parent) {
+    let mut rec = new_record(alloc, plan)?;
+    match fetch(alloc, plan, core, &mut rec, &parent) {
         Ok(keys) => {
             let step = step(alloc, name, action, keys)?;
-            take_step(alloc, mounted, &parent, step)
+            take_step(alloc, plan, core, &mut rec, &parent, step)
         }
-        Err(fault) => refuse_get(alloc, fault),
+        Err(fault) => Ok(refuse_get(alloc, fault)?),
+    }
+}
+
+/// The record of the command's handle, which has fetched nothing.
+fn new_record(alloc: Global, plan: &Plan<AllFormats>) -> Result<Record, Memory>
+    ensures { IfOk result (IsNew plan.now.mounted) }
+{
+    Record::new(alloc, 0, plan.table().len(), KeySet::new(alloc))
+}
+
+/// The keys of a parent, which the command's handle gets first of all.
+fn fetch<D: Disk>(
+    alloc: Global,
+    plan: &Plan<AllFormats>,
+    core: &Core<D>,
+    rec: &mut Record,
+    parent: &KeyName,
+) -> Result<KeySet, GetFault>
+    requires open { IsOpen plan.now core.now }
+    requires new { IsNew plan.now.mounted rec.old }
+    ensures keys { (bytes_of : List ℕ → List ℕ) → IsOpened Reads IsBadAt bytes_of plan.now.mounted → IfOk result (λ keys. got plan.now.mounted parent.now ≡ Ok keys) }
+    ensures fault { IfErr result (Gets (got plan.now.mounted parent.now)) }
+    ensures fetched { OnOk result (HasFetched plan.now.mounted parent.now rec.new) }
+{
+    match core.get(alloc, plan, rec, parent) {
+        Ok(got) => Ok(got.keys),
+        Err(fault) => Err(fault),
     }
 }
 
 /// The answer where keys can't be got.
-pub fn refuse_get(alloc: Global, fault: GetFault) -> Result<Answer, Memory>
-    ensures refused { IfOk result (λ answer. (fault ≢ OutOfMemory) × (answer_of answer ≡ refused 5 (line_of_get fault))) }
-    ensures status { IfOk result (λ answer. answer.report.status ≡ 5) }
+pub fn refuse_get(alloc: Global, fault: GetFault) -> Result<Report, Memory>
+    ensures refused { IfOk result (λ report. (fault ≢ OutOfMemory) × (report_of report ≡ warned 5 (line_of_get fault))) }
+    ensures status { IfOk result (λ report. report.status ≡ 5) }
 {
     let text = line_of_get(alloc, &fault)?;
-    refuse(alloc, REFUSED, text.as_str())
+    warn(alloc, REFUSED, text.as_str())
 }
 
 /// The line of what refuses a get. Want of memory has none.
@@ -249,54 +261,26 @@ fn line_of_get(alloc: Global, fault: &GetFault) -> Result<String, Memory>
 }
 
 /// The answer by what a command makes of the keys that it got.
-fn take_step(
+fn take_step<D: Disk>(
     alloc: Global,
-    mounted: &Mounted,
+    plan: &Plan<AllFormats>,
+    core: &mut Core<D>,
+    rec: &mut Record,
     parent: &KeyName,
     step: Step,
-) -> Result<Answer, Memory>
-    ensures answers { IfOk result (λ answer. AnswersStep mounted.now parent.now (seen_step step) (answer_of answer)) }
-    ensures status { (own : List ℕ) → TellsEnd own (seen_step step) → IfOk result (λ answer. IsEnd own answer.report.status) }
+) -> Result<Report, Stop>
+    requires open { IsOpen plan.now core.old }
+    requires fetched { HasFetched plan.now.mounted parent.now rec.old }
+    ensures serving { (opened : D) (run : Run) → IsStore D.Disk opened core.old.journal run
+        → Serving D.Disk opened run (AnswersStep plan.now.mounted parent.now (seen_step step)) result core.old core.new }
+    ensures memory { result ≡ Err Stop.Memory → IsUnwritten core.old core.new }
+    ensures status { (own : List ℕ) → TellsEnd own (seen_step step) → IfOk result (λ report. IsEnd own report.status) }
+    ensures cause { result ≡ Err Stop.DiskFault → HasRisen (D.faults core.old.journal.disk) (D.faults core.new.journal.disk) }
+    ensures input { result ≢ Err Stop.ReadFault }
+    ensures goes { GoesOn D.Disk core.old.journal.disk core.new.journal.disk }
 {
     match step {
-        Step::Tells(report) => Ok(tells(alloc, report)),
-        Step::Sets { keys, out } => set_keys(alloc, mounted, parent, &keys, out),
-    }
-}
-
-/// The answer where keys are set.
-fn set_keys(
-    alloc: Global,
-    mounted: &Mounted,
-    parent: &KeyName,
-    keys: &KeySet,
-    out: String,
-) -> Result<Answer, Memory>
-    ensures answers { IfOk result (λ answer. AnswersSet mounted.now parent.now keys.now (string_bytes out) (answer_of answer)) }
-    ensures status { (own : List ℕ) → IfOk result (λ answer. IsEnd own answer.report.status) }
-{
-    let verdict = mounted.judge(alloc, &AllFormats, parent, keys)?;
-    answer_by(alloc, verdict, out)
-}
-
-/// The answer that a verdict on a set gives.
-fn answer_by(alloc: Global, verdict: Verdict, out: String) -> Result<Answer, Memory>
-    ensures answers { IfOk result (λ answer. answer_of answer ≡ answer_by verdict (string_bytes out)) }
-    ensures status { (own : List ℕ) → IfOk result (λ answer. IsEnd own answer.report.status) }
-{
-    match verdict {
-        Verdict::Same { .. } => Ok(tells(alloc, tell(alloc, out))),
-        Verdict::Stores { files, .. } => Ok(stores(alloc, files, out)),
-        Verdict::ValueTooLong { key, bytes } => {
-            refuse(alloc, REFUSED, &value_too_long(alloc, &key, bytes)?)
-        }
-        Verdict::FileTooLarge { mount, bytes } => {
-            refuse(alloc, REFUSED, &file_too_large(alloc, &mount, bytes)?)
-        }
-        Verdict::NotStorable { mount, key } => {
-            refuse(alloc, REFUSED, &not_storable(alloc, &mount, &key)?)
-        }
-        Verdict::BadTable { fault } => refuse(alloc, REFUSED, &bad_table(alloc, &fault)?),
-        Verdict::DatabaseFull { weight } => refuse(alloc, REFUSED, &database_full(alloc, weight)?),
+        Step::Tells(report) => Ok(report),
+        Step::Sets { keys, out } => set_keys(alloc, plan, core, rec, parent, &keys, out),
     }
 }

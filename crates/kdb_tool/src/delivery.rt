@@ -6,9 +6,9 @@ ghost use Rattle.kdb_tool.specs.Outcome.{Delivers, Gains, GainsFront};
 ghost use Rattle.kdb_tool.specs.Delivery.{Tells};
 ghost use Rattle.kdb_tool.specs.Ending.{ending, stopped};
 
-use crate::answers::{Answer, Stop};
+use crate::answers::Stop;
 use kdb_outside::{Failed, Sink};
-use tool_commands::{FAULT, OUT_OF_MEMORY, Status};
+use tool_commands::{FAULT, OUT_OF_MEMORY, Report, Status};
 
 /// Puts a line on err, where there is one, and ends with the status.
 fn tell<E: Sink>(status: Status, line: &str, err: &mut E) -> Status
@@ -57,16 +57,16 @@ fn deliver<K: Sink, E: Sink>(
 }
 
 /// Ends a run with its answer, or with the line that tells why there is none.
-pub fn finish<K: Sink, E: Sink>(answer: &Result<Answer, Stop>, out: &mut K, err: &mut E) -> Status
+pub fn finish<K: Sink, E: Sink>(answer: &Result<Report, Stop>, out: &mut K, err: &mut E) -> Status
     ensures finished { Delivers (ending answer.now) result (change_of K.Sink out.old out.new) (change_of E.Sink err.old err.new) }
     ensures later_out { K.faults out.old ≤ K.faults out.new }
     ensures later_err { E.faults err.old ≤ E.faults err.new }
 {
     match answer {
-        Ok(answer) => deliver(
-            answer.report.status,
-            answer.report.out.as_slice(),
-            answer.report.err.as_str(),
+        Ok(report) => deliver(
+            report.status,
+            report.out.as_slice(),
+            report.err.as_str(),
             out,
             err,
         ),

@@ -1,59 +1,89 @@
 //! The answer to an import: its input is read before the files are looked at.
-ghost use Rattle.std.specs.Prelude.{◌≡◌, ◌≢◌, ◌≤◌, ℕ, List, [], true, Some, Err, IfOk, OnOk};
+ghost use Rattle.std.specs.Prelude.{◌≡◌, ◌≢◌, ◌≤◌, ◌⊎◌, ℕ, List, [], true, Option, Some, Err, IfOk, OnOk};
+ghost use Rattle.all_formats.specs.Meanings.{Reads, IsBadAt};
+ghost use Rattle.intent_journal.specs.BadJournals.{opened_files};
+ghost use Rattle.intent_journal.specs.States.{IsCalm};
+ghost use Rattle.journal_codec.specs.declared.files.FileText.{FileText as Item};
 ghost use Rattle.kdb_outside.specs.Faults.{HasRisen};
-ghost use Rattle.kdb_outside.specs.Frames.{OnlyReads};
+ghost use Rattle.kdb_outside.specs.Frames.{GoesOn};
+ghost use Rattle.kdb_outside.specs.Images.{Image};
 ghost use Rattle.mounted_files.specs.Getting.{fault_of};
-ghost use Rattle.mounted_files.specs.Holding.{cause_of};
-ghost use Rattle.kdb_tool.specs.Answer.{refused};
-ghost use Rattle.kdb_tool.specs.AnswerView.{answer_of};
+ghost use Rattle.mounted_files.specs.Holding.{IsHolding, cause_of};
 ghost use Rattle.kdb_tool.specs.Answers.{AnswersImport, line_of_get};
 ghost use Rattle.kdb_tool.specs.Input.{taken, TakesAll, TakesFront};
-ghost use Rattle.tool_commands.specs.Report.{IsAnswered, IsEnd};
+ghost use Rattle.kdb_tool.specs.Serving.{Serve, Unserved};
+ghost use Rattle.tool_commands.specs.Report.{IsAnswered, IsEnd, warned};
+ghost use Rattle.tool_commands.specs.StepView.{report_of};
 
 use crate::answering::refuse_get;
-use crate::answers::{Answer, Stop};
+use crate::answers::{Ended, Stop};
 use crate::questions::answer_question;
 use crate::reading::read_input;
+use crate::work::without_store;
 use all_formats::AllFormats;
 use kdb_outside::{Disk, Kind, Source};
 use key_meta::Memory;
 use key_name::KeyName;
 use mounted_files::{FileCause, GetFault, Holding, read_holding};
 use std::alloc::Global;
+use tool_commands::Report;
 use tool_words::{Action, Question};
 
-/// The answer to an import. Nothing is written.
+/// The answer to an import. Its input is read before the store is opened.
 pub fn import<S: Source, D: Disk>(
     alloc: Global,
     name: KeyName,
     kind: Kind,
     input: &mut S,
-    disk: &mut D,
-) -> Result<Answer, Stop>
-    ensures told { D.tells disk.old ≡ true → (bytes : List ℕ) → S.left input.old ≡ Some bytes → IfOk result (λ answer. AnswersImport name kind (taken bytes) (D.seen disk.old) (answer_of answer)) }
-    ensures status { IfOk result (λ answer. IsEnd [] answer.report.status) }
-    ensures own { IfOk result (λ answer. IsAnswered answer.report.status) }
+    disk: D,
+) -> Ended<D>
+    ensures served { D.tells disk ≡ true → (files : Image) (doubt : Option (List Item)) → IsCalm (D.seen disk) (D.may_leave disk) files doubt
+        → (bytes : List ℕ) → S.left input.old ≡ Some bytes → Serve D.Disk files doubt (AnswersImport name kind (taken bytes) (opened_files (D.seen disk))) result.answer disk result.disk }
+    ensures unserved { D.tells disk ≡ true → (files : Image) (doubt : Option (List Item)) → IsCalm (D.seen disk) (D.may_leave disk) files doubt → (result.answer ≡ Err Stop.Memory) ⊎ (result.answer ≡ Err Stop.ReadFault) → Unserved D.Disk files doubt disk result.disk }
+    ensures status { IfOk result.answer (λ report. IsEnd [] report.status) }
+    ensures own { IfOk result.answer (λ report. IsAnswered report.status) }
     ensures front { (bytes : List ℕ) → S.left input.old ≡ Some bytes → TakesFront bytes (S.left input.new) }
-    ensures all { (bytes : List ℕ) → S.left input.old ≡ Some bytes → OnOk result (TakesAll bytes (S.left input.new)) }
-    ensures read { result ≡ Err Stop.ReadFault → HasRisen (S.faults input.old) (S.faults input.new) }
-    ensures cause { result ≡ Err Stop.DiskFault → HasRisen (D.faults disk.old) (D.faults disk.new) }
-    ensures reads { OnlyReads D.Disk disk.old disk.new }
+    ensures all { (bytes : List ℕ) → S.left input.old ≡ Some bytes → OnOk result.answer (TakesAll bytes (S.left input.new)) }
+    ensures read { result.answer ≡ Err Stop.ReadFault → HasRisen (S.faults input.old) (S.faults input.new) }
+    ensures cause { result.answer ≡ Err Stop.DiskFault → HasRisen (D.faults disk) (D.faults result.disk) }
+    ensures goes { GoesOn D.Disk disk result.disk }
     ensures later { S.faults input.old ≤ S.faults input.new }
 {
-    let read = read_input(alloc, input)?;
-    match read_holding(alloc, &AllFormats, &name, kind, &read)? {
-        Holding::Keys { keys } => {
+    match take_keys(alloc, &name, kind, input) {
+        Ok(Holding::Keys { keys }) => {
             let action = Action::Replace(keys);
             answer_question(alloc, Question::On { name, action }, disk)
         }
-        Holding::Bad { cause } => Ok(refuse_input(alloc, name, cause)?),
+        Ok(Holding::Bad { cause }) => without_store(refuse_input(alloc, name, cause), disk),
+        Err(stop) => Ended {
+            answer: Err(stop),
+            disk,
+        },
     }
 }
 
+/// What an input holds as a file at a name would.
+fn take_keys<S: Source>(
+    alloc: Global,
+    name: &KeyName,
+    kind: Kind,
+    input: &mut S,
+) -> Result<Holding, Stop>
+    ensures told { (bytes : List ℕ) → S.left input.old ≡ Some bytes → IfOk result (IsHolding Reads IsBadAt name.now kind (taken bytes)) }
+    ensures front { (bytes : List ℕ) → S.left input.old ≡ Some bytes → TakesFront bytes (S.left input.new) }
+    ensures all { (bytes : List ℕ) → S.left input.old ≡ Some bytes → OnOk result (TakesAll bytes (S.left input.new)) }
+    ensures read { result ≡ Err Stop.ReadFault → HasRisen (S.faults input.old) (S.faults input.new) }
+    ensures own { result ≢ Err Stop.DiskFault }
+    ensures later { S.faults input.old ≤ S.faults input.new }
+{
+    let read = read_input(alloc, input)?;
+    Ok(read_holding(alloc, &AllFormats, name, kind, &read)?)
+}
+
 /// The refusal of an input that holds no keys.
-fn refuse_input(alloc: Global, name: KeyName, cause: FileCause) -> Result<Answer, Memory>
-    ensures told { IfOk result (λ answer. answer_of answer ≡ refused 5 (line_of_get (fault_of name (cause_of cause)))) }
-    ensures status { IfOk result (λ answer. answer.report.status ≡ 5) }
+fn refuse_input(alloc: Global, name: KeyName, cause: FileCause) -> Result<Report, Memory>
+    ensures told { IfOk result (λ report. report_of report ≡ warned 5 (line_of_get (fault_of name (cause_of cause)))) }
+    ensures status { IfOk result (λ report. report.status ≡ 5) }
 {
     let fault = match cause {
         FileCause::TooLong { bytes } => GetFault::TooLong { mount: name, bytes },

@@ -9,10 +9,9 @@ mod answering;
 mod answers;
 mod delivery;
 mod importing;
-mod opening;
 mod questions;
 mod reading;
-mod storing;
+mod setting;
 mod tool;
 mod work;
 

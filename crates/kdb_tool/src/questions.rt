@@ -1,36 +1,85 @@
-//! The answer to a question: the files are read, and the answer is made whole.
-ghost use Rattle.std.specs.Prelude.{◌≡◌, ◌≢◌, true, IfOk, Err};
+//! A question to the store: it is opened, answers, and is closed.
+ghost use Rattle.std.specs.Prelude.{◌≡◌, ◌≢◌, ℕ, List, Option, Some, None, true, false, IfOk, OnOk, Err, is_some, string_bytes, length};
+ghost use Rattle.intent_journal.specs.BadJournals.{open_entry, opened_files};
+ghost use Rattle.intent_journal.specs.States.{IsCalm};
+ghost use Rattle.journal_codec.specs.declared.files.FileText.{FileText as Item};
 ghost use Rattle.kdb_outside.specs.Faults.{HasRisen};
-ghost use Rattle.kdb_outside.specs.Frames.{OnlyReads};
-ghost use Rattle.kdb_tool.specs.AnswerView.{answer_of};
+ghost use Rattle.kdb_outside.specs.Frames.{GoesOn};
+ghost use Rattle.kdb_outside.specs.Images.{Image};
 ghost use Rattle.kdb_tool.specs.Answers.{AnswersOver};
-ghost use Rattle.tool_commands.specs.Report.{IsAnswered};
+ghost use Rattle.kdb_tool.specs.Lines.{line_of_store};
+ghost use Rattle.kdb_tool.specs.Serving.{IsOpen, Serve};
+ghost use Rattle.kdb_tool.specs.Untold.{IsStatusOf};
+ghost use Rattle.store_core.specs.declared.faults.OpenFault.TheVariants.{DiskFault as OfDisk, Memory as OfMemory};
+ghost use Rattle.tool_commands.specs.Report.{IsAnswered, warned};
+ghost use Rattle.tool_commands.specs.StepView.{report_of};
 ghost use Rattle.tool_words.specs.Request.{NamesFiles};
 ghost use Rattle.tool_words.specs.RequestView.{question_of};
-ghost use Rattle.kdb_tool.specs.Untold.{IsStatusOf};
 
-use crate::answering::answer_opened;
-use crate::answers::{Answer, Stop};
-use crate::opening::open;
+use crate::answering::answer_in;
+use crate::answers::{Ended, Stop};
+use all_formats::AllFormats;
 use kdb_outside::Disk;
-use std::alloc::Global;
+use key_meta::Memory;
+use std::alloc::{AllocError, Global};
+use store_core::{OpenFault, OpenRefused, Opened, open_store};
+use tool_commands::{REFUSED, Report, bad_file, bad_journal, bad_table, own_point, too_long, warn};
 use tool_words::Question;
 
-/// The answer to a question over the files of a disk. Nothing is written.
-pub fn answer_question<D: Disk>(
-    alloc: Global,
-    question: Question<'_>,
-    disk: &mut D,
-) -> Result<Answer, Stop>
+/// The answer to a question over the store of a disk. What it stores is stored by then.
+pub fn answer_question<D: Disk>(alloc: Global, question: Question<'_>, disk: D) -> Ended<D>
     requires { NamesFiles (question_of question) }
-    ensures told { D.tells disk.old ≡ true → IfOk result (λ answer. AnswersOver (question_of question.entry) (D.seen disk.old) (answer_of answer)) }
-    ensures status { IfOk result (λ answer. IsStatusOf (question_of question.entry) answer.report.status) }
-    ensures own { IfOk result (λ answer. IsAnswered answer.report.status) }
-    ensures cause { result ≡ Err Stop.DiskFault → HasRisen (D.faults disk.old) (D.faults disk.new) }
-    ensures input { result ≢ Err Stop.ReadFault }
-    ensures reads { OnlyReads D.Disk disk.old disk.new }
+    ensures served { D.tells disk ≡ true → (files : Image) (doubt : Option (List Item)) → IsCalm (D.seen disk) (D.may_leave disk) files doubt → Serve D.Disk files doubt (AnswersOver (question_of question.entry) (opened_files (D.seen disk))) result.answer disk result.disk }
+    ensures status { IfOk result.answer (λ report. IsStatusOf (question_of question.entry) report.status) }
+    ensures own { IfOk result.answer (λ report. IsAnswered report.status) }
+    ensures cause { result.answer ≡ Err Stop.DiskFault → HasRisen (D.faults disk) (D.faults result.disk) }
+    ensures input { result.answer ≢ Err Stop.ReadFault }
+    ensures goes { GoesOn D.Disk disk result.disk }
 {
-    let opened = open(alloc, disk)?;
-    let answer = answer_opened(alloc, opened, question)?;
-    Ok(answer)
+    match open_store(alloc, disk, AllFormats) {
+        Ok(opened) => {
+            let Opened { plan, core } = opened;
+            let mut core = core;
+            let answer = answer_in(alloc, &plan, &mut core, question);
+            Ended {
+                answer,
+                disk: core.close().disk,
+            }
+        }
+        Err(OpenRefused { fault, disk }) => Ended {
+            answer: refuse_opening(alloc, &fault),
+            disk,
+        },
+    }
+}
+
+/// What is told where the store isn't opened.
+fn refuse_opening(alloc: Global, fault: &OpenFault) -> Result<Report, Stop>
+    ensures told { IfOk result (λ report. report_of report ≡ warned 5 (line_of_store fault.now)) }
+    ensures status { IfOk result (λ report. report.status ≡ 5) }
+    ensures answered { OnOk result ((fault.now ≢ OfDisk) × (fault.now ≢ OfMemory)) }
+    ensures cause { result ≡ Err Stop.DiskFault → fault.now ≡ OfDisk }
+    ensures input { result ≢ Err Stop.ReadFault }
+{
+    if let OpenFault::DiskFault = fault {
+        return Err(Stop::DiskFault);
+    }
+    let text = line_of_store(alloc, fault)?;
+    Ok(warn(alloc, REFUSED, &text)?)
+}
+
+/// The line of what refuses an opening. Want of memory has none, nor has a fault of the disk.
+fn line_of_store(alloc: Global, fault: &OpenFault) -> Result<String, Memory>
+    requires { fault.now ≢ OfDisk }
+    ensures text { IfOk result (λ text. string_bytes text ≡ line_of_store fault.now) }
+    ensures memory { OnOk result (fault.now ≢ OfMemory) }
+{
+    match fault {
+        OpenFault::TooLong { bytes } => too_long(alloc, &own_point(alloc)?, *bytes),
+        OpenFault::BadFile { line } => bad_file(alloc, &own_point(alloc)?, *line),
+        OpenFault::BadTable { fault } => bad_table(alloc, fault),
+        OpenFault::BadJournal { at } => bad_journal(alloc, *at),
+        OpenFault::Memory => Err(AllocError),
+        OpenFault::DiskFault => unreachable!(),
+    }
 }

@@ -29,4 +29,4 @@ returns-in-Err-NotStorable-clause-answers c =
     let kind = c.args.kind in
     let keys = c.args.keys.now in
     let key = c.in-Err-NotStorable.key in
-    IfOk-weaker c.refuse_key.result _ _ (λ answer told. NotHeld key (key-told (all.BreaksAt kind keys) key c.in-Err-NotStorable.field-0 c.in-Err-NotStorable.field-0-is c.in-Err-NotStorable.ensures.text) told) c.refuse_key.ensures.told
+    IfOk-weaker c.refuse_key.result _ _ (λ report told. NotHeld key (key-told (all.BreaksAt kind keys) key c.in-Err-NotStorable.field-0 c.in-Err-NotStorable.field-0-is c.in-Err-NotStorable.ensures.text) told) c.refuse_key.ensures.told

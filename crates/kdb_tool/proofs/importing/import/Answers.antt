@@ -1,22 +1,50 @@
 -- What the input holds as a file would is asked to replace the keys there, or is refused as a file is.
-use Rattle.std.proofs.Common.{◌≡◌, List, ℕ, subst}
+use Rattle.std.proofs.Common.{◌≡◌, List, ℕ, Err, sym, ap, subst}
 use Rattle.std.proofs.lemmas.Result.{IfOk-weaker}
 use Rattle.all_formats.specs.Meanings as all
+use Rattle.intent_journal.specs.BadJournals.{opened_files}
 use Rattle.mounted_files.specs.Files.{Holds, IsCause}
+use Rattle.mounted_files.specs.Getting.{fault_of}
 use Rattle.mounted_files.specs.Holding.{IsHolding, cause_of}
 use Rattle.mounted_files.specs.declared.holding.Holding.{Holding}
-use Rattle.kdb_tool.specs.Answers.{Held, Bad}
+use Rattle.tool_words.specs.Request.{On, Replace}
+use Rattle.kdb_tool.specs.Answer.{tells}
+use Rattle.kdb_tool.specs.Answers.{AnswersImport, AnswersOver, Held, Bad}
 use Rattle.kdb_tool.specs.Input.{taken}
+use Rattle.kdb_tool.specs.Serving.{Unserved}
+use Rattle.kdb_tool.proofs.AnswersOnce.{import-over}
+use Rattle.kdb_tool.proofs.ServeLemmas.{alone_stopped, alone_unserved, handed_on, serve_alike, serve_unserved}
 use Rattle.kdb_tool.proofs.importing.import.Goals as goal
 
-pub returns-in-Keys-clause-told : goal.returns-in-Keys-clause-told
-returns-in-Keys-clause-told g c = λ tells bytes is.
-    let holding = c.in_ok-keys.ensures.is (taken bytes) (c.in_ok-read.ensures.told bytes is) in
-    let holds : Holds all.Reads c.args.name c.args.kind (taken bytes) c.in-Keys.keys = subst (λ (h : Holding). IsHolding all.Reads all.IsBadAt c.args.name c.args.kind (taken bytes) h) c.in-Keys.is holding in
-    IfOk-weaker c.answer_question.result _ _ (λ answer over. Held c.in-Keys.keys holds over) (c.answer_question.ensures.told tells)
+pub returns-in-Ok-Keys-clause-served : goal.returns-in-Ok-Keys-clause-served
+returns-in-Ok-Keys-clause-served g c = λ tells files doubt calm bytes is.
+    let name = c.args.name in
+    let kind = c.args.kind in
+    let seen = opened_files (g.D.Disk.seen c.args.disk) in
+    let holds : Holds all.Reads name kind (taken bytes) c.in-Ok-Keys.keys = subst (λ (h : Holding). IsHolding all.Reads all.IsBadAt name kind (taken bytes) h) c.in-Ok-Keys.field-0-is (c.in-Ok-Keys.ensures.told bytes is) in
+    serve_alike g.D.Disk files doubt (AnswersOver (On name (Replace c.in-Ok-Keys.keys)) seen) (AnswersImport name kind (taken bytes) seen) c.answer_question.result.answer c.args.disk c.answer_question.result.disk
+    (λ answer over. Held c.in-Ok-Keys.keys holds over) (λ answer imports. import-over name kind (taken bytes) seen c.in-Ok-Keys.keys answer holds imports) (c.answer_question.ensures.served tells files doubt calm)
 
-pub returns-clause-told : goal.returns-clause-told
-returns-clause-told g c = λ tells bytes is.
-    let holding = c.in_ok-keys.ensures.is (taken bytes) (c.in_ok-read.ensures.told bytes is) in
-    let cause : IsCause all.Reads all.IsBadAt c.args.name c.args.kind (taken bytes) (cause_of c.in-Bad.cause) = subst (λ (h : Holding). IsHolding all.Reads all.IsBadAt c.args.name c.args.kind (taken bytes) h) c.in-Bad.is holding in
-    Bad (cause_of c.in-Bad.cause) cause c.in_ok-refuse_input-in-Bad.ensures.told
+pub returns-in-Ok-Keys-clause-unserved : goal.returns-in-Ok-Keys-clause-unserved
+returns-in-Ok-Keys-clause-unserved g c = λ tells files doubt calm.
+    serve_unserved g.D.Disk files doubt (AnswersOver (On c.args.name (Replace c.in-Ok-Keys.keys)) (opened_files (g.D.Disk.seen c.args.disk))) c.answer_question.result.answer c.args.disk c.answer_question.result.disk (c.answer_question.ensures.served tells files doubt calm)
+
+pub returns-in-Ok-Bad-clause-served : goal.returns-in-Ok-Bad-clause-served
+returns-in-Ok-Bad-clause-served g c = λ tells_disk files doubt calm bytes is.
+    let name = c.args.name in
+    let kind = c.args.kind in
+    let seen = opened_files (g.D.Disk.seen c.args.disk) in
+    let cause : IsCause all.Reads all.IsBadAt name kind (taken bytes) (cause_of c.in-Ok-Bad.cause) = subst (λ (h : Holding). IsHolding all.Reads all.IsBadAt name kind (taken bytes) h) c.in-Ok-Bad.field-0-is (c.in-Ok-Bad.ensures.told bytes is) in
+    handed_on g.D.Disk c.args.disk c.without_store.result.disk files doubt (AnswersImport name kind (taken bytes) seen) c.refuse_input.result c.without_store.result.answer c.without_store.ensures.answer c.without_store.ensures.disk tells_disk calm
+    (IfOk-weaker c.refuse_input.result _ _ (λ report told. Bad (cause_of c.in-Ok-Bad.cause) cause (ap tells told)) c.refuse_input.ensures.told)
+
+pub returns-in-Ok-Bad-clause-unserved : goal.returns-in-Ok-Bad-clause-unserved
+returns-in-Ok-Bad-clause-unserved g c = λ tells_disk files doubt calm stops.
+    subst (Unserved g.D.Disk files doubt c.args.disk) (sym c.without_store.ensures.disk) (alone_unserved g.D.Disk c.args.disk files doubt tells_disk calm)
+
+pub returns-in-Err-clause-served : goal.returns-in-Err-clause-served
+returns-in-Err-clause-served g c = λ tells_disk files doubt calm bytes is.
+    alone_stopped g.D.Disk c.args.disk files doubt (AnswersImport c.args.name c.args.kind (taken bytes) (opened_files (g.D.Disk.seen c.args.disk))) c.in-Err.stop tells_disk calm (λ e. c.in-Err.ensures.own (ap Err e))
+
+pub returns-in-Err-clause-unserved : goal.returns-in-Err-clause-unserved
+returns-in-Err-clause-unserved g c = λ tells_disk files doubt calm stops. alone_unserved g.D.Disk c.args.disk files doubt tells_disk calm

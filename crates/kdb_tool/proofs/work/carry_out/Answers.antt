@@ -1,50 +1,61 @@
-use Rattle.std.specs.Prelude.{is_ok}
-use Rattle.std.proofs.Common.{subst, sym, ap, ◌∙◌}
-use Rattle.kdb_outside.specs.Frames.{OnlyReads}
-use Rattle.kdb_outside.proofs.Frames.{GoesOn-then, OnlyReads-goes_on}
-use Rattle.kdb_tool.specs.AnswerView.{answer_of}
-use Rattle.kdb_tool.specs.Work.{Stores}
-use Rattle.kdb_tool.specs.declared.answers.Stop.TheVariants as stops
+-- What the words ask for is what the definitions make of them.
+use Rattle.std.proofs.Common.{◌≡◌, List, ℕ, sym, ap, subst}
+use Rattle.std.proofs.lemmas.Result.{IfOk-weaker}
+use Rattle.intent_journal.specs.BadJournals.{opened_files}
+use Rattle.tool_commands.specs.StepView.{report_of}
+use Rattle.tool_words.specs.Request.{Request, Asks, Imports, Refuses, Bars}
+use Rattle.tool_words.specs.RequestView.{IsSeenAs, question_of, status_of, text_of}
 use Rattle.tool_words.specs.Rows.{request}
-use Rattle.kdb_tool.specs.Answer.{Answer}
-use Rattle.kdb_tool.proofs.AnswersOnce.{Answers-once}
-use Rattle.kdb_tool.proofs.EndLemmas.{Leaves-stored, spares-stored}
-use Rattle.kdb_tool.proofs.UntoldLemmas.{leaves_input, stored_by, stores_nothing, not_failed}
-use Rattle.kdb_tool.proofs.LastingLemmas.{spares-kept}
+use Rattle.tool_words.specs.declared.requests.Request as code
+use Rattle.tool_words.proofs.RowLemmas.{request-names_files}
+use Rattle.kdb_tool.specs.Answer.{Answer, tells}
+use Rattle.kdb_tool.specs.Answers.{AnswersOver, AnswersRequest}
+use Rattle.kdb_tool.specs.Input.{IsInput}
+use Rattle.kdb_tool.specs.Serving.{Serve, Unserved}
+use Rattle.kdb_tool.proofs.ServeLemmas.{alone_unserved, handed_on, serve_unserved}
 use Rattle.kdb_tool.proofs.work.carry_out.Goals as goal
 
-pub returns-clause-leaves : goal.returns-clause-leaves
-returns-clause-leaves g c = λ tells given fed.
-    let stores = c.store.ensures.stores (c.work_out.ensures.reads.tells ∙ tells) in
-    let from_start = subst (λ before. Stores c.in_ok-answer.answer c.store.result before (g.D.Disk.seen c.store.new.disk)) (c.work_out.ensures.reads.same tells) stores in
-    Leaves-stored c.args.words.now given c.in_ok-answer.answer c.store.result (g.D.Disk.seen c.args.disk.now) (g.D.Disk.seen c.store.new.disk) (c.in_ok-answer.ensures.told tells given fed) c.store.ensures.given from_start
+pub answer_question-requires : goal.answer_question-requires
+answer_question-requires g c =
+    request-names_files c.args.words.now (question_of c.in-Ok-Asks.question) (subst (λ (r : code.Request). IsSeenAs r (request c.args.words.now)) c.in-Ok-Asks.field-0-is c.in-Ok-Asks.ensures)
 
-pub returns-clause-spared : goal.returns-clause-spared
-returns-clause-spared g c = λ tells given fed answer answers.
-    let leaves = g.D.Disk.may_leave in
-    let made = c.in_ok-answer.answer in
-    let stored = c.store.ensures.spared (c.work_out.ensures.reads.tells ∙ tells) in
-    let spared = spares-kept made.stored (leaves c.args.disk.now) (leaves c.work_out.new.disk) (leaves c.store.new.disk) (c.work_out.ensures.reads.images tells) stored in
-    spares-stored c.args.words.now given (g.D.Disk.seen c.args.disk.now) (leaves c.args.disk.now) (leaves c.store.new.disk) (answer_of made) answer (c.in_ok-answer.ensures.told tells given fed) answers spared
+pub returns-in-Ok-Asks-clause-served : goal.returns-in-Ok-Asks-clause-served
+returns-in-Ok-Asks-clause-served g c = λ tells_disk files doubt calm given fed.
+    let asked : request c.args.words.now ≡ Asks (question_of c.in-Ok-Asks.question) = subst (λ (r : code.Request). IsSeenAs r (request c.args.words.now)) c.in-Ok-Asks.field-0-is c.in-Ok-Asks.ensures in
+    subst (λ (r : Request). Serve g.D.Disk files doubt (AnswersRequest r given (opened_files (g.D.Disk.seen c.args.disk))) c.answer_question.result.answer c.args.disk c.answer_question.result.disk) (sym asked) (c.answer_question.ensures.served tells_disk files doubt calm)
 
-pub returns-clause-goes : goal.returns-clause-goes
-returns-clause-goes g c =
-    let read = OnlyReads-goes_on g.D.Disk c.args.disk.now c.work_out.new.disk c.work_out.ensures.reads in
-    GoesOn-then g.D.Disk c.args.disk.now c.work_out.new.disk c.store.new.disk read c.store.ensures.goes
+pub returns-in-Ok-Asks-clause-unserved : goal.returns-in-Ok-Asks-clause-unserved
+returns-in-Ok-Asks-clause-unserved g c = λ tells_disk files doubt calm.
+    serve_unserved g.D.Disk files doubt (AnswersOver (question_of c.in-Ok-Asks.question) (opened_files (g.D.Disk.seen c.args.disk))) c.answer_question.result.answer c.args.disk c.answer_question.result.disk (c.answer_question.ensures.served tells_disk files doubt calm)
 
-pub returns-clause-asked : goal.returns-clause-asked
-returns-clause-asked g c = λ failed.
-    stored_by (request c.args.words.now) (answer_of c.in_ok-answer.answer) c.in_ok-answer.ensures.untold (λ nothing. absurd (not_failed c.store.result stops.DiskFault (c.store.ensures.done nothing) failed))
+pub returns-in-Ok-Imports-clause-served : goal.returns-in-Ok-Imports-clause-served
+returns-in-Ok-Imports-clause-served g c = λ tells_disk files doubt calm given fed.
+    let asked : request c.args.words.now ≡ Imports c.in-Ok-Imports.name c.in-Ok-Imports.kind = subst (λ (r : code.Request). IsSeenAs r (request c.args.words.now)) c.in-Ok-Imports.field-0-is c.in-Ok-Imports.ensures in
+    let told = subst (λ (r : Request). IsInput r (g.S.Source.left c.args.input.now) given) asked fed in
+    subst (λ (r : Request). Serve g.D.Disk files doubt (AnswersRequest r given (opened_files (g.D.Disk.seen c.args.disk))) c.import.result.answer c.args.disk c.import.result.disk) (sym asked) (c.import.ensures.served tells_disk files doubt calm given told)
 
-pub returns-clause-unasked : goal.returns-clause-unasked
-returns-clause-unasked g c = λ unasked.
-    c.store.ensures.nothing (stores_nothing (request c.args.words.now) (answer_of c.in_ok-answer.answer) c.in_ok-answer.ensures.untold unasked) ∙ c.work_out.ensures.unasked unasked
+pub returns-in-Ok-Refuses-clause-served : goal.returns-in-Ok-Refuses-clause-served
+returns-in-Ok-Refuses-clause-served g c = λ tells_disk files doubt calm given fed.
+    let asked : request c.args.words.now ≡ Refuses (status_of c.in-Ok-Refuses.refusal) (text_of c.in-Ok-Refuses.refusal) = subst (λ (r : code.Request). IsSeenAs r (request c.args.words.now)) c.in-Ok-Refuses.field-0-is c.in-Ok-Refuses.ensures in
+    handed_on g.D.Disk c.args.disk c.without_store.result.disk files doubt (AnswersRequest (request c.args.words.now) given (opened_files (g.D.Disk.seen c.args.disk))) c.warn_of_words.result c.without_store.result.answer c.without_store.ensures.answer c.without_store.ensures.disk tells_disk calm
+    (IfOk-weaker c.warn_of_words.result _ _ (λ report told. subst (λ (r : Request). AnswersRequest r given (opened_files (g.D.Disk.seen c.args.disk)) (tells (report_of report))) (sym asked) (ap tells told)) c.warn_of_words.ensures.warned)
 
-pub returns-clause-untouched : goal.returns-clause-untouched
-returns-clause-untouched g c = λ tells given fed answer answers nothing.
-    let made = answer_of c.in_ok-answer.answer in
-    let same = Answers-once c.args.words.now given (g.D.Disk.seen c.args.disk.now) made answer (c.in_ok-answer.ensures.told tells given fed) answers in
-    subst (OnlyReads g.D.Disk c.args.disk.now) (sym (c.store.ensures.nothing (ap (λ (a : Answer). a.stored) same ∙ nothing))) c.work_out.ensures.reads
+pub returns-in-Ok-Refuses-clause-unserved : goal.returns-in-Ok-Refuses-clause-unserved
+returns-in-Ok-Refuses-clause-unserved g c = λ tells_disk files doubt calm stops.
+    subst (Unserved g.D.Disk files doubt c.args.disk) (sym c.without_store.ensures.disk) (alone_unserved g.D.Disk c.args.disk files doubt tells_disk calm)
 
-pub returns-clause-input : goal.returns-clause-input
-returns-clause-input g c = leaves_input g.S.Source (request c.args.words.now) _ _ c.args.input.now c.work_out.new.input (λ done. ap is_ok c.in_ok-answer.was) c.work_out.ensures.input
+pub returns-in-Ok-Bars-clause-served : goal.returns-in-Ok-Bars-clause-served
+returns-in-Ok-Bars-clause-served g c = λ tells_disk files doubt calm given fed.
+    let asked : request c.args.words.now ≡ Bars c.in-Ok-Bars.by c.in-Ok-Bars.name = subst (λ (r : code.Request). IsSeenAs r (request c.args.words.now)) c.in-Ok-Bars.field-0-is c.in-Ok-Bars.ensures in
+    handed_on g.D.Disk c.args.disk c.without_store-in-Ok-Bars.result.disk files doubt (AnswersRequest (request c.args.words.now) given (opened_files (g.D.Disk.seen c.args.disk))) c.warn_of_name.result c.without_store-in-Ok-Bars.result.answer c.without_store-in-Ok-Bars.ensures.answer c.without_store-in-Ok-Bars.ensures.disk tells_disk calm
+    (IfOk-weaker c.warn_of_name.result _ _ (λ report told. subst (λ (r : Request). AnswersRequest r given (opened_files (g.D.Disk.seen c.args.disk)) (tells (report_of report))) (sym asked) (ap tells told)) c.warn_of_name.ensures)
+
+pub returns-in-Ok-Bars-clause-unserved : goal.returns-in-Ok-Bars-clause-unserved
+returns-in-Ok-Bars-clause-unserved g c = λ tells_disk files doubt calm stops.
+    subst (Unserved g.D.Disk files doubt c.args.disk) (sym c.without_store-in-Ok-Bars.ensures.disk) (alone_unserved g.D.Disk c.args.disk files doubt tells_disk calm)
+
+pub returns-in-Err-clause-served : goal.returns-in-Err-clause-served
+returns-in-Err-clause-served g c = λ tells_disk files doubt calm given fed. alone_unserved g.D.Disk c.args.disk files doubt tells_disk calm
+
+pub returns-in-Err-clause-unserved : goal.returns-in-Err-clause-unserved
+returns-in-Err-clause-unserved g c = λ tells_disk files doubt calm stops. alone_unserved g.D.Disk c.args.disk files doubt tells_disk calm

@@ -1,0 +1,11 @@
+-- How a call leaves its input.
+use Rattle.tool_words.specs.Request.{Request, Refuses, Bars, Asks, Imports}
+use Rattle.kdb_outside.specs.declared.sources.Source.{Ghosts}
+use Rattle.kdb_tool.specs.Input.{LeavesInput}
+
+-- how a call that takes nothing more leaves the input
+pub leaves_input : {S : Type 0} (g : Ghosts S) (asked : Request) (now_done done : Type 0) (before now : S) → (now_done → done) → LeavesInput g asked done before now → LeavesInput g asked now_done before now
+leaves_input g (Refuses status text) now_done done before now weaker leaves = leaves
+leaves_input g (Bars by name) now_done done before now weaker leaves = leaves
+leaves_input g (Asks question) now_done done before now weaker leaves = leaves
+leaves_input g (Imports name kind) now_done done before now weaker leaves = record { front = leaves.front; all = λ answered. leaves.all (weaker answered) }

@@ -1,0 +1,225 @@
+-- What a command does to a disk, from what it did to the open store and what the opening and the close leave.
+use Rattle.std.proofs.Common.{◌≡◌, ◌≢◌, ◌⊎◌, inl, inr, ℕ, ◌≤◌, true, false, is_some, List, [], ◌∷◌, Option, Some, None, Result, Ok, Err, IfOk, refl, sym, ap, subst, ◌∙◌}
+use Rattle.intent_journal.specs.BadJournals.{open_entry, opened_files}
+use Rattle.intent_journal.specs.Journal.{JournalValue}
+use Rattle.intent_journal.specs.Moments.{LeavesOnly}
+use Rattle.intent_journal.specs.Outcomes.{with_entry, SameFiles, HasOnly, IsEither, IsOutcome}
+use Rattle.intent_journal.specs.States.{IsCalm}
+use Rattle.intent_journal.specs.declared.states.State.TheVariants.{Doubt as IsDoubt}
+use Rattle.kdb_outside.proofs.Frames.{OnlyReads-none}
+use Rattle.journal_codec.specs.Entry.{journal_name}
+use Rattle.journal_codec.specs.declared.files.FileText.{FileText}
+use Rattle.kdb_outside.specs.Crashes.{EveryImage}
+use Rattle.kdb_outside.specs.Faults.{HasRisen}
+use Rattle.kdb_outside.specs.Frames.{GoesOn, OnlyReads}
+use Rattle.kdb_outside.specs.Images.{Image, IsImage}
+use Rattle.kdb_outside.specs.declared.disks.Disk.{Ghosts}
+use Rattle.model_crashes.specs.Runs.{Run, IsOneOf, IsReached, after_begun, files_of, new_run}
+use Rattle.model_crashes.proofs.Moments.{only_both, only_follows, only_now, risen_since}
+use Rattle.model_crashes.proofs.Reached.{only_weaker}
+use Rattle.store_core.specs.Frames.{IsUnwritten}
+use Rattle.store_core.specs.declared.cores.Core.{Core}
+use Rattle.store_phases.specs.Stores.{IsStore}
+use Rattle.tool_commands.specs.Report.{Report}
+use Rattle.tool_commands.specs.StepView.{report_of}
+use Rattle.tool_commands.specs.declared.reports.Report as code
+use Rattle.kdb_tool.specs.Answer.{Answer, Texts, entry_of, tells, with_stored}
+use Rattle.kdb_tool.specs.Crashing.{MayBeLeft, MayRemain, Shows, Alone, Stored}
+use Rattle.kdb_tool.specs.Serving.{Serves, FailsToStore, Serving, Served, Unserved, Failing, Serve, run_with}
+use Rattle.kdb_tool.specs.Stops.{or_memory}
+use Rattle.kdb_tool.specs.declared.answers.Stop.{Stop}
+use Rattle.kdb_tool.specs.declared.answers.Stop.TheVariants as stops
+use Rattle.kdb_tool.proofs.CrashLemmas.{found, reached_none, reached_begun, reached_commit, left_found}
+
+-- an opened store stands for a run without a commit, on the files that the opening leaves and with a doubt that stands for no other files
+pub record HasBegun {D : Type 0} (g : Ghosts D) (disk : D) (files : Image) (doubt : Option (List FileText)) (journal : JournalValue D) : Type 0 where
+  pub first : Option (List FileText)
+  pub store : IsStore g journal.disk journal (new_run (opened_files (g.seen disk)) (g.faults disk) first)
+  pub within : (o : Image) → IsEither (opened_files (g.seen disk)) first o → IsEither files doubt o
+
+-- what an opening left of the disk
+pub record HasOpened {D : Type 0} (g : Ghosts D) (disk : D) (files : Image) (doubt : Option (List FileText)) (core : Core D) : Type 0 where
+  pub begun : HasBegun g disk files doubt core.journal
+  pub goes : GoesOn g disk core.journal.disk
+  pub meanwhile : LeavesOnly g disk core.journal.disk (HasOnly (IsEither files doubt))
+  pub alone : open_entry (g.seen disk journal_name) ≡ None → OnlyReads g disk core.journal.disk
+  pub wrote : core.wrote ≡ is_some (open_entry (g.seen disk journal_name))
+  pub state : core.journal.state ≡ IsDoubt
+
+-- what the close of a store left of it
+pub record HasClosed {D : Type 0} (g : Ghosts D) (core : Core D) (end : D) : Type 0 where
+  pub alone : core.wrote ≡ false → core.journal.state ≡ IsDoubt → end ≡ core.journal.disk
+  pub shown : (opened : D) (run : Run) → IsStore g opened core.journal run → ¬ HasRisen (g.faults core.journal.disk) (g.faults end) → SameFiles (g.seen end) (files_of run)
+  pub always : (opened : D) (run : Run) → IsStore g opened core.journal run → LeavesOnly g opened end (IsReached run.files run.commits run.begun)
+  pub now : (opened : D) (run : Run) → IsStore g opened core.journal run → EveryImage (g.may_leave end) (HasOnly (IsEither (files_of run) run.doubt))
+
+module _ {D : Type 0} (g : Ghosts D) (disk end : D) (files : Image) (doubt : Option (List FileText)) (old new : Core D) (has_opened : HasOpened g disk files doubt old) (has_closed : HasClosed g new end) where
+  abbrev opened : Image
+  opened = opened_files (g.seen disk)
+
+  abbrev mid : D
+  mid = old.journal.disk
+
+  abbrev first : Run
+  first = new_run opened (g.faults disk) has_opened.begun.first
+
+  -- ---- by what is stored
+
+  amid : (stored : Texts) (image : Image) → IsReached (run_with first stored).files (run_with first stored).commits (run_with first stored).begun image → MayBeLeft files doubt opened stored image
+  amid [] image reached = reached_none files doubt opened has_opened.begun.first has_opened.begun.within image reached
+  amid (text ∷ texts) image reached = reached_commit files doubt opened has_opened.begun.first has_opened.begun.within (entry_of (text ∷ texts)) image reached
+
+  behind : (stored : Texts) (image : Image) → HasOnly (IsEither (files_of (run_with first stored)) (run_with first stored).doubt) image → MayRemain files doubt opened stored image
+  behind [] image only = found files doubt opened has_opened.begun.first has_opened.begun.within has_opened.begun.first image (inr refl) only
+  behind (text ∷ texts) image only =
+      only_weaker (IsEither (with_entry opened (entry_of (text ∷ texts))) None) (IsOutcome (with_stored (text ∷ texts) opened)) image
+      (λ o is. elim is as (λ x. SameFiles o (with_stored (text ∷ texts) opened)) [ inl same ↦ same | inr one ↦ absurd (no_doubt one.0 one.1) ]) only
+    where
+      no_doubt : (entry : List FileText) → None ≡ Some entry → ⊥
+      no_doubt entry e = absurd cc
+
+  files_are : (stored : Texts) → SameFiles (files_of (run_with first stored)) (with_stored stored opened)
+  files_are [] file not_own = refl
+  files_are (text ∷ texts) file not_own = refl
+
+  whole : (P : Image → Type 0) → ((image : Image) → HasOnly (IsEither files doubt) image → P image) → (Q : Image → Type 0) → ((image : Image) → Q image → P image) → LeavesOnly g mid end Q → LeavesOnly g disk end P
+  whole P from_found Q from_reached reached = only_both g disk mid end (HasOnly (IsEither files doubt)) Q P from_found from_reached has_opened.goes.moment has_opened.meanwhile reached
+
+  untouched : IsUnwritten old new → open_entry (g.seen disk journal_name) ≡ None → OnlyReads g disk end
+  untouched kept none =
+      let wrote : new.wrote ≡ false = kept.wrote ∙ has_opened.wrote ∙ ap is_some none in
+      let state : new.journal.state ≡ IsDoubt = ap (λ (j : JournalValue D). j.state) kept.journal ∙ has_opened.state in
+      subst (OnlyReads g disk) (sym (has_closed.alone wrote state ∙ ap (λ (j : JournalValue D). j.disk) kept.journal)) (has_opened.alone none)
+
+  served : (Answered : Answer → Type 0) (report : Report) → Serves g mid first Answered report old new → Served g files doubt Answered report disk end
+  served Answered report serves =
+      let stored : Texts = serves.answer.stored in
+      record {
+        answer = serves.answer;
+        answers = serves.answers;
+        told = serves.told;
+        crash = whole (MayBeLeft files doubt opened stored) (left_found files doubt opened has_opened.begun.first has_opened.begun.within stored)
+            (IsReached (run_with first stored).files (run_with first stored).commits (run_with first stored).begun) (amid stored) (has_closed.always mid (run_with first stored) serves.committed);
+        lasting = λ image is. behind stored image (has_closed.now mid (run_with first stored) serves.committed image is);
+        shown = λ still. Stored (λ file not_own.
+            has_closed.shown mid (run_with first stored) serves.committed
+            (λ rose. still (risen_since (g.faults disk) (g.faults new.journal.disk) (g.faults end) (faults_since stored serves.committed) rose)) file not_own
+            ∙ files_are stored file not_own);
+        untouched = λ nothing. untouched (serves.kept nothing);
+      }
+    where
+      faults_since : (stored : Texts) → IsStore g mid new.journal (run_with first stored) → g.faults disk ≤ g.faults new.journal.disk
+      faults_since [] store = store.risen
+      faults_since (text ∷ texts) store = store.risen
+
+  unserved : IsUnwritten old new → Unserved g files doubt disk end
+  unserved kept =
+      let store : IsStore g mid new.journal first = subst (λ (j : JournalValue D). IsStore g mid j first) (sym kept.journal) has_opened.begun.store in
+      whole (HasOnly (IsEither files doubt)) (λ image only. only) (IsReached opened [] first.begun) (λ image. amid [] image) (has_closed.always mid first store)
+
+  failing : (Answered : Answer → Type 0) → ((a b : Answer) → Answered a → Answered b → a ≡ b) → FailsToStore g mid first Answered new → (answer : Answer) → Answered answer → Failing g files doubt disk end answer.stored
+  failing Answered once fails answer answers =
+      subst (λ (a : Answer). Failing g files doubt disk end a.stored) (once fails.answer answer fails.answers answers)
+      (whole (MayBeLeft files doubt opened stored) (left_found files doubt opened has_opened.begun.first has_opened.begun.within stored)
+      (IsReached opened [] (after_begun first (entry_of stored) fails.doubt).begun) (λ image reached. some stored fails.some image (reached_begun files doubt opened has_opened.begun.first has_opened.begun.within (entry_of stored) image reached))
+      (has_closed.always mid (after_begun first (entry_of stored) fails.doubt) fails.begun))
+    where
+      stored : Texts
+      stored = fails.answer.stored
+
+      some : (texts : Texts) → texts ≢ [] → (image : Image) → HasOnly (IsEither files doubt) image ⊎ HasOnly (IsEither opened (Some (entry_of texts))) image → MayBeLeft files doubt opened texts image
+      some [] none image left = absurd (none refl)
+      some (text ∷ texts) none image left = left
+
+  pub serve : (Answered : Answer → Type 0) → ((a b : Answer) → Answered a → Answered b → a ≡ b) → (result : Result code.Report Stop) → Serving g mid first Answered result old new → Serve g files doubt Answered result disk end
+  serve Answered once (Ok report) serving = served Answered (report_of report) serving
+  serve Answered once (Err stops.Memory) serving = unserved serving
+  serve Answered once (Err stops.DiskFault) serving = failing Answered once serving
+  serve Answered once (Err stops.ReadFault) serving = absurd serving
+
+-- ---- what is told of an open store, which stays as it is
+
+pub unwritten_itself : {D : Type 0} (core : Core D) → IsUnwritten core core
+unwritten_itself core = record { journal = refl; history = refl; keys = refl; wrote = refl }
+
+pub told_serves : {D : Type 0} (g : Ghosts D) (opened : D) (run : Run) (Answered : Answer → Type 0) (report : Report) (core : Core D) → Answered (tells report) → IsStore g opened core.journal run → Serves g opened run Answered report core core
+told_serves g opened run Answered report core answers store = record { answer = tells report; answers = answers; told = refl; committed = store; kept = λ nothing. unwritten_itself core }
+
+-- ---- other answers
+
+pub serving_weaker : {D : Type 0} (g : Ghosts D) (opened : D) (run : Run) (P Q : Answer → Type 0) (result : Result code.Report Stop) (before after : Core D) → ((answer : Answer) → P answer → Q answer) → Serving g opened run P result before after → Serving g opened run Q result before after
+serving_weaker g opened run P Q (Ok report) before after follows s = record { answer = s.answer; answers = follows s.answer s.answers; told = s.told; committed = s.committed; kept = s.kept }
+serving_weaker g opened run P Q (Err stops.Memory) before after follows s = s
+serving_weaker g opened run P Q (Err stops.DiskFault) before after follows s = record { answer = s.answer; answers = follows s.answer s.answers; some = s.some; doubt = s.doubt; one = s.one; begun = s.begun }
+serving_weaker g opened run P Q (Err stops.ReadFault) before after follows s = absurd s
+
+pub serve_alike : {D : Type 0} (g : Ghosts D) (files : Image) (doubt : Option (List FileText)) (P Q : Answer → Type 0) (result : Result code.Report Stop) (before after : D) → ((answer : Answer) → P answer → Q answer) → ((answer : Answer) → Q answer → P answer) → Serve g files doubt P result before after → Serve g files doubt Q result before after
+serve_alike g files doubt P Q (Ok report) before after to from s = record { answer = s.answer; answers = to s.answer s.answers; told = s.told; crash = s.crash; lasting = s.lasting; shown = s.shown; untouched = s.untouched }
+serve_alike g files doubt P Q (Err stops.Memory) before after to from s = s
+serve_alike g files doubt P Q (Err stops.DiskFault) before after to from s = λ answer answers. s answer (from answer answers)
+serve_alike g files doubt P Q (Err stops.ReadFault) before after to from s = s
+
+-- a run without an answer whose disk didn't fail stored nothing
+pub serve_unserved : {D : Type 0} (g : Ghosts D) (files : Image) (doubt : Option (List FileText)) (P : Answer → Type 0) (result : Result code.Report Stop) (before after : D) → Serve g files doubt P result before after → (result ≡ Err stops.Memory) ⊎ (result ≡ Err stops.ReadFault) → Unserved g files doubt before after
+serve_unserved g files doubt P result before after s (inl is) = subst (λ (r : Result code.Report Stop). Serve g files doubt P r before after) is s
+serve_unserved g files doubt P result before after s (inr is) = subst (λ (r : Result code.Report Stop). Serve g files doubt P r before after) is s
+
+-- ---- where the store isn't asked
+
+-- a calm disk that is left alone
+pub calm_only : {D : Type 0} (g : Ghosts D) (disk : D) (files : Image) (doubt : Option (List FileText)) → IsCalm (g.seen disk) (g.may_leave disk) files doubt → EveryImage (g.may_leave disk) (HasOnly (IsEither files doubt))
+calm_only g disk files doubt calm image is = record { not_broken = calm.not_broken (image journal_name) (is journal_name); each = λ outcome has. calm.outcomes image outcome is has }
+
+pub alone_served : {D : Type 0} (g : Ghosts D) (disk : D) (files : Image) (doubt : Option (List FileText)) (Answered : Answer → Type 0) (report : Report) → g.tells disk ≡ true → IsCalm (g.seen disk) (g.may_leave disk) files doubt → Answered (tells report) → Served g files doubt Answered report disk disk
+alone_served g disk files doubt Answered report told calm answers = record {
+  answer = tells report;
+  answers = answers;
+  told = refl;
+  crash = only_now g disk (HasOnly (IsEither files doubt)) told (calm_only g disk files doubt calm);
+  lasting = calm_only g disk files doubt calm;
+  shown = λ still. Alone refl refl;
+  untouched = λ nothing none. OnlyReads-none g disk;
+}
+
+pub alone_unserved : {D : Type 0} (g : Ghosts D) (disk : D) (files : Image) (doubt : Option (List FileText)) → g.tells disk ≡ true → IsCalm (g.seen disk) (g.may_leave disk) files doubt → Unserved g files doubt disk disk
+alone_unserved g disk files doubt told calm = only_now g disk (HasOnly (IsEither files doubt)) told (calm_only g disk files doubt calm)
+
+-- ---- where the store isn't opened
+
+-- what is told of files that were read
+pub refused_served : {D : Type 0} (g : Ghosts D) (disk end : D) (files : Image) (doubt : Option (List FileText)) (Answered : Answer → Type 0) (report : Report) → LeavesOnly g disk end (HasOnly (IsEither files doubt)) → EveryImage (g.may_leave end) (HasOnly (IsEither files doubt))
+    → SameFiles (g.seen end) (opened_files (g.seen disk)) → (open_entry (g.seen disk journal_name) ≡ None → OnlyReads g disk end) → Answered (tells report) → Served g files doubt Answered report disk end
+refused_served g disk end files doubt Answered report meanwhile now shown alone answers = record {
+  answer = tells report;
+  answers = answers;
+  told = refl;
+  crash = meanwhile;
+  lasting = now;
+  shown = λ still. Stored (λ file not_own. shown file not_own);
+  untouched = λ nothing none. alone none;
+}
+
+pub left_amid : {D : Type 0} (g : Ghosts D) (disk end : D) (files : Image) (doubt : Option (List FileText)) (stored : Texts) → LeavesOnly g disk end (HasOnly (IsEither files doubt)) → Failing g files doubt disk end stored
+left_amid g disk end files doubt stored meanwhile =
+    only_follows g disk end (HasOnly (IsEither files doubt)) (MayBeLeft files doubt (opened_files (g.seen disk)) stored) (λ image only. by stored image only) meanwhile
+  where
+    by : (texts : Texts) (image : Image) → HasOnly (IsEither files doubt) image → MayBeLeft files doubt (opened_files (g.seen disk)) texts image
+    by [] image only = only
+    by (text ∷ texts) image only = inl only
+
+-- ---- what is told without the store
+
+pub alone_serve : {D : Type 0} {E : Type 0} (g : Ghosts D) (disk : D) (files : Image) (doubt : Option (List FileText)) (Answered : Answer → Type 0) (made : Result code.Report E) → g.tells disk ≡ true → IsCalm (g.seen disk) (g.may_leave disk) files doubt → IfOk made (λ report. Answered (tells (report_of report))) → Serve g files doubt Answered (or_memory made) disk disk
+alone_serve g disk files doubt Answered (Ok report) told calm answers = alone_served g disk files doubt Answered (report_of report) told calm answers
+alone_serve g disk files doubt Answered (Err why) told calm answers = alone_unserved g disk files doubt told calm
+
+pub alone_stopped : {D : Type 0} (g : Ghosts D) (disk : D) (files : Image) (doubt : Option (List FileText)) (Answered : Answer → Type 0) (stop : Stop) → g.tells disk ≡ true → IsCalm (g.seen disk) (g.may_leave disk) files doubt → stop ≢ stops.DiskFault → Serve g files doubt Answered (Err stop) disk disk
+alone_stopped g disk files doubt Answered stops.Memory told calm own = alone_unserved g disk files doubt told calm
+alone_stopped g disk files doubt Answered stops.DiskFault told calm own = absurd (own refl)
+alone_stopped g disk files doubt Answered stops.ReadFault told calm own = alone_unserved g disk files doubt told calm
+
+-- what is told without the store, as the call that hands the disk on has it
+pub handed_on : {D : Type 0} {E : Type 0} (g : Ghosts D) (disk end : D) (files : Image) (doubt : Option (List FileText)) (Answered : Answer → Type 0) (made : Result code.Report E) (result : Result code.Report Stop) → result ≡ or_memory made → end ≡ disk → g.tells disk ≡ true → IsCalm (g.seen disk) (g.may_leave disk) files doubt
+    → IfOk made (λ report. Answered (tells (report_of report))) → Serve g files doubt Answered result disk end
+handed_on g disk end files doubt Answered made result is still told calm answers =
+    subst (λ e. Serve g files doubt Answered result disk e) (sym still) (subst (λ (r : Result code.Report Stop). Serve g files doubt Answered r disk disk) (sym is) (alone_serve g disk files doubt Answered made told calm answers))

@@ -1,0 +1,23 @@
+-- What a crash may leave of the files of a store while a command goes on, and behind it. (This project's own. After crash refinement: a
+-- crash leaves what an acknowledged command stored whole, and what an unfinished one stores whole or absent.)
+use Rattle.std.specs.Prelude.{◌≡◌, ◌⊎◌, List, [], ◌∷◌, Option, Some}
+use Rattle.intent_journal.specs.Outcomes.{SameFiles, HasOnly, IsEither, IsOutcome}
+use Rattle.journal_codec.specs.declared.files.FileText.{FileText}
+use Rattle.kdb_outside.specs.Images.{Image}
+use Rattle.kdb_tool.specs.Answer.{Texts, entry_of, with_stored}
+
+-- amid a command, on files that were found with a doubt and that its opening left so: the files as they were found, or those of the
+-- opening without or with all that is stored. Nothing is stored where a command stores nothing
+abbrev pub MayBeLeft : Image → Option (List FileText) → Image → Texts → Image → Type 0
+MayBeLeft files doubt opened [] image = HasOnly (IsEither files doubt) image
+MayBeLeft files doubt opened (text ∷ texts) image = HasOnly (IsEither files doubt) image ⊎ HasOnly (IsEither opened (Some (entry_of (text ∷ texts)))) image
+
+-- behind a command that gave its answer: all that it stored is there, and where it stored nothing the files are as they were found
+abbrev pub MayRemain : Image → Option (List FileText) → Image → Texts → Image → Type 0
+MayRemain files doubt opened [] image = HasOnly (IsEither files doubt) image
+MayRemain files doubt opened (text ∷ texts) image = HasOnly (IsOutcome (with_stored (text ∷ texts) opened)) image
+
+-- the files show what was stored, and are else as the opening left them; a command that stores nothing may leave the disk alone
+pub data Shows (stored : Texts) (opened before after : Image) : Type 0 where
+  Alone : stored ≡ [] → after ≡ before → Shows stored opened before after
+  Stored : SameFiles after (with_stored stored opened) → Shows stored opened before after

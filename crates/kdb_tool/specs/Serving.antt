@@ -1,0 +1,122 @@
+-- What a command does to a store, by how it ended: on the open store, and on the disk from the opening to the close. (This project's own.)
+use Rattle.std.specs.Prelude.{◌≡◌, ◌≢◌, ℕ, List, [], ◌∷◌, length, map as over, Option, None, Result, Ok, Err}
+use Rattle.std.specs.List.{AllByRecursion}
+use Rattle.intent_journal.specs.BadJournals.{open_entry, opened_files}
+use Rattle.intent_journal.specs.Moments.{LeavesOnly}
+use Rattle.intent_journal.specs.Outcomes.{HasOnly, IsEither}
+use Rattle.journal_codec.specs.Entry.{journal_name}
+use Rattle.journal_codec.specs.declared.files.FileText.{FileText}
+use Rattle.kdb_outside.specs.Crashes.{EveryImage}
+use Rattle.kdb_outside.specs.Faults.{HasRisen}
+use Rattle.kdb_outside.specs.Frames.{OnlyReads}
+use Rattle.kdb_outside.specs.Images.{Image}
+use Rattle.kdb_outside.specs.declared.disks.Disk.{Ghosts}
+use Rattle.model_crashes.specs.Runs.{Run, IsOneOf, after_begun, after_commit}
+use Rattle.model_maps.specs.KeyMap.{KeyMap, no_keys}
+use Rattle.model_names.specs.Name.{Name}
+use Rattle.model_store.specs.Events.{first_bad}
+use Rattle.model_store.specs.First.{first_record}
+use Rattle.model_store.specs.Worlds.{first_world}
+use Rattle.mounted_files.specs.Short.{AreShort}
+use Rattle.mounted_files.specs.declared.files.MountedFile.{MountedFile}
+use Rattle.store_core.specs.Cores.{StandsIn}
+use Rattle.store_core.specs.Frames.{IsUnwritten}
+use Rattle.store_core.specs.Plans.{store_of}
+use Rattle.store_core.specs.declared.cores.Core.{Core}
+use Rattle.store_core.specs.declared.cores.Plan.{Plan}
+use Rattle.store_phases.specs.Stores.{IsStore}
+use Rattle.store_verdict.specs.Preparing.{IsMade, IsPlan}
+use Rattle.store_verdict.specs.RecordView.{handle_of, places_of, proc_of, record_of}
+use Rattle.store_verdict.specs.declared.prepared.Prepared.{Prepared}
+use Rattle.store_verdict.specs.declared.records.Record.{Record}
+use Rattle.tool_commands.specs.Report.{Report}
+use Rattle.tool_commands.specs.StepView.{report_of}
+use Rattle.tool_commands.specs.declared.reports.Report as code
+use Rattle.kdb_tool.specs.Answer.{Answer, Texts, entry_of}
+use Rattle.kdb_tool.specs.Crashing.{MayBeLeft, MayRemain, Shows}
+use Rattle.kdb_tool.specs.Sets.{formats, store_alone, the_handle}
+use Rattle.kdb_tool.specs.declared.answers.Stop.{Stop}
+use Rattle.kdb_tool.specs.declared.answers.Stop.TheVariants as stops
+
+-- ---- on the open store
+
+-- a store was opened, and nothing committed
+pub record IsOpen {D F : Type 0} (plan : Plan F) (core : Core D) : Type 0 where
+  pub fixed : (procs : ℕ → KeyMap) → IsPlan (store_of plan.mounted procs) plan.fixed
+  pub short : AllByRecursion AreShort plan.fixed.shadows
+  pub world : (procs : ℕ → KeyMap) → StandsIn formats (store_of plan.mounted procs) core (λ r m. None) (λ p. None) first_world
+
+-- and the handle of a command got a parent
+pub record HasFetched (files : List MountedFile) (parent : Name) (rec : Record) : Type 0 where
+  pub good : first_bad (store_alone files) parent ≡ None
+  pub handle : handle_of rec ≡ the_handle
+  pub is : record_of rec ≡ first_record (store_alone files) parent
+  pub places : places_of rec ≡ length files
+
+-- the record of a handle that has fetched nothing
+pub record IsNew (files : List MountedFile) (rec : Record) : Type 0 where
+  pub handle : handle_of rec ≡ the_handle
+  pub places : places_of rec ≡ length files
+  pub proc : proc_of rec ≡ no_keys
+  pub none : (m : ℕ) → record_of rec m ≡ None
+
+-- a set was prepared at a parent that its handle got first of all
+pub record IsAlone (files : List MountedFile) (rec : Record) (set : Prepared) : Type 0 where
+  pub parent : Name
+  pub keys : KeyMap
+  pub fetched : HasFetched files parent rec
+  pub made : IsMade formats (store_alone files) the_handle (record_of rec) parent keys set
+
+-- a run goes on by what an answer stores
+abbrev pub run_with : Run → Texts → Run
+run_with run [] = run
+run_with run (text ∷ texts) = after_commit run (entry_of (text ∷ texts))
+
+-- an answer was given, and what it stores is committed; where it stores nothing the store is as it was
+pub record Serves {D : Type 0} (g : Ghosts D) (opened : D) (run : Run) (Answered : Answer → Type 0) (report : Report) (before after : Core D) : Type 0 where
+  pub answer : Answer
+  pub answers : Answered answer
+  pub told : answer.report ≡ report
+  pub committed : IsStore g opened after.journal (run_with run answer.stored)
+  pub kept : answer.stored ≡ [] → IsUnwritten before after
+
+-- the disk failed to commit what an answer stores
+pub record FailsToStore {D : Type 0} (g : Ghosts D) (opened : D) (run : Run) (Answered : Answer → Type 0) (after : Core D) : Type 0 where
+  pub answer : Answer
+  pub answers : Answered answer
+  pub some : answer.stored ≢ []
+  pub doubt : Option (List FileText)
+  pub one : IsOneOf doubt run.doubt (entry_of answer.stored)
+  pub begun : IsStore g opened after.journal (after_begun run (entry_of answer.stored) doubt)
+
+abbrev pub Serving : {D : Type 0} → Ghosts D → D → Run → (Answer → Type 0) → Result code.Report Stop → Core D → Core D → Type 0
+Serving g opened run Answered (Ok report) before after = Serves g opened run Answered (report_of report) before after
+Serving g opened run Answered (Err stops.Memory) before after = IsUnwritten before after
+Serving g opened run Answered (Err stops.DiskFault) before after = FailsToStore g opened run Answered after
+Serving g opened run Answered (Err stops.ReadFault) before after = ⊥
+
+-- ---- on the disk, which was calm
+
+-- an answer was given: what a crash may leave amid it and behind it, and what the files show
+pub record Served {D : Type 0} (g : Ghosts D) (files : Image) (doubt : Option (List FileText)) (Answered : Answer → Type 0) (report : Report) (before after : D) : Type 0 where
+  pub answer : Answer
+  pub answers : Answered answer
+  pub told : answer.report ≡ report
+  pub crash : LeavesOnly g before after (MayBeLeft files doubt (opened_files (g.seen before)) answer.stored)
+  pub lasting : EveryImage (g.may_leave after) (MayRemain files doubt (opened_files (g.seen before)) answer.stored)
+  pub shown : ¬ HasRisen (g.faults before) (g.faults after) → Shows answer.stored (opened_files (g.seen before)) (g.seen before) (g.seen after)
+  pub untouched : answer.stored ≡ [] → open_entry (g.seen before journal_name) ≡ None → OnlyReads g before after
+
+-- nothing was stored: a crash amid the call leaves the files as they were found
+abbrev pub Unserved : {D : Type 0} → Ghosts D → Image → Option (List FileText) → D → D → Type 0
+Unserved g files doubt before after = LeavesOnly g before after (HasOnly (IsEither files doubt))
+
+-- the disk failed, while an answer was sought or stored
+abbrev pub Failing : {D : Type 0} → Ghosts D → Image → Option (List FileText) → D → D → Texts → Type 0
+Failing g files doubt before after stored = LeavesOnly g before after (MayBeLeft files doubt (opened_files (g.seen before)) stored)
+
+abbrev pub Serve : {D : Type 0} → Ghosts D → Image → Option (List FileText) → (Answer → Type 0) → Result code.Report Stop → D → D → Type 0
+Serve g files doubt Answered (Ok report) before after = Served g files doubt Answered (report_of report) before after
+Serve g files doubt Answered (Err stops.Memory) before after = Unserved g files doubt before after
+Serve g files doubt Answered (Err stops.ReadFault) before after = Unserved g files doubt before after
+Serve g files doubt Answered (Err stops.DiskFault) before after = (answer : Answer) → Answered answer → Failing g files doubt before after answer.stored
