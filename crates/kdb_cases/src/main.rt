@@ -11,6 +11,7 @@ mod notation;
 mod runs;
 mod sets;
 mod starts;
+mod stops;
 mod tables;
 mod texts;
 

@@ -3,6 +3,7 @@
 use crate::calls;
 use crate::notation::{bytes_of, shown, text_of};
 use crate::starts::Start;
+use crate::stops::rows_of;
 use disk_memory::MemDisk;
 use kdb_outside::{FileName, MemSink, MemSource, OpenGate, Source};
 use kdb_tool::run;
@@ -50,6 +51,10 @@ impl Runs {
             "stop" => self.start.stop(rest.parse().ok()),
             "crash" => self.crash(rest.parse().unwrap_or(0))?,
             "run" => return Ok(Some(self.run(rest)?)),
+            "stops" => {
+                let words = words_of(self.alloc, rest)?;
+                return Ok(Some(rows_of(self.alloc, &self.start, &words)?));
+            }
             "write" | "cut" | "sync" | "length" | "read" | "whole" => {
                 return Ok(Some(self.call(word, rest)?));
             }

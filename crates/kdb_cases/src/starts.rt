@@ -44,6 +44,31 @@ impl Start {
         self.stop_after = last;
     }
 
+    /// A disk that begins so and is stopped behind so many calls, if at all. All is kept here.
+    pub fn copy_disk(&self, stop: Option<u64>) -> Result<MemDisk, Memory> {
+        let mut again = Start::new(self.alloc);
+        again.stop_after = stop;
+        if let Some((name, bytes)) = &self.first {
+            again.add(name.copy()?, bytes.clone()?);
+        }
+        if let Some((name, bytes)) = &self.second {
+            again.add(name.copy()?, bytes.clone()?);
+        }
+        again.disk()
+    }
+
+    /// The bytes that a disk has of the files, with their lengths before them.
+    pub fn bytes_of(&self, disk: &MemDisk) -> Result<Vec<u8>, Memory> {
+        let mut bytes = Vec::new(self.alloc);
+        if let Some((name, _)) = &self.first {
+            push_file(self.alloc, &mut bytes, disk.bytes(name))?;
+        }
+        if let Some((name, _)) = &self.second {
+            push_file(self.alloc, &mut bytes, disk.bytes(name))?;
+        }
+        Ok(bytes)
+    }
+
     /// The disk, of which nothing is kept here. Of two files of one name it has the first.
     pub fn disk(&mut self) -> Result<MemDisk, Memory> {
         let failing = mem::replace(&mut self.failing, Vec::new(self.alloc));
@@ -68,4 +93,10 @@ fn disk_of_two(
         return MemDisk::new(alloc, vec![in alloc; one]?, failing, stop);
     }
     MemDisk::new(alloc, vec![in alloc; one, two]?, failing, stop)
+}
+
+fn push_file(alloc: Global, all: &mut Vec<u8>, bytes: &[u8]) -> Result<(), Memory> {
+    let length = format!(in alloc; "{} ", bytes.len())?;
+    all.extend_from_slice(length.as_bytes())?;
+    all.extend_from_slice(bytes)
 }
