@@ -8,6 +8,7 @@ use Rattle.std.proofs.lemmas.Option.{slice_get-map}
 use Rattle.std.specs.List.{position_from}
 use Rattle.std.specs.Option.{option_map}
 use Rattle.general_words.proofs.Lists.{some_is, at_place, take-next}
+use Rattle.general_words.proofs.Places.{there_is, before-last, at-last}
 use Rattle.model_maps.specs.KeyMap.{KeyMap}
 use Rattle.model_history.specs.Changes as changes
 use Rattle.model_history.specs.Changes.{changed, changed_by}
@@ -60,11 +61,6 @@ commit-at cs i c lt is = slice_get-map commit_of cs i ∙ ap (option_map commit_
 
 -- ---- the index
 
-found : {A : Type 0} (xs : List A) (i : ℕ) → i < length xs → (x : A) × (slice_get xs i ≡ Some x)
-found [] i lt = absurd (omega arith)
-found (x ∷ xs) zero lt = (x, refl)
-found (x ∷ xs) (suc i) lt = found xs i (omega arith)
-
 -- where the index has a number up to a front, no commit behind the front touches the mount
 pub nothing_behind : (history : List Commit) (last : List ℕ) (mount front : ℕ) → IsIndex history last → last_of last mount ≤ front → first_after history mount front ≡ None
 nothing_behind history last mount front index le = by (first_after history mount front) refl
@@ -75,29 +71,18 @@ nothing_behind history last mount front index le = by (first_after history mount
         let behind = first_after-behind history mount front number is in
         let within = first_after-within history mount front number is in
         let back : number - 1 + 1 ≡ number = omega arith in
-        let commit = found history (number - 1) (omega arith) in
+        let commit = there_is history (number - 1) (omega arith) in
         let on = first_after-there history mount front (number - 1) commit.0 (is ∙ ap Some (sym back)) commit.1 in
         let lt = index mount (number - 1) commit.0 commit.1 on in
         absurd (omega arith)
-
-get-before : {A : Type 0} (xs : List A) (x y : A) (i : ℕ) → slice_get (xs ++ x ∷ []) i ≡ Some y → i < length xs → slice_get xs i ≡ Some y
-get-before [] x y i there lt = absurd (omega arith)
-get-before (z ∷ zs) x y zero there lt = there
-get-before (z ∷ zs) x y (suc i) there lt = get-before zs x y i there (omega arith)
-
-get-last : {A : Type 0} (xs : List A) (x y : A) (i : ℕ) → slice_get (xs ++ x ∷ []) i ≡ Some y → length xs ≤ i → (i ≡ length xs) × (x ≡ y)
-get-last [] x y zero there le = (refl, some_is x y there)
-get-last [] x y (suc i) there le = absurd cc
-get-last (z ∷ zs) x y zero there le = absurd (omega arith)
-get-last (z ∷ zs) x y (suc i) there le = let rest = get-last zs x y i there (omega arith) in (omega (arith, rest.0), rest.1)
 
 -- a commit that is pushed is the last of the mounts that it touches
 pub index-pushed : (history : List Commit) (commit : Commit) (last new : List ℕ) → IsIndex history last → ((mount : ℕ) → last_of new mount ≡ cond (is_among commit.touched mount) (length history + 1) (last_of last mount)) → IsIndex (history ++ commit ∷ []) new
 index-pushed history commit last new index marked = λ mount at other there on.
     elim (nat_lt at (length history)) as (λ b. nat_lt at (length history) ≡ b → at < last_of new mount) [
-      | true ↦ λ lt. subst (λ n. at < n) (sym (marked mount)) (older mount at (is_among commit.touched mount) (ltb-true _ _ lt) (index mount at other (get-before history commit other at there (ltb-true _ _ lt)) on))
+      | true ↦ λ lt. subst (λ n. at < n) (sym (marked mount)) (older mount at (is_among commit.touched mount) (ltb-true _ _ lt) (index mount at other (before-last history commit other at there (ltb-true _ _ lt)) on))
       | false ↦ λ le.
-          let here = get-last history commit other at there (ltb-false _ _ le) in
+          let here = at-last history commit other at there (ltb-false _ _ le) in
           let among : is_among commit.touched mount ≡ true = ap (touches mount) here.1 ∙ on in
           omega (arith, marked mount ∙ ap (λ b. cond b (length history + 1) (last_of last mount)) among, here.0)
     ] refl

@@ -10,10 +10,6 @@ pub record HasRead {S : Type 0} (Step : S → List ℕ → S → Type 0) (start 
   pub leads : Leads Step start front progress
   pub next_is : next ≡ length front + 1
 
-no_lines : (rest : List ℕ) → length rest ≡ 0 → lines rest ≡ []
-no_lines [] e = refl
-no_lines (b ∷ rest) e = absurd (omega arith)
-
 module _ {S : Type 0} (Step : S → List ℕ → S → Type 0) (start : S) (bytes : List ℕ) where
   pub HasRead-start : HasRead Step start bytes bytes start 1
   HasRead-start = record { front = []; whole = refl; leads = refl; next_is = refl }
@@ -26,11 +22,6 @@ module _ {S : Type 0} (Step : S → List ℕ → S → Type 0) (start : S) (byte
     leads = Leads-append Step h.front (line ∷ []) start progress after h.leads (after, step, refl);
     next_is = omega (arith, h.next_is, length-append h.front (line ∷ []));
   }
-
-  -- where no bytes are left, all lines led there
-  pub HasRead-all : (rest : List ℕ) (progress : S) (next : ℕ) → HasRead Step start bytes rest progress next → length rest ≡ 0 → Leads Step start (lines bytes) progress
-  HasRead-all rest progress next h none =
-      subst (λ ls. Leads Step start ls progress) (sym (h.whole ∙ ap (λ ls. h.front ++ ls) (no_lines rest none) ∙ append-nil h.front)) h.leads
 
   -- where the next line leads nowhere, the file is bad there
   pub HasRead-stops : (rest behind line : List ℕ) (progress : S) (next : ℕ) → HasRead Step start bytes rest progress next → lines rest ≡ line ∷ lines behind → ((after : S) → Step progress line after → ⊥) → StopsAt Step start (lines bytes) next

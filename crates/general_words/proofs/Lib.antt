@@ -2,6 +2,7 @@ pub mod Tests
 pub mod Orders
 pub mod Deciding
 pub mod Lists
+pub mod Places
 pub mod Texts
 pub mod Searches
 pub mod Entries

@@ -91,16 +91,6 @@ module _ {K X : Type 0} {R : K → K → Ordering} (total : IsTotalOrder R) wher
         ∙ shadowed (eq_by_cmp R q k) (Some v) None (map.get m q)
         ∙ sym (map.get-insert total m k v q))
 
-    -- to take out a new key is to leave the map as it was
-    pub remove-insert : (m : FinMap R X) (k : K) (v : X) → map.get m k ≡ None → map.remove (map.insert m k v) k ≡ m
-    remove-insert m k v new = map.same_map total same _ _ (λ q.
-        map.get-remove total (map.insert m k v) k q ∙ ap (cond (eq_by_cmp R q k) None) (map.get-insert total m k v q)
-        ∙ by (eq_by_cmp R q k) (map.get m q) (λ e. ap (map.get m) (same q k ((Equal-is (R q k)).0 e)) ∙ new))
-      where
-        by : (b : Bool) (x : Option X) → (b ≡ true → x ≡ None) → cond b None (cond b (Some v) x) ≡ x
-        by true x h = sym (h refl)
-        by false x h = refl
-
     -- what holds of each entry holds with one more
     pub each-insert : (P : K → X → Type 0) (m : FinMap R X) (k : K) (v : X) → ((q : K) (x : X) → map.get m q ≡ Some x → P q x) → P k v → (q : K) (x : X) → map.get (map.insert m k v) q ≡ Some x → P q x
     each-insert P m k v each one q x found =

@@ -18,22 +18,12 @@ use Rattle.ini_storage.specs.SideView.{sign_at, first_at, signs_at}
 use Rattle.ini_storage.specs.declared.writing.Side.{Side}
 use Rattle.ini_storage.specs.declared.writing.Side.TheVariants as sides
 
-no_parts : (parts : List Part) → length parts ≡ 0 → parts ≡ []
-no_parts [] e = refl
-no_parts (part ∷ parts) e = absurd (omega arith)
-
 some_parts : (parts : List Part) → length parts ≢ 0 → parts ≢ []
 some_parts parts h e = h (ap length e)
 
 module _ (before : KeyMap) (text value : List ℕ) (name : Name) (spelled : Spells (47 ∷ text) name) where
   same : (after : KeyMap) → (adds : AddsKey before text value after) → adds.name ≡ name
   same after adds = Spells-once (47 ∷ text) adds.name name adds.spelled spelled
-
-  pub root-not_added : length name.parts ≡ 0 → (after : KeyMap) → AddsKey before text value after → ⊥
-  root-not_added none after adds = adds.below (ap (λ (n : Name). n.parts) (same after adds) ∙ no_parts name.parts none)
-
-  pub taken-not_added : finite.get before name ≢ None → (after : KeyMap) → AddsKey before text value after → ⊥
-  taken-not_added taken after adds = taken (sym (ap (finite.get before) (same after adds)) ∙ adds.is_new)
 
   pub weight-plain : finite.get before name ≡ None → weight (finite.insert before name (plain_entry value)) ≡ weight before + 64 + length (spelling name) + length value
   weight-plain new = omega (arith, weight-insert before name (plain_entry value) new, weight_of_key-plain name value)

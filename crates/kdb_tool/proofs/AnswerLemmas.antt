@@ -6,6 +6,7 @@ use Rattle.std.proofs.Common.{refl, sym, ap, ◌∙◌, subst, arith}
 use Rattle.std.proofs.lemmas.List.{length-map}
 use Rattle.std.proofs.lemmas.Option.{none-some, same_Some, slice_get-map}
 use Rattle.std.proofs.lemmas.List.Folds.{flat_map-map}
+use Rattle.general_words.proofs.Places.{there_is}
 use Rattle.all_formats.specs.Meanings as all
 use Rattle.all_formats.specs.Laws as laws
 use Rattle.storage_api.specs.Formats.{RefusesToWrite}
@@ -42,12 +43,6 @@ pub got-fault : (files : List MountedFile) (name parent : Name) (action : Action
 got-fault files name parent action fault answer parent_is gets no_memory is =
     subst (λ r. AnswersGot files name action r answer) (sym (ap (λ p. got files p) (sym parent_is) ∙ gets no_memory)) is
 
--- a place within a list has something
-something : {A : Type 0} (xs : List A) (i : ℕ) → i < length xs → (x : A) × (slice_get xs i ≡ Some x)
-something [] i within = absurd (omega arith)
-something (x ∷ xs) zero within = (x, refl)
-something (x ∷ xs) (suc i) within = something xs i (omega (arith, within))
-
 -- a table has an owner of each key in files
 pub no-owner : (table : List Mount) (points : List Name) (name : Name) → IsMadeByKeys table → has_files name.namespace ≡ true → points ≡ over (λ mount. mount.at) table → None ≡ owner_of points name → ⊥
 no-owner table points name made in_files are none =
@@ -59,7 +54,7 @@ pub owner_in-there : (files : List MountedFile) (name : Name) → IsMadeByKeys (
 owner_in-there files name made in_files =
     let owner = has_owner made.keys (over (λ (file : MountedFile). file.mount) files) name made.is in_files in
     let within : owner.0 < length files = subst (λ n. owner.0 < n) (length-map files (λ (file : MountedFile). file.mount)) owner.1 in
-    let found = something files owner.0 within in
+    let found = there_is files owner.0 within in
     let at : owner_of (points_of files) name ≡ Some owner.0 = ap (λ points. owner_of points name) (sym (points-of_mounts files)) ∙ owner.2 in
     (found.0, ap (λ o. option_and_then (λ i. slice_get files i) o) at ∙ found.1)
 

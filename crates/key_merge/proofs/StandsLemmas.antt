@@ -268,14 +268,6 @@ module _ (strategy : Strategy) (at_base at_our at_their : KeyMap) where
     | inr ahead ↦ absurd ((nowhere keys q ahead).1 conflict)
   ]
 
-  pub merged-end : (b o t : List (Name × Entry)) (keys : KeyMap) (names : List Name) → Stands b o t keys names → lower (lower (next_name b) (next_name o)) (next_name t) ≡ None → names ≡ [] → IsMerged strategy at_base at_our at_their keys
-  merged-end b o t keys names now e none =
-      let end = at_end b o t keys names now e in
-      record {
-        each = λ q. elim (end.each q) as (λ _. map.get keys q ≡ merged_entry strategy (map.get at_base q) (map.get at_our q) (map.get at_their q)) [ inl past ↦ past.merged | inr ahead ↦ (nowhere keys q ahead).0 ];
-        agreed = λ abort q conflict. let has : Contains [] q = subst (λ ns. Contains ns q) none (each_listed keys names end abort q conflict) in absurd (omega (arith, has.1));
-      }
-
   one_of : (names : List Name) → names ≢ [] → (q : Name) × Contains names q
   one_of [] some = absurd (some refl)
   one_of (q ∷ names) some = (q, (0, omega arith, refl))

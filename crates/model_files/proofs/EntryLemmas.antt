@@ -30,7 +30,7 @@ use Rattle.model_store.specs.Store.{Store, Formats, points_of, contents}
 use Rattle.model_store.proofs.Members.{is_number, among-first, among-rest, from_all}
 use Rattle.model_files.specs.Files.{HaveFiles, text_of}
 use Rattle.model_files.specs.Texts.{with_text, texts_at, as_file, as_entry, entry_of}
-use Rattle.model_files.proofs.FileLemmas.{there_is}
+use Rattle.general_words.proofs.Places.{there_is}
 use Rattle.model_files.proofs.TextLemmas.{get-texts}
 use Rattle.mount_table.specs.declared.mounts.Mount.{Mount}
 use Rattle.set_split.specs.Parts.{owned_by}

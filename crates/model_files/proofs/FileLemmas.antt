@@ -4,6 +4,7 @@ use Rattle.std.specs.List.{position_from}
 use Rattle.std.specs.Option.{option_map, unwrap_or}
 use Rattle.std.specs.Prelude.{option_and_then}
 use Rattle.std.proofs.lemmas.Slice.Eq.{bytes_eq-Decides}
+use Rattle.general_words.proofs.Places.{there_is}
 use Rattle.intent_journal.specs.Outcomes.{with_entry, with_entries, HasOnly, IsEither}
 use Rattle.journal_codec.specs.declared.files.FileText.{FileText}
 use Rattle.kdb_outside.specs.Images.{Image}
@@ -21,11 +22,6 @@ use Rattle.model_files.proofs.TextLemmas.{content_in-entry, get-texts, get-texts
 use Rattle.mount_table.specs.declared.mounts.Mount.{Mount}
 
 -- ---- the mount whose file has a name
-
-pub there_is : {A : Type 0} (xs : List A) (n : ℕ) → n < length xs → (x : A) × (slice_get xs n ≡ Some x)
-there_is [] n lt = absurd (omega arith)
-there_is (x ∷ xs) zero lt = (x, refl)
-there_is (x ∷ xs) (suc n) lt = there_is xs n (omega arith)
 
 pub mount_with-found : (mounts : List Mount) (file : List ℕ) (m : ℕ) → mount_with mounts file ≡ Some m → (mount : Mount) × (slice_get mounts m ≡ Some mount) × (mount.file ≡ file)
 mount_with-found mounts file m e =

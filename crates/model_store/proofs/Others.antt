@@ -4,6 +4,7 @@ use Rattle.std.specs.Option.{option_and_then}
 use Rattle.std.proofs.lemmas.Bool.{ltb-true, ltb-false}
 use Rattle.std.proofs.lemmas.Option.{slice_get_within}
 use Rattle.general_words.proofs.Lists.{some_is}
+use Rattle.general_words.proofs.Places.{before-last, at-last}
 use Rattle.model_history.specs.History as past
 use Rattle.model_history.specs.History.{is_among, touches, first_after, replay}
 use Rattle.model_history.proofs.HistoryLemmas.{first_after-behind, first_after-there}
@@ -15,17 +16,6 @@ use Rattle.model_store.specs.Verdicts.{Late, Same, Conflict, DatabaseFull, Histo
 use Rattle.model_store.specs.Worlds.{World, first_world, Meant, Judges, set_now, world_after}
 use Rattle.model_store.proofs.Judged.{is_committed}
 use Rattle.set_split.specs.Involved.{involved_in}
-
-before-last : {A : Type 0} (xs : List A) (x y : A) (i : ℕ) → slice_get (xs ++ x ∷ []) i ≡ Some y → i < length xs → slice_get xs i ≡ Some y
-before-last [] x y i there lt = absurd (omega arith)
-before-last (z ∷ zs) x y zero there lt = there
-before-last (z ∷ zs) x y (suc i) there lt = before-last zs x y i there (omega arith)
-
-at-last : {A : Type 0} (xs : List A) (x y : A) (i : ℕ) → slice_get (xs ++ x ∷ []) i ≡ Some y → length xs ≤ i → (i ≡ length xs) × (x ≡ y)
-at-last [] x y zero there le = (refl, some_is x y there)
-at-last [] x y (suc i) there le = absurd cc
-at-last (z ∷ zs) x y zero there le = absurd (omega arith)
-at-last (z ∷ zs) x y (suc i) there le = let rest = at-last zs x y i there (omega arith) in (omega (arith, rest.0), rest.1)
 
 -- no own commit behind a front touches the mount
 abbrev SeesOwn : List past.Commit → (ℕ → Fronts) → Type 0

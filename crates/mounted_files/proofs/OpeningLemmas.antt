@@ -26,7 +26,7 @@ use Rattle.mounted_files.proofs.BegunLemmas.{insert-remove, length-remove, lengt
 use Rattle.model_names.proofs.OrderLemmas.{name_decides}
 use Rattle.mounted_files.proofs.PlaceLemmas.{one_place, own-name_eq}
 use Rattle.mounted_files.proofs.PointLemmas.{points-of_mounts}
-use Rattle.mounted_files.proofs.StateLemmas.{last_or_before}
+use Rattle.general_words.proofs.Places.{last_or_before}
 use Rattle.mounted_files.proofs.WeighLemmas.{mounts-from}
 
 module _ (Reads : Reading) (IsBad : Badness) (bytes_of : List ℕ → List ℕ) where

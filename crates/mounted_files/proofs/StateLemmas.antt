@@ -13,17 +13,6 @@ use Rattle.mounted_files.specs.declared.holding.Holding.{Holding}
 use Rattle.mounted_files.specs.declared.holding.Holding.TheVariants.{Keys, Bad}
 use Rattle.mounted_files.proofs.WholeLemmas.{over-append}
 
--- an element of a longer list stands in the list, or is the last
-pub last_or_before : {A : Type 0} (xs : List A) (x y : A) (i : ℕ) → slice_get (xs ++ x ∷ []) i ≡ Some y → (slice_get xs i ≡ Some y) ⊎ ((i ≡ length xs) × (x ≡ y))
-last_or_before [] x y zero e = inr (refl, cc)
-last_or_before [] x y (suc i) e = absurd cc
-last_or_before (z ∷ xs) x y zero e = inl e
-last_or_before (z ∷ xs) x y (suc i) e = by (last_or_before xs x y i e)
-  where
-    by : (slice_get xs i ≡ Some y) ⊎ ((i ≡ length xs) × (x ≡ y)) → (slice_get xs i ≡ Some y) ⊎ ((suc i ≡ length (z ∷ xs)) × (x ≡ y))
-    by (inl h) = inl h
-    by (inr h) = inr (ap suc h.0, h.1)
-
 -- a file is what its keys make it, or bad as they are
 pub state-held : (Reads : Reading) (IsBad : Badness) (points : List Name) (i : ℕ) (mount : Mount) (bytes : List ℕ) (holding : Holding) (state : FileState) → IsHolding Reads IsBad mount.at mount.kind bytes holding → IsStateOf points i holding state → IsState Reads IsBad points i mount bytes state
 state-held Reads IsBad points i mount bytes (Keys keys) state holds is = subst (λ (s : FileState). IsState Reads IsBad points i mount bytes s) (sym is) (keys, holds, refl, refl)

@@ -2,6 +2,7 @@
 use Rattle.std.proofs.Common.{◌≡◌, ◌⊎◌, inl, inr, ℕ, zero, suc, ◌<◌, List, [], ◌∷◌, ◌++◌, length, get_or, slice_get, Option, Some, None, refl, sym, ap, subst}
 use Rattle.std.specs.Option.{option_map, option_map_or, unwrap_or}
 use Rattle.general_words.proofs.Lists.{at_place, some_is}
+use Rattle.general_words.proofs.Places.{last_or_before}
 use Rattle.model_maps.specs.KeyMap.{KeyMap, no_keys}
 use Rattle.store_play.specs.Handles.{AreNew, HoldNothing, held_in, nothing, procs_at, records_of}
 use Rattle.store_verdict.specs.PreparedView.{prepared_of}
@@ -9,15 +10,8 @@ use Rattle.store_verdict.specs.RecordView.{record_of}
 use Rattle.store_verdict.specs.declared.prepared.Prepared.{Prepared}
 use Rattle.store_verdict.specs.declared.records.Record.{Record}
 
--- what stands in a list with one element more stood there, or is that element
-pub there-next : {A : Type 0} (xs : List A) (x y : A) (i : ℕ) → slice_get (xs ++ x ∷ []) i ≡ Some y → (slice_get xs i ≡ Some y) ⊎ ((i ≡ length xs) × (x ≡ y))
-there-next [] x y zero e = inr (refl, some_is x y e)
-there-next [] x y (suc i) e = absurd cc
-there-next (z ∷ xs) x y zero e = inl e
-there-next (z ∷ xs) x y (suc i) e = elim (there-next xs x y i e) [ inl h ↦ inl h | inr h ↦ inr (ap suc h.0, h.1) ]
-
 pub each-next : {A : Type 0} (P : ℕ → A → Type 0) (xs : List A) (x : A) → ((i : ℕ) (y : A) → slice_get xs i ≡ Some y → P i y) → P (length xs) x → (i : ℕ) (y : A) → slice_get (xs ++ x ∷ []) i ≡ Some y → P i y
-each-next P xs x each new i y e = elim (there-next xs x y i e) [ inl h ↦ each i y h | inr h ↦ subst (λ n. P n y) (sym h.0) (subst (λ z. P (length xs) z) h.1 new) ]
+each-next P xs x each new i y e = elim (last_or_before xs x y i e) [ inl h ↦ each i y h | inr h ↦ subst (λ n. P n y) (sym h.0) (subst (λ z. P (length xs) z) h.1 new) ]
 
 pub holds_nothing-next : (places : List (Option Prepared)) → HoldNothing places → HoldNothing (places ++ None ∷ [])
 holds_nothing-next [] none zero = refl

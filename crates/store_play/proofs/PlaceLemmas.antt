@@ -2,6 +2,7 @@
 use Rattle.std.proofs.Common.{◌≡◌, ◌≢◌, ℕ, zero, suc, ◌<◌, Bool, true, false, cond, nat_eq, List, [], ◌∷◌, length, slice_get, Option, Some, option_and_then, refl, sym, ap, subst, ◌∙◌, eqb-true, eq-eqb, arith}
 use Rattle.std.proofs.Math.ListN.{set}
 use Rattle.std.specs.Option.{option_map, option_map_or}
+use Rattle.general_words.proofs.Places.{set-same, set-other}
 use Rattle.model_store.specs.Events.{put}
 use Rattle.model_store.specs.Sets as sets
 use Rattle.store_play.specs.Handles.{records_of, nothing, held_in}
@@ -9,18 +10,6 @@ use Rattle.store_verdict.specs.PreparedView.{prepared_of}
 use Rattle.store_verdict.specs.RecordView.{record_of}
 use Rattle.store_verdict.specs.declared.prepared.Prepared.{Prepared}
 use Rattle.store_verdict.specs.declared.records.Record.{Record}
-
-pub set-same : {A : Type 0} (xs : List A) (i : ℕ) (x : A) → i < length xs → slice_get (set xs i x) i ≡ Some x
-set-same [] i x lt = absurd (omega arith)
-set-same (y ∷ xs) zero x lt = refl
-set-same (y ∷ xs) (suc i) x lt = set-same xs i x (omega arith)
-
-pub set-other : {A : Type 0} (xs : List A) (i m : ℕ) (x : A) → m ≢ i → slice_get (set xs i x) m ≡ slice_get xs m
-set-other [] i m x ne = refl
-set-other (y ∷ xs) zero zero x ne = absurd (ne refl)
-set-other (y ∷ xs) zero (suc m) x ne = refl
-set-other (y ∷ xs) (suc i) zero x ne = refl
-set-other (y ∷ xs) (suc i) (suc m) x ne = set-other xs i m x (λ e. ne (ap suc e))
 
 -- what a list has at a place is there, or is what another value was put for
 pub set-cases : {A : Type 0} (P : Option A → Type 0) (xs : List A) (i m : ℕ) (x : A) → i < length xs → (m ≡ i → P (Some x)) → (m ≢ i → P (slice_get xs m)) → P (slice_get (set xs i x) m)

@@ -2,6 +2,7 @@
 use Rattle.std.proofs.Common.{◌≡◌, ◌≢◌, ℕ, zero, suc, ◌<◌, Bool, true, false, cond, ◌||◌, nat_eq, List, [], ◌∷◌, ◌++◌, map as over, length, slice_get, Option, Some, option_and_then, refl, sym, ap, ◌∙◌, eqb-true, eq-eqb, arith}
 use Rattle.std.proofs.Math.ListN.{set}
 use Rattle.std.specs.Option.{option_map}
+use Rattle.general_words.proofs.Places.{set-same, set-other}
 use Rattle.store_verdict.specs.RecordView.{fetched_at, fetched_of}
 use Rattle.store_verdict.specs.declared.records.Fetched as code
 use Rattle.model_maps.specs.KeyMap.{KeyMap}
@@ -29,20 +30,6 @@ kept-at front keys [] rec m = refl
 kept-at front keys (n ∷ mounts) rec m =
     kept-at front keys mounts (with_part front (n, keys n) rec) m
     ∙ chosen front keys rec m n (is_among mounts m) (nat_eq m n) refl
-
--- ---- one place
-
-set-same : {A : Type 0} (xs : List A) (i : ℕ) (x : A) → i < length xs → slice_get (set xs i x) i ≡ Some x
-set-same [] i x lt = absurd (omega arith)
-set-same (y ∷ xs) zero x lt = refl
-set-same (y ∷ xs) (suc i) x lt = set-same xs i x (omega arith)
-
-set-other : {A : Type 0} (xs : List A) (i m : ℕ) (x : A) → m ≢ i → slice_get (set xs i x) m ≡ slice_get xs m
-set-other [] i m x ne = refl
-set-other (y ∷ xs) zero zero x ne = absurd (ne refl)
-set-other (y ∷ xs) zero (suc m) x ne = refl
-set-other (y ∷ xs) (suc i) zero x ne = refl
-set-other (y ∷ xs) (suc i) (suc m) x ne = set-other xs i m x (λ e. ne (ap suc e))
 
 pub fetched_at-set : (places : List (Option code.Fetched)) (i : ℕ) (x : code.Fetched) (m : ℕ) → i < length places → fetched_at (set places i (Some x)) m ≡ cond (nat_eq m i) (Some (fetched_of x)) (fetched_at places m)
 fetched_at-set places i x m lt = by (nat_eq m i) refl

@@ -25,10 +25,6 @@ touched-none : (touched : List ℕ) (aside : ℕ) → 0 < length touched → if_
 touched-none [] aside lt = absurd (omega arith)
 touched-none (m ∷ touched) aside lt = refl
 
-no_length : (touched : List ℕ) → length touched ≡ 0 → touched ≡ []
-no_length [] e = refl
-no_length (m ∷ touched) e = absurd (omega arith)
-
 full-step : (h full : ℕ) → full ≡ h → (commit : code.Commit) (made : Commit) → log.commit_of commit ≡ made → (aside : ℕ)
     → Follows (if_full full) (Some (late_of (unless_full h commit aside))) (late_of (unless_full h commit aside) ≡ Commits made aside)
 full-step h full e commit made same aside = subst (λ n. Follows (if_full n) (Some (late_of (unless_full h commit aside))) (late_of (unless_full h commit aside) ≡ Commits made aside)) (sym e) (at (nat_lt heaviest_history h))
@@ -38,13 +34,7 @@ full-step h full e commit made same aside = subst (λ n. Follows (if_full n) (So
     at false = ap (λ c. Commits c aside) same
 
 module _ (history : List Commit) (keys : KeyMap) (set : Prepared) where
-  pub late-same : length set.touched ≡ 0 → IsLate history keys set (Same set.aside)
-  late-same none = told (if_untouched set.touched set.aside) (Same set.aside) _ (ap (λ ts. if_untouched ts set.aside) (no_length set.touched none))
-
   module _ (some : 0 < length set.touched) where
-    pub late-conflict : (late : Late) → conflict history set ≡ Some late → IsLate history keys set late
-    late-conflict late e = behind (if_untouched set.touched set.aside) (Some late) _ (touched-none set.touched set.aside some) (told (conflict history set) late _ e)
-
     module _ (free : conflict history set ≡ None) where
       pub late-heavy : (w : ℕ) → w ≡ saturated (weight (after keys set.changes)) → heaviest_map < w → IsLate history keys set (DatabaseFull w)
       late-heavy w is lt =

@@ -31,6 +31,7 @@ impl<D: Disk> Journal<D> {
             → (at : ℕ) → fault_of result ≡ Some (JournalFault.BadJournal at) → ⊥ }
         ensures recovered { D.tells disk ≡ true → IfOk result (λ journal. journal.recovered ≡ is_some (open_entry (D.seen disk journal_name))) }
         ensures left_alone { IfOk result (λ journal. journal.recovered ≡ false → OnlyReads D.Disk disk journal.disk) }
+        ensures reads { D.tells disk ≡ true → open_entry (D.seen disk journal_name) ≡ None → OnlyReads D.Disk disk (disk_of result) }
         ensures files { D.tells disk ≡ true → (files : Image) (doubt : Option (List Item)) → IsCalm (D.seen disk) (D.may_leave disk) files doubt
             → IfOk result (λ _. IsEither files doubt (opened_files (D.seen disk))) }
         ensures settled { D.tells disk ≡ true → (files : Image) (doubt : Option (List Item)) → IsCalm (D.seen disk) (D.may_leave disk) files doubt
@@ -62,6 +63,7 @@ impl<D: Disk> Journal<D> {
         ensures state { IfOk result (λ journal. (journal.state ≡ State.Doubt) × (journal.found ≡ false)) }
         ensures recovered { IfOk result (λ journal. journal.recovered ≡ is_some found.entry) }
         ensures left_alone { IfOk result (λ journal. journal.recovered ≡ false → journal.disk ≡ disk) }
+        ensures reads { found.entry ≡ None → disk_of result ≡ disk }
         ensures files { D.tells disk ≡ true → (files : Image) (doubt : Option (List Item)) → IsCalm (D.seen disk) (D.may_leave disk) files doubt
             → IsEither files doubt (opened_files (D.seen disk)) }
         ensures settled { D.tells disk ≡ true → (files : Image) (doubt : Option (List Item)) → IsCalm (D.seen disk) (D.may_leave disk) files doubt
