@@ -4,7 +4,7 @@ pub mod FirstLemmas
 pub mod LimitLemmas
 pub mod ChangeLemmas
 pub mod WeighLemmas
-pub mod JudgeLemmas
+pub mod PreparingLemmas
 pub mod StateLemmas
 pub mod PointLemmas
 pub mod GetLemmas
@@ -12,7 +12,6 @@ pub mod ReachLemmas
 pub mod SeenLemmas
 pub mod WriteLemmas
 pub mod OneOpening
-pub mod OneVerdict
 pub mod SomeOpening
 pub mod PlaceLemmas
 pub mod BegunLemmas

@@ -15,12 +15,11 @@ use Rattle.general_words.specs.Texts.{text_cmp}
 use Rattle.model_maps.specs.KeyMap.{KeyMap}
 use Rattle.general_words.proofs.Lists.{take-next, cut-next}
 use Rattle.general_words.proofs.Maps.{from_sorted-nil}
-use Rattle.mounted_files.specs.Committing.{texts_of}
-use Rattle.mounted_files.specs.Preparing.{AreStorable, Breaks, if_too_long, too_long}
+use Rattle.mounted_files.specs.Preparing.{AreStorable, Breaks, if_too_long, texts_of, too_long}
 use Rattle.mounted_files.specs.Written.{AreWritten}
 use Rattle.mounted_files.specs.declared.changes.Change.{Change}
-use Rattle.mounted_files.specs.declared.verdicts.Verdict.{Verdict}
-use Rattle.mounted_files.specs.declared.verdicts.Verdict.TheVariants.{NotStorable}
+use Rattle.mounted_files.specs.declared.refusals.SetRefusal.{SetRefusal}
+use Rattle.mounted_files.specs.declared.refusals.SetRefusal.TheVariants.{NotStorable}
 use Rattle.mounted_files.specs.declared.writing.Written.{Written}
 use Rattle.general_words.proofs.Searches.{first_some-snoc}
 
@@ -50,8 +49,8 @@ module _ (text : Kind → KeyMap → List ℕ) (IsStorable : Kind → KeyMap →
     }
 
     -- its format can't hold the keys of the next one
-    pub written-breaks : (BreaksAt : Kind → KeyMap → Name → Type 0) (key : Name) (verdict : Verdict) → BreaksAt change.mount.kind change.contents key → verdict ≡ NotStorable change.mount.at (joined change.mount.at key) → Breaks IsStorable BreaksAt all verdict
-    written-breaks BreaksAt key verdict breaks is = record {
+    pub written-breaks : (BreaksAt : Kind → KeyMap → Name → Type 0) (key : Name) (refusal : SetRefusal) → BreaksAt change.mount.kind change.contents key → refusal ≡ NotStorable change.mount.at (joined change.mount.at key) → Breaks IsStorable BreaksAt all refusal
+    written-breaks BreaksAt key refusal breaks is = record {
       before = take k all;
       change = change;
       behind = drop (k + 1) all;

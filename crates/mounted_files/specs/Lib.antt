@@ -8,8 +8,6 @@ pub mod Opening
 pub mod Getting
 pub mod Setting
 pub mod Preparing
-pub mod Committing
-pub mod Judging
 pub mod Short
 pub mod Sound
 pub mod Holding

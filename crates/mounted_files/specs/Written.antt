@@ -10,12 +10,11 @@ use Rattle.model_names.specs.WellFormed.{IsName}
 use Rattle.model_maps.specs.Entry.{Entry}
 use Rattle.model_maps.specs.Limits.{IsLimited}
 use Rattle.model_maps.specs.KeyMap.{KeyMap}
-use Rattle.mounted_files.specs.Committing.{texts_of}
-use Rattle.mounted_files.specs.Preparing.{AreStorable, Breaks, Prepares, too_long}
+use Rattle.mounted_files.specs.Preparing.{AreStorable, Breaks, Prepares, texts_of, too_long}
 use Rattle.mounted_files.specs.declared.changes.Change.{Change}
 use Rattle.mounted_files.specs.declared.preparing.Prepared.{Prepared}
 use Rattle.mounted_files.specs.declared.preparing.Prepared.TheVariants.{Texts, Refused}
-use Rattle.mounted_files.specs.declared.verdicts.Verdict.{Verdict}
+use Rattle.mounted_files.specs.declared.refusals.SetRefusal.{SetRefusal}
 use Rattle.mounted_files.specs.declared.writing.Written.{Written}
 use Rattle.mounted_files.specs.declared.writing.Writing.{Writing}
 use Rattle.mounted_files.specs.declared.writing.Writing.TheVariants as writing
@@ -41,7 +40,7 @@ IsWriting text IsStorable BreaksAt all (writing.Done written) = AreWritten text 
 IsWriting text IsStorable BreaksAt all (writing.Refused refusal) = Breaks IsStorable BreaksAt all refusal
 
 -- the texts, unless something is refused
-abbrev pub prepared_by : Option Verdict → List (List ℕ × List ℕ) → Prepared
+abbrev pub prepared_by : Option SetRefusal → List (List ℕ × List ℕ) → Prepared
 prepared_by (Some refusal) texts = Refused refusal
 prepared_by None texts = Texts texts
 

@@ -5,11 +5,9 @@ ghost use Rattle.model_maps.specs.KeyMap.{KeyMap};
 ghost use Rattle.set_split.specs.Parts.{in_reach};
 ghost use Rattle.mounted_files.specs.Files.{points_of};
 ghost use Rattle.mounted_files.specs.Getting.{got, visible_keys};
-ghost use Rattle.mounted_files.specs.Judging.{IsVerdict};
 ghost use Rattle.mounted_files.specs.Opening.{IsMade, IsMadeByKeys, IsOpened, Opens};
 ghost use Rattle.mounted_files.specs.declared.files.MountedFile.{MountedFile};
 ghost use Rattle.mounted_files.specs.declared.refusals.OpenRefusal.{OpenRefusal};
-ghost use Rattle.mounted_files.specs.declared.verdicts.Verdict.{Verdict};
 
 use storage_api::Formats;
 
@@ -29,11 +27,4 @@ pub fn opened_files_have_a_table<F: Formats>(_formats: &F)
 pub fn a_get_gives_the_visible_keys_in_reach<F: Formats>(_formats: &F)
     ensures { (bytes_of : List ℕ → List ℕ) (files : List MountedFile) (parent : Name) (keys : KeyMap) →
         IsOpened F.reads F.is_bad_at bytes_of files → got files parent ≡ Ok keys → keys ≡ in_reach (points_of files) parent (visible_keys files) }
-{}
-
-/// A set has one verdict.
-pub fn a_set_has_one_verdict<F: Formats>(_formats: &F)
-    ensures some { (files : List MountedFile) (parent : Name) (keys : KeyMap) → (verdict : Verdict) × IsVerdict F.text F.is_storable F.breaks_at files parent keys verdict }
-    ensures one { (files : List MountedFile) (parent : Name) (keys : KeyMap) (verdict other : Verdict) →
-        IsVerdict F.text F.is_storable F.breaks_at files parent keys verdict → IsVerdict F.text F.is_storable F.breaks_at files parent keys other → verdict ≡ other }
 {}

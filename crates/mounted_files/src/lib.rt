@@ -1,10 +1,9 @@
-//! What the files of a mount table mean, and what a set makes of them. Reading and writing them is the caller's.
+//! What the files of a mount table mean, and what is refused of a set or written for it. Reading and storing them is the caller's.
 #![tactic(auto)]
 
 mod adding;
 mod causes;
 mod changes;
-mod committing;
 mod files;
 mod holding;
 mod laws;
@@ -15,7 +14,6 @@ mod preparing;
 mod refusals;
 mod setting;
 mod table_file;
-mod verdicts;
 mod weighing;
 mod whole;
 mod writing;
@@ -25,12 +23,10 @@ pub use changes::Change;
 pub use files::{FileState, MountedFile};
 pub use holding::{Holding, read_holding};
 pub use laws::{
-    a_get_gives_the_visible_keys_in_reach, a_set_has_one_verdict, files_have_one_opening,
-    opened_files_have_a_table,
+    a_get_gives_the_visible_keys_in_reach, files_have_one_opening, opened_files_have_a_table,
 };
 pub use mounted::Mounted;
 pub use opening::Opening;
 pub use preparing::{Prepared, prepare};
-pub use refusals::{GetFault, OpenRefusal};
+pub use refusals::{GetFault, OpenRefusal, SetRefusal};
 pub use setting::made_change;
-pub use verdicts::Verdict;

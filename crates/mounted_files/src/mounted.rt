@@ -5,25 +5,20 @@ ghost use Rattle.key_set.specs.WithAll.{with_all};
 ghost use Rattle.model_maps.specs.KeyMap.{heaviest_map};
 ghost use Rattle.model_maps.specs.Limits.{IsLimited};
 ghost use Rattle.mounted_files.specs.Getting.{below, fault_in, fault_of, got, visible_of, Gets, IsFaultIn};
-ghost use Rattle.mounted_files.specs.Judging.{IsVerdict};
 ghost use Rattle.mounted_files.specs.Opening.{IsMadeByKeys};
 ghost use Rattle.mounted_files.specs.Short.{HaveShortTexts};
 ghost use Rattle.mounted_files.specs.Sound.{AreNames};
 ghost use Rattle.mounted_files.specs.Weighed.{visible_weight};
 
-use crate::committing::commit;
-use crate::preparing::{Prepared, prepare};
-use crate::setting::{changes_of, weight_after};
 use crate::whole::relative;
-use crate::{Cause, FileState, GetFault, MountedFile, Verdict};
+use crate::{Cause, FileState, GetFault, MountedFile};
 use key_meta::Memory;
 use key_name::KeyName;
 use key_set::KeySet;
 use mount_table::MountTable;
-use set_split::{involved, split};
+use set_split::involved;
 use std::alloc::Global;
 use std::marker::Model;
-use storage_api::Formats;
 
 /// A mount table, and the state of each mount's file. Seen as the list of mounts with their states.
 #[derive(Debug, Drop)]
@@ -105,38 +100,6 @@ impl Mounted {
         let _ = &self.files;
         let keys = self.get(alloc, name)?;
         Ok(relative(alloc, name, &keys)?)
-    }
-
-    /// What becomes of a set of these keys at this parent, by one who got the parent when the store was opened, and nothing since.
-    ///
-    /// The keys that an involved mount owns are wanted there, in place of its visible keys. It is touched where they differ. What its file
-    /// is to hold are the wanted keys and its shadow. A bad mount is never touched.
-    ///
-    /// The first of these applies: `ValueTooLong`, for the first key that an involved mount owns with too long a text, its value before its
-    /// metadata; `FileTooLarge` with a weight, for the first touched mount whose file would hold keys of more than 16,777,216;
-    /// `NotStorable`, for the first one whose format can't hold these keys; `FileTooLarge` with a length, for the first one whose text would have more than
-    /// 1,048,576 bytes; `BadTable`, where the keys wanted for `system:/elektra` make no table; `Same`, where no mount is touched; `DatabaseFull`, where
-    /// all visible keys would weigh more than 16,777,216; `Stores`.
-    pub fn judge<F: Formats>(
-        &self,
-        alloc: Global,
-        formats: &F,
-        parent: &KeyName,
-        keys: &KeySet,
-    ) -> Result<Verdict, Memory>
-        ensures { IfOk result (IsVerdict F.text F.is_storable F.breaks_at self.now parent.now keys.now) }
-    {
-        let points = self.table.points();
-        let mounts = involved(alloc, points, parent)?;
-        let parts = split(alloc, points, parent, keys)?;
-        let changes = changes_of(alloc, &self.files, parts.parts.as_slice())?;
-        match prepare(alloc, formats, points, mounts.as_slice(), keys, &changes)? {
-            Prepared::Texts { files } => {
-                let weight = weight_after(&changes, &self.files);
-                Ok(commit(&changes, weight, files, parts.aside))
-            }
-            Prepared::Refused { refusal } => Ok(refusal),
-        }
     }
 }
 

@@ -8,7 +8,7 @@ ghost use Rattle.mounted_files.specs.Preparing.{bad_table, early_refusal, too_he
 ghost use Rattle.mounted_files.specs.Setting.{first_long_in};
 ghost use Rattle.mounted_files.specs.Written.{AreWritable, IsPrepared, prepared_by};
 
-use crate::Verdict;
+use crate::SetRefusal;
 use crate::changes::Change;
 use crate::setting::first_long;
 use crate::weighing::is_own_point;
@@ -29,7 +29,7 @@ pub enum Prepared {
         files: SortedMap<FileName, List<u8>>,
     },
     Refused {
-        refusal: Verdict,
+        refusal: SetRefusal,
     },
 }
 
@@ -61,12 +61,12 @@ fn early_refusal(
     mounts: &[usize],
     keys: &KeySet,
     changes: &[Change],
-) -> Result<Option<Verdict>, Memory>
+) -> Result<Option<SetRefusal>, Memory>
     requires { IsStrictlySortedBy name_cmp points.now }
     ensures { IfOk result (λ refusal. refusal ≡ early_refusal points.now mounts.now keys.now changes.now) }
 {
     match first_long(points, mounts, keys) {
-        Some((key, bytes)) => Ok(Some(Verdict::ValueTooLong {
+        Some((key, bytes)) => Ok(Some(SetRefusal::ValueTooLong {
             key: key.copy()?,
             bytes,
         })),
@@ -75,13 +75,13 @@ fn early_refusal(
 }
 
 /// The first file that would be too heavy.
-fn first_too_heavy(changes: &[Change]) -> Result<Option<Verdict>, Memory>
+fn first_too_heavy(changes: &[Change]) -> Result<Option<SetRefusal>, Memory>
     ensures { IfOk result (λ refusal. refusal ≡ first_some too_heavy changes.now) }
 {
     for change in changes {
         let weight = change.contents.weight();
         if weight > HEAVIEST_MAP {
-            return Ok(Some(Verdict::FileTooLarge {
+            return Ok(Some(SetRefusal::FileTooLarge {
                 mount: change.mount.at.copy()?,
                 bytes: weight,
             }));
@@ -105,7 +105,7 @@ fn take_written(alloc: Global, changes: &[Change], written: Written) -> Result<P
 }
 
 /// Why the table's own mount, where it is touched, can't get the keys that are wanted for it.
-fn first_bad_table(alloc: Global, changes: &[Change]) -> Result<Option<Verdict>, Memory>
+fn first_bad_table(alloc: Global, changes: &[Change]) -> Result<Option<SetRefusal>, Memory>
     ensures { IfOk result (λ refusal. refusal ≡ first_some bad_table changes.now) }
 {
     for change in changes {
@@ -117,7 +117,7 @@ fn first_bad_table(alloc: Global, changes: &[Change]) -> Result<Option<Verdict>,
 }
 
 /// Why the keys that are wanted for a mount make no table, where it is the table's own.
-fn bad_table(alloc: Global, change: &Change) -> Result<Option<Verdict>, Memory>
+fn bad_table(alloc: Global, change: &Change) -> Result<Option<SetRefusal>, Memory>
     ensures { IfOk result (λ refusal. refusal ≡ bad_table change.now) }
 {
     if !is_own_point(&change.mount.at) {
@@ -126,6 +126,6 @@ fn bad_table(alloc: Global, change: &Change) -> Result<Option<Verdict>, Memory>
     match MountTable::read_table(alloc, &change.wanted) {
         Ok(_) => Ok(None),
         Err(TableFault::Memory) => Err(AllocError),
-        Err(fault) => Ok(Some(Verdict::BadTable { fault })),
+        Err(fault) => Ok(Some(SetRefusal::BadTable { fault })),
     }
 }

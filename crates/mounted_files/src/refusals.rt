@@ -1,4 +1,4 @@
-//! Why a store isn't opened, and why keys aren't got.
+//! Why a store isn't opened, why keys aren't got, and why a set of keys isn't taken.
 ghost use Rattle.std.specs.Prelude.{◌≡◌};
 ghost use Rattle.mounted_files.specs.declared.refusals.OpenRefusal.TheVariants as opening;
 ghost use Rattle.mounted_files.specs.declared.refusals.GetFault.TheVariants as getting;
@@ -47,4 +47,17 @@ impl From<AllocError> for GetFault {
     fn from(_: AllocError) -> GetFault {
         GetFault::Memory
     }
+}
+
+/// What refuses a set of keys before any history is asked.
+#[derive(Debug, Drop)]
+pub enum SetRefusal {
+    /// A value or a metadata text has more than 65,536 bytes: so many.
+    ValueTooLong { key: KeyName, bytes: u64 },
+    /// The file of a mount would hold keys that weigh more than 16,777,216, or have more than 1,048,576 bytes: so many.
+    FileTooLarge { mount: KeyName, bytes: u64 },
+    /// The format of a mount can't hold a key.
+    NotStorable { mount: KeyName, key: KeyName },
+    /// The keys below `system:/elektra` would make no table.
+    BadTable { fault: TableFault },
 }

@@ -1,81 +1,25 @@
-//! What a set of keys changes in the mounted files.
-ghost use Rattle.std.specs.Prelude.{◌≡◌, IfOk, IfSome, filter_map, if◌then◌else◌, None};
+//! What the file of a touched mount is to hold, and which texts of a set are too long for any file.
+ghost use Rattle.std.specs.Prelude.{◌≡◌, IfOk, if◌then◌else◌, None};
 ghost use Rattle.std.specs.FinMap as map;
 ghost use Rattle.std.specs.List.{list_any};
 ghost use Rattle.std.specs.List.Sorted.{IsStrictlySortedBy};
-ghost use Rattle.std.specs.Option.{option_map, unwrap_or};
-ghost use Rattle.general_words.specs.Saturated.{saturated};
+ghost use Rattle.std.specs.Option.{option_map};
 ghost use Rattle.key_set.specs.EntryView.{entry_of};
 ghost use Rattle.key_set.specs.WithAll.{with_all};
 ghost use Rattle.model_names.specs.Order.{name_cmp};
 ghost use Rattle.general_words.specs.Searches.{first_some};
 ghost use Rattle.set_split.specs.Involved.{owns};
-ghost use Rattle.set_split.specs.Seen.{numbered};
-ghost use Rattle.mounted_files.specs.Setting.{change_at, change_of, first_long_in, if_long, long_text, weight_after, weight_wanted};
-ghost use Rattle.mounted_files.specs.Sound.{AreSound, AreSoundChanges};
-ghost use Rattle.mounted_files.specs.Weighed.{visible_weight};
+ghost use Rattle.mounted_files.specs.Setting.{first_long_in, if_long, long_text};
+ghost use Rattle.mounted_files.specs.Sound.{AreSound};
 ghost use Rattle.mounted_files.specs.Whole.{relative};
 
 use crate::changes::Change;
-use crate::weighing::visible_weight;
 use crate::whole::relative;
-use crate::{FileState, MountedFile};
 use key_meta::{LONGEST_VALUE, Memory, Meta};
 use key_name::{KeyName, owner};
 use key_set::{Entry, KeySet};
 use mount_table::Mount;
-use set_split::Part;
 use std::alloc::Global;
-
-/// The changes of all touched mounts, given the keys that each involved mount owns.
-pub fn changes_of(
-    alloc: Global,
-    files: &[MountedFile],
-    parts: &[Part],
-) -> Result<Vec<Change>, Memory>
-    ensures changes { IfOk result (λ changes. changes.items ≡ filter_map (change_at files.now) (numbered parts.now)) }
-    ensures sound { IfOk result (λ changes. AreSoundChanges changes.items) }
-{
-    let mut changes = Vec::new(alloc);
-    for part in parts {
-        if let Some(change) = change_at(alloc, files, part)? {
-            changes.push(change)?;
-        }
-    }
-    Ok(changes)
-}
-
-/// The change of the mount of a part.
-fn change_at(alloc: Global, files: &[MountedFile], part: &Part) -> Result<Option<Change>, Memory>
-    ensures change { IfOk result (λ change. change ≡ change_at files.now (part.now.mount, part.now.keys)) }
-    ensures sound { IfOk result (λ change. IfSome change (λ made. AreSound made.mount.at made.contents)) }
-{
-    match files.get(part.mount) {
-        Some(file) => change_of(alloc, &file.mount, &file.state, &part.keys),
-        None => Ok(None),
-    }
-}
-
-/// The change of a mount for which these keys are wanted.
-fn change_of(
-    alloc: Global,
-    mount: &Mount,
-    state: &FileState,
-    wanted: &KeySet,
-) -> Result<Option<Change>, Memory>
-    ensures change { IfOk result (λ change. change ≡ change_of mount.now state.now wanted.now) }
-    ensures sound { IfOk result (λ change. IfSome change (λ made. AreSound made.mount.at made.contents)) }
-{
-    match state {
-        FileState::Good { visible, shadow } => {
-            if wanted == visible {
-                return Ok(None);
-            }
-            Ok(Some(made_change(alloc, mount, wanted, shadow)?))
-        }
-        FileState::Bad { .. } => Ok(None),
-    }
-}
 
 /// The change of a touched mount. Its file is to hold the wanted keys and the shadow, under relative names.
 pub fn made_change(
@@ -94,29 +38,6 @@ pub fn made_change(
         wanted: wanted.copy()?,
         contents: relative(alloc, &mount.at, &all)?,
     })
-}
-
-/// What all visible keys weigh after some changes. A weight beyond the type's end is given as its last value.
-pub fn weight_after(changes: &[Change], files: &[MountedFile]) -> u64
-    ensures { result ≡ saturated (weight_after changes.now files.now) }
-{
-    let mut weight: u64 = 0;
-    for file in files {
-        weight = weight.saturating_add(weight_of_file(changes, file));
-    }
-    weight
-}
-
-/// What the visible keys of a file weigh after some changes.
-fn weight_of_file(changes: &[Change], file: &MountedFile) -> u64
-    ensures { result ≡ saturated (unwrap_or (weight_wanted changes.now file.now.mount.at) (visible_weight file.now.state)) }
-{
-    for change in changes {
-        if change.mount.at == file.mount.at {
-            return change.wanted.weight();
-        }
-    }
-    visible_weight(&file.state)
 }
 
 /// The first key, of those that some mounts own, with a text that is too long, and its length.

@@ -8,9 +8,9 @@ ghost use Rattle.model_names.specs.WellFormed.{IsName};
 ghost use Rattle.general_words.specs.Texts.{text_cmp};
 ghost use Rattle.mounted_files.specs.Preparing.{if_too_long};
 ghost use Rattle.mounted_files.specs.Written.{AreWritable, IsWriting};
-ghost use Rattle.mounted_files.specs.declared.verdicts.Verdict.TheVariants.{NotStorable};
+ghost use Rattle.mounted_files.specs.declared.refusals.SetRefusal.TheVariants.{NotStorable};
 
-use crate::Verdict;
+use crate::SetRefusal;
 use crate::changes::Change;
 use backend_files::LONGEST_FILE;
 use kdb_outside::FileName;
@@ -24,14 +24,14 @@ use storage_api::{Formats, WriteRefusal};
 #[derive(Debug, Drop)]
 pub struct Written {
     pub files: SortedMap<FileName, List<u8>>,
-    pub too_long: Option<Verdict>,
+    pub too_long: Option<SetRefusal>,
 }
 
 /// The texts of all changed files, or the refusal of the first one that its format can't hold.
 #[derive(Debug, Drop)]
 pub enum Writing {
     Done { written: Written },
-    Refused { refusal: Verdict },
+    Refused { refusal: SetRefusal },
 }
 
 /// Writes the texts of all changes.
@@ -67,7 +67,7 @@ fn add(written: &mut Written, change: &Change, bytes: Vec<u8>) -> Result<(), Mem
     ensures long { OnOk result (written.new.too_long ≡ option_or written.old.too_long (if_too_long change.now bytes.items)) }
 {
     if written.too_long.is_none() && bytes.len() as u64 > LONGEST_FILE {
-        written.too_long = Some(Verdict::FileTooLarge {
+        written.too_long = Some(SetRefusal::FileTooLarge {
             mount: change.mount.at.copy()?,
             bytes: bytes.len() as u64,
         });
@@ -79,13 +79,13 @@ fn add(written: &mut Written, change: &Change, bytes: Vec<u8>) -> Result<(), Mem
 }
 
 /// A format can't hold a key, whose whole name is told.
-fn not_storable(mount: &KeyName, key: &KeyName) -> Result<Verdict, Memory>
+fn not_storable(mount: &KeyName, key: &KeyName) -> Result<SetRefusal, Memory>
     requires cascading { key.now.namespace ≡ Cascading }
     requires name { IsName (joined mount.now key.now) }
-    ensures { IfOk result (λ verdict. verdict ≡ NotStorable mount.now (joined mount.now key.now)) }
+    ensures { IfOk result (λ refusal. refusal ≡ NotStorable mount.now (joined mount.now key.now)) }
 {
     match mount.join(key) {
-        Ok(key) => Ok(Verdict::NotStorable {
+        Ok(key) => Ok(SetRefusal::NotStorable {
             mount: mount.copy()?,
             key,
         }),

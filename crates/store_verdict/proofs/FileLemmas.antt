@@ -18,8 +18,8 @@ use Rattle.mounted_files.specs.Preparing as files
 use Rattle.mounted_files.specs.Preparing.{Prepares, Breaks, AreStorable, early_refusal, late_refusal}
 use Rattle.mounted_files.specs.Setting.{first_long_in}
 use Rattle.mounted_files.specs.declared.changes.Change.{Change}
-use Rattle.mounted_files.specs.declared.verdicts.Verdict.{Verdict}
-use Rattle.mounted_files.specs.declared.verdicts.Verdict.TheVariants as verdict
+use Rattle.mounted_files.specs.declared.refusals.SetRefusal.{SetRefusal}
+use Rattle.mounted_files.specs.declared.refusals.SetRefusal.TheVariants as refused
 use Rattle.model_store.specs.Fitting.{Early, ValueTooLong, TooHeavy, NotStorable, TooLong, too_heavy, too_long, bad_table, heavy_contents, long_text, fault_of_table, IsStorableAt, BreaksAtMount}
 use Rattle.model_store.specs.Sets.{Prepared}
 use Rattle.model_store.specs.Store.{Store, Formats, points_of, contents}
@@ -40,7 +40,7 @@ use Rattle.store_verdict.specs.Preparing.{fault_of}
 
 module _ (formats : Formats) (store : Store) (set : Prepared) where
   -- a refusal of the definitions and one of files are one
-  abbrev pub Agrees : Option Early → Option Verdict → Type 0
+  abbrev pub Agrees : Option Early → Option SetRefusal → Type 0
   Agrees None None = Unit {0}
   Agrees (Some why) (Some refusal) = fault_of store.mounts why ≡ Some (fault_for refusal)
   Agrees None (Some refusal) = ⊥
@@ -50,7 +50,7 @@ module _ (formats : Formats) (store : Store) (set : Prepared) where
   none-agrees None h = refl
   none-agrees (Some why) h = absurd h
 
-  pub some-agrees : (answer : Option Early) (refusal : Verdict) → Agrees answer (Some refusal) → (why : Early) × (answer ≡ Some why) × (fault_of store.mounts why ≡ Some (fault_for refusal))
+  pub some-agrees : (answer : Option Early) (refusal : SetRefusal) → Agrees answer (Some refusal) → (why : Early) × (answer ≡ Some why) × (fault_of store.mounts why ≡ Some (fault_for refusal))
   some-agrees None refusal h = absurd h
   some-agrees (Some why) refusal h = (why, refl, h)
 
@@ -64,13 +64,13 @@ module _ (formats : Formats) (store : Store) (set : Prepared) where
   abbrev pub made : ℕ → Option Change
   made m = option_map (file_for m) (slice_get store.mounts m)
 
-  agrees-or : (a : Option Early) (b : Option Verdict) (c : Option Early) (d : Option Verdict) → Agrees a b → Agrees c d → Agrees (option_or a c) (option_or b d)
+  agrees-or : (a : Option Early) (b : Option SetRefusal) (c : Option Early) (d : Option SetRefusal) → Agrees a b → Agrees c d → Agrees (option_or a c) (option_or b d)
   agrees-or None None c d h k = k
   agrees-or (Some why) (Some refusal) c d h k = h
   agrees-or None (Some refusal) c d h k = absurd h
   agrees-or (Some why) None c d h k = absurd h
 
-  agrees-first : (f : ℕ → Option Early) (g : Change → Option Verdict) → ((m : ℕ) → Agrees (f m) (option_and_then g (made m))) → (ms : List ℕ) → Agrees (first_some f ms) (first_some g (filter_map made ms))
+  agrees-first : (f : ℕ → Option Early) (g : Change → Option SetRefusal) → ((m : ℕ) → Agrees (f m) (option_and_then g (made m))) → (ms : List ℕ) → Agrees (first_some f ms) (first_some g (filter_map made ms))
   agrees-first f g one [] = tt
   agrees-first f g one (m ∷ ms) = by (made m) (one m) (agrees-first f g one ms)
     where
@@ -88,8 +88,8 @@ module _ (formats : Formats) (store : Store) (set : Prepared) where
       by None is = tt
       by (Some mount) is =
           let w : ℕ = weight (contents store m mount (wanted m)) in
-          elim (nat_lt heaviest_map w) as (λ b. Agrees (cond b (Some (TooHeavy m (saturated w))) None) (cond b (Some (verdict.FileTooLarge mount.at (saturated w))) None)) [
-            | true ↦ ap (option_map (λ (n : Mount). fault_for (verdict.FileTooLarge n.at (saturated w)))) is
+          elim (nat_lt heaviest_map w) as (λ b. Agrees (cond b (Some (TooHeavy m (saturated w))) None) (cond b (Some (refused.FileTooLarge mount.at (saturated w))) None)) [
+            | true ↦ ap (option_map (λ (n : Mount). fault_for (refused.FileTooLarge n.at (saturated w)))) is
             | false ↦ tt
           ]
 
@@ -101,8 +101,8 @@ module _ (formats : Formats) (store : Store) (set : Prepared) where
       by None is = tt
       by (Some mount) is =
           let n : ℕ = length (formats.text mount.kind (contents store m mount (wanted m))) in
-          elim (nat_lt longest_file n) as (λ b. Agrees (cond b (Some (TooLong m n)) None) (cond b (Some (verdict.FileTooLarge mount.at n)) None)) [
-            | true ↦ ap (option_map (λ (k : Mount). fault_for (verdict.FileTooLarge k.at n))) is
+          elim (nat_lt longest_file n) as (λ b. Agrees (cond b (Some (TooLong m n)) None) (cond b (Some (refused.FileTooLarge mount.at n)) None)) [
+            | true ↦ ap (option_map (λ (k : Mount). fault_for (refused.FileTooLarge k.at n))) is
             | false ↦ tt
           ]
 
@@ -126,11 +126,11 @@ module _ (formats : Formats) (store : Store) (set : Prepared) where
   -- ---- the tests before the formats are asked
 
   early-agrees : Agrees (option_or (long_value store set) (first_some (too_heavy store wanted) set.touched)) (early_refusal (points_of store) set.involved set.keys (filter_map made set.touched))
-  early-agrees = agrees-or (long_value store set) (option_map (λ (long : Name × ℕ). verdict.ValueTooLong long.0 long.1) (first_long_in (points_of store) set.involved set.keys)) _ _
+  early-agrees = agrees-or (long_value store set) (option_map (λ (long : Name × ℕ). refused.ValueTooLong long.0 long.1) (first_long_in (points_of store) set.involved set.keys)) _ _
       (long (first_long_in (points_of store) set.involved set.keys))
       (agrees-first (too_heavy store wanted) files.too_heavy heavy-agrees set.touched)
     where
-      long : (o : Option (Name × ℕ)) → Agrees (option_map {U = Early} (λ (l : Name × ℕ). ValueTooLong l.0 l.1) o) (option_map {U = Verdict} (λ (l : Name × ℕ). verdict.ValueTooLong l.0 l.1) o)
+      long : (o : Option (Name × ℕ)) → Agrees (option_map {U = Early} (λ (l : Name × ℕ). ValueTooLong l.0 l.1) o) (option_map {U = SetRefusal} (λ (l : Name × ℕ). refused.ValueTooLong l.0 l.1) o)
       long None = tt
       long (Some l) = refl
 
@@ -184,16 +184,16 @@ module _ (formats : Formats) (store : Store) (set : Prepared) where
           let same = sym (some_is (file_for m mount) change h) in
           record { mount = mount; there = there; key = key; breaks = subst (λ (c : Change). formats.BreaksAt c.mount.kind c.contents key) same breaks; is = ap (λ (c : Change). joined c.mount.at key) same }
 
-  fault-at : (m : ℕ) (change : Change) (name : Name) → made m ≡ Some change → fault_of store.mounts (NotStorable m name) ≡ Some (fault_for (verdict.NotStorable change.mount.at name))
+  fault-at : (m : ℕ) (change : Change) (name : Name) → made m ≡ Some change → fault_of store.mounts (NotStorable m name) ≡ Some (fault_for (refused.NotStorable change.mount.at name))
   fault-at m change name is = by (slice_get store.mounts m) is
     where
-      by : (o : Option Mount) → option_map (file_for m) o ≡ Some change → option_map (λ (n : Mount). fault_for (verdict.NotStorable n.at name)) o ≡ Some (fault_for (verdict.NotStorable change.mount.at name))
+      by : (o : Option Mount) → option_map (file_for m) o ≡ Some change → option_map (λ (n : Mount). fault_for (refused.NotStorable n.at name)) o ≡ Some (fault_for (refused.NotStorable change.mount.at name))
       by None h = absurd cc
-      by (Some mount) h = ap (λ (c : Change). Some (fault_for (verdict.NotStorable c.mount.at name))) (some_is (file_for m mount) change h)
+      by (Some mount) h = ap (λ (c : Change). Some (fault_for (refused.NotStorable c.mount.at name))) (some_is (file_for m mount) change h)
 
   -- ---- all of them
 
-  pub record Bridge (refusal : Option Verdict) : Type 0 where
+  pub record Bridge (refusal : Option SetRefusal) : Type 0 where
     pub answer : Option Early
     pub early : IsEarly formats store set answer
     pub agrees : Agrees answer refusal
@@ -201,18 +201,18 @@ module _ (formats : Formats) (store : Store) (set : Prepared) where
   abbrev Otherwise : Option Early → Type 0
   Otherwise answer = BreaksFirst formats store set answer ⊎ (AllByRecursion (IsStorableAt formats store wanted) set.touched × (answer ≡ behind_formats formats store set))
 
-  abbrev Rest : Option Verdict → Type 0
+  abbrev Rest : Option SetRefusal → Type 0
   Rest refusal = IsSomeAnd refusal (Breaks formats.IsStorable formats.BreaksAt (filter_map made set.touched)) ⊎ (AreStorable formats.IsStorable (filter_map made set.touched) × (refusal ≡ late_refusal formats.text (filter_map made set.touched)))
 
   -- what is refused of the files is refused of the set, where all involved mounts were fetched
-  pub bridge : (refusal : Option Verdict) → not_fetched set ≡ None → Prepares formats.text formats.IsStorable formats.BreaksAt (points_of store) set.involved set.keys (filter_map made set.touched) refusal → Bridge refusal
+  pub bridge : (refusal : Option SetRefusal) → not_fetched set ≡ None → Prepares formats.text formats.IsStorable formats.BreaksAt (points_of store) set.involved set.keys (filter_map made set.touched) refusal → Bridge refusal
   bridge refusal fetched prepares =
       by (option_or (long_value store set) (first_some (too_heavy store wanted) set.touched)) refl (early_refusal (points_of store) set.involved set.keys (filter_map made set.touched)) early-agrees prepares
     where
       before_is : (o : Option Early) → option_or (long_value store set) (first_some (too_heavy store wanted) set.touched) ≡ o → before_formats store set ≡ o
       before_is o is = ap (λ first. option_or first (option_or (long_value store set) (first_some (too_heavy store wanted) set.touched))) fetched ∙ is
 
-      breaks : (r : Option Verdict) → refusal ≡ r → IsSomeAnd r (Breaks formats.IsStorable formats.BreaksAt (filter_map made set.touched)) → before_formats store set ≡ None → Bridge refusal
+      breaks : (r : Option SetRefusal) → refusal ≡ r → IsSomeAnd r (Breaks formats.IsStorable formats.BreaksAt (filter_map made set.touched)) → before_formats store set ≡ None → Bridge refusal
       breaks None is h none = absurd h
       breaks (Some v) is h none =
           let at = cut set.touched h.before h.change h.behind h.stand in
@@ -230,14 +230,14 @@ module _ (formats : Formats) (store : Store) (set : Prepared) where
                   breaks = breaks-at at.mount h.change h.key at.is h.breaks;
                   is = refl;
                 }));
-            agrees = subst (λ (o : Option Verdict). Agrees (Some why) o) (sym (is ∙ ap Some h.is)) (fault-at at.mount h.change (joined h.change.mount.at h.key) at.is);
+            agrees = subst (λ (o : Option SetRefusal). Agrees (Some why) o) (sym (is ∙ ap Some h.is)) (fault-at at.mount h.change (joined h.change.mount.at h.key) at.is);
           }
 
-      by : (e : Option Early) → option_or (long_value store set) (first_some (too_heavy store wanted) set.touched) ≡ e → (v : Option Verdict) → Agrees e v → files.Follows v refusal (Rest refusal) → Bridge refusal
+      by : (e : Option Early) → option_or (long_value store set) (first_some (too_heavy store wanted) set.touched) ≡ e → (v : Option SetRefusal) → Agrees e v → files.Follows v refusal (Rest refusal) → Bridge refusal
       by (Some why) is (Some v) h p = record {
         answer = Some why;
         early = subst (λ (o : Option Early). Follows o (Some why) (Otherwise (Some why))) (sym (before_is (Some why) is)) refl;
-        agrees = subst (λ (o : Option Verdict). Agrees (Some why) o) (sym p) h;
+        agrees = subst (λ (o : Option SetRefusal). Agrees (Some why) o) (sym p) h;
       }
       by (Some why) is None h p = absurd h
       by None is (Some v) h p = absurd h
@@ -245,7 +245,7 @@ module _ (formats : Formats) (store : Store) (set : Prepared) where
       by None is None h (inr can) = record {
         answer = behind_formats formats store set;
         early = subst (λ (o : Option Early). Follows o (behind_formats formats store set) (Otherwise (behind_formats formats store set))) (sym (before_is None is)) (inr (storable-at set.touched can.0, refl));
-        agrees = subst (λ (o : Option Verdict). Agrees (behind_formats formats store set) o) (sym can.1)
+        agrees = subst (λ (o : Option SetRefusal). Agrees (behind_formats formats store set) o) (sym can.1)
             (agrees-or (first_some (too_long formats store wanted) set.touched) (first_some (files.too_long formats.text) (filter_map made set.touched)) _ _
             (agrees-first (too_long formats store wanted) (files.too_long formats.text) long-agrees set.touched)
             (agrees-first (bad_table store wanted) files.bad_table table-agrees set.touched));

@@ -14,11 +14,10 @@ use Rattle.model_store.specs.Sets.{prepared, wants}
 use Rattle.model_store.specs.Store.{Store, Formats, points_of}
 use Rattle.model_store.specs.Verdicts.{IsEarly, not_fetched}
 use Rattle.mount_table.specs.declared.mounts.Mount.{Mount}
-use Rattle.mounted_files.specs.Committing.{texts_of}
-use Rattle.mounted_files.specs.Preparing.{Prepares}
+use Rattle.mounted_files.specs.Preparing.{Prepares, texts_of}
 use Rattle.mounted_files.specs.Whole.{relative}
 use Rattle.mounted_files.specs.declared.changes.Change.{Change}
-use Rattle.mounted_files.specs.declared.verdicts.Verdict.{Verdict}
+use Rattle.mounted_files.specs.declared.refusals.SetRefusal.{SetRefusal}
 use Rattle.set_split.specs.Involved.{involved_in}
 use Rattle.set_split.specs.Seen.{numbered}
 use Rattle.store_verdict.specs.Filing.{file_at, file_of, files_of, HasTexts, IsRefusedFor}
@@ -75,7 +74,7 @@ module _ (formats : Formats) (store : Store) (plan : Plan) (is : IsPlan store pl
       fetched : not_fetched the_set ≡ None
       fetched = not_fetched-is (points_of store) rec parent keys handle ∙ all-seen rec seen (involved_in (points_of store) parent) well_seen
 
-      prepares : (refusal : Option Verdict) → Prepares formats.text formats.IsStorable formats.BreaksAt the_points mounts keys (files_of plan (numbered wanted.parts)) refusal
+      prepares : (refusal : Option SetRefusal) → Prepares formats.text formats.IsStorable formats.BreaksAt the_points mounts keys (files_of plan (numbered wanted.parts)) refusal
           → Prepares formats.text formats.IsStorable formats.BreaksAt (points_of store) the_set.involved the_set.keys (filter_map (made formats store the_set) the_set.touched) refusal
       prepares refusal p =
           subst (λ (cs : List Change). Prepares formats.text formats.IsStorable formats.BreaksAt (points_of store) (involved_in (points_of store) parent) keys cs refusal) all-files

@@ -13,7 +13,7 @@ use Rattle.model_files.specs.Texts.{Texts, texts_at, with_text}
 use Rattle.model_store.specs.Sets.{Prepared}
 use Rattle.model_store.specs.Store.{Store, Formats}
 use Rattle.mount_table.specs.declared.mounts.Mount.{Mount}
-use Rattle.mounted_files.specs.Committing.{texts_of}
+use Rattle.mounted_files.specs.Preparing.{texts_of}
 use Rattle.mounted_files.specs.declared.changes.Change.{Change}
 use Rattle.store_verdict.proofs.FileLemmas.{made, file_for}
 use Rattle.model_store.proofs.Touched.{or_none}

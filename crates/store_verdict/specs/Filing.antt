@@ -8,12 +8,11 @@ use Rattle.model_files.specs.Texts.{as_entry}
 use Rattle.model_maps.specs.KeyMap.{KeyMap, no_keys}
 use Rattle.model_names.specs.Name.{Name}
 use Rattle.mount_table.specs.declared.mounts.Mount.{Mount}
-use Rattle.mounted_files.specs.Committing.{texts_of}
-use Rattle.mounted_files.specs.Preparing.{Prepares}
+use Rattle.mounted_files.specs.Preparing.{Prepares, texts_of}
 use Rattle.mounted_files.specs.Whole.{relative}
 use Rattle.mounted_files.specs.declared.changes.Change.{Change}
-use Rattle.mounted_files.specs.declared.verdicts.Verdict.{Verdict}
-use Rattle.mounted_files.specs.declared.verdicts.Verdict.TheVariants as verdict
+use Rattle.mounted_files.specs.declared.refusals.SetRefusal.{SetRefusal}
+use Rattle.mounted_files.specs.declared.refusals.SetRefusal.TheVariants as refused
 use Rattle.store_verdict.specs.declared.faults.PrepareFault.{PrepareFault}
 use Rattle.store_verdict.specs.declared.faults.PrepareFault.TheVariants as fault
 use Rattle.store_verdict.specs.declared.plans.Plan.{Plan}
@@ -33,18 +32,15 @@ abbrev pub files_of : Plan → List (ℕ × KeyMap) → List Change
 files_of plan parts = filter_map (file_at plan.table plan.shadows) parts
 
 -- a refusal of files, or none
-abbrev pub Files : (Kind → KeyMap → List ℕ) → (Kind → KeyMap → Type 0) → (Kind → KeyMap → Name → Type 0) → Plan → List ℕ → KeyMap → List (ℕ × KeyMap) → Option Verdict → Type 0
+abbrev pub Files : (Kind → KeyMap → List ℕ) → (Kind → KeyMap → Type 0) → (Kind → KeyMap → Name → Type 0) → Plan → List ℕ → KeyMap → List (ℕ × KeyMap) → Option SetRefusal → Type 0
 Files text IsStorable BreaksAt plan mounts keys parts refusal = Prepares text IsStorable BreaksAt (over (λ mount. mount.at) plan.table) mounts keys (files_of plan parts) refusal
 
--- the fault that a refusal of files is; nothing else is refused of files
-abbrev pub fault_for : Verdict → PrepareFault
-fault_for (verdict.ValueTooLong key bytes) = fault.ValueTooLong key bytes
-fault_for (verdict.FileTooLarge mount bytes) = fault.FileTooLarge mount bytes
-fault_for (verdict.NotStorable mount key) = fault.NotStorable mount key
-fault_for (verdict.BadTable why) = fault.BadTable why
-fault_for (verdict.DatabaseFull weight) = fault.Memory
-fault_for (verdict.Same aside) = fault.Memory
-fault_for (verdict.Stores files aside) = fault.Memory
+-- the fault that a refusal of files is
+abbrev pub fault_for : SetRefusal → PrepareFault
+fault_for (refused.ValueTooLong key bytes) = fault.ValueTooLong key bytes
+fault_for (refused.FileTooLarge mount bytes) = fault.FileTooLarge mount bytes
+fault_for (refused.NotStorable mount key) = fault.NotStorable mount key
+fault_for (refused.BadTable why) = fault.BadTable why
 
 -- nothing is refused, and these are the texts
 pub record HasTexts (text : Kind → KeyMap → List ℕ) (IsStorable : Kind → KeyMap → Type 0) (BreaksAt : Kind → KeyMap → Name → Type 0) (plan : Plan) (mounts : List ℕ) (keys : KeyMap) (parts : List (ℕ × KeyMap)) (texts : List FileText) : Type 0 where
@@ -53,6 +49,6 @@ pub record HasTexts (text : Kind → KeyMap → List ℕ) (IsStorable : Kind →
 
 -- a fault is that of a refusal
 pub record IsRefusedFor (text : Kind → KeyMap → List ℕ) (IsStorable : Kind → KeyMap → Type 0) (BreaksAt : Kind → KeyMap → Name → Type 0) (plan : Plan) (mounts : List ℕ) (keys : KeyMap) (parts : List (ℕ × KeyMap)) (why : PrepareFault) : Type 0 where
-  pub refusal : Verdict
+  pub refusal : SetRefusal
   pub refused : Files text IsStorable BreaksAt plan mounts keys parts (Some refusal)
   pub is : why ≡ fault_for refusal

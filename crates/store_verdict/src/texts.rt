@@ -18,7 +18,7 @@ use kdb_outside::FileName;
 use key_meta::{List, Memory};
 use key_set::KeySet;
 use mount_table::MountTable;
-use mounted_files::{Change, Prepared, Verdict, made_change, prepare};
+use mounted_files::{Change, Prepared, SetRefusal, made_change, prepare};
 use set_split::Part;
 use sorted_map::SortedMap;
 use std::alloc::Global;
@@ -97,17 +97,14 @@ fn file_texts(alloc: Global, texts: SortedMap<FileName, List<u8>>) -> Result<Lis
     Ok(List::from_vec(files))
 }
 
-/// The fault that a refusal of files is. Nothing else is refused of files.
-fn fault_for(refusal: Verdict) -> PrepareFault
+/// The fault that a refusal of files is.
+fn fault_for(refusal: SetRefusal) -> PrepareFault
     ensures { result ≡ fault_for refusal }
 {
     match refusal {
-        Verdict::ValueTooLong { key, bytes } => PrepareFault::ValueTooLong { key, bytes },
-        Verdict::FileTooLarge { mount, bytes } => PrepareFault::FileTooLarge { mount, bytes },
-        Verdict::NotStorable { mount, key } => PrepareFault::NotStorable { mount, key },
-        Verdict::BadTable { fault } => PrepareFault::BadTable { fault },
-        Verdict::DatabaseFull { .. } | Verdict::Same { .. } | Verdict::Stores { .. } => {
-            PrepareFault::Memory
-        }
+        SetRefusal::ValueTooLong { key, bytes } => PrepareFault::ValueTooLong { key, bytes },
+        SetRefusal::FileTooLarge { mount, bytes } => PrepareFault::FileTooLarge { mount, bytes },
+        SetRefusal::NotStorable { mount, key } => PrepareFault::NotStorable { mount, key },
+        SetRefusal::BadTable { fault } => PrepareFault::BadTable { fault },
     }
 }

@@ -1,10 +1,9 @@
-//! What mounted files mean and what a set comes to, by files that are written out by hand.
+//! What mounted files mean, by files that are written out by hand.
 use all_formats::AllFormats;
 use backend_files::FileRead;
-use key_meta::{List, Meta, Text};
+use key_meta::List;
 use key_name::KeyName;
-use key_set::{Entry, KeySet};
-use mounted_files::{GetFault, Mounted, Opening, Verdict};
+use mounted_files::{GetFault, Mounted, Opening};
 use std::alloc::Global;
 use std::test::Fail;
 
@@ -85,73 +84,6 @@ fn gets_what_each_mount_owns_unless_its_file_is_bad(rt: HostRuntime) -> Result<(
     assert_eq!(rt; mounted.table().len(), 6);
     for (parent, words) in rows {
         assert_eq!(rt; got(alloc, &mounted, parent)?.as_str(), words, "{parent}");
-    }
-    Ok(())
-}
-
-/// Keys with these names, each with the value `1`.
-fn set_of(alloc: Global, names: &[&str]) -> Result<KeySet, Fail> {
-    let mut keys = KeySet::new(alloc);
-    for name in names {
-        let entry = Entry {
-            value: Text::new(alloc, "1")?,
-            meta: Meta::new(alloc),
-        };
-        keys.append(KeyName::parse(alloc, name)?, entry)?;
-    }
-    Ok(keys)
-}
-
-/// The texts that files get, with the number of keys that are left aside.
-fn told(alloc: Global, verdict: &Verdict) -> Result<String, Fail> {
-    let mut words = String::new(alloc);
-    match verdict {
-        Verdict::Same { left_aside } => {
-            words.push_str(&format!(in alloc; "nothing, {left_aside} aside")?)?;
-        }
-        Verdict::Stores { files, left_aside } => {
-            for (file, text) in files.entries() {
-                words.push_str(file.text())?;
-                words.push(' ')?;
-                words.push_str(str::from_utf8(text.as_slice())?)?;
-            }
-            words.push_str(&format!(in alloc; "{left_aside} aside")?)?;
-        }
-        _ => words.push_str("a refusal")?,
-    }
-    Ok(words)
-}
-
-#[test]
-fn stores_what_is_wanted_with_the_shadow_and_counts_the_rest(rt: HostRuntime) -> Result<(), Fail> {
-    let alloc = rt.alloc();
-    let all = &["user:/a", "user:/sw/app/host", "user:/sw/app2"][..];
-    let rows = [
-        ("user:/", all, "nothing, 0 aside"),
-        ("user:/a", all, "nothing, 1 aside"),
-        (
-            "user:/",
-            &["dir:/y", "proc:/y", "user:/a", "user:/sw/app/host"][..],
-            "user.ecf kdbOpen 2\n$key string 1 1\na\n1\n$key string 6 1\nsw/app\n1\n$end\n2 aside",
-        ),
-        (
-            "user:/sw/app",
-            &["user:/sw/app"][..],
-            "app.ecf kdbOpen 2\n$key string 0 1\n\n1\n$end\n0 aside",
-        ),
-        (
-            "user:/",
-            &["user:/a"][..],
-            "app.ecf kdbOpen 2\n$end\nuser.ecf kdbOpen 2\n$key string 1 1\na\n1\n$key string 6 1\nsw/app\n1\n$end\n0 aside",
-        ),
-        ("system:/x", &["system:/x"][..], "nothing, 0 aside"),
-    ];
-    let mounted = opened(alloc)?;
-    for (parent, names, words) in rows {
-        let keys = set_of(alloc, names)?;
-        let parent = KeyName::parse(alloc, parent)?;
-        let verdict = mounted.judge(alloc, &AllFormats, &parent, &keys)?;
-        assert_eq!(rt; told(alloc, &verdict)?.as_str(), words, "{names:?}");
     }
     Ok(())
 }

@@ -6,7 +6,7 @@ use Rattle.model_names.specs.Name.{Name}
 use Rattle.model_maps.specs.KeyMap.{weight, heaviest_map}
 use Rattle.mounted_files.specs.Preparing.{too_heavy}
 use Rattle.mounted_files.specs.declared.changes.Change.{Change}
-use Rattle.mounted_files.specs.declared.verdicts.Verdict.TheVariants.{FileTooLarge}
+use Rattle.mounted_files.specs.declared.refusals.SetRefusal.TheVariants.{FileTooLarge}
 use Rattle.general_words.proofs.Searches.{first_some-found, first_some-next}
 use Rattle.general_words.proofs.Lists.{at_place}
 use Rattle.mounted_files.proofs.preparing.first_too_heavy.Goals as goal

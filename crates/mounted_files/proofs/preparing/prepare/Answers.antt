@@ -8,7 +8,7 @@ use Rattle.mounted_files.specs.Setting.{first_long_in}
 use Rattle.mounted_files.specs.Written.{AreWritten, IsPrepared, IsWriting}
 use Rattle.mounted_files.specs.declared.preparing.Prepared.{Prepared}
 use Rattle.mounted_files.specs.declared.writing.Writing.{Writing}
-use Rattle.mounted_files.proofs.JudgeLemmas.{no_heavy, no_long, prepares-breaks, prepares-early, prepares-late}
+use Rattle.mounted_files.proofs.PreparingLemmas.{no_heavy, no_long, prepares-breaks, prepares-early, prepares-late}
 use Rattle.mounted_files.proofs.preparing.prepare.Goals as goal
 
 pub returns-in-Some : goal.returns-in-Some

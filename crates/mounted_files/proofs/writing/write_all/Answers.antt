@@ -9,7 +9,7 @@ use Rattle.storage_api.specs.Formats.{RefusesToWrite}
 use Rattle.storage_api.specs.declared.refusals.WriteRefusal.{WriteRefusal}
 use Rattle.storage_api.specs.declared.refusals.WriteRefusal.TheVariants as write
 use Rattle.mounted_files.specs.Written.{IsWritable}
-use Rattle.mounted_files.specs.declared.verdicts.Verdict.TheVariants.{NotStorable}
+use Rattle.mounted_files.specs.declared.refusals.SetRefusal.TheVariants.{NotStorable}
 use Rattle.general_words.proofs.Lists.{at_place}
 use Rattle.mounted_files.proofs.WriteLemmas.{written-none, written-more, written-breaks}
 use Rattle.mounted_files.proofs.writing.write_all.Goals as goal

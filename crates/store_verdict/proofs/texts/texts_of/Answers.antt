@@ -9,7 +9,7 @@ use Rattle.mounted_files.specs.Setting.{first_long_in}
 use Rattle.mounted_files.specs.Short.{AreShort}
 use Rattle.mounted_files.specs.Written.{AreWritable}
 use Rattle.mounted_files.specs.declared.changes.Change.{Change}
-use Rattle.mounted_files.proofs.JudgeLemmas.{writable}
+use Rattle.mounted_files.proofs.PreparingLemmas.{writable}
 use Rattle.set_split.specs.Seen.{numbered}
 use Rattle.store_verdict.specs.Filing.{file_at}
 use Rattle.store_verdict.proofs.FileLemmas.{short-files}
