@@ -57,7 +57,7 @@ use Rattle.kdb_tool.specs.Answer as answer
 use Rattle.tool_commands.specs.StepView.{report_of}
 use Rattle.tool_commands.specs.declared.reports.Report as code
 use Rattle.kdb_tool.specs.Refusing.{IsRefusalOf}
-use Rattle.kdb_tool.specs.Serving.{FailsToStore, HasFetched, Serves, Serving, run_with}
+use Rattle.kdb_tool.specs.Serving.{BeginsEntry, FailsToStore, HasFetched, Serves, Serving, run_with}
 use Rattle.kdb_tool.specs.declared.answers.Stop.{Stop}
 use Rattle.kdb_tool.specs.declared.answers.Stop.TheVariants as stops
 use Rattle.kdb_tool.specs.Sets.{AnswersSet, Judged, IsJudgement, formats, set_alone, store_alone, stored_by, the_handle}
@@ -172,9 +172,13 @@ module _ {D : Type 0} (g : Ghosts D) (files : List MountedFile) (core : Core D) 
       let conflict = subst (λ (w : CommitFault). IsJudged mounts core.history.commits core.keys (prepared_of set) (Err w)) is judged in
       not_blocked conflict.0 by conflict.3
 
-  module _ (out : List ℕ) (opened : D) (run : Run) (on_disk : IsStore g opened core.journal run) (after : Core D) (new : Record) where
-    pub joined : Belongs formats g mounts store opened core records made world run 0 rec set
-    joined = record { here = belongs; on_disk = on_disk }
+  pub joined : (opened : D) (run : Run) → IsStore g opened core.journal run → Belongs formats g mounts store opened core records made world run 0 rec set
+  joined opened run on_disk = record { here = belongs; on_disk = on_disk }
+
+  module _ (out : List ℕ) (after : Core D) (new : Record) where
+    -- the set was committed with this answer, for each run that the journal stands for
+    abbrev ForEachRun : Result Done CommitFault → Type 0
+    ForEachRun result = (opened : D) (run : Run) → IsStore g opened core.journal run → HasAnswered formats g mounts store opened core after records made run 0 rec new set result
 
     abbrev Answered : Answer → Type 0
     Answered = AnswersSet files parent keys out
@@ -201,84 +205,91 @@ module _ {D : Type 0} (g : Ghosts D) (files : List MountedFile) (core : Core D) 
       answers = Judged early (late.Commits the_commit aside)
           (subst (λ (s : sets.Prepared). IsLate [] store.start (set_alone store parent keys) (late.Commits (commit_of s) aside)) is_set (alone (late.Commits (commit_of (prepared_of set)) aside) is)) refl
 
-    with_some : (texts : Texts) → texts ≢ [] → after_commit run (entry_of texts) ≡ run_with run texts
-    with_some [] none = absurd (none refl)
-    with_some (text ∷ ts) none = refl
+    with_some : (run : Run) (texts : Texts) → texts ≢ [] → after_commit run (entry_of texts) ≡ run_with run texts
+    with_some run [] none = absurd (none refl)
+    with_some run (text ∷ ts) none = refl
 
-    pub committed_serves : (number aside : ℕ) → IsJudged mounts core.history.commits core.keys (prepared_of set) (Ok (done.Committed number aside)) → HasAnswered formats g mounts store opened core after records made run 0 rec new set (Ok (done.Committed number aside))
-        → Serves g opened run Answered (told out) core after
+    -- where the store is as it was
+    still : (opened : D) (run : Run) → IsStore g opened core.journal run → IsUnwritten core after → IsStore g opened after.journal run
+    still opened run on_disk kept = subst (λ (j : JournalValue D). IsStore g opened j run) (sym kept.journal) on_disk
+
+    pub committed_serves : (number aside : ℕ) → IsJudged mounts core.history.commits core.keys (prepared_of set) (Ok (done.Committed number aside)) → ForEachRun (Ok (done.Committed number aside)) → Serves g Answered (told out) core after
     committed_serves number aside judged has = record {
       answer = answer.stores stored out;
       answers = answers aside judged.1;
       told = refl;
-      committed = subst (λ (r : Run). IsStore g opened after.journal r) (later_is ∙ with_some stored (some aside judged.1)) has.committed.on_disk;
+      committed = λ opened run on_disk. goes_on opened run (has opened run on_disk);
       kept = λ none. absurd (some aside judged.1 none);
+      done = λ there. refl;
     }
       where
-        later_is : has.later ≡ after_commit run (entry_of stored)
-        later_is = subst (λ (t : Told). RunsOn formats store core.keys run (made 0) t has.later) has.is_answer.1 has.committed.runs_on ∙ ap (after_commit run) (entry_is aside judged.1)
+        goes_on : (opened : D) (run : Run) → HasAnswered formats g mounts store opened core after records made run 0 rec new set (Ok (done.Committed number aside)) → IsStore g opened after.journal (run_with run stored)
+        goes_on opened run has =
+            let later_is : has.later ≡ after_commit run (entry_of stored) = subst (λ (t : Told). RunsOn formats store core.keys run (made 0) t has.later) has.is_answer.1 has.committed.runs_on ∙ ap (after_commit run) (entry_is aside judged.1) in
+            subst (λ (r : Run). IsStore g opened after.journal r) (later_is ∙ with_some run stored (some aside judged.1)) has.committed.on_disk
 
-    pub same_serves : (front aside : ℕ) → IsJudged mounts core.history.commits core.keys (prepared_of set) (Ok (done.Same front aside)) → HasAnswered formats g mounts store opened core after records made run 0 rec new set (Ok (done.Same front aside))
-        → IsUnwritten core after → Serves g opened run Answered (told out) core after
-    same_serves front aside judged has kept = record {
+    pub same_serves : (front aside : ℕ) → IsJudged mounts core.history.commits core.keys (prepared_of set) (Ok (done.Same front aside)) → IsUnwritten core after → Serves g Answered (told out) core after
+    same_serves front aside judged kept = record {
       answer = answer.done out;
       answers = Judged early (late.Same aside) (alone (late.Same aside) judged.1) refl;
       told = refl;
-      committed = subst (λ (r : Run). IsStore g opened after.journal r) (subst (λ (t : Told). RunsOn formats store core.keys run (made 0) t has.later) has.is_answer has.committed.runs_on) has.committed.on_disk;
+      committed = λ opened run on_disk. still opened run on_disk kept;
       kept = λ none. kept;
+      done = λ there. refl;
     }
 
-    pub done_serves : (d : Done) → IsJudged mounts core.history.commits core.keys (prepared_of set) (Ok d) → HasAnswered formats g mounts store opened core after records made run 0 rec new set (Ok d)
-        → (has_written (Ok d) ≡ false → IsUnwritten core after) → Serves g opened run Answered (told out) core after
+    pub done_serves : (d : Done) → IsJudged mounts core.history.commits core.keys (prepared_of set) (Ok d) → ForEachRun (Ok d) → (has_written (Ok d) ≡ false → IsUnwritten core after) → Serves g Answered (told out) core after
     done_serves (done.Committed number aside) judged has kept = committed_serves number aside judged has
-    done_serves (done.Same front aside) judged has kept = same_serves front aside judged has (kept refl)
+    done_serves (done.Same front aside) judged has kept = same_serves front aside judged (kept refl)
 
-    -- where the store is as it was
-    still : IsUnwritten core after → IsStore g opened after.journal run
-    still kept = subst (λ (j : JournalValue D). IsStore g opened j run) (sym kept.journal) on_disk
-
-    pub full_serves : (weight front : ℕ) (report : Report) → report ≡ warned 5 (database_full weight) → IsJudged mounts core.history.commits core.keys (prepared_of set) (Err (fault.DatabaseFull weight front)) → IsUnwritten core after → Serves g opened run Answered report core after
+    pub full_serves : (weight front : ℕ) (report : Report) → report ≡ warned 5 (database_full weight) → IsJudged mounts core.history.commits core.keys (prepared_of set) (Err (fault.DatabaseFull weight front)) → IsUnwritten core after → Serves g Answered report core after
     full_serves weight front report told_is judged kept = record {
       answer = answer.refused 5 (database_full weight);
       answers = Judged early (late.DatabaseFull weight) (alone (late.DatabaseFull weight) judged.1) refl;
       told = sym told_is;
-      committed = still kept;
+      committed = λ opened run on_disk. still opened run on_disk kept;
       kept = λ none. kept;
+      done = λ some. absurd (some refl);
     }
 
-    pub history_serves : (weight front : ℕ) (report : Report) → report ≡ warned 5 (history_full weight) → IsJudged mounts core.history.commits core.keys (prepared_of set) (Err (fault.HistoryFull weight front)) → IsUnwritten core after → Serves g opened run Answered report core after
+    pub history_serves : (weight front : ℕ) (report : Report) → report ≡ warned 5 (history_full weight) → IsJudged mounts core.history.commits core.keys (prepared_of set) (Err (fault.HistoryFull weight front)) → IsUnwritten core after → Serves g Answered report core after
     history_serves weight front report told_is judged kept = record {
       answer = answer.refused 5 (history_full weight);
       answers = Judged early (late.HistoryFull weight) (alone (late.HistoryFull weight) judged.1) refl;
       told = sym told_is;
-      committed = still kept;
+      committed = λ opened run on_disk. still opened run on_disk kept;
       kept = λ none. kept;
+      done = λ some. absurd (some refl);
     }
 
-    pub fault_fails : (front : ℕ) → IsJudged mounts core.history.commits core.keys (prepared_of set) (Err (fault.DiskFault front)) → HasAnswered formats g mounts store opened core after records made run 0 rec new set (Err (fault.DiskFault front))
-        → FailsToStore g opened run Answered after
-    fault_fails front judged has =
-        let begins = subst (λ (t : Told). RunsOn formats store core.keys run (made 0) t has.later) has.is_answer has.committed.runs_on in
-        let same = entry_is judged.0 judged.2 in
-        record {
-          answer = answer.stores stored out;
-          answers = answers judged.0 judged.2;
-          some = some judged.0 judged.2;
-          doubt = begins.0;
-          one = subst (λ (e : List FileText). IsOneOf begins.0 run.doubt e) same begins.1;
-          begun = subst (λ (e : List FileText). IsStore g opened after.journal (after_begun run e begins.0)) same (subst (λ (r : Run). IsStore g opened after.journal r) begins.2 has.committed.on_disk);
-        }
+    pub fault_fails : (front : ℕ) → IsJudged mounts core.history.commits core.keys (prepared_of set) (Err (fault.DiskFault front)) → ForEachRun (Err (fault.DiskFault front)) → FailsToStore g Answered core after
+    fault_fails front judged has = record {
+      answer = answer.stores stored out;
+      answers = answers judged.0 judged.2;
+      some = some judged.0 judged.2;
+      begun = λ opened run on_disk. begins opened run (has opened run on_disk);
+    }
+      where
+        begins : (opened : D) (run : Run) → HasAnswered formats g mounts store opened core after records made run 0 rec new set (Err (fault.DiskFault front)) → BeginsEntry g opened run (entry_of stored) after.journal
+        begins opened run has =
+            let later = subst (λ (t : Told). RunsOn formats store core.keys run (made 0) t has.later) has.is_answer has.committed.runs_on in
+            let same = entry_is judged.0 judged.2 in
+            record {
+              doubt = later.0;
+              one = subst (λ (e : List FileText). IsOneOf later.0 run.doubt e) same later.1;
+              store = subst (λ (e : List FileText). IsStore g opened after.journal (after_begun run e later.0)) same (subst (λ (r : Run). IsStore g opened after.journal r) later.2 has.committed.on_disk);
+            }
 
     -- what a set comes to that isn't committed
-    pub refused_serving : (why : CommitFault) (result : Result code.Report Stop) → IsRefusalOf why result → IsJudged mounts core.history.commits core.keys (prepared_of set) (Err why) → HasAnswered formats g mounts store opened core after records made run 0 rec new set (Err why)
-        → (has_written (Err why) ≡ false → IsUnwritten core after) → Serving g opened run Answered result core after
+    pub refused_serving : (why : CommitFault) (result : Result code.Report Stop) → IsRefusalOf why result → IsJudged mounts core.history.commits core.keys (prepared_of set) (Err why) → ForEachRun (Err why)
+        → (has_written (Err why) ≡ false → IsUnwritten core after) → Serving g Answered result core after
     refused_serving (fault.Conflict mount by front) result refusal judged has kept = absurd refusal
     refused_serving (fault.DatabaseFull weight front) (Ok report) refusal judged has kept = full_serves weight front (report_of report) refusal judged (kept refl)
-    refused_serving (fault.DatabaseFull weight front) (Err stop) refusal judged has kept = subst (λ (s : Stop). Serving g opened run Answered (Err s) core after) (sym refusal) (kept refl)
+    refused_serving (fault.DatabaseFull weight front) (Err stop) refusal judged has kept = subst (λ (s : Stop). Serving g Answered (Err s) core after) (sym refusal) (kept refl)
     refused_serving (fault.HistoryFull weight front) (Ok report) refusal judged has kept = history_serves weight front (report_of report) refusal judged (kept refl)
-    refused_serving (fault.HistoryFull weight front) (Err stop) refusal judged has kept = subst (λ (s : Stop). Serving g opened run Answered (Err s) core after) (sym refusal) (kept refl)
-    refused_serving (fault.DiskFault front) result refusal judged has kept = subst (λ (r : Result code.Report Stop). Serving g opened run Answered r core after) (sym refusal) (fault_fails front judged has)
-    refused_serving fault.Memory result refusal judged has kept = subst (λ (r : Result code.Report Stop). Serving g opened run Answered r core after) (sym refusal) (kept refl)
+    refused_serving (fault.HistoryFull weight front) (Err stop) refusal judged has kept = subst (λ (s : Stop). Serving g Answered (Err s) core after) (sym refusal) (kept refl)
+    refused_serving (fault.DiskFault front) result refusal judged has kept = subst (λ (r : Result code.Report Stop). Serving g Answered r core after) (sym refusal) (fault_fails front judged has)
+    refused_serving fault.Memory result refusal judged has kept = subst (λ (r : Result code.Report Stop). Serving g Answered r core after) (sym refusal) (kept refl)
 
 -- where memory was wanting the store is as it was
 pub refused_memory : {D : Type 0} (why : CommitFault) (result : Result code.Report Stop) (core after : Core D) → IsRefusalOf why result → (has_written (Err why) ≡ false → IsUnwritten core after) → result ≡ Err stops.Memory → IsUnwritten core after

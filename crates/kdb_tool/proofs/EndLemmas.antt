@@ -14,6 +14,7 @@ use Rattle.tool_commands.specs.declared.reports.Report as code
 use Rattle.kdb_tool.specs.Input.{FailsToRead}
 use Rattle.kdb_tool.specs.Untold.{IsStatusOf, AsksStore, ReportsUntold}
 use Rattle.kdb_tool.specs.Ending.{ending}
+use Rattle.kdb_tool.specs.Serving.{MayStore}
 use Rattle.kdb_outside.specs.SinkChange.{SinkChange as Change}
 use Rattle.kdb_tool.specs.Outcome.{Failed, Gives, Gains, GainsFront, Delivers, Whole, OutFails, ErrFails}
 use Rattle.tool_commands.specs.Report.{IsAnswered, IsEnd}
@@ -170,3 +171,10 @@ made_of (Ok report) status out err delivers is = refl
 made_of (Err stops.Memory) status out err delivers is = absurd (is.0 (whole (warned 70 out_of_memory) status out err delivers is.1).status_is)
 made_of (Err stops.DiskFault) status out err delivers is = absurd (is.1 (whole (warned 74 disk_fault) status out err delivers is.1).status_is)
 made_of (Err stops.ReadFault) status out err delivers is = absurd (is.1 (whole (warned 74 read_fault) status out err delivers is.1).status_is)
+
+-- a run that ends neither as a command that was done nor in a fault stored nothing
+pub not_stored : (r : Result code.Report Stop) (status : ℕ) (out err : Change) → Delivers (ending r) status out err → status ≢ 0 → status ≢ 74 → ¬ MayStore r
+not_stored (Ok report) status out err delivers not_done no_fault = λ done. not_done ((whole (report_of report) status out err delivers no_fault).status_is ∙ done)
+not_stored (Err stops.Memory) status out err delivers not_done no_fault = λ none. none
+not_stored (Err stops.DiskFault) status out err delivers not_done no_fault = λ failed. no_fault (whole (warned 74 disk_fault) status out err delivers no_fault).status_is
+not_stored (Err stops.ReadFault) status out err delivers not_done no_fault = λ none. none

@@ -58,14 +58,14 @@ over_refused question bytes_of fault.Memory refuses read = absurd cc
 pub refused_serve : {D : Type 0} (g : Ghosts D) (disk end : D) (files : Image) (doubt : Option (List FileText)) (question : Question) (why : OpenFault) (result : Result code.Report Stop)
     → IfOk result (λ report. report_of report ≡ warned 5 (line_of_store why)) → OnOk result ((why ≢ fault.DiskFault) × (why ≢ fault.Memory)) → result ≢ Err stops.ReadFault
     → LeavesOnly g disk end (HasOnly (IsEither files doubt)) → EveryImage (g.may_leave end) (HasOnly (IsEither files doubt))
-    → (may_be_of_journal (Some why) ≡ false → SameFiles (g.seen end) (opened_files (g.seen disk))) → (open_entry (g.seen disk journal_name) ≡ None → may_be_of_journal (Some why) ≡ false → OnlyReads g disk end)
+    → (may_be_of_journal (Some why) ≡ false → SameFiles (g.seen end) (opened_files (g.seen disk))) → (open_entry (g.seen disk journal_name) ≡ None → OnlyReads g disk end)
     → RefusesStore all.Reads all.IsBadAt (opened_files (g.seen disk) own_mount.file) why → ((at : ℕ) → why ≡ fault.BadJournal at → ⊥)
     → Serve g files doubt (AnswersOver question (opened_files (g.seen disk))) result disk end
 refused_serve g disk end files doubt question why (Ok report) told own unread meanwhile now shown alone refuses journal =
     let read = read_fault why own.0 own.1 journal in
-    refused_served g disk end files doubt (AnswersOver question (opened_files (g.seen disk))) (report_of report) meanwhile now (shown read) (λ none. alone none read)
+    refused_served g disk end files doubt (AnswersOver question (opened_files (g.seen disk))) (report_of report) meanwhile now (shown read)
     (subst (λ (r : Report). AnswersOver question (opened_files (g.seen disk)) (tells r)) (sym told) (over_refused question (opened_files (g.seen disk)) why refuses read))
-refused_serve g disk end files doubt question why (Err stops.Memory) told own unread meanwhile now shown alone refuses journal = meanwhile
+refused_serve g disk end files doubt question why (Err stops.Memory) told own unread meanwhile now shown alone refuses journal = record { crash = meanwhile; untouched = alone }
 refused_serve g disk end files doubt question why (Err stops.DiskFault) told own unread meanwhile now shown alone refuses journal = λ answer answers. left_amid g disk end files doubt answer.stored meanwhile
 refused_serve g disk end files doubt question why (Err stops.ReadFault) told own unread meanwhile now shown alone refuses journal = absurd (unread refl)
 

@@ -1,13 +1,11 @@
 -- What a run leaves of the files, and what it tells of its answer, from what was done to the disk.
 use Rattle.std.specs.Prelude.{◌≡◌, ℕ, ◌⊎◌, List, [], Option, Some, None, Result, Ok, Err, IsOk}
 use Rattle.std.proofs.Common.{refl, sym, ap, subst, ◌∙◌}
-use Rattle.intent_journal.specs.BadJournals.{open_entry, opened_files}
+use Rattle.intent_journal.specs.BadJournals.{opened_files}
 use Rattle.intent_journal.specs.Moments.{LeavesOnly}
-use Rattle.journal_codec.specs.Entry.{journal_name}
 use Rattle.journal_codec.specs.declared.files.FileText.{FileText}
 use Rattle.kdb_outside.specs.Crashes.{EveryImage}
 use Rattle.kdb_outside.specs.Faults.{HasRisen}
-use Rattle.kdb_outside.specs.Frames.{OnlyReads}
 use Rattle.kdb_outside.specs.Images.{Image}
 use Rattle.kdb_outside.specs.SinkChange.{SinkChange as Change}
 use Rattle.kdb_outside.specs.declared.disks.Disk.{Ghosts}
@@ -56,17 +54,13 @@ module _ {D : Type 0} (g : Ghosts D) (disk end : D) (files : Image) (doubt : Opt
 
   pub crash : (r : Result code.Report Stop) → Does r → (answer : Answer) → Answers words input opened answer → LeavesOnly g disk end (MayBeLeft files doubt opened answer.stored)
   crash (Ok report) does answer answers = subst (λ (a : Answer). LeavesOnly g disk end (MayBeLeft files doubt opened a.stored)) (one does.answer answer does.answers answers) does.crash
-  crash (Err stops.Memory) does answer answers = left_amid g disk end files doubt answer.stored does
+  crash (Err stops.Memory) does answer answers = left_amid g disk end files doubt answer.stored does.crash
   crash (Err stops.DiskFault) does answer answers = does answer answers
-  crash (Err stops.ReadFault) does answer answers = left_amid g disk end files doubt answer.stored does
+  crash (Err stops.ReadFault) does answer answers = left_amid g disk end files doubt answer.stored does.crash
 
   pub lasting : (r : Result code.Report Stop) → Does r → IsOk r → (answer : Answer) → Answers words input opened answer → EveryImage (g.may_leave end) (MayRemain files doubt opened answer.stored)
   lasting (Ok report) does fine answer answers = subst (λ (a : Answer). EveryImage (g.may_leave end) (MayRemain files doubt opened a.stored)) (one does.answer answer does.answers answers) does.lasting
   lasting (Err why) does fine answer answers = absurd cc
-
-  pub untouched : (r : Result code.Report Stop) → Does r → IsOk r → (answer : Answer) → Answers words input opened answer → answer.stored ≡ [] → open_entry (g.seen disk journal_name) ≡ None → OnlyReads g disk end
-  untouched (Ok report) does fine answer answers nothing none = does.untouched (ap (λ (a : Answer). a.stored) (one does.answer answer does.answers answers) ∙ nothing) none
-  untouched (Err why) does fine answer answers nothing none = absurd cc
 
   -- what a run without a fault of the disk leaves
   pub left : (disk_failed input_failed : Type 0) (r : Result code.Report Stop) (status : ℕ) (out err : Change) → Does r → (r ≡ Err stops.ReadFault → input_failed) → (r ≡ Err stops.DiskFault → disk_failed) → ¬ HasRisen (g.faults disk) (g.faults end) → (disk_failed → ⊥) → Delivers (ending r) status out err

@@ -25,7 +25,7 @@ use Rattle.tool_commands.specs.StepView.{report_of}
 use Rattle.tool_commands.specs.declared.reports.Report as code
 use Rattle.kdb_tool.specs.Answer.{Answer, Texts, entry_of, tells, with_stored}
 use Rattle.kdb_tool.specs.Crashing.{MayBeLeft, MayRemain, Shows, Alone, Stored}
-use Rattle.kdb_tool.specs.Serving.{Serves, FailsToStore, Serving, Served, Unserved, Failing, Serve, run_with}
+use Rattle.kdb_tool.specs.Serving.{Serves, BeginsEntry, FailsToStore, Serving, MayStore, Served, Unserved, Failing, Serve, run_with}
 use Rattle.kdb_tool.specs.Stops.{or_memory}
 use Rattle.kdb_tool.specs.declared.answers.Stop.{Stop}
 use Rattle.kdb_tool.specs.declared.answers.Stop.TheVariants as stops
@@ -52,6 +52,41 @@ pub record HasClosed {D : Type 0} (g : Ghosts D) (core : Core D) (end : D) : Typ
   pub shown : (opened : D) (run : Run) → IsStore g opened core.journal run → ¬ HasRisen (g.faults core.journal.disk) (g.faults end) → SameFiles (g.seen end) (files_of run)
   pub always : (opened : D) (run : Run) → IsStore g opened core.journal run → LeavesOnly g opened end (IsReached run.files run.commits run.begun)
   pub now : (opened : D) (run : Run) → IsStore g opened core.journal run → EveryImage (g.may_leave end) (HasOnly (IsEither (files_of run) run.doubt))
+
+-- an opening only read the disk, since no entry was open
+pub record WasRead {D : Type 0} (g : Ghosts D) (disk : D) (core : Core D) : Type 0 where
+  pub alone : OnlyReads g disk core.journal.disk
+  pub wrote : core.wrote ≡ false
+  pub state : core.journal.state ≡ IsDoubt
+
+-- ---- where no entry was open
+
+module _ {D : Type 0} (g : Ghosts D) (disk end : D) (old new : Core D) (read : WasRead g disk old) (closes : new.wrote ≡ false → new.journal.state ≡ IsDoubt → end ≡ new.journal.disk) where
+  pub still_read : IsUnwritten old new → OnlyReads g disk end
+  still_read kept =
+      let wrote : new.wrote ≡ false = kept.wrote ∙ read.wrote in
+      let state : new.journal.state ≡ IsDoubt = ap (λ (j : JournalValue D). j.state) kept.journal ∙ read.state in
+      subst (OnlyReads g disk) (sym (closes wrote state ∙ ap (λ (j : JournalValue D). j.disk) kept.journal)) read.alone
+
+  -- nothing is written where the answer stores nothing
+  pub serving_untouched : (Answered : Answer → Type 0) → ((a b : Answer) → Answered a → Answered b → a ≡ b) → (result : Result code.Report Stop) → Serving g Answered result old new → (answer : Answer) → Answered answer → answer.stored ≡ [] → OnlyReads g disk end
+  serving_untouched Answered once (Ok report) serves answer answers nothing = still_read (serves.kept (ap (λ (a : Answer). a.stored) (once serves.answer answer serves.answers answers) ∙ nothing))
+  serving_untouched Answered once (Err stops.Memory) kept answer answers nothing = still_read kept
+  serving_untouched Answered once (Err stops.DiskFault) fails answer answers nothing = absurd (fails.some (ap (λ (a : Answer). a.stored) (once fails.answer answer fails.answers answers) ∙ nothing))
+  serving_untouched Answered once (Err stops.ReadFault) serving answer answers nothing = absurd serving
+
+  -- nor where the command was not done and the disk didn't fail
+  pub serving_unstored : (Answered : Answer → Type 0) (result : Result code.Report Stop) → Serving g Answered result old new → ¬ MayStore result → OnlyReads g disk end
+  serving_unstored Answered (Ok report) serves not_done = still_read (by serves.answer.stored serves.kept serves.done)
+    where
+      by : (stored : Texts) → (stored ≡ [] → IsUnwritten old new) → (stored ≢ [] → report.status ≡ 0) → IsUnwritten old new
+      by [] kept done = kept refl
+      by (text ∷ texts) kept done = absurd (not_done (done (λ none. absurd cc)))
+  serving_unstored Answered (Err stops.Memory) kept not_done = still_read kept
+  serving_unstored Answered (Err stops.DiskFault) fails not_done = absurd (not_done tt)
+  serving_unstored Answered (Err stops.ReadFault) serving not_done = absurd serving
+
+-- ---- on a calm disk
 
 module _ {D : Type 0} (g : Ghosts D) (disk end : D) (files : Image) (doubt : Option (List FileText)) (old new : Core D) (has_opened : HasOpened g disk files doubt old) (has_closed : HasClosed g new end) where
   abbrev opened : Image
@@ -85,27 +120,21 @@ module _ {D : Type 0} (g : Ghosts D) (disk end : D) (files : Image) (doubt : Opt
   whole : (P : Image → Type 0) → ((image : Image) → HasOnly (IsEither files doubt) image → P image) → (Q : Image → Type 0) → ((image : Image) → Q image → P image) → LeavesOnly g mid end Q → LeavesOnly g disk end P
   whole P from_found Q from_reached reached = only_both g disk mid end (HasOnly (IsEither files doubt)) Q P from_found from_reached has_opened.goes.moment has_opened.meanwhile reached
 
-  untouched : IsUnwritten old new → open_entry (g.seen disk journal_name) ≡ None → OnlyReads g disk end
-  untouched kept none =
-      let wrote : new.wrote ≡ false = kept.wrote ∙ has_opened.wrote ∙ ap is_some none in
-      let state : new.journal.state ≡ IsDoubt = ap (λ (j : JournalValue D). j.state) kept.journal ∙ has_opened.state in
-      subst (OnlyReads g disk) (sym (has_closed.alone wrote state ∙ ap (λ (j : JournalValue D). j.disk) kept.journal)) (has_opened.alone none)
-
-  served : (Answered : Answer → Type 0) (report : Report) → Serves g mid first Answered report old new → Served g files doubt Answered report disk end
+  served : (Answered : Answer → Type 0) (report : Report) → Serves g Answered report old new → Served g files doubt Answered report disk end
   served Answered report serves =
       let stored : Texts = serves.answer.stored in
+      let store : IsStore g mid new.journal (run_with first stored) = serves.committed mid first has_opened.begun.store in
       record {
         answer = serves.answer;
         answers = serves.answers;
         told = serves.told;
         crash = whole (MayBeLeft files doubt opened stored) (left_found files doubt opened has_opened.begun.first has_opened.begun.within stored)
-            (IsReached (run_with first stored).files (run_with first stored).commits (run_with first stored).begun) (amid stored) (has_closed.always mid (run_with first stored) serves.committed);
-        lasting = λ image is. behind stored image (has_closed.now mid (run_with first stored) serves.committed image is);
+            (IsReached (run_with first stored).files (run_with first stored).commits (run_with first stored).begun) (amid stored) (has_closed.always mid (run_with first stored) store);
+        lasting = λ image is. behind stored image (has_closed.now mid (run_with first stored) store image is);
         shown = λ still. Stored (λ file not_own.
-            has_closed.shown mid (run_with first stored) serves.committed
-            (λ rose. still (risen_since (g.faults disk) (g.faults new.journal.disk) (g.faults end) (faults_since stored serves.committed) rose)) file not_own
+            has_closed.shown mid (run_with first stored) store
+            (λ rose. still (risen_since (g.faults disk) (g.faults new.journal.disk) (g.faults end) (faults_since stored store) rose)) file not_own
             ∙ files_are stored file not_own);
-        untouched = λ nothing. untouched (serves.kept nothing);
       }
     where
       faults_since : (stored : Texts) → IsStore g mid new.journal (run_with first stored) → g.faults disk ≤ g.faults new.journal.disk
@@ -115,23 +144,29 @@ module _ {D : Type 0} (g : Ghosts D) (disk end : D) (files : Image) (doubt : Opt
   unserved : IsUnwritten old new → Unserved g files doubt disk end
   unserved kept =
       let store : IsStore g mid new.journal first = subst (λ (j : JournalValue D). IsStore g mid j first) (sym kept.journal) has_opened.begun.store in
-      whole (HasOnly (IsEither files doubt)) (λ image only. only) (IsReached opened [] first.begun) (λ image. amid [] image) (has_closed.always mid first store)
+      record {
+        crash = whole (HasOnly (IsEither files doubt)) (λ image only. only) (IsReached opened [] first.begun) (λ image. amid [] image) (has_closed.always mid first store);
+        untouched = λ none. still_read g disk end old new (record { alone = has_opened.alone none; wrote = has_opened.wrote ∙ ap is_some none; state = has_opened.state }) has_closed.alone kept;
+      }
 
-  failing : (Answered : Answer → Type 0) → ((a b : Answer) → Answered a → Answered b → a ≡ b) → FailsToStore g mid first Answered new → (answer : Answer) → Answered answer → Failing g files doubt disk end answer.stored
+  failing : (Answered : Answer → Type 0) → ((a b : Answer) → Answered a → Answered b → a ≡ b) → FailsToStore g Answered old new → (answer : Answer) → Answered answer → Failing g files doubt disk end answer.stored
   failing Answered once fails answer answers =
       subst (λ (a : Answer). Failing g files doubt disk end a.stored) (once fails.answer answer fails.answers answers)
       (whole (MayBeLeft files doubt opened stored) (left_found files doubt opened has_opened.begun.first has_opened.begun.within stored)
-      (IsReached opened [] (after_begun first (entry_of stored) fails.doubt).begun) (λ image reached. some stored fails.some image (reached_begun files doubt opened has_opened.begun.first has_opened.begun.within (entry_of stored) image reached))
-      (has_closed.always mid (after_begun first (entry_of stored) fails.doubt) fails.begun))
+      (IsReached opened [] (after_begun first (entry_of stored) begun.doubt).begun) (λ image reached. some stored fails.some image (reached_begun files doubt opened has_opened.begun.first has_opened.begun.within (entry_of stored) image reached))
+      (has_closed.always mid (after_begun first (entry_of stored) begun.doubt) begun.store))
     where
       stored : Texts
       stored = fails.answer.stored
+
+      begun : BeginsEntry g mid first (entry_of stored) new.journal
+      begun = fails.begun mid first has_opened.begun.store
 
       some : (texts : Texts) → texts ≢ [] → (image : Image) → HasOnly (IsEither files doubt) image ⊎ HasOnly (IsEither opened (Some (entry_of texts))) image → MayBeLeft files doubt opened texts image
       some [] none image left = absurd (none refl)
       some (text ∷ texts) none image left = left
 
-  pub serve : (Answered : Answer → Type 0) → ((a b : Answer) → Answered a → Answered b → a ≡ b) → (result : Result code.Report Stop) → Serving g mid first Answered result old new → Serve g files doubt Answered result disk end
+  pub serve : (Answered : Answer → Type 0) → ((a b : Answer) → Answered a → Answered b → a ≡ b) → (result : Result code.Report Stop) → Serving g Answered result old new → Serve g files doubt Answered result disk end
   serve Answered once (Ok report) serving = served Answered (report_of report) serving
   serve Answered once (Err stops.Memory) serving = unserved serving
   serve Answered once (Err stops.DiskFault) serving = failing Answered once serving
@@ -142,19 +177,26 @@ module _ {D : Type 0} (g : Ghosts D) (disk end : D) (files : Image) (doubt : Opt
 pub unwritten_itself : {D : Type 0} (core : Core D) → IsUnwritten core core
 unwritten_itself core = record { journal = refl; history = refl; keys = refl; wrote = refl }
 
-pub told_serves : {D : Type 0} (g : Ghosts D) (opened : D) (run : Run) (Answered : Answer → Type 0) (report : Report) (core : Core D) → Answered (tells report) → IsStore g opened core.journal run → Serves g opened run Answered report core core
-told_serves g opened run Answered report core answers store = record { answer = tells report; answers = answers; told = refl; committed = store; kept = λ nothing. unwritten_itself core }
+pub told_serves : {D : Type 0} (g : Ghosts D) (Answered : Answer → Type 0) (report : Report) (core : Core D) → Answered (tells report) → Serves g Answered report core core
+told_serves g Answered report core answers = record {
+  answer = tells report;
+  answers = answers;
+  told = refl;
+  committed = λ opened run store. store;
+  kept = λ nothing. unwritten_itself core;
+  done = λ some. absurd (some refl);
+}
 
 -- ---- other answers
 
-pub serving_weaker : {D : Type 0} (g : Ghosts D) (opened : D) (run : Run) (P Q : Answer → Type 0) (result : Result code.Report Stop) (before after : Core D) → ((answer : Answer) → P answer → Q answer) → Serving g opened run P result before after → Serving g opened run Q result before after
-serving_weaker g opened run P Q (Ok report) before after follows s = record { answer = s.answer; answers = follows s.answer s.answers; told = s.told; committed = s.committed; kept = s.kept }
-serving_weaker g opened run P Q (Err stops.Memory) before after follows s = s
-serving_weaker g opened run P Q (Err stops.DiskFault) before after follows s = record { answer = s.answer; answers = follows s.answer s.answers; some = s.some; doubt = s.doubt; one = s.one; begun = s.begun }
-serving_weaker g opened run P Q (Err stops.ReadFault) before after follows s = absurd s
+pub serving_weaker : {D : Type 0} (g : Ghosts D) (P Q : Answer → Type 0) (result : Result code.Report Stop) (before after : Core D) → ((answer : Answer) → P answer → Q answer) → Serving g P result before after → Serving g Q result before after
+serving_weaker g P Q (Ok report) before after follows s = record { answer = s.answer; answers = follows s.answer s.answers; told = s.told; committed = s.committed; kept = s.kept; done = s.done }
+serving_weaker g P Q (Err stops.Memory) before after follows s = s
+serving_weaker g P Q (Err stops.DiskFault) before after follows s = record { answer = s.answer; answers = follows s.answer s.answers; some = s.some; begun = s.begun }
+serving_weaker g P Q (Err stops.ReadFault) before after follows s = absurd s
 
 pub serve_alike : {D : Type 0} (g : Ghosts D) (files : Image) (doubt : Option (List FileText)) (P Q : Answer → Type 0) (result : Result code.Report Stop) (before after : D) → ((answer : Answer) → P answer → Q answer) → ((answer : Answer) → Q answer → P answer) → Serve g files doubt P result before after → Serve g files doubt Q result before after
-serve_alike g files doubt P Q (Ok report) before after to from s = record { answer = s.answer; answers = to s.answer s.answers; told = s.told; crash = s.crash; lasting = s.lasting; shown = s.shown; untouched = s.untouched }
+serve_alike g files doubt P Q (Ok report) before after to from s = record { answer = s.answer; answers = to s.answer s.answers; told = s.told; crash = s.crash; lasting = s.lasting; shown = s.shown }
 serve_alike g files doubt P Q (Err stops.Memory) before after to from s = s
 serve_alike g files doubt P Q (Err stops.DiskFault) before after to from s = λ answer answers. s answer (from answer answers)
 serve_alike g files doubt P Q (Err stops.ReadFault) before after to from s = s
@@ -178,25 +220,23 @@ alone_served g disk files doubt Answered report told calm answers = record {
   crash = only_now g disk (HasOnly (IsEither files doubt)) told (calm_only g disk files doubt calm);
   lasting = calm_only g disk files doubt calm;
   shown = λ still. Alone refl refl;
-  untouched = λ nothing none. OnlyReads-none g disk;
 }
 
 pub alone_unserved : {D : Type 0} (g : Ghosts D) (disk : D) (files : Image) (doubt : Option (List FileText)) → g.tells disk ≡ true → IsCalm (g.seen disk) (g.may_leave disk) files doubt → Unserved g files doubt disk disk
-alone_unserved g disk files doubt told calm = only_now g disk (HasOnly (IsEither files doubt)) told (calm_only g disk files doubt calm)
+alone_unserved g disk files doubt told calm = record { crash = only_now g disk (HasOnly (IsEither files doubt)) told (calm_only g disk files doubt calm); untouched = λ none. OnlyReads-none g disk }
 
 -- ---- where the store isn't opened
 
 -- what is told of files that were read
 pub refused_served : {D : Type 0} (g : Ghosts D) (disk end : D) (files : Image) (doubt : Option (List FileText)) (Answered : Answer → Type 0) (report : Report) → LeavesOnly g disk end (HasOnly (IsEither files doubt)) → EveryImage (g.may_leave end) (HasOnly (IsEither files doubt))
-    → SameFiles (g.seen end) (opened_files (g.seen disk)) → (open_entry (g.seen disk journal_name) ≡ None → OnlyReads g disk end) → Answered (tells report) → Served g files doubt Answered report disk end
-refused_served g disk end files doubt Answered report meanwhile now shown alone answers = record {
+    → SameFiles (g.seen end) (opened_files (g.seen disk)) → Answered (tells report) → Served g files doubt Answered report disk end
+refused_served g disk end files doubt Answered report meanwhile now shown answers = record {
   answer = tells report;
   answers = answers;
   told = refl;
   crash = meanwhile;
   lasting = now;
   shown = λ still. Stored (λ file not_own. shown file not_own);
-  untouched = λ nothing none. alone none;
 }
 
 pub left_amid : {D : Type 0} (g : Ghosts D) (disk end : D) (files : Image) (doubt : Option (List FileText)) (stored : Texts) → LeavesOnly g disk end (HasOnly (IsEither files doubt)) → Failing g files doubt disk end stored

@@ -2,6 +2,7 @@
 use Rattle.std.specs.Prelude.{◌≡◌, ◌≢◌, ℕ, List, [], ◌∷◌, length, map as over, Option, None, Result, Ok, Err}
 use Rattle.std.specs.List.{AllByRecursion}
 use Rattle.intent_journal.specs.BadJournals.{open_entry, opened_files}
+use Rattle.intent_journal.specs.Journal.{JournalValue}
 use Rattle.intent_journal.specs.Moments.{LeavesOnly}
 use Rattle.intent_journal.specs.Outcomes.{HasOnly, IsEither}
 use Rattle.journal_codec.specs.Entry.{journal_name}
@@ -72,28 +73,41 @@ abbrev pub run_with : Run → Texts → Run
 run_with run [] = run
 run_with run (text ∷ texts) = after_commit run (entry_of (text ∷ texts))
 
--- an answer was given, and what it stores is committed; where it stores nothing the store is as it was
-pub record Serves {D : Type 0} (g : Ghosts D) (opened : D) (run : Run) (Answered : Answer → Type 0) (report : Report) (before after : Core D) : Type 0 where
+-- an answer was given, and what it stores is committed, by a command that was done; where it stores nothing the store is as it was. Any run
+-- that the journal stood for goes on by it
+pub record Serves {D : Type 0} (g : Ghosts D) (Answered : Answer → Type 0) (report : Report) (before after : Core D) : Type 0 where
   pub answer : Answer
   pub answers : Answered answer
   pub told : answer.report ≡ report
-  pub committed : IsStore g opened after.journal (run_with run answer.stored)
+  pub committed : (opened : D) (run : Run) → IsStore g opened before.journal run → IsStore g opened after.journal (run_with run answer.stored)
   pub kept : answer.stored ≡ [] → IsUnwritten before after
+  pub done : answer.stored ≢ [] → report.status ≡ 0
+
+-- an entry was begun in a run, and one at most is in doubt
+pub record BeginsEntry {D : Type 0} (g : Ghosts D) (opened : D) (run : Run) (entry : List FileText) (journal : JournalValue D) : Type 0 where
+  pub doubt : Option (List FileText)
+  pub one : IsOneOf doubt run.doubt entry
+  pub store : IsStore g opened journal (after_begun run entry doubt)
 
 -- the disk failed to commit what an answer stores
-pub record FailsToStore {D : Type 0} (g : Ghosts D) (opened : D) (run : Run) (Answered : Answer → Type 0) (after : Core D) : Type 0 where
+pub record FailsToStore {D : Type 0} (g : Ghosts D) (Answered : Answer → Type 0) (before after : Core D) : Type 0 where
   pub answer : Answer
   pub answers : Answered answer
   pub some : answer.stored ≢ []
-  pub doubt : Option (List FileText)
-  pub one : IsOneOf doubt run.doubt (entry_of answer.stored)
-  pub begun : IsStore g opened after.journal (after_begun run (entry_of answer.stored) doubt)
+  pub begun : (opened : D) (run : Run) → IsStore g opened before.journal run → BeginsEntry g opened run (entry_of answer.stored) after.journal
 
-abbrev pub Serving : {D : Type 0} → Ghosts D → D → Run → (Answer → Type 0) → Result code.Report Stop → Core D → Core D → Type 0
-Serving g opened run Answered (Ok report) before after = Serves g opened run Answered (report_of report) before after
-Serving g opened run Answered (Err stops.Memory) before after = IsUnwritten before after
-Serving g opened run Answered (Err stops.DiskFault) before after = FailsToStore g opened run Answered after
-Serving g opened run Answered (Err stops.ReadFault) before after = ⊥
+abbrev pub Serving : {D : Type 0} → Ghosts D → (Answer → Type 0) → Result code.Report Stop → Core D → Core D → Type 0
+Serving g Answered (Ok report) before after = Serves g Answered (report_of report) before after
+Serving g Answered (Err stops.Memory) before after = IsUnwritten before after
+Serving g Answered (Err stops.DiskFault) before after = FailsToStore g Answered before after
+Serving g Answered (Err stops.ReadFault) before after = ⊥
+
+-- something may be stored by how the work ended: a command was done, or the disk failed
+abbrev pub MayStore : Result code.Report Stop → Type 0
+MayStore (Ok report) = report.status ≡ 0
+MayStore (Err stops.Memory) = ⊥
+MayStore (Err stops.DiskFault) = Unit {0}
+MayStore (Err stops.ReadFault) = ⊥
 
 -- ---- on the disk, which was calm
 
@@ -105,11 +119,11 @@ pub record Served {D : Type 0} (g : Ghosts D) (files : Image) (doubt : Option (L
   pub crash : LeavesOnly g before after (MayBeLeft files doubt (opened_files (g.seen before)) answer.stored)
   pub lasting : EveryImage (g.may_leave after) (MayRemain files doubt (opened_files (g.seen before)) answer.stored)
   pub shown : ¬ HasRisen (g.faults before) (g.faults after) → Shows answer.stored (opened_files (g.seen before)) (g.seen before) (g.seen after)
-  pub untouched : answer.stored ≡ [] → open_entry (g.seen before journal_name) ≡ None → OnlyReads g before after
 
--- nothing was stored: a crash amid the call leaves the files as they were found
-abbrev pub Unserved : {D : Type 0} → Ghosts D → Image → Option (List FileText) → D → D → Type 0
-Unserved g files doubt before after = LeavesOnly g before after (HasOnly (IsEither files doubt))
+-- nothing was stored: a crash amid the call leaves the files as they were found, and where no entry was open the disk was only read
+pub record Unserved {D : Type 0} (g : Ghosts D) (files : Image) (doubt : Option (List FileText)) (before after : D) : Type 0 where
+  pub crash : LeavesOnly g before after (HasOnly (IsEither files doubt))
+  pub untouched : open_entry (g.seen before journal_name) ≡ None → OnlyReads g before after
 
 -- the disk failed, while an answer was sought or stored
 abbrev pub Failing : {D : Type 0} → Ghosts D → Image → Option (List FileText) → D → D → Texts → Type 0

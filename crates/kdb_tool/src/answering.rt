@@ -5,12 +5,10 @@ ghost use Rattle.std.specs.Option.{option_map};
 ghost use Rattle.all_formats.specs.Meanings.{Reads, IsBadAt};
 ghost use Rattle.kdb_outside.specs.Faults.{HasRisen};
 ghost use Rattle.kdb_outside.specs.Frames.{GoesOn};
-ghost use Rattle.model_crashes.specs.Runs.{Run};
 ghost use Rattle.model_maps.specs.Limits.{IsLimited};
 ghost use Rattle.mounted_files.specs.Getting.{below, got, Gets};
 ghost use Rattle.store_core.specs.Frames.{IsUnwritten};
 ghost use Rattle.mounted_files.specs.Opening.{IsOpened};
-ghost use Rattle.store_phases.specs.Stores.{IsStore};
 ghost use Rattle.tool_commands.specs.StepView.{report_of, seen_step};
 ghost use Rattle.mounted_files.specs.declared.refusals.GetFault.TheVariants.{Memory as OutOfMemory};
 ghost use Rattle.kdb_tool.specs.Answer.{done, refused, tells};
@@ -58,8 +56,8 @@ pub fn answer_in<D: Disk>(
 ) -> Result<Report, Stop>
     requires names { NamesFiles (question_of question) }
     requires open { IsOpen plan.now core.old }
-    ensures serving { (opened : D) (run : Run) (bytes_of : List ℕ → List ℕ) → IsStore D.Disk opened core.old.journal run → IsOpened Reads IsBadAt bytes_of plan.now.mounted
-        → Serving D.Disk opened run (AnswersIn plan.now.mounted (question_of question.entry)) result core.old core.new }
+    ensures serving { (bytes_of : List ℕ → List ℕ) → IsOpened Reads IsBadAt bytes_of plan.now.mounted
+        → Serving D.Disk (AnswersIn plan.now.mounted (question_of question.entry)) result core.old core.new }
     ensures memory { result ≡ Err Stop.Memory → IsUnwritten core.old core.new }
     ensures status { IfOk result (λ report. IsStatusOf (question_of question.entry) report.status) }
     ensures cause { result ≡ Err Stop.DiskFault → HasRisen (D.faults core.old.journal.disk) (D.faults core.new.journal.disk) }
@@ -192,8 +190,8 @@ fn act<D: Disk>(
     action: Action<'_>,
 ) -> Result<Report, Stop>
     requires open { IsOpen plan.now core.old }
-    ensures serving { (opened : D) (run : Run) (bytes_of : List ℕ → List ℕ) → IsStore D.Disk opened core.old.journal run → IsOpened Reads IsBadAt bytes_of plan.now.mounted
-        → Serving D.Disk opened run (AnswersGot plan.now.mounted name.now (action_of action.entry) (got plan.now.mounted (parent_of name.now (action_of action.entry)))) result core.old core.new }
+    ensures serving { (bytes_of : List ℕ → List ℕ) → IsOpened Reads IsBadAt bytes_of plan.now.mounted
+        → Serving D.Disk (AnswersGot plan.now.mounted name.now (action_of action.entry) (got plan.now.mounted (parent_of name.now (action_of action.entry)))) result core.old core.new }
     ensures memory { result ≡ Err Stop.Memory → IsUnwritten core.old core.new }
     ensures status { IfOk result (λ report. IsEnd (row_of name.now (action_of action.entry)).statuses report.status) }
     ensures cause { result ≡ Err Stop.DiskFault → HasRisen (D.faults core.old.journal.disk) (D.faults core.new.journal.disk) }
@@ -271,8 +269,7 @@ fn take_step<D: Disk>(
 ) -> Result<Report, Stop>
     requires open { IsOpen plan.now core.old }
     requires fetched { HasFetched plan.now.mounted parent.now rec.old }
-    ensures serving { (opened : D) (run : Run) → IsStore D.Disk opened core.old.journal run
-        → Serving D.Disk opened run (AnswersStep plan.now.mounted parent.now (seen_step step)) result core.old core.new }
+    ensures serving { Serving D.Disk (AnswersStep plan.now.mounted parent.now (seen_step step)) result core.old core.new }
     ensures memory { result ≡ Err Stop.Memory → IsUnwritten core.old core.new }
     ensures status { (own : List ℕ) → TellsEnd own (seen_step step) → IfOk result (λ report. IsEnd own report.status) }
     ensures cause { result ≡ Err Stop.DiskFault → HasRisen (D.faults core.old.journal.disk) (D.faults core.new.journal.disk) }

@@ -1,17 +1,19 @@
 //! The answer to an import: its input is read before the files are looked at.
-ghost use Rattle.std.specs.Prelude.{◌≡◌, ◌≢◌, ◌≤◌, ◌⊎◌, ℕ, List, [], true, Option, Some, Err, IfOk, OnOk};
+ghost use Rattle.std.specs.Prelude.{◌≡◌, ◌≢◌, ◌≤◌, ◌⊎◌, ℕ, List, [], true, Option, Some, None, Err, IfOk, OnOk};
 ghost use Rattle.all_formats.specs.Meanings.{Reads, IsBadAt};
-ghost use Rattle.intent_journal.specs.BadJournals.{opened_files};
+ghost use Rattle.intent_journal.specs.BadJournals.{open_entry, opened_files};
 ghost use Rattle.intent_journal.specs.States.{IsCalm};
+ghost use Rattle.journal_codec.specs.Entry.{journal_name};
 ghost use Rattle.journal_codec.specs.declared.files.FileText.{FileText as Item};
 ghost use Rattle.kdb_outside.specs.Faults.{HasRisen};
-ghost use Rattle.kdb_outside.specs.Frames.{GoesOn};
+ghost use Rattle.kdb_outside.specs.Frames.{GoesOn, OnlyReads};
 ghost use Rattle.kdb_outside.specs.Images.{Image};
 ghost use Rattle.mounted_files.specs.Getting.{fault_of};
 ghost use Rattle.mounted_files.specs.Holding.{IsHolding, cause_of};
+ghost use Rattle.kdb_tool.specs.Answer.{Answer};
 ghost use Rattle.kdb_tool.specs.Answers.{AnswersImport, line_of_get};
 ghost use Rattle.kdb_tool.specs.Input.{taken, TakesAll, TakesFront};
-ghost use Rattle.kdb_tool.specs.Serving.{Serve, Unserved};
+ghost use Rattle.kdb_tool.specs.Serving.{MayStore, Serve, Unserved};
 ghost use Rattle.tool_commands.specs.Report.{IsAnswered, IsEnd, warned};
 ghost use Rattle.tool_commands.specs.StepView.{report_of};
 
@@ -40,6 +42,9 @@ pub fn import<S: Source, D: Disk>(
     ensures served { D.tells disk ≡ true → (files : Image) (doubt : Option (List Item)) → IsCalm (D.seen disk) (D.may_leave disk) files doubt
         → (bytes : List ℕ) → S.left input.old ≡ Some bytes → Serve D.Disk files doubt (AnswersImport name kind (taken bytes) (opened_files (D.seen disk))) result.answer disk result.disk }
     ensures unserved { D.tells disk ≡ true → (files : Image) (doubt : Option (List Item)) → IsCalm (D.seen disk) (D.may_leave disk) files doubt → (result.answer ≡ Err Stop.Memory) ⊎ (result.answer ≡ Err Stop.ReadFault) → Unserved D.Disk files doubt disk result.disk }
+    ensures untouched { D.tells disk ≡ true → open_entry (D.seen disk journal_name) ≡ None → (bytes : List ℕ) → S.left input.old ≡ Some bytes
+        → (answer : Answer) → AnswersImport name kind (taken bytes) (D.seen disk) answer → answer.stored ≡ [] → OnlyReads D.Disk disk result.disk }
+    ensures unstored { D.tells disk ≡ true → open_entry (D.seen disk journal_name) ≡ None → ¬ MayStore result.answer → OnlyReads D.Disk disk result.disk }
     ensures status { IfOk result.answer (λ report. IsEnd [] report.status) }
     ensures own { IfOk result.answer (λ report. IsAnswered report.status) }
     ensures front { (bytes : List ℕ) → S.left input.old ≡ Some bytes → TakesFront bytes (S.left input.new) }

@@ -1,14 +1,16 @@
 //! A question to the store: it is opened, answers, and is closed.
-ghost use Rattle.std.specs.Prelude.{◌≡◌, ◌≢◌, ℕ, List, Option, Some, None, true, false, IfOk, OnOk, Err, is_some, string_bytes, length};
+ghost use Rattle.std.specs.Prelude.{◌≡◌, ◌≢◌, ℕ, List, [], Option, Some, None, true, false, IfOk, OnOk, Err, is_some, string_bytes, length};
 ghost use Rattle.intent_journal.specs.BadJournals.{open_entry, opened_files};
 ghost use Rattle.intent_journal.specs.States.{IsCalm};
+ghost use Rattle.journal_codec.specs.Entry.{journal_name};
 ghost use Rattle.journal_codec.specs.declared.files.FileText.{FileText as Item};
 ghost use Rattle.kdb_outside.specs.Faults.{HasRisen};
-ghost use Rattle.kdb_outside.specs.Frames.{GoesOn};
+ghost use Rattle.kdb_outside.specs.Frames.{GoesOn, OnlyReads};
 ghost use Rattle.kdb_outside.specs.Images.{Image};
+ghost use Rattle.kdb_tool.specs.Answer.{Answer};
 ghost use Rattle.kdb_tool.specs.Answers.{AnswersOver};
 ghost use Rattle.kdb_tool.specs.Lines.{line_of_store};
-ghost use Rattle.kdb_tool.specs.Serving.{IsOpen, Serve};
+ghost use Rattle.kdb_tool.specs.Serving.{IsOpen, MayStore, Serve};
 ghost use Rattle.kdb_tool.specs.Untold.{IsStatusOf};
 ghost use Rattle.store_core.specs.declared.faults.OpenFault.TheVariants.{DiskFault as OfDisk, Memory as OfMemory};
 ghost use Rattle.tool_commands.specs.Report.{IsAnswered, warned};
@@ -30,6 +32,8 @@ use tool_words::Question;
 pub fn answer_question<D: Disk>(alloc: Global, question: Question<'_>, disk: D) -> Ended<D>
     requires { NamesFiles (question_of question) }
     ensures served { D.tells disk ≡ true → (files : Image) (doubt : Option (List Item)) → IsCalm (D.seen disk) (D.may_leave disk) files doubt → Serve D.Disk files doubt (AnswersOver (question_of question.entry) (opened_files (D.seen disk))) result.answer disk result.disk }
+    ensures untouched { D.tells disk ≡ true → open_entry (D.seen disk journal_name) ≡ None → (answer : Answer) → AnswersOver (question_of question.entry) (D.seen disk) answer → answer.stored ≡ [] → OnlyReads D.Disk disk result.disk }
+    ensures unstored { D.tells disk ≡ true → open_entry (D.seen disk journal_name) ≡ None → ¬ MayStore result.answer → OnlyReads D.Disk disk result.disk }
     ensures status { IfOk result.answer (λ report. IsStatusOf (question_of question.entry) report.status) }
     ensures own { IfOk result.answer (λ report. IsAnswered report.status) }
     ensures cause { result.answer ≡ Err Stop.DiskFault → HasRisen (D.faults disk) (D.faults result.disk) }

@@ -6,11 +6,9 @@ ghost use Rattle.kdb_tool.specs.Answer.{tells};
 ghost use Rattle.kdb_tool.specs.Serving.{HasFetched, IsAlone, IsOpen, Serving};
 ghost use Rattle.kdb_tool.specs.Refusing.{IsRefusalOf};
 ghost use Rattle.kdb_tool.specs.Sets.{AnswersSet, IsRefusal, store_alone, the_handle, formats};
-ghost use Rattle.model_crashes.specs.Runs.{Run};
 ghost use Rattle.model_maps.specs.KeyMap.{KeyMap};
 ghost use Rattle.model_names.specs.Name.{Name};
 ghost use Rattle.store_core.specs.Frames.{IsUnwritten};
-ghost use Rattle.store_phases.specs.Stores.{IsStore};
 ghost use Rattle.store_verdict.specs.Preparing.{IsMade};
 ghost use Rattle.store_verdict.specs.RecordView.{record_of};
 ghost use Rattle.store_core.specs.declared.committing.CommitFault.TheVariants.{Conflict as IsConflict};
@@ -44,8 +42,7 @@ pub fn set_keys<D: Disk>(
 ) -> Result<Report, Stop>
     requires open { IsOpen plan.now core.old }
     requires fetched { HasFetched plan.now.mounted parent.now rec.old }
-    ensures serving { (opened : D) (run : Run) → IsStore D.Disk opened core.old.journal run
-        → Serving D.Disk opened run (AnswersSet plan.now.mounted parent.now keys.now (string_bytes out)) result core.old core.new }
+    ensures serving { Serving D.Disk (AnswersSet plan.now.mounted parent.now keys.now (string_bytes out)) result core.old core.new }
     ensures memory { result ≡ Err Stop.Memory → IsUnwritten core.old core.new }
     ensures status { (own : List ℕ) → IfOk result (λ report. IsEnd own report.status) }
     ensures cause { result ≡ Err Stop.DiskFault → HasRisen (D.faults core.old.journal.disk) (D.faults core.new.journal.disk) }
@@ -91,8 +88,8 @@ fn commit_set<D: Disk>(
 ) -> Result<Report, Stop>
     requires open { IsOpen plan.now core.old }
     requires alone { IsAlone plan.now.mounted rec.old prepared }
-    ensures serving { (opened : D) (run : Run) → IsStore D.Disk opened core.old.journal run → (parent : Name) (keys : KeyMap) → HasFetched plan.now.mounted parent rec.old → IsMade formats (store_alone plan.now.mounted) the_handle (record_of rec.old) parent keys prepared
-        → Serving D.Disk opened run (AnswersSet plan.now.mounted parent keys (string_bytes out)) result core.old core.new }
+    ensures serving { (parent : Name) (keys : KeyMap) → HasFetched plan.now.mounted parent rec.old → IsMade formats (store_alone plan.now.mounted) the_handle (record_of rec.old) parent keys prepared
+        → Serving D.Disk (AnswersSet plan.now.mounted parent keys (string_bytes out)) result core.old core.new }
     ensures memory { result ≡ Err Stop.Memory → IsUnwritten core.old core.new }
     ensures status { (own : List ℕ) → IfOk result (λ report. IsEnd own report.status) }
     ensures cause { result ≡ Err Stop.DiskFault → HasRisen (D.faults core.old.journal.disk) (D.faults core.new.journal.disk) }

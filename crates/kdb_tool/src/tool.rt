@@ -82,12 +82,17 @@ pub fn run<S: Source, K: Sink, E: Sink, D: Disk + Send, G: Gate + Sync>(
         → LeftBy words.now given (opened_files (D.seen disk)) (λ stored. Shows stored (opened_files (D.seen disk)) (D.seen disk) (D.seen result.1)) (λ stored. EveryImage (D.may_leave result.1) (MayRemain files doubt (opened_files (D.seen disk)) stored))
         (Unserved D.Disk files doubt disk result.1) (FailsToRead (request words.now) (S.faults input.old) (S.faults input.new)) result.0 (change_of K.Sink out.old out.new) (change_of E.Sink err.old err.new) }
 
-    // Want of memory never comes behind a commit: at every moment since the call began a crash leaves the files as they were found.
+    // Want of memory never comes behind a commit: at every moment since the call began a crash leaves the files as they were found, and where
+    // the journal holds no open entry that is to be brought in, the disk is only read.
     ensures unwritten { D.tells disk ≡ true → (files : Image) (doubt : Option (List Item)) → IsCalm (D.seen disk) (D.may_leave disk) files doubt → result.0 ≡ 70 → Unserved D.Disk files doubt disk result.1 }
 
-    // An answer that stores nothing writes nothing, where the journal holds no open entry that is to be brought in.
-    ensures untouched { D.tells disk ≡ true → (files : Image) (doubt : Option (List Item)) → IsCalm (D.seen disk) (D.may_leave disk) files doubt → IsAnswered result.0
-        → (given : List ℕ) → IsInput (request words.now) (S.left input.old) given → (answer : Answer) → Answers words.now given (opened_files (D.seen disk)) answer → answer.stored ≡ [] → open_entry (D.seen disk journal_name) ≡ None → OnlyReads D.Disk disk result.1 }
+    // Where no entry is open, and the disk need not be calm for that, nothing is written where the answer stores nothing, whatever fails;
+    ensures untouched { D.tells disk ≡ true → open_entry (D.seen disk journal_name) ≡ None → (given : List ℕ) → IsInput (request words.now) (S.left input.old) given
+        → (answer : Answer) → Answers words.now given (D.seen disk) answer → answer.stored ≡ [] → OnlyReads D.Disk disk result.1 }
+
+    // nor does a run write that ends in want of memory or is refused, one that the journal refuses too: that ends neither as a command that was
+    // done nor in a fault.
+    ensures unstored { D.tells disk ≡ true → open_entry (D.seen disk journal_name) ≡ None → result.0 ≢ 0 → result.0 ≢ 74 → OnlyReads D.Disk disk result.1 }
 
     // An import takes so much of the input, and every other command takes none.
     ensures input { LeavesInput S.Source (request words.now) (IsAnswered result.0) input.old input.new }

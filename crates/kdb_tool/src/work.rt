@@ -1,14 +1,16 @@
 //! The work that a command line asks for: the words and the input are read, and the store is asked.
-ghost use Rattle.std.specs.Prelude.{◌≡◌, ◌⊎◌, ◌≤◌, ℕ, List, Option, true, IsOk, IfOk, Err};
-ghost use Rattle.intent_journal.specs.BadJournals.{opened_files};
+ghost use Rattle.std.specs.Prelude.{◌≡◌, ◌⊎◌, ◌≤◌, ℕ, List, [], Option, None, true, IsOk, IfOk, Err};
+ghost use Rattle.intent_journal.specs.BadJournals.{open_entry, opened_files};
 ghost use Rattle.intent_journal.specs.States.{IsCalm};
+ghost use Rattle.journal_codec.specs.Entry.{journal_name};
 ghost use Rattle.journal_codec.specs.declared.files.FileText.{FileText as Item};
 ghost use Rattle.kdb_outside.specs.Faults.{HasRisen};
-ghost use Rattle.kdb_outside.specs.Frames.{GoesOn};
+ghost use Rattle.kdb_outside.specs.Frames.{GoesOn, OnlyReads};
 ghost use Rattle.kdb_outside.specs.Images.{Image};
+ghost use Rattle.kdb_tool.specs.Answer.{Answer};
 ghost use Rattle.kdb_tool.specs.Answers.{Answers};
 ghost use Rattle.kdb_tool.specs.Input.{FailsToRead, IsInput, LeavesInput};
-ghost use Rattle.kdb_tool.specs.Serving.{Serve, Unserved};
+ghost use Rattle.kdb_tool.specs.Serving.{MayStore, Serve, Unserved};
 ghost use Rattle.kdb_tool.specs.Stops.{or_memory};
 ghost use Rattle.kdb_tool.specs.Untold.{AsksStore, ReportsUntold};
 ghost use Rattle.tool_commands.specs.Report.{IsAnswered};
@@ -34,6 +36,9 @@ pub fn carry_out<S: Source, D: Disk>(
     ensures served { D.tells disk ≡ true → (files : Image) (doubt : Option (List Item)) → IsCalm (D.seen disk) (D.may_leave disk) files doubt
         → (given : List ℕ) → IsInput (request words.now) (S.left input.old) given → Serve D.Disk files doubt (Answers words.now given (opened_files (D.seen disk))) result.answer disk result.disk }
     ensures unserved { D.tells disk ≡ true → (files : Image) (doubt : Option (List Item)) → IsCalm (D.seen disk) (D.may_leave disk) files doubt → (result.answer ≡ Err Stop.Memory) ⊎ (result.answer ≡ Err Stop.ReadFault) → Unserved D.Disk files doubt disk result.disk }
+    ensures untouched { D.tells disk ≡ true → open_entry (D.seen disk journal_name) ≡ None → (given : List ℕ) → IsInput (request words.now) (S.left input.old) given
+        → (answer : Answer) → Answers words.now given (D.seen disk) answer → answer.stored ≡ [] → OnlyReads D.Disk disk result.disk }
+    ensures unstored { D.tells disk ≡ true → open_entry (D.seen disk journal_name) ≡ None → ¬ MayStore result.answer → OnlyReads D.Disk disk result.disk }
     ensures untold { IfOk result.answer (λ report. ReportsUntold (request words.now) (report_of report)) }
     ensures asked { result.answer ≡ Err Stop.DiskFault → AsksStore (request words.now) }
     ensures unasked { (AsksStore (request words.now) → ⊥) → result.disk ≡ disk }

@@ -113,6 +113,12 @@ of_journal-bad journal_fault.DiskFault at is = absurd cc
 of_journal-bad (journal_fault.BadJournal n) at is = cc
 of_journal-bad journal_fault.Memory at is = absurd cc
 
+-- the faults of a journal refuse a store whatever its files are
+pub journal_refuses : (Reads : Reading) (IsBad : Badness) (bytes : List ℕ) (fault : JournalFault) → RefusesStore Reads IsBad bytes (of_journal fault)
+journal_refuses Reads IsBad bytes journal_fault.DiskFault = tt
+journal_refuses Reads IsBad bytes (journal_fault.BadJournal at) = tt
+journal_refuses Reads IsBad bytes journal_fault.Memory = tt
+
 -- ---- the first core
 
 -- the first core stands for the first world, whatever the disk tells

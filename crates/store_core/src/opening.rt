@@ -1,10 +1,10 @@
 //! The opening of a store: its journal first, and then its files.
-ghost use Rattle.std.specs.Prelude.{◌≡◌, ◌≢◌, ℕ, [], false, List, Option, Some, None, true, is_some, Err, IfOk, IfErr, MatchResult, map as over};
+ghost use Rattle.std.specs.Prelude.{◌≡◌, ℕ, [], false, List, Option, Some, None, true, is_some, Err, IfOk, IfErr, MatchResult, map as over};
 ghost use Rattle.std.specs.List.{AllByRecursion};
 ghost use Rattle.kdb_outside.specs.Crashes.{EveryImage};
 ghost use Rattle.kdb_outside.specs.Faults.{HasRisen};
 ghost use Rattle.kdb_outside.specs.Frames.{GoesOn, OnlyReads};
-ghost use Rattle.kdb_outside.specs.Images.{Image, KeepsImages};
+ghost use Rattle.kdb_outside.specs.Images.{Image};
 ghost use Rattle.journal_codec.specs.declared.files.FileText.{FileText as Item};
 ghost use Rattle.journal_codec.specs.Entry.{journal_name};
 ghost use Rattle.intent_journal.specs.declared.states.State.TheVariants.{Doubt as IsDoubt};
@@ -71,8 +71,9 @@ pub fn open_store<D: Disk, F: Formats + Drop>(
     ensures world { IfOk result (λ opened. (procs : ℕ → KeyMap) → StandsIn (record { text = F.text; IsStorable = F.is_storable; BreaksAt = F.breaks_at }) (store_of opened.plan.mounted procs) opened.core (λ r m. None) (λ p. None) first_world) }
     ensures wrote { D.tells disk ≡ true → IfOk result (λ opened. opened.core.wrote ≡ is_some (open_entry (D.seen disk journal_name))) }
     ensures doubt { IfOk result (λ opened. opened.core.journal.state ≡ IsDoubt) }
-    ensures left_alone { D.tells disk ≡ true → open_entry (D.seen disk journal_name) ≡ None → may_be_of_journal (fault_of result) ≡ false → OnlyReads D.Disk disk (disk_of result) }
-    ensures kept { D.tells disk ≡ true → open_entry (D.seen disk journal_name) ≡ None → fault_of result ≢ Some OpenFault.DiskFault → KeepsImages (D.may_leave disk) (D.may_leave (disk_of result)) }
+    ensures as_seen { D.tells disk ≡ true → open_entry (D.seen disk journal_name) ≡ None →
+        MatchResult result (λ opened. IsOpened F.reads F.is_bad_at (D.seen disk) opened.plan.mounted) (λ refused. RefusesStore F.reads F.is_bad_at (D.seen disk own_mount.file) refused.fault) }
+    ensures left_alone { D.tells disk ≡ true → open_entry (D.seen disk journal_name) ≡ None → OnlyReads D.Disk disk (disk_of result) }
     ensures files { D.tells disk ≡ true → (files : Image) (doubt : Option (List Item)) → IsCalm (D.seen disk) (D.may_leave disk) files doubt
         → IfOk result (λ _. IsEither files doubt (opened_files (D.seen disk))) }
     ensures fixed { IfOk result (λ opened. (procs : ℕ → KeyMap) → IsPlan (store_of opened.plan.mounted procs) opened.plan.fixed) }

@@ -73,12 +73,6 @@ pub opened_shown : {D : Type 0} (g : Ghosts D) (disk : D) (result : Result (Jour
 opened_shown g disk (Ok j) tells goes doubtful = λ file own. doubtful.same file own (g.seen j.disk file) (g.read_is_image j.disk (goes.tells ∙ tells) file)
 opened_shown g disk (Err refused) tells goes doubtful = tt
 
--- an opening that finds no open entry only reads
-pub opened_alone : {D : Type 0} (g : Ghosts D) (disk : D) (result : Result (JournalValue D) (JournalRefused D)) → open_entry (g.seen disk journal_name) ≡ None
-    → IfOk result (λ j. j.recovered ≡ is_some (open_entry (g.seen disk journal_name))) → IfOk result (λ j. j.recovered ≡ false → OnlyReads g disk j.disk) → IfOk result (λ j. OnlyReads g disk j.disk)
-opened_alone g disk (Ok j) none told left = left (told ∙ ap is_some none)
-opened_alone g disk (Err refused) none told left = tt
-
 pub opened_in_doubt : {D : Type 0} (result : Result (JournalValue D) (JournalRefused D)) → IfOk result (λ j. (j.state ≡ Doubt) × (j.found ≡ false)) → IfOk result (λ j. j.state ≡ Doubt)
 opened_in_doubt (Ok j) state = state.0
 opened_in_doubt (Err refused) state = tt

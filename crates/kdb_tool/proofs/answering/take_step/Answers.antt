@@ -10,10 +10,10 @@ use Rattle.tool_commands.specs.Step.{Tells}
 use Rattle.kdb_tool.proofs.answering.take_step.Goals as goal
 
 pub returns-in-Tells-clause-serving : goal.returns-in-Tells-clause-serving
-returns-in-Tells-clause-serving g c = λ opened run on_disk.
-    subst (λ (s : Step). Serves g.D.Disk opened run (AnswersStep c.args.plan.now.mounted c.args.parent.now (seen_step s)) (report_of c.in-Tells.report) c.args.core.now c.args.core.now) (sym c.in-Tells.is)
-    (told_serves g.D.Disk opened run (AnswersStep c.args.plan.now.mounted c.args.parent.now (Tells (report_of c.in-Tells.report))) (report_of c.in-Tells.report) c.args.core.now refl on_disk)
+returns-in-Tells-clause-serving g c =
+    subst (λ (s : Step). Serves g.D.Disk (AnswersStep c.args.plan.now.mounted c.args.parent.now (seen_step s)) (report_of c.in-Tells.report) c.args.core.now c.args.core.now) (sym c.in-Tells.is)
+    (told_serves g.D.Disk (AnswersStep c.args.plan.now.mounted c.args.parent.now (Tells (report_of c.in-Tells.report))) (report_of c.in-Tells.report) c.args.core.now refl)
 
 pub returns-in-Sets-clause-serving : goal.returns-in-Sets-clause-serving
-returns-in-Sets-clause-serving g c = λ opened run on_disk.
-    subst (λ (s : Step). Serving g.D.Disk opened run (AnswersStep c.args.plan.now.mounted c.args.parent.now (seen_step s)) c.set_keys.result c.args.core.now c.set_keys.new.core) (sym c.in-Sets.is) (c.set_keys.ensures.serving opened run on_disk)
+returns-in-Sets-clause-serving g c =
+    subst (λ (s : Step). Serving g.D.Disk (AnswersStep c.args.plan.now.mounted c.args.parent.now (seen_step s)) c.set_keys.result c.args.core.now c.set_keys.new.core) (sym c.in-Sets.is) c.set_keys.ensures.serving

@@ -3,6 +3,8 @@ use Rattle.std.proofs.Common.{◌≡◌, List, ℕ, Err, sym, ap, subst}
 use Rattle.std.proofs.lemmas.Result.{IfOk-weaker}
 use Rattle.all_formats.specs.Meanings as all
 use Rattle.intent_journal.specs.BadJournals.{opened_files}
+use Rattle.kdb_outside.specs.Frames.{OnlyReads}
+use Rattle.kdb_outside.proofs.Frames.{OnlyReads-none}
 use Rattle.mounted_files.specs.Files.{Holds, IsCause}
 use Rattle.mounted_files.specs.Getting.{fault_of}
 use Rattle.mounted_files.specs.Holding.{IsHolding, cause_of}
@@ -48,3 +50,22 @@ returns-in-Err-clause-served g c = λ tells_disk files doubt calm bytes is.
 
 pub returns-in-Err-clause-unserved : goal.returns-in-Err-clause-unserved
 returns-in-Err-clause-unserved g c = λ tells_disk files doubt calm stops. alone_unserved g.D.Disk c.args.disk files doubt tells_disk calm
+
+pub returns-in-Ok-Keys-clause-untouched : goal.returns-in-Ok-Keys-clause-untouched
+returns-in-Ok-Keys-clause-untouched g c = λ tells none bytes is answer imports.
+    let name = c.args.name in
+    let kind = c.args.kind in
+    let holds : Holds all.Reads name kind (taken bytes) c.in-Ok-Keys.keys = subst (λ (h : Holding). IsHolding all.Reads all.IsBadAt name kind (taken bytes) h) c.in-Ok-Keys.field-0-is (c.in-Ok-Keys.ensures.told bytes is) in
+    c.answer_question.ensures.untouched tells none answer (import-over name kind (taken bytes) (g.D.Disk.seen c.args.disk) c.in-Ok-Keys.keys answer holds imports)
+
+pub returns-in-Ok-Bad-clause-untouched : goal.returns-in-Ok-Bad-clause-untouched
+returns-in-Ok-Bad-clause-untouched g c = λ tells none bytes is answer imports nothing. subst (OnlyReads g.D.Disk c.args.disk) (sym c.without_store.ensures.disk) (OnlyReads-none g.D.Disk c.args.disk)
+
+pub returns-in-Ok-Bad-clause-unstored : goal.returns-in-Ok-Bad-clause-unstored
+returns-in-Ok-Bad-clause-unstored g c = λ tells none not_done. subst (OnlyReads g.D.Disk c.args.disk) (sym c.without_store.ensures.disk) (OnlyReads-none g.D.Disk c.args.disk)
+
+pub returns-in-Err-clause-untouched : goal.returns-in-Err-clause-untouched
+returns-in-Err-clause-untouched g c = λ tells none bytes is answer imports nothing. OnlyReads-none g.D.Disk c.args.disk
+
+pub returns-in-Err-clause-unstored : goal.returns-in-Err-clause-unstored
+returns-in-Err-clause-unstored g c = λ tells none not_done. OnlyReads-none g.D.Disk c.args.disk

@@ -19,28 +19,28 @@ refuse_commit-requires g c = λ mount by front is.
     blocks_not g.D.Disk c.args.plan.now.mounted c.args.core.now c.args.rec.now c.args.prepared (c.requires.open.world (λ h. no_keys)) c.requires.alone.parent c.requires.alone.keys c.requires.alone.fetched c.requires.alone.made c.in-Err.fault c.in-Err.ensures.judged mount by front is
 
 pub returns-in-Ok-clause-serving : goal.returns-in-Ok-clause-serving
-returns-in-Ok-clause-serving g c = λ opened run on_disk parent keys fetched is_made.
+returns-in-Ok-clause-serving g c = λ parent keys fetched is_made.
     let files = c.args.plan.now.mounted in
     let core = c.args.core.now in
     let here = c.requires.open.world (λ h. no_keys) in
     let after = c.commit.new.self in
     let out = string_bytes c.args.out in
-    subst (λ (r : Report). Serves g.D.Disk opened run (AnswersSet files parent keys out) r core after) (sym c.tell-report.ensures.told)
-    (done_serves g.D.Disk files core c.args.rec.now c.args.prepared here parent keys fetched is_made out opened run on_disk after c.commit.new.rec c.in-Ok.field-0 c.in-Ok.ensures.judged
-    (c.in-Ok.ensures.committed (store_alone files) opened (records g.D.Disk files core c.args.rec.now c.args.prepared here parent keys fetched is_made) (made g.D.Disk files core c.args.rec.now c.args.prepared here parent keys fetched is_made)
-    (world g.D.Disk files core c.args.rec.now c.args.prepared here parent keys fetched is_made) run 0 (joined g.D.Disk files core c.args.rec.now c.args.prepared here parent keys fetched is_made out opened run on_disk after c.commit.new.rec))
+    subst (λ (r : Report). Serves g.D.Disk (AnswersSet files parent keys out) r core after) (sym c.tell-report.ensures.told)
+    (done_serves g.D.Disk files core c.args.rec.now c.args.prepared here parent keys fetched is_made out after c.commit.new.rec c.in-Ok.field-0 c.in-Ok.ensures.judged
+    (λ opened run on_disk. c.in-Ok.ensures.committed (store_alone files) opened (records g.D.Disk files core c.args.rec.now c.args.prepared here parent keys fetched is_made) (made g.D.Disk files core c.args.rec.now c.args.prepared here parent keys fetched is_made)
+    (world g.D.Disk files core c.args.rec.now c.args.prepared here parent keys fetched is_made) run 0 (joined g.D.Disk files core c.args.rec.now c.args.prepared here parent keys fetched is_made opened run on_disk))
     c.in-Ok.ensures.unwritten)
 
 pub returns-in-Err-clause-serving : goal.returns-in-Err-clause-serving
-returns-in-Err-clause-serving g c = λ opened run on_disk parent keys fetched is_made.
+returns-in-Err-clause-serving g c = λ parent keys fetched is_made.
     let files = c.args.plan.now.mounted in
     let core = c.args.core.now in
     let here = c.requires.open.world (λ h. no_keys) in
     let after = c.commit.new.self in
     let out = string_bytes c.args.out in
-    refused_serving g.D.Disk files core c.args.rec.now c.args.prepared here parent keys fetched is_made out opened run on_disk after c.commit.new.rec c.in-Err.fault c.refuse_commit.result c.refuse_commit.ensures.refused c.in-Err.ensures.judged
-    (c.in-Err.ensures.committed (store_alone files) opened (records g.D.Disk files core c.args.rec.now c.args.prepared here parent keys fetched is_made) (made g.D.Disk files core c.args.rec.now c.args.prepared here parent keys fetched is_made)
-    (world g.D.Disk files core c.args.rec.now c.args.prepared here parent keys fetched is_made) run 0 (joined g.D.Disk files core c.args.rec.now c.args.prepared here parent keys fetched is_made out opened run on_disk after c.commit.new.rec))
+    refused_serving g.D.Disk files core c.args.rec.now c.args.prepared here parent keys fetched is_made out after c.commit.new.rec c.in-Err.fault c.refuse_commit.result c.refuse_commit.ensures.refused c.in-Err.ensures.judged
+    (λ opened run on_disk. c.in-Err.ensures.committed (store_alone files) opened (records g.D.Disk files core c.args.rec.now c.args.prepared here parent keys fetched is_made) (made g.D.Disk files core c.args.rec.now c.args.prepared here parent keys fetched is_made)
+    (world g.D.Disk files core c.args.rec.now c.args.prepared here parent keys fetched is_made) run 0 (joined g.D.Disk files core c.args.rec.now c.args.prepared here parent keys fetched is_made opened run on_disk))
     c.in-Err.ensures.unwritten
 
 pub returns-in-Err-clause-memory : goal.returns-in-Err-clause-memory

@@ -21,8 +21,8 @@ commit_set-requires-clause-alone g c = record {
 }
 
 pub returns-in-Ok-clause-serving : goal.returns-in-Ok-clause-serving
-returns-in-Ok-clause-serving g c = λ opened run on_disk.
-    c.commit_set.ensures.serving opened run on_disk c.args.parent.now c.args.keys.now c.requires.fetched
+returns-in-Ok-clause-serving g c =
+    c.commit_set.ensures.serving c.args.parent.now c.args.keys.now c.requires.fetched
     (subst (λ (h : ℕ). IsMade formats (store_alone c.args.plan.now.mounted) h (record_of c.args.rec.now) c.args.parent.now c.args.keys.now c.in-Ok.prepared) c.requires.fetched.handle
     (c.in-Ok.ensures.made (store_alone c.args.plan.now.mounted) (c.requires.open.fixed (λ h. no_keys))))
 
@@ -32,7 +32,7 @@ refuse_set-requires g c = λ mount is.
     (c.in-Err.ensures.refused (unseen_not_memory c.in-Err.fault mount is) (store_alone c.args.plan.now.mounted) (c.requires.open.fixed (λ h. no_keys))) mount is
 
 pub returns-in_ok-refuse_set-in-Err-clause-serving : goal.returns-in_ok-refuse_set-in-Err-clause-serving
-returns-in_ok-refuse_set-in-Err-clause-serving g c = λ opened run on_disk.
-    told_serves g.D.Disk opened run (AnswersSet c.args.plan.now.mounted c.args.parent.now c.args.keys.now (string_bytes c.args.out)) (report_of c.in_ok-refuse_set-in-Err.field-0) c.args.core.now
+returns-in_ok-refuse_set-in-Err-clause-serving g c =
+    told_serves g.D.Disk (AnswersSet c.args.plan.now.mounted c.args.parent.now c.args.keys.now (string_bytes c.args.out)) (report_of c.in_ok-refuse_set-in-Err.field-0) c.args.core.now
     (refused_answers c.args.plan.now.mounted c.args.parent.now c.args.keys.now c.args.rec.now c.requires.fetched (string_bytes c.args.out) c.in-Err.fault (tells (report_of c.in_ok-refuse_set-in-Err.field-0))
-    (c.in-Err.ensures.refused (not_memory c.in-Err.fault _ c.in_ok-refuse_set-in-Err.ensures.refused) (store_alone c.args.plan.now.mounted) (c.requires.open.fixed (λ h. no_keys))) c.in_ok-refuse_set-in-Err.ensures.refused) on_disk
+    (c.in-Err.ensures.refused (not_memory c.in-Err.fault _ c.in_ok-refuse_set-in-Err.ensures.refused) (store_alone c.args.plan.now.mounted) (c.requires.open.fixed (λ h. no_keys))) c.in_ok-refuse_set-in-Err.ensures.refused)

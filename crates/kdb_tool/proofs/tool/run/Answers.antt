@@ -3,9 +3,9 @@ use Rattle.kdb_tool.specs.Input.{FailsToRead}
 use Rattle.tool_words.specs.Rows.{request}
 use Rattle.tool_commands.specs.Report.{IsAnswered}
 use Rattle.std.proofs.Common.{inl}
-use Rattle.kdb_tool.proofs.EndLemmas.{by_words, without_memory, in_fault, complete, made_of, of_memory}
+use Rattle.kdb_tool.proofs.EndLemmas.{by_words, without_memory, in_fault, complete, made_of, not_stored, of_memory}
 use Rattle.kdb_tool.proofs.InputLemmas.{leaves_input}
-use Rattle.kdb_tool.proofs.RunLemmas.{answered, prefix, crash, lasting, left, untouched}
+use Rattle.kdb_tool.proofs.RunLemmas.{answered, prefix, crash, lasting, left}
 use Rattle.kdb_tool.proofs.tool.run.Goals as goal
 
 pub returns-clause-answered : goal.returns-clause-answered
@@ -51,8 +51,11 @@ returns-clause-unwritten g c = λ tells files doubt calm is.
     c.carry_out-answer.ensures.unserved tells files doubt calm (inl (of_memory c.carry_out-answer.result.answer c.finish-status.result _ _ c.carry_out-answer.ensures.own c.finish-status.ensures.finished is))
 
 pub returns-clause-untouched : goal.returns-clause-untouched
-returns-clause-untouched g c = λ tells files doubt calm is given fed.
-    untouched g.D.Disk c.args.disk c.carry_out-answer.result.disk files doubt c.args.words.now given c.carry_out-answer.result.answer (c.carry_out-answer.ensures.served tells files doubt calm given fed) (made_of c.carry_out-answer.result.answer c.finish-status.result _ _ c.finish-status.ensures.finished is)
+returns-clause-untouched g c = c.carry_out-answer.ensures.untouched
+
+pub returns-clause-unstored : goal.returns-clause-unstored
+returns-clause-unstored g c = λ tells none not_done no_fault.
+    c.carry_out-answer.ensures.unstored tells none (not_stored c.carry_out-answer.result.answer c.finish-status.result _ _ c.finish-status.ensures.finished not_done no_fault)
 
 pub returns-clause-input : goal.returns-clause-input
 returns-clause-input g c =

@@ -2,6 +2,8 @@
 use Rattle.std.proofs.Common.{◌≡◌, List, ℕ, sym, ap, subst}
 use Rattle.std.proofs.lemmas.Result.{IfOk-weaker}
 use Rattle.intent_journal.specs.BadJournals.{opened_files}
+use Rattle.kdb_outside.specs.Frames.{OnlyReads}
+use Rattle.kdb_outside.proofs.Frames.{OnlyReads-none}
 use Rattle.tool_commands.specs.StepView.{report_of}
 use Rattle.tool_words.specs.Request.{Request, Asks, Imports, Refuses, Bars}
 use Rattle.tool_words.specs.RequestView.{IsSeenAs, question_of, status_of, text_of}
@@ -59,3 +61,32 @@ returns-in-Err-clause-served g c = λ tells_disk files doubt calm given fed. alo
 
 pub returns-in-Err-clause-unserved : goal.returns-in-Err-clause-unserved
 returns-in-Err-clause-unserved g c = λ tells_disk files doubt calm stops. alone_unserved g.D.Disk c.args.disk files doubt tells_disk calm
+
+pub returns-in-Ok-Asks-clause-untouched : goal.returns-in-Ok-Asks-clause-untouched
+returns-in-Ok-Asks-clause-untouched g c = λ tells_disk none given fed answer answers.
+    let asked : request c.args.words.now ≡ Asks (question_of c.in-Ok-Asks.question) = subst (λ (r : code.Request). IsSeenAs r (request c.args.words.now)) c.in-Ok-Asks.field-0-is c.in-Ok-Asks.ensures in
+    c.answer_question.ensures.untouched tells_disk none answer (subst (λ (r : Request). AnswersRequest r given (g.D.Disk.seen c.args.disk) answer) asked answers)
+
+pub returns-in-Ok-Imports-clause-untouched : goal.returns-in-Ok-Imports-clause-untouched
+returns-in-Ok-Imports-clause-untouched g c = λ tells_disk none given fed answer answers.
+    let asked : request c.args.words.now ≡ Imports c.in-Ok-Imports.name c.in-Ok-Imports.kind = subst (λ (r : code.Request). IsSeenAs r (request c.args.words.now)) c.in-Ok-Imports.field-0-is c.in-Ok-Imports.ensures in
+    let told = subst (λ (r : Request). IsInput r (g.S.Source.left c.args.input.now) given) asked fed in
+    c.import.ensures.untouched tells_disk none given told answer (subst (λ (r : Request). AnswersRequest r given (g.D.Disk.seen c.args.disk) answer) asked answers)
+
+pub returns-in-Ok-Refuses-clause-untouched : goal.returns-in-Ok-Refuses-clause-untouched
+returns-in-Ok-Refuses-clause-untouched g c = λ tells_disk none given fed answer answers nothing. subst (OnlyReads g.D.Disk c.args.disk) (sym c.without_store.ensures.disk) (OnlyReads-none g.D.Disk c.args.disk)
+
+pub returns-in-Ok-Refuses-clause-unstored : goal.returns-in-Ok-Refuses-clause-unstored
+returns-in-Ok-Refuses-clause-unstored g c = λ tells_disk none not_done. subst (OnlyReads g.D.Disk c.args.disk) (sym c.without_store.ensures.disk) (OnlyReads-none g.D.Disk c.args.disk)
+
+pub returns-in-Ok-Bars-clause-untouched : goal.returns-in-Ok-Bars-clause-untouched
+returns-in-Ok-Bars-clause-untouched g c = λ tells_disk none given fed answer answers nothing. subst (OnlyReads g.D.Disk c.args.disk) (sym c.without_store-in-Ok-Bars.ensures.disk) (OnlyReads-none g.D.Disk c.args.disk)
+
+pub returns-in-Ok-Bars-clause-unstored : goal.returns-in-Ok-Bars-clause-unstored
+returns-in-Ok-Bars-clause-unstored g c = λ tells_disk none not_done. subst (OnlyReads g.D.Disk c.args.disk) (sym c.without_store-in-Ok-Bars.ensures.disk) (OnlyReads-none g.D.Disk c.args.disk)
+
+pub returns-in-Err-clause-untouched : goal.returns-in-Err-clause-untouched
+returns-in-Err-clause-untouched g c = λ tells_disk none given fed answer answers nothing. OnlyReads-none g.D.Disk c.args.disk
+
+pub returns-in-Err-clause-unstored : goal.returns-in-Err-clause-unstored
+returns-in-Err-clause-unstored g c = λ tells_disk none not_done. OnlyReads-none g.D.Disk c.args.disk

@@ -1,15 +1,18 @@
 -- The opened journal shows the files that it leaves, and reading them changes nothing.
-use Rattle.std.proofs.Common.{◌≡◌, false, refl, sym, ap, subst, Some, ◌∙◌}
+use Rattle.std.proofs.Common.{◌≡◌, false, refl, sym, ap, subst, Some, MatchResult, ◌∙◌}
 use Rattle.general_words.proofs.Lists.{some_is}
 use Rattle.kdb_outside.specs.Images.{Image}
 use Rattle.kdb_outside.proofs.Frames.{OnlyReads-then}
 use Rattle.intent_journal.specs.BadJournals.{opened_files, opened_doubt}
 use Rattle.intent_journal.specs.Outcomes.{SameFiles, HasOnly, IsEither}
 use Rattle.model_crashes.specs.Runs.{new_run}
+use Rattle.mount_table.specs.Table.{own_mount}
+use Rattle.mounted_files.specs.Opening.{IsOpened}
+use Rattle.store_core.specs.Faults.{RefusesStore}
 use Rattle.store_core.specs.Opened.{disk_of, may_be_of_journal}
 use Rattle.store_core.specs.declared.faults.OpenFault.{OpenFault}
 use Rattle.store_core.specs.declared.faults.OpenFault.TheVariants.{BadJournal}
-use Rattle.store_core.proofs.OpeningLemmas.{told_alike, in_doubt, of_journal-bad, rests_read, stands_opened, still_only, whatever, unread_files}
+use Rattle.store_core.proofs.OpeningLemmas.{told_alike, in_doubt, journal_refuses, of_journal-bad, rests_read, stands_opened, still_only, whatever, unread_files}
 use Rattle.store_core.proofs.opening.open_store.Goals as goal
 
 pub returns-in-Ok-clause-opened : goal.returns-in-Ok-clause-opened
@@ -58,13 +61,20 @@ returns-in-Err-clause-shown g c tells files doubt calm of_files = absurd (unread
 pub returns-in-Ok-clause-doubt : goal.returns-in-Ok-clause-doubt
 returns-in-Ok-clause-doubt g c = in_doubt g.D.Disk c.in-Ok.journal c.open_files.result c.in-Ok.ensures.doubt c.open_files.ensures.journal
 
-pub returns-in-Ok-clause-left_alone : goal.returns-in-Ok-clause-left_alone
-returns-in-Ok-clause-left_alone g c tells none isnt =
-    OnlyReads-then g.D.Disk c.args.disk c.in-Ok.journal.disk (disk_of c.open_files.result) (c.in-Ok.ensures.left_alone tells none) c.open_files.ensures.reads
+pub returns-in-Ok-clause-as_seen : goal.returns-in-Ok-clause-as_seen
+returns-in-Ok-clause-as_seen g c tells none =
+    let reads = c.in-Ok.ensures.reads tells none in
+    subst (λ (seen : Image). MatchResult c.open_files.result (λ o. IsOpened g.F.Formats.reads g.F.Formats.is_bad_at seen o.plan.mounted) (λ r. RefusesStore g.F.Formats.reads g.F.Formats.is_bad_at (seen own_mount.file) r.fault))
+    (reads.same tells) (c.open_files.ensures.told (reads.tells ∙ tells))
 
-pub returns-in-Ok-clause-kept : goal.returns-in-Ok-clause-kept
-returns-in-Ok-clause-kept g c tells none isnt =
-    (OnlyReads-then g.D.Disk c.args.disk c.in-Ok.journal.disk (disk_of c.open_files.result) (c.in-Ok.ensures.left_alone tells none) c.open_files.ensures.reads).images tells
+pub returns-in-Err-clause-as_seen : goal.returns-in-Err-clause-as_seen
+returns-in-Err-clause-as_seen g c tells none =
+    subst (RefusesStore g.F.Formats.reads g.F.Formats.is_bad_at (g.D.Disk.seen c.args.disk own_mount.file)) (sym c.into.ensures)
+    (journal_refuses g.F.Formats.reads g.F.Formats.is_bad_at (g.D.Disk.seen c.args.disk own_mount.file) c.in-Err.field-0.fault)
+
+pub returns-in-Ok-clause-left_alone : goal.returns-in-Ok-clause-left_alone
+returns-in-Ok-clause-left_alone g c tells none =
+    OnlyReads-then g.D.Disk c.args.disk c.in-Ok.journal.disk (disk_of c.open_files.result) (c.in-Ok.ensures.reads tells none) c.open_files.ensures.reads
 
 pub returns-in-Ok-clause-rests : goal.returns-in-Ok-clause-rests
 returns-in-Ok-clause-rests g c tells files doubt calm =

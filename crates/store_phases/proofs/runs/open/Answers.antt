@@ -1,6 +1,6 @@
 use Rattle.intent_journal.specs.Opened.{disk_of}
 use Rattle.intent_journal.specs.Outcomes.{HasOnly, IsEither}
-use Rattle.store_phases.proofs.Openings.{opened_alone, opened_in_doubt, opened_own, opened_run, opened_shown, rests_since}
+use Rattle.store_phases.proofs.Openings.{opened_in_doubt, opened_own, opened_run, opened_shown, rests_since}
 use Rattle.store_phases.proofs.runs.open.Goals as goal
 
 pub returns-clause-opened : goal.returns-clause-opened
@@ -15,9 +15,6 @@ returns-clause-own g c tells files doubt calm same =
 
 pub returns-clause-shown : goal.returns-clause-shown
 returns-clause-shown g c tells files doubt calm = opened_shown g.D.Disk c.args.disk c.open.result tells c.open.ensures.goes (c.open.ensures.doubtful tells files doubt calm)
-
-pub returns-clause-left_alone : goal.returns-clause-left_alone
-returns-clause-left_alone g c tells none = opened_alone g.D.Disk c.args.disk c.open.result none (c.open.ensures.recovered tells) c.open.ensures.left_alone
 
 pub returns-clause-doubt : goal.returns-clause-doubt
 returns-clause-doubt g c = opened_in_doubt c.open.result c.open.ensures.state
