@@ -1,10 +1,13 @@
 //! The events that lines ask for, and the keys that are prepared.
 
-use key_meta::{Memory, Meta, Text};
+use key_meta::{LONGEST_META_NAME, Memory, Meta, Text};
 use key_name::{KeyName, NameFault};
 use key_set::{Entry, KeySet};
 use std::alloc::{AllocError, Global};
 use store_play::Event;
+
+/// The most keys that a line puts.
+const MOST: usize = 99_999;
 
 /// The event of a line, with these keys where it prepares them.
 pub fn event_of(
@@ -55,28 +58,56 @@ pub fn name_of(alloc: Global, text: &str) -> Result<Option<KeyName>, Memory> {
     }
 }
 
-/// Puts a key with a value: the text, or so many letters `v` where it is `*` and a number.
+/// Puts a key with a value.
 pub fn put(alloc: Global, keys: &mut KeySet, text: &str) -> Result<bool, Memory> {
     let (name, value) = text.split_once(' ').unwrap_or((text, ""));
+    put_entry(alloc, keys, name, plain_entry(alloc, value)?)
+}
+
+/// Puts so many keys with one value, whose names end with the digits of their numbers, from 00001 on.
+pub fn put_many(alloc: Global, keys: &mut KeySet, text: &str) -> Result<bool, Memory> {
+    let (count, rest) = number_of(text);
+    let (start, value) = rest.split_once(' ').unwrap_or((rest, ""));
+    for number in 1..=count.min(MOST) {
+        let name = format!(in alloc; "{start}{number:05}")?;
+        if !put_entry(alloc, keys, name.as_str(), plain_entry(alloc, value)?)? {
+            return Ok(false);
+        }
+    }
+    Ok(true)
+}
+
+/// Gives a key one more metadata: its name and its text. A key that wasn't put has no value.
+pub fn put_meta(alloc: Global, keys: &mut KeySet, text: &str) -> Result<bool, Memory> {
+    let (name, rest) = text.split_once(' ').unwrap_or((text, ""));
+    let (word, value) = rest.split_once(' ').unwrap_or((rest, ""));
+    if word.is_empty() || word.len() > LONGEST_META_NAME {
+        return Ok(false);
+    }
     let Some(name) = name_of(alloc, name)? else {
         return Ok(false);
     };
-    let value = match value.strip_prefix('*') {
-        Some(count) => letters(alloc, count.parse().unwrap_or(0))?,
-        None => Text::new(alloc, value)?,
+    let mut entry = match keys.remove(&name)? {
+        Some(entry) => entry,
+        None => plain_entry(alloc, "")?,
     };
-    let entry = Entry {
-        value,
-        meta: Meta::new(alloc),
-    };
+    let _ = entry.meta.set(word, value)?;
     let _ = keys.append(name, entry)?;
     Ok(true)
 }
 
-fn letters(alloc: Global, count: u32) -> Result<Text, Memory> {
-    let mut text = String::new(alloc);
-    for _ in 0..count {
-        text.push_str("v")?;
-    }
-    Text::new(alloc, text.as_str())
+fn plain_entry(alloc: Global, value: &str) -> Result<Entry, Memory> {
+    Ok(Entry {
+        value: Text::new(alloc, value)?,
+        meta: Meta::new(alloc),
+    })
+}
+
+/// Puts a key where the text spells its name.
+fn put_entry(alloc: Global, keys: &mut KeySet, name: &str, entry: Entry) -> Result<bool, Memory> {
+    let Some(name) = name_of(alloc, name)? else {
+        return Ok(false);
+    };
+    let _ = keys.append(name, entry)?;
+    Ok(true)
 }

@@ -1,7 +1,8 @@
 //! A case is a line: a word that says what is done, and what it is done with.
 
 use crate::answers::lines_of;
-use crate::asking::{event_of, put};
+use crate::asking::{event_of, put, put_many, put_meta};
+use crate::spelling::spelled_out;
 use crate::starts::Start;
 use crate::stops::{faults_of, recovered, stops_of};
 use crate::stores::{Left, Played, Quiet};
@@ -37,7 +38,8 @@ impl Cases {
 
     /// What comes of a line. Nothing comes of a blank one and of a comment.
     pub fn answer_to(&mut self, line: &str) -> Result<String, Memory> {
-        let (word, rest) = line.split_once(' ').unwrap_or((line, ""));
+        let line = spelled_out(self.alloc, line)?;
+        let (word, rest) = line.split_once(' ').unwrap_or((line.as_str(), ""));
         match word {
             "" | "#" => {}
             "disk" => *self = Cases::new(self.alloc),
@@ -45,7 +47,7 @@ impl Cases {
             "fail" => self.fail(rest)?,
             "stop" => self.start.stop_after = rest.parse().ok(),
             "keys" => self.keys = KeySet::new(self.alloc),
-            "put" => return self.put(rest),
+            "put" | "many" | "meta" => return self.put(word, rest),
             "get" | "prepare" | "commit" => return self.ask(word, rest),
             _ => return self.look(word, rest),
         }
@@ -92,8 +94,13 @@ impl Cases {
         Ok(())
     }
 
-    fn put(&mut self, rest: &str) -> Result<String, Memory> {
-        if put(self.alloc, &mut self.keys, rest)? {
+    fn put(&mut self, word: &str, rest: &str) -> Result<String, Memory> {
+        let named = match word {
+            "many" => put_many(self.alloc, &mut self.keys, rest)?,
+            "meta" => put_meta(self.alloc, &mut self.keys, rest)?,
+            _ => put(self.alloc, &mut self.keys, rest)?,
+        };
+        if named {
             Ok(String::new(self.alloc))
         } else {
             String::from_str(self.alloc, "  no name\n")
