@@ -1,7 +1,8 @@
 #!/usr/bin/env bash
-# Times `kdb set` on a small user.ecf beside `git config` and sqlite3 that write the same data, in one run, and counts the
-# calls of fsync and fdatasync that each makes. Wants build/kdb (first-use.sh makes it), git, and hyperfine, sqlite3 and
-# strace of Debian's packages. Not part of the gate.
+# Times `kdb set` of one key on a file of 20 keys and on one of 18,270 (1 MiB), beside `git config` and sqlite3 that store the same data, in
+# one run: wall clock, processor time and, with valgrind, instructions; and counts what each asks of the disk: the calls of fsync and
+# fdatasync, and the bytes that it writes to files. Wants build/kdb (first-use.sh makes it), git, and hyperfine, sqlite3 and strace of
+# Debian's packages. Not part of the gate.
 set -eu
 cd "$(dirname "$0")/.."
 kdb=$PWD/build/kdb
@@ -11,44 +12,80 @@ for tool in git hyperfine sqlite3 strace; do
 done
 work=$(mktemp -d)
 trap 'rm -rf "$work"' EXIT
-cd "$work"
 
-# Twenty keys in each store.
-printf 'create table settings(name text primary key, value text);\n' >rows.sql
-for i in $(seq 1 20); do
-  "$kdb" set "user:/sw/app/key$i" "value $i" >/dev/null
-  git config --file git.cfg "sw.app.key$i" "value $i"
-  printf "insert into settings values('sw/app/key%s', 'value %s');\n" "$i" "$i" >>rows.sql
-done
-sqlite3 rows.db <rows.sql
-
-commands=(
-  "$kdb set user:/sw/app/key7 new"
-  "git config --file git.cfg sw.app.key7 new"
-  "sqlite3 rows.db \"update settings set value = 'new' where name = 'sw/app/key7'\""
-)
-restore=(
-  "$kdb set user:/sw/app/key7 old"
-  "git config --file git.cfg sw.app.key7 old"
-  "sqlite3 rows.db \"update settings set value = 'old' where name = 'sw/app/key7'\""
-)
-
-# syncs COMMAND: how often it calls fsync or fdatasync
-syncs() {
-  strace -f -qq -e trace=fsync,fdatasync -o trace.txt sh -c "$1" >/dev/null
-  grep -c 'sync(' trace.txt || true
+# data COUNT: that many keys as a dump, as git's configuration and as a table
+data() {
+  mkdir -p "$work/$1/.kdb"
+  awk -v count="$1" -v folder="$work/$1" 'BEGIN {
+    dump = folder "/.kdb/user.ecf"; git = folder "/git.cfg"; sql = folder "/rows.sql"
+    printf "kdbOpen 2\n" >dump
+    print "create table settings(name text primary key, value text); begin;" >sql
+    for (i = 0; i < count; i++) {
+      group = sprintf("app%05d", int(i / 20)); key = sprintf("key%05d", i); value = "value number " i
+      name = "sw/" group "/" key
+      printf "$key string %d %d\n%s\n%s\n", length(name), length(value), name, value >dump
+      if (group != last) printf "[sw \"%s\"]\n", group >git
+      last = group
+      printf "\t%s = %s\n", key, value >git
+      printf "insert into settings values(\"%s\", \"%s\");\n", name, value >sql
+    }
+    printf "$end\n" >dump
+    print "commit;" >sql
+  }'
+  sqlite3 "$work/$1/rows.db" <"$work/$1/rows.sql"
 }
 
-for i in 0 1 2; do
-  sh -c "${restore[$i]}" >/dev/null
-  count[$i]=$(syncs "${commands[$i]}")
-done
-for i in 0 1 2; do
-  hyperfine -N --warmup 3 --runs 60 --prepare "${restore[$i]}" --export-csv "$i.csv" "${commands[$i]}" >/dev/null 2>&1
-  mean[$i]=$(awk -F, 'NR == 2 { print $(NF - 6) * 1000 }' "$i.csv")
-done
-awk -v kdb="${mean[0]}" -v git="${mean[1]}" -v sql="${mean[2]}" 'BEGIN {
-  printf "set one of 20 keys: kdb %.2f ms, git config %.2f ms, sqlite3 %.2f ms\n", kdb, git, sql
-  printf "  kdb / git config %.2f, kdb / sqlite3 %.2f\n", kdb / git, kdb / sql
-}'
-printf 'calls of fsync and fdatasync: kdb %s, git config %s, sqlite3 %s\n' "${count[0]}" "${count[1]}" "${count[2]}"
+# asked COMMAND: how often it calls fsync or fdatasync, and how many bytes it writes to files
+asked() {
+  strace -f -qq -y -e trace=fsync,fdatasync,write,pwrite64,writev -o trace.txt sh -c "$1" >/dev/null
+  awk '
+    /sync\(/ { syncs++ }
+    /write(64|v)?\([0-9]+<\// && !/<\/dev\// { bytes += $NF }
+    END { printf "%d syncs and %d bytes", syncs, bytes }' trace.txt
+}
+
+# instructions COMMAND..: how many it takes, where valgrind is there to count them
+instructions() {
+  command -v valgrind >/dev/null || { echo 0; return; }
+  valgrind --tool=callgrind --callgrind-out-file=/dev/null "$@" 2>&1 >/dev/null | awk '/Collected/ { print $4 }'
+}
+
+# measure COUNT: the median times and the mean processor times in milliseconds, and those of kdb over those of the others
+measure() {
+  data "$1"
+  cd "$work/$1"
+  name=app00000/key00007 key=app00000.key00007
+  for i in 0 1 2; do
+    for word in new old; do
+      case $i in
+        0) command="$kdb set user:/sw/$name $word" ;;
+        1) command="git config --file git.cfg sw.$key $word" ;;
+        2) command="sqlite3 rows.db \"update settings set value = '$word' where name = 'sw/$name'\"" ;;
+      esac
+      [ $word = new ] && commands[i]=$command
+      # Each has stored once before it is counted: its journal is there.
+      sh -c "$command" >/dev/null
+    done
+    restore[i]=$command
+    asked[i]=$(asked "${commands[$i]}")
+    hyperfine -N --warmup 3 --runs 60 --prepare "${restore[$i]}" --export-csv "$i.csv" "${commands[$i]}" >/dev/null 2>&1
+  done
+  # What is there already would be stored by neither.
+  sh -c "${restore[0]}" >/dev/null
+  sh -c "${restore[1]}" >/dev/null
+  ours=$(instructions "$kdb" set user:/sw/$name new)
+  theirs=$(instructions git config --file git.cfg sw.$key new)
+  awk -F, -v count="$1" -v bytes="$(wc -c <.kdb/user.ecf)" -v ours="$ours" -v theirs="$theirs" '
+    FNR == 2 { n += 0; median[n] = $(NF - 4) * 1000; cpu[n] = ($(NF - 3) + $(NF - 2)) * 1000; n++ }
+    END {
+      printf "set one of %d keys, %d bytes: kdb %.2f ms, git config %.2f ms, sqlite3 %.2f ms\n", count, bytes, median[0], median[1], median[2]
+      printf "  kdb / git config %.2f, kdb / sqlite3 %.2f\n", median[0] / median[1], median[0] / median[2]
+      printf "  processor time %.2f, %.2f and %.2f ms, kdb / git config %.2f, kdb / sqlite3 %.2f\n", cpu[0], cpu[1], cpu[2], cpu[0] / cpu[1], cpu[0] / cpu[2]
+      if (ours) printf "  instructions %.2f and %.2f million, kdb / git config %.2f\n", ours / 1e6, theirs / 1e6, ours / theirs
+    }' 0.csv 1.csv 2.csv
+  printf '  kdb %s, git config %s, sqlite3 %s\n' "${asked[0]}" "${asked[1]}" "${asked[2]}"
+  cd - >/dev/null
+}
+
+measure 20
+measure 18270
