@@ -1,0 +1,6 @@
+pub mod GlobTests
+pub mod LaidOver
+pub mod DefaultLemmas
+pub mod SpecifiedLemmas
+pub mod ViolationLemmas
+pub mod ViolationsOnce

@@ -1,0 +1,4 @@
+pub mod Globs
+pub mod SpecMeta
+pub mod Specified
+pub mod Violations

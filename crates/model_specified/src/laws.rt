@@ -1,0 +1,46 @@
+//! The laws of specified sets.
+ghost use Rattle.std.specs.Prelude.{◌≡◌, Bool, List, ◌∷◌, ◌++◌, ℕ};
+ghost use Rattle.std.specs.Bool.{Decides};
+ghost use Rattle.std.specs.FinMap as map;
+ghost use Rattle.std.specs.Option.{option_map, option_or};
+ghost use Rattle.general_words.specs.Searches.{first_some};
+ghost use Rattle.kdb_outside.specs.Faults.{HasRisen};
+ghost use Rattle.model_maps.specs.KeyMap.{KeyMap};
+ghost use Rattle.model_names.specs.Glob.{HasGlob, MatchesGlob};
+ghost use Rattle.model_names.specs.Name.{Name, Part};
+ghost use Rattle.model_specified.specs.Globs.{has_glob, matches_glob};
+ghost use Rattle.model_specified.specs.SpecMeta.{laid_over, spec_keys, spec_meta, specs_of};
+ghost use Rattle.model_specified.specs.Violations.{AreOfKeys, AreViolations, BeginWith, checked_keys};
+ghost use Rattle.model_specified.specs.declared.violations.Violation.{Violation};
+ghost use Rattle.model_specified.specs.Specified.{default_at, specified, specified_entry, with_defaults};
+
+/// The tests of globs tell just what names say of them.
+pub fn the_tests_of_globs_decide()
+    ensures matches { (parts patterns : List Part) → Decides (matches_glob parts patterns) (MatchesGlob parts patterns) }
+    ensures has { (parts : List Part) → Decides (has_glob parts) (HasGlob parts) }
+{}
+
+/// In the specification metadata of a path each name has the text of the first specification key of the path that has it.
+pub fn the_first_specification_key_with_a_name_gives_its_text()
+    ensures { (keys : KeyMap) (path : List Part) (name : List ℕ) → map.get (spec_meta keys path) name ≡ first_some (λ spec. map.get spec.meta name) (specs_of (spec_keys keys) path) }
+{}
+
+/// The specified set has the names that the set with its defaults has, each with its specified entry.
+pub fn each_key_is_specified_by_itself()
+    ensures { (keys : KeyMap) (name : Name) → map.get (specified keys) name ≡ option_map (specified_entry (spec_keys keys) name) (map.get (with_defaults (spec_keys keys) keys) name) }
+{}
+
+/// Once the defaults are made, a name of `default:` has the one that the key of `spec:` with its path makes, and else what it had.
+pub fn a_default_stands_in_place_of_what_was_there()
+    ensures { (keys : KeyMap) (name : Name) → map.get (with_defaults (spec_keys keys) keys) name ≡ option_or (default_at (spec_keys keys) name) (map.get keys name) }
+{}
+
+/// Where no pattern may be refused, a set has one list of violations at most.
+pub fn without_refusals_a_set_has_one_list_of_violations()
+    ensures { (is_chosen : Name → Bool) (keys : KeyMap) (a b : List Violation) → AreViolations ⊥ is_chosen keys a → AreViolations ⊥ is_chosen keys b → a ≡ b }
+{}
+
+/// The first violation stands first in each list of all violations that goes on from those of the keys up to it.
+pub fn the_first_violation_begins_a_list()
+    ensures { (before now : ℕ) (is_chosen : Name → Bool) (keys : KeyMap) (violation : Violation) (first : BeginWith (HasRisen before now) (checked_keys is_chosen keys) violation) (others : List Violation) → AreOfKeys (HasRisen before now) first.behind others → AreViolations (HasRisen before now) is_chosen keys (violation ∷ (first.more ++ others)) }
+{}

@@ -1,0 +1,18 @@
+//! What a set of keys comes to under its own specifications, and which rules its keys break then. Definitions for the crates
+//! above, with the laws that join them.
+#![tactic(auto)]
+
+mod examples;
+mod laws;
+mod violations;
+
+pub use examples::{
+    a_plain_name_makes_a_default, patterns_match_paths_part_by_part,
+    the_path_itself_comes_before_its_patterns, words_stand_for_bits,
+};
+pub use laws::{
+    a_default_stands_in_place_of_what_was_there, each_key_is_specified_by_itself,
+    the_first_specification_key_with_a_name_gives_its_text, the_first_violation_begins_a_list,
+    the_tests_of_globs_decide, without_refusals_a_set_has_one_list_of_violations,
+};
+pub use violations::Violation;

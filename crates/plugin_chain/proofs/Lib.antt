@@ -1,0 +1,4 @@
+pub mod LayingLemmas
+pub mod SpecLemmas
+pub mod SetLemmas
+pub mod WalkLemmas

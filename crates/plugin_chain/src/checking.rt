@@ -1,0 +1,99 @@
+//! The four checks of a key.
+ghost use Rattle.std.specs.Prelude.{◌≡◌, ◌≤◌, ◌++◌, map, OnOk};
+ghost use Rattle.std.specs.Option.{option_to_list};
+ghost use Rattle.kdb_outside.specs.Faults.{HasRisen};
+ghost use Rattle.key_set.specs.EntryView.{entry_of};
+ghost use Rattle.model_specified.specs.Specified.{specified_key};
+ghost use Rattle.model_specified.specs.Violations.{violation_at};
+ghost use Rattle.plugin_chain.specs.Steps.{Adds, AddsIf};
+
+use crate::specifying::specified_entry;
+use key_meta::{Memory, Meta};
+use key_name::KeyName;
+use key_set::{Entry, KeySet};
+use model_rules::Broken;
+use model_specified::Violation;
+use range_check::check_range;
+use regex_check::{Patterns, check_pattern};
+use std::alloc::Global;
+use type_check::{check_enum, check_type};
+
+/// Checks a key where it is chosen, and adds what it breaks.
+pub fn check_if<P: Patterns>(
+    is_chosen: bool,
+    patterns: &mut P,
+    specs: &KeySet,
+    name: &KeyName,
+    entry: &Entry,
+    list: &mut Vec<Violation>,
+) -> Result<(), Memory>
+    ensures ok { OnOk result (AddsIf is_chosen (HasRisen (P.refusals patterns.old) (P.refusals patterns.new)) (specified_key specs.now (name.now, entry_of entry.now)) list.old.items list.new.items) }
+    ensures later { P.refusals patterns.old ≤ P.refusals patterns.new }
+{
+    if !is_chosen {
+        return Ok(());
+    }
+    check_key(patterns, specs, name, entry, list)
+}
+
+/// Checks a key as the keys of `spec:` have it, and adds what it breaks.
+fn check_key<P: Patterns>(
+    patterns: &mut P,
+    specs: &KeySet,
+    name: &KeyName,
+    entry: &Entry,
+    list: &mut Vec<Violation>,
+) -> Result<(), Memory>
+    ensures ok { OnOk result (Adds (HasRisen (P.refusals patterns.old) (P.refusals patterns.new)) (specified_key specs.now (name.now, entry_of entry.now)) list.old.items list.new.items) }
+    ensures later { P.refusals patterns.old ≤ P.refusals patterns.new }
+{
+    let alloc = specs.allocator();
+    match specified_entry(specs, name, entry)? {
+        Some(changed) => check_value(
+            alloc,
+            patterns,
+            name,
+            changed.value.as_str(),
+            &changed.meta,
+            list,
+        ),
+        None => check_value(
+            alloc,
+            patterns,
+            name,
+            entry.value.as_str(),
+            &entry.meta,
+            list,
+        ),
+    }
+}
+
+/// Checks a value under metadata by type, range, enumeration and pattern, and adds what it breaks.
+fn check_value<P: Patterns>(
+    alloc: Global,
+    patterns: &mut P,
+    name: &KeyName,
+    value: &str,
+    meta: &Meta,
+    list: &mut Vec<Violation>,
+) -> Result<(), Memory>
+    ensures ok { OnOk result (Adds (HasRisen (P.refusals patterns.old) (P.refusals patterns.new)) (name.now, record { value = value.now; meta = meta.now }) list.old.items list.new.items) }
+    ensures later { P.refusals patterns.old ≤ P.refusals patterns.new }
+{
+    add(list, name, check_type(alloc, value, meta)?)?;
+    add(list, name, check_range(alloc, value, meta)?)?;
+    add(list, name, check_enum(alloc, value, meta)?)?;
+    add(list, name, check_pattern(alloc, patterns, value, meta)?)?;
+    Ok(())
+}
+
+/// Adds a breach at a key, if there is one.
+fn add(list: &mut Vec<Violation>, key: &KeyName, broken: Option<Broken>) -> Result<(), Memory>
+    ensures ok { OnOk result (list.new.items ≡ list.old.items ++ map (violation_at key.now) (option_to_list broken)) }
+{
+    if let Some(Broken { rule, given }) = broken {
+        let key = key.copy()?;
+        list.push(Violation { key, rule, given })?;
+    }
+    Ok(())
+}

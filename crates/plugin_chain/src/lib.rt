@@ -1,0 +1,16 @@
+//! A set of keys under its own specifications: what it comes to, and which rules its keys break then.
+#![tactic(auto)]
+
+mod booleans;
+mod checking;
+mod choosing;
+mod defaults;
+mod laying;
+mod listing;
+mod spec_metas;
+mod specifying;
+
+pub use listing::{first_violation, violations};
+pub use model_specified::Violation;
+pub use spec_metas::spec_meta;
+pub use specifying::specified;

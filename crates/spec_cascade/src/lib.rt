@@ -1,0 +1,11 @@
+//! The lookup of a name, which a cascading one makes in several namespaces.
+#![tactic(auto)]
+
+mod candidates;
+mod founds;
+mod laws;
+mod lookups;
+
+pub use founds::Found;
+pub use laws::{a_name_finds_one_key, words_name_namespaces};
+pub use lookups::lookup;
