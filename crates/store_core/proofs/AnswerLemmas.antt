@@ -51,7 +51,7 @@ put-same r x records is n = elim (nat_eq n r) as (λ b. nat_eq n r ≡ b → con
 
 module _ (formats : Formats) {D : Type 0} (mounts : List Mount) (store : Store) (core : Core D) (records : ℕ → model.Record) (made : ℕ → Option sets.Prepared) (world : World) (p : ℕ) (rec : Record) (prepared : Prepared)
     (b : BelongsIn formats mounts store core records made world p rec prepared) where
-  taken : accepts (records (handle_of rec)) (handle_of rec) (prepared_of prepared) ≡ true
+  pub taken : accepts (records (handle_of rec)) (handle_of rec) (prepared_of prepared) ≡ true
   taken = subst (λ (x : model.Record). accepts x (handle_of rec) (prepared_of prepared) ≡ true) (sym b.record_is) b.accepted
 
   pub conflict_within : (m by : ℕ) → IsLate core.history.commits core.keys (prepared_of prepared) (Conflict m by) → m < length mounts

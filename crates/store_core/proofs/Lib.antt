@@ -8,5 +8,6 @@ pub mod AnswerLemmas
 pub mod JudgedLemmas
 pub mod PlanLemmas
 pub mod GetLemmas
+pub mod MadeAnswers
 pub mod MadeLemmas
 pub mod FileGets

@@ -3,8 +3,8 @@ use Rattle.std.specs.Prelude.{◌≡◌, ℕ, ◌≤◌, true, List, length, map
 use Rattle.kdb_outside.specs.declared.disks.Disk.{Ghosts}
 use Rattle.model_crashes.specs.Runs.{Run}
 use Rattle.model_files.specs.Texts.{as_entry, texts_at}
-use Rattle.model_store.specs.Cores.{accepts}
-use Rattle.model_store.specs.Events.{Answer, put}
+use Rattle.model_store.specs.Cores.{Made, accepts}
+use Rattle.model_store.specs.Events.{Answer, Commit, put}
 use Rattle.model_store.specs.Records as model
 use Rattle.model_store.specs.Sets as sets
 use Rattle.model_store.specs.Sets.{wants}
@@ -14,7 +14,7 @@ use Rattle.mount_table.specs.declared.mounts.Mount.{Mount}
 use Rattle.set_split.specs.Seen.{numbered}
 use Rattle.store_core.specs.Answers.{IsAnswer}
 use Rattle.store_core.specs.Committing.{IsCommitted}
-use Rattle.store_core.specs.Cores.{StandsIn}
+use Rattle.store_core.specs.Cores.{StandsIn, core_with}
 use Rattle.store_core.specs.declared.committing.CommitFault.{CommitFault}
 use Rattle.store_core.specs.declared.committing.Done.{Done}
 use Rattle.store_core.specs.declared.cores.Core.{Core}
@@ -50,7 +50,13 @@ pub record IsReady (formats : Formats) {D : Type 0} (mounts : List Mount) (core 
   pub number : ℕ
   pub belongs : BelongsIn formats mounts store core records made world number rec set
 
--- the set was committed as the definitions say, with this answer
+-- the set was committed as the definitions say, with this answer. The disk has no part in it
+pub record HasMade (formats : Formats) {D : Type 0} (mounts : List Mount) (store : Store) (before after : Core D) (records : ℕ → model.Record) (made : ℕ → Option sets.Prepared) (p : ℕ) (old new : Record) (set : Prepared) (result : Result Done CommitFault) : Type 0 where
+  pub answer : Answer
+  pub is_answer : IsAnswer mounts (length before.history.commits) (prepared_of set) result answer
+  pub is_made : Made formats store (core_with before records made) (Commit (handle_of old) p) answer (core_with after (put (handle_of old) (record_of new) records) made)
+
+-- and the run on the disk went on by it
 pub record HasAnswered (formats : Formats) {D : Type 0} (g : Ghosts D) (mounts : List Mount) (store : Store) (opened : D) (before after : Core D) (records : ℕ → model.Record) (made : ℕ → Option sets.Prepared) (run : Run) (p : ℕ) (old new : Record) (set : Prepared) (result : Result Done CommitFault) : Type 0 where
   pub later : Run
   pub answer : Answer

@@ -19,7 +19,7 @@ ghost use Rattle.model_store.specs.Worlds.{World};
 ghost use Rattle.set_split.specs.Seen.{numbered};
 ghost use Rattle.store_core.specs.Answers.{IsConflict, IsJudged, has_written};
 ghost use Rattle.store_core.specs.Frames.{IsUnwritten};
-ghost use Rattle.store_core.specs.Joined.{Belongs, HasAnswered, IsReady};
+ghost use Rattle.store_core.specs.Joined.{Belongs, BelongsIn, HasAnswered, HasMade, IsReady};
 ghost use Rattle.store_core.specs.declared.committing.CommitFault.TheVariants as fault;
 ghost use Rattle.store_core.specs.declared.committing.Done.TheVariants as done;
 ghost use Rattle.store_phases.specs.Stores.{IsStore};
@@ -89,6 +89,9 @@ impl<D: Disk> Core<D> {
     ) -> Result<Done, CommitFault>
         requires ready { IsReady (record { text = F.text; IsStorable = F.is_storable; BreaksAt = F.breaks_at }) (over (λ file. file.mount) plan.now.mounted) self.old rec.old prepared }
         ensures judged { IsJudged (over (λ file. file.mount) plan.now.mounted) self.old.history.commits self.old.keys (prepared_of prepared) result }
+        ensures made { (store : Store) (records : ℕ → model.Record) (made : ℕ → Option sets.Prepared) (world : World) (p : ℕ)
+            → BelongsIn (record { text = F.text; IsStorable = F.is_storable; BreaksAt = F.breaks_at }) (over (λ file. file.mount) plan.now.mounted) store self.old records made world p rec.old prepared
+            → HasMade (record { text = F.text; IsStorable = F.is_storable; BreaksAt = F.breaks_at }) (over (λ file. file.mount) plan.now.mounted) store self.old self.new records made p rec.old rec.new prepared result }
         ensures committed { (store : Store) (opened : D) (records : ℕ → model.Record) (made : ℕ → Option sets.Prepared) (world : World) (run : Run) (p : ℕ)
             → Belongs (record { text = F.text; IsStorable = F.is_storable; BreaksAt = F.breaks_at }) D.Disk (over (λ file. file.mount) plan.now.mounted) store opened self.old records made world run p rec.old prepared
             → HasAnswered (record { text = F.text; IsStorable = F.is_storable; BreaksAt = F.breaks_at }) D.Disk (over (λ file. file.mount) plan.now.mounted) store opened self.old self.new records made run p rec.old rec.new prepared result }

@@ -11,6 +11,7 @@ use Rattle.store_core.specs.declared.committing.CommitFault.TheVariants as fault
 use Rattle.store_core.specs.declared.committing.Done.TheVariants as done
 use Rattle.store_core.proofs.AnswerLemmas.{told, wanting, conflicting, conflict_within, parts_within, not_full, is_entry, answered}
 use Rattle.store_core.proofs.CommitLemmas.{nothing_stored}
+use Rattle.store_core.proofs.MadeAnswers.{made_told, made_wanting, made_conflicting, made_answered}
 use Rattle.store_core.proofs.JudgedLemmas.{judged_commit, judged_conflict}
 use Rattle.store_verdict.specs.LateView.{late_of}
 use Rattle.store_verdict.specs.PreparedView.{prepared_of}
@@ -135,3 +136,44 @@ returns-in-Commits-clause-judged g c =
     let late : IsLate c.args.self.now.history.commits c.args.self.now.keys (prepared_of c.args.prepared) (late_of (code.Commits c.in-Commits.commit c.in-Commits.left_aside)) =
     subst (λ (l : Late). IsLate c.args.self.now.history.commits c.args.self.now.keys (prepared_of c.args.prepared) (late_of l)) verdict c.in-Ok.ensures.late in
     judged_commit (over (λ (file : MountedFile). file.mount) c.args.plan.now.mounted) c.args.self.now.history.commits c.args.self.now.keys (prepared_of c.args.prepared) (log.commit_of c.in-Commits.commit) c.in-Commits.left_aside late c.enter.result c.enter.ensures.ok c.enter.ensures.err
+
+pub returns-in-Err-clause-made : goal.returns-in-Err-clause-made
+returns-in-Err-clause-made g c store records made world p b = made_wanting (record { text = g.F.Formats.text; IsStorable = g.F.Formats.is_storable; BreaksAt = g.F.Formats.breaks_at }) (over (λ (file : MountedFile). file.mount) c.args.plan.now.mounted) store c.args.self.now records made world p c.args.rec.now c.args.prepared b
+
+pub returns-in-Same-clause-made : goal.returns-in-Same-clause-made
+returns-in-Same-clause-made g c store records made world p b =
+    let verdict : c.in-Ok.judged.late ≡ code.Same c.in-Same.left_aside = c.in-Same.is in
+    let late : IsLate c.args.self.now.history.commits c.args.self.now.keys (prepared_of c.args.prepared) (late_of (code.Same c.in-Same.left_aside)) =
+    subst (λ (l : Late). IsLate c.args.self.now.history.commits c.args.self.now.keys (prepared_of c.args.prepared) (late_of l)) verdict c.in-Ok.ensures.late in
+    made_told (record { text = g.F.Formats.text; IsStorable = g.F.Formats.is_storable; BreaksAt = g.F.Formats.breaks_at }) (over (λ (file : MountedFile). file.mount) c.args.plan.now.mounted) store c.args.self.now records made world p c.args.rec.now c.args.prepared b (Ok (done.Same c.len-front.result c.in-Same.left_aside)) (verdicts.Same c.in-Same.left_aside) late refl (ap (λ n. Judged n (verdicts.Same c.in-Same.left_aside)) (sym c.len-front.ensures))
+
+pub returns-in-DatabaseFull-clause-made : goal.returns-in-DatabaseFull-clause-made
+returns-in-DatabaseFull-clause-made g c store records made world p b =
+    let verdict : c.in-Ok.judged.late ≡ code.DatabaseFull c.in-DatabaseFull.weight = c.in-DatabaseFull.is in
+    let late : IsLate c.args.self.now.history.commits c.args.self.now.keys (prepared_of c.args.prepared) (late_of (code.DatabaseFull c.in-DatabaseFull.weight)) =
+    subst (λ (l : Late). IsLate c.args.self.now.history.commits c.args.self.now.keys (prepared_of c.args.prepared) (late_of l)) verdict c.in-Ok.ensures.late in
+    made_told (record { text = g.F.Formats.text; IsStorable = g.F.Formats.is_storable; BreaksAt = g.F.Formats.breaks_at }) (over (λ (file : MountedFile). file.mount) c.args.plan.now.mounted) store c.args.self.now records made world p c.args.rec.now c.args.prepared b (Err (fault.DatabaseFull c.in-DatabaseFull.weight c.len-front.result)) (verdicts.DatabaseFull c.in-DatabaseFull.weight) late refl (ap (λ n. Judged n (verdicts.DatabaseFull c.in-DatabaseFull.weight)) (sym c.len-front.ensures))
+
+pub returns-in-HistoryFull-clause-made : goal.returns-in-HistoryFull-clause-made
+returns-in-HistoryFull-clause-made g c store records made world p b =
+    let verdict : c.in-Ok.judged.late ≡ code.HistoryFull c.in-HistoryFull.weight = c.in-HistoryFull.is in
+    let late : IsLate c.args.self.now.history.commits c.args.self.now.keys (prepared_of c.args.prepared) (late_of (code.HistoryFull c.in-HistoryFull.weight)) =
+    subst (λ (l : Late). IsLate c.args.self.now.history.commits c.args.self.now.keys (prepared_of c.args.prepared) (late_of l)) verdict c.in-Ok.ensures.late in
+    made_told (record { text = g.F.Formats.text; IsStorable = g.F.Formats.is_storable; BreaksAt = g.F.Formats.breaks_at }) (over (λ (file : MountedFile). file.mount) c.args.plan.now.mounted) store c.args.self.now records made world p c.args.rec.now c.args.prepared b (Err (fault.HistoryFull c.in-HistoryFull.weight c.len-front.result)) (verdicts.HistoryFull c.in-HistoryFull.weight) late refl (ap (λ n. Judged n (verdicts.HistoryFull c.in-HistoryFull.weight)) (sym c.len-front.ensures))
+
+pub returns-in-Conflict-clause-made : goal.returns-in-Conflict-clause-made
+returns-in-Conflict-clause-made g c store records made world p b =
+    let verdict : c.in-Ok.judged.late ≡ code.Conflict c.in-Conflict.mount c.in-Conflict.by = c.in-Conflict.is in
+    let late : IsLate c.args.self.now.history.commits c.args.self.now.keys (prepared_of c.args.prepared) (late_of (code.Conflict c.in-Conflict.mount c.in-Conflict.by)) =
+    subst (λ (l : Late). IsLate c.args.self.now.history.commits c.args.self.now.keys (prepared_of c.args.prepared) (late_of l)) verdict c.in-Ok.ensures.late in
+    made_conflicting (record { text = g.F.Formats.text; IsStorable = g.F.Formats.is_storable; BreaksAt = g.F.Formats.breaks_at }) (over (λ (file : MountedFile). file.mount) c.args.plan.now.mounted) store c.args.self.now records made world p c.args.rec.now c.args.prepared b c.in-Conflict.mount c.in-Conflict.by c.conflict.result late
+    (subst (λ (ms : List Mount). IsConflict ms c.in-Conflict.mount c.in-Conflict.by (length c.args.self.now.history.commits) c.conflict.result) c.table.ensures
+    (subst (λ n. IsConflict c.table.result.now c.in-Conflict.mount c.in-Conflict.by n c.conflict.result) c.len-front.ensures c.conflict.ensures))
+
+pub returns-in-Commits-clause-made : goal.returns-in-Commits-clause-made
+returns-in-Commits-clause-made g c store records made world p b =
+    let verdict : c.in-Ok.judged.late ≡ code.Commits c.in-Commits.commit c.in-Commits.left_aside = c.in-Commits.is in
+    let late : IsLate c.args.self.now.history.commits c.args.self.now.keys (prepared_of c.args.prepared) (late_of (code.Commits c.in-Commits.commit c.in-Commits.left_aside)) =
+    subst (λ (l : Late). IsLate c.args.self.now.history.commits c.args.self.now.keys (prepared_of c.args.prepared) (late_of l)) verdict c.in-Ok.ensures.late in
+    made_answered (record { text = g.F.Formats.text; IsStorable = g.F.Formats.is_storable; BreaksAt = g.F.Formats.breaks_at }) (over (λ (file : MountedFile). file.mount) c.args.plan.now.mounted) store c.args.self.now records made world p c.args.rec.now c.args.prepared b (log.commit_of c.in-Commits.commit) c.in-Commits.left_aside late c.enter.new.self c.enter.new.rec c.in-Ok.judged.keys c.in-Ok.ensures.keys c.enter.result
+    c.enter.ensures.ok c.enter.ensures.err c.enter.ensures.history c.enter.ensures.keys c.enter.ensures.kept c.enter.ensures.same c.enter.ensures.fetched
