@@ -1,0 +1,10 @@
+-- How the story of a store goes on.
+mod StoryLemmas
+mod RunLemmas
+mod KeptLemmas
+mod RecordLemmas
+mod AcceptLemmas
+mod BelongLemmas
+mod SharedLemmas
+mod HandleLemmas
+mod CloseLemmas

@@ -1,0 +1,42 @@
+-- Stories: what they tell together, and how they begin.
+use Rattle.std.proofs.Common.{◌≡◌, ℕ, ◌+◌, ◌≤◌, List, [], ◌∷◌, ◌++◌, length, get_or, drop, sym, refl, ap, ◌∙◌, append_assoc, append-nil, arith, length-append}
+use mathlib.Core.List.{IsPrefix}
+use Rattle.model_history.specs.History.{Commit}
+use Rattle.kdb_handle.specs.Story.{Told, Opening, Opened, Committed, Failed, commits_of, failures_in}
+
+pub commits-append : (log more : List Told) → commits_of (log ++ more) ≡ commits_of log ++ commits_of more
+commits-append [] more = refl
+commits-append (Opened opening ∷ log) more = commits-append log more
+commits-append (Committed commit ∷ log) more = ap (λ (cs : List Commit). commit ∷ cs) (commits-append log more)
+commits-append (Failed commit ∷ log) more = commits-append log more
+
+pub failures-append : (log more : List Told) → failures_in (log ++ more) ≡ failures_in log + failures_in more
+failures-append [] more = omega arith
+failures-append (Opened opening ∷ log) more = failures-append log more
+failures-append (Committed commit ∷ log) more = failures-append log more
+failures-append (Failed commit ∷ log) more = let rest = failures-append log more in omega arith
+
+-- who has seen more of the story has seen more of its history
+pub commits-prefix : (log longer : List Told) → IsPrefix log longer → IsPrefix (commits_of log) (commits_of longer)
+commits-prefix log longer p = (commits_of p.0, sym (commits-append log p.0) ∙ ap commits_of p.1)
+
+-- a story has one opening
+abbrev opened_by : Opening → List Told → Opening
+opened_by other [] = other
+opened_by other (Opened opening ∷ log) = opening
+opened_by other (Committed commit ∷ log) = other
+opened_by other (Failed commit ∷ log) = other
+
+pub one_opening : (first second : Opening) (log rest : List Told) → IsPrefix (Opened first ∷ []) log → log ≡ Opened second ∷ rest → first ≡ second
+one_opening first second log rest p is = ap (opened_by first) (p.1 ∙ is)
+
+-- two lists of which each begins the other are one
+pub prefix-both : {E : Type 0} (xs ys : List E) → IsPrefix xs ys → IsPrefix ys xs → xs ≡ ys
+prefix-both {E} xs ys p q =
+    let long = ap length p.1 in let short = ap length q.1 in
+    let a = length-append xs p.0 in let b = length-append ys q.0 in
+    sym (append-nil xs) ∙ ap (λ (l : List E). xs ++ l) (sym (empty p.0 (omega arith))) ∙ p.1
+  where
+    empty : (zs : List E) → length zs ≡ 0 → zs ≡ []
+    empty [] none = refl
+    empty (z ∷ zs) none = absurd (omega arith)

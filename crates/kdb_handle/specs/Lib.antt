@@ -1,0 +1,13 @@
+-- What the handles of a store know and do.
+pub mod Story
+pub mod Datums
+pub mod Rising
+pub mod Runs
+pub mod Opened
+pub mod Shares
+pub mod Handles
+pub mod Stores
+pub mod Turns
+pub mod Gets
+pub mod Sets
+pub mod Closing

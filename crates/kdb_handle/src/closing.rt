@@ -1,0 +1,53 @@
+//! The close of a shared store.
+ghost use Rattle.std.specs.Prelude.{◌≡◌, ◌≤◌, ◌+◌, ◌-◌, ◌++◌, All, length};
+ghost use Rattle.std.specs.Vec.{vec_capacity};
+ghost use Rattle.intent_journal.specs.Journal.{JournalValue};
+ghost use Rattle.kdb_handle.specs.Closing.{IsClosed};
+ghost use Rattle.kdb_handle.specs.Datums.{coded_journal};
+ghost use Rattle.kdb_handle.specs.Opened.{opening_in};
+ghost use Rattle.kdb_handle.specs.Stores.{AreFree, IsHandle, IsStarted, seat_of, seats_back};
+
+use crate::{FreeSeats, Handle, Locked, Shared, SharedStore, StoryEntry};
+use kdb_outside::Disk;
+use seat_lock::Seat;
+use storage_api::Formats;
+use store_core::Closed;
+
+impl<D: Disk, F: Formats + Drop> Locked<Shared<D, F>, F> {
+    /// Ends the store, with all handles that were opened and the seats that no handle got, and gives its disk and its history back. What a commit left to
+    /// be done is tried once more, and a failure of it is no refusal.
+    pub fn close_store(self, seats: FreeSeats, handles: Vec<Handle>) -> Closed<D>
+        requires started { IsStarted self.lock self.plan }
+        requires free { AreFree self.lock seats.seats.items (vec_capacity seats.seats) }
+        requires handles { All (IsHandle self.lock self.plan) handles.items }
+        requires all { length handles.items + length seats.seats.items ≡ self.lock.seats }
+        ensures { (journal : JournalValue D) → (opening_in self.lock.start).journal ≡ (coded_journal D.row.coded).code journal
+            → IsClosed (record { text = F.text; IsStorable = F.is_storable; BreaksAt = F.breaks_at }) D.Disk self.plan.mounted journal (opening_in self.lock.start) (length handles.items) handles.items result }
+    {
+        let seats = gather(seats, handles);
+        let Locked { plan: _plan, lock } = self;
+        let Shared { core, .. } = lock.close(seats);
+        core.close()
+    }
+}
+
+/// The seats of all handles, behind those that no handle got.
+fn gather(seats: FreeSeats, mut handles: Vec<Handle>) -> Vec<Seat<StoryEntry>>
+    requires room { length handles.items + length seats.seats.items ≤ vec_capacity seats.seats }
+    ensures { result.items ≡ seats.seats.items ++ seats_back handles.items }
+{
+    let FreeSeats { mut seats } = seats;
+    while let Some(handle) = handles.pop() {
+        seats.push_reserved(seat_of(handle));
+    }
+    seats
+}
+
+/// The seat of a handle, whose record is dropped.
+fn seat_of(handle: Handle) -> Seat<StoryEntry>
+    ensures { result ≡ seat_of handle }
+{
+    let Handle { seat, .. } = handle;
+    let Some(seat) = seat else { unreachable!() };
+    seat
+}

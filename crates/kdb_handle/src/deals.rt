@@ -1,0 +1,67 @@
+//! The seats of a shared store that no handle has yet.
+ghost use Rattle.std.specs.Prelude.{◌≡◌, ◌+◌, ◌-◌, [], IfErr, IfOk, OnErr, OnOk, None, ℕ, length};
+ghost use Rattle.std.specs.Vec.{vec_capacity};
+ghost use Rattle.kdb_handle.specs.Stores.{AreFree, IsHandle, IsStarted};
+ghost use Rattle.store_verdict.specs.ProcKeys.{AreProc};
+ghost use Rattle.store_verdict.specs.RecordView.{proc_of, record_of};
+
+use crate::{Handle, SharedStore, StoryEntry};
+use kdb_outside::Disk;
+use key_meta::Memory;
+use key_set::KeySet;
+use seat_lock::Seat;
+use std::alloc::Global;
+use storage_api::Formats;
+use store_verdict::Record;
+
+/// The seats that no handle has yet, the one of the lowest number first.
+#[derive(Drop)]
+pub struct FreeSeats {
+    pub(crate) seats: Vec<Seat<StoryEntry>>,
+}
+
+/// Why a handle isn't opened.
+#[derive(Clone, Copy, Debug, PartialEq, Eq)]
+pub enum NoHandle {
+    /// As many were opened as there are seats.
+    NoSeat,
+    Memory,
+}
+
+impl FreeSeats {
+    /// Opens the handle of the next number, from 1 on, with keys of its own in `proc`. It has fetched nothing and made nothing.
+    pub fn kdb_open<D: Disk, F: Formats + Drop>(
+        &mut self,
+        alloc: Global,
+        store: &SharedStore<D, F>,
+        proc: KeySet,
+    ) -> Result<Handle, NoHandle>
+        requires started { IsStarted store.now.lock store.now.plan }
+        requires free { AreFree store.now.lock self.old.seats.items (vec_capacity self.old.seats) }
+        requires proc { AreProc proc }
+        ensures handle { IfOk result (λ handle. IsHandle store.now.lock store.now.plan handle) }
+        ensures number { IfOk result (λ handle. handle.number ≡ store.now.lock.seats - length self.old.seats.items + 1) }
+        ensures seen { IfOk result (λ handle. handle.seen ≡ store.now.lock.start) }
+        ensures own { IfOk result (λ handle. handle.own ≡ []) }
+        ensures rec { IfOk result (λ handle. (m : ℕ) → record_of handle.rec m ≡ None) }
+        ensures proc { IfOk result (λ handle. proc_of handle.rec ≡ proc) }
+        ensures free { AreFree store.now.lock self.new.seats.items (vec_capacity self.new.seats) }
+        ensures fewer { OnOk result (length self.new.seats.items + 1 ≡ length self.old.seats.items) }
+        ensures none { result ≡ Err NoHandle.NoSeat → length self.old.seats.items ≡ 0 }
+        ensures same { OnErr result (self.new ≡ self.old) }
+    {
+        let Some(first) = self.seats.first() else {
+            return Err(NoHandle::NoSeat);
+        };
+        let number = first.number();
+        let Ok(rec) = Record::new(alloc, number, store.plan.table().len(), proc) else {
+            return Err(NoHandle::Memory);
+        };
+        let seat = self.seats.remove(0);
+        Ok(Handle {
+            seat: Some(seat),
+            rec,
+            commits: 0,
+        })
+    }
+}

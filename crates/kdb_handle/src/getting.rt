@@ -1,0 +1,52 @@
+//! A handle's get.
+ghost use Rattle.std.specs.Prelude.{◌≡◌, ℕ};
+ghost use mathlib.Core.List.{IsPrefix};
+ghost use Rattle.kdb_handle.specs.Gets.{IsGotAt};
+ghost use Rattle.kdb_handle.specs.Opened.{store_at};
+ghost use Rattle.kdb_handle.specs.Story.{commits_of};
+ghost use Rattle.kdb_handle.specs.Stores.{IsHandle};
+ghost use Rattle.model_maps.specs.KeyMap.{KeyMap};
+ghost use Rattle.model_store.specs.Legal.{IsLegal};
+ghost use Rattle.store_core.specs.Plans.{store_of};
+ghost use Rattle.store_verdict.specs.RecordView.{proc_of, record_of};
+
+use crate::{Handle, SharedStore};
+use kdb_outside::Disk;
+use key_name::KeyName;
+use mounted_files::GetFault;
+use std::alloc::Global;
+use std::sync::Wait;
+use storage_api::Formats;
+use store_core::Got;
+
+impl Handle {
+    /// The keys of a parent, as the commits make them that there are in the handle's turn. It has then seen these commits. It is refused
+    /// exactly where an involved mount is bad, with the lowest one and why.
+    pub fn kdb_get<D: Disk, F: Formats + Drop, R: Wait>(
+        &mut self,
+        rt: &R,
+        alloc: Global,
+        store: &SharedStore<D, F>,
+        parent: &KeyName,
+    ) -> Result<Got, GetFault>
+        requires { IsHandle store.now.lock store.now.plan self.old }
+        ensures handle { IsHandle store.now.lock store.now.plan self.new }
+        ensures number { self.new.number ≡ self.old.number }
+        ensures proc { proc_of self.new.rec ≡ proc_of self.old.rec }
+        ensures seen { IsPrefix self.old.seen self.new.seen }
+        ensures own { self.new.own ≡ self.old.own }
+        ensures legal { IsLegal (record { text = F.text; IsStorable = F.is_storable; BreaksAt = F.breaks_at }) (store_at store.now.plan.mounted) (commits_of self.new.seen) }
+        ensures got { (procs : ℕ → KeyMap) → procs self.old.number ≡ proc_of self.old.rec
+            → IsGotAt (store_of store.now.plan.mounted procs) store.now.plan.mounted (commits_of self.new.seen) self.old.number parent.now (record_of self.old.rec) (record_of self.new.rec) result }
+    {
+        let Some(seat) = self.seat.take() else {
+            unreachable!()
+        };
+        let mut turn = store.lock.enter(rt, seat);
+        let core = turn.value();
+        let got = core.get(alloc, &store.plan, &mut self.rec, parent);
+        self.commits = core.commits();
+        self.seat = Some(store.lock.leave(turn));
+        got
+    }
+}

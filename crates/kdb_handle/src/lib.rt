@@ -1,0 +1,22 @@
+//! Up to 32 handles on threads over one open store. Each call is one turn at the store's core, and a handle knows the commits that it has seen.
+#![tactic(auto)]
+
+mod closing;
+mod deals;
+mod entries;
+mod getting;
+mod handles;
+mod laws;
+mod meeting;
+mod setting;
+mod shared;
+mod stores;
+mod turns;
+
+pub use deals::{FreeSeats, NoHandle};
+pub use entries::StoryEntry;
+pub use handles::Handle;
+pub use laws::an_accepted_set_is_still_prepared;
+pub use setting::SetFault;
+pub use shared::Shared;
+pub use stores::{Locked, NewStore, NotShared, SharedStore};

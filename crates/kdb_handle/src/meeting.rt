@@ -1,0 +1,37 @@
+//! Handles that meet.
+ghost use Rattle.std.specs.Prelude.{◌≡◌};
+ghost use mathlib.Core.List.{IsPrefix};
+ghost use Rattle.kdb_handle.specs.Stores.{IsHandle};
+ghost use Rattle.seat_lock.specs.Story.{longer};
+
+use crate::{Handle, SharedStore};
+use kdb_outside::Disk;
+use storage_api::Formats;
+
+impl Handle {
+    /// Lets a handle see all that another has seen. Its record stays. It waits for nobody.
+    pub fn meet<D: Disk, F: Formats + Drop>(
+        &mut self,
+        store: &SharedStore<D, F>,
+        other: &mut Handle,
+    )
+        requires { IsHandle store.now.lock store.now.plan self.old × IsHandle store.now.lock store.now.plan other.old }
+        ensures handle { IsHandle store.now.lock store.now.plan self.new }
+        ensures number { self.new.number ≡ self.old.number }
+        ensures met { self.new.seen ≡ longer self.old.seen other.old.seen }
+        ensures seen { IsPrefix self.old.seen self.new.seen × IsPrefix other.old.seen self.new.seen }
+        ensures own { self.new.own ≡ self.old.own }
+        ensures rec { self.new.rec ≡ self.old.rec }
+        ensures other { other.new ≡ other.old }
+    {
+        let (Some(mut ours), Some(mut theirs)) = (self.seat.take(), other.seat.take()) else {
+            unreachable!()
+        };
+        if ours.front() < theirs.front() {
+            self.commits = other.commits;
+        }
+        store.lock.meet(&mut ours, &mut theirs);
+        self.seat = Some(ours);
+        other.seat = Some(theirs);
+    }
+}

@@ -1,0 +1,92 @@
+//! An open store that handles share.
+ghost use Rattle.std.specs.Prelude.{◌≡◌, ◌≤◌, ◌<◌, ◌∷◌, ℕ, [], IfErr, IfOk, None, length};
+ghost use Rattle.std.specs.List.{AllByRecursion};
+ghost use Rattle.std.specs.Vec.{vec_capacity};
+ghost use Rattle.kdb_handle.specs.Opened.{opening_of};
+ghost use Rattle.kdb_handle.specs.Story.{Opened};
+ghost use Rattle.kdb_handle.specs.Stores.{AreFree, IsStarted};
+ghost use Rattle.model_maps.specs.KeyMap.{KeyMap};
+ghost use Rattle.model_store.specs.Worlds.{first_world};
+ghost use Rattle.mounted_files.specs.Short.{AreShort};
+ghost use Rattle.store_core.specs.Cores.{StandsIn};
+ghost use Rattle.store_core.specs.Plans.{store_of};
+ghost use Rattle.store_verdict.specs.Preparing.{IsPlan};
+
+use crate::shared::Fresh;
+use crate::{FreeSeats, Shared};
+use kdb_outside::Disk;
+use seat_lock::{Lock, NewLock, NoLock, Storied};
+use std::alloc::Global;
+use std::snapshot::Snapshot;
+use storage_api::Formats;
+use store_core::{Core, Plan};
+
+/// What an opening fixes, beside a lock over what changes. A thread needs no more than a `&` to it.
+pub struct Locked<V: Storied, F: Formats + Drop> {
+    pub(crate) plan: Plan<F>,
+    pub(crate) lock: Lock<V>,
+}
+
+/// An open store that handles share: its plan, and the lock over its core.
+pub type SharedStore<D, F> = Locked<Shared<D, F>, F>;
+
+/// A shared store, and the seats for its handles.
+pub struct NewStore<D: Disk, F: Formats + Drop> {
+    pub store: SharedStore<D, F>,
+    pub seats: FreeSeats,
+}
+
+/// There was no memory. The plan and the core come back.
+#[derive(Drop)]
+pub struct NotShared<D: Disk, F: Formats + Drop> {
+    pub plan: Plan<F>,
+    pub core: Core<D>,
+}
+
+impl<D: Disk, F: Formats + Drop> NewStore<D, F> {
+    /// Shares a store that was just opened, for 1 to 32 handles. It is refused for want of memory alone.
+    pub fn new(
+        alloc: Global,
+        plan: Plan<F>,
+        core: Core<D>,
+        handles: u32,
+    ) -> Result<NewStore<D, F>, NotShared<D, F>>
+        requires handles { (0 < handles) × (handles ≤ 32) }
+        requires world { (procs : ℕ → KeyMap) → StandsIn (record { text = F.text; IsStorable = F.is_storable; BreaksAt = F.breaks_at }) (store_of plan.mounted procs) core (λ r m. None) (λ p. None) first_world }
+        requires fixed { (procs : ℕ → KeyMap) → IsPlan (store_of plan.mounted procs) plan.fixed }
+        requires short { AllByRecursion AreShort plan.fixed.shadows }
+        ensures plan { IfOk result (λ new. new.store.plan ≡ plan) }
+        ensures start { IfOk result (λ new. new.store.lock.start ≡ Opened (opening_of D.row.coded plan.mounted core.journal) ∷ []) }
+        ensures started { IfOk result (λ new. IsStarted new.store.lock new.store.plan) }
+        ensures count { IfOk result (λ new. new.store.lock.seats ≡ handles) }
+        ensures seats { IfOk result (λ new. AreFree new.store.lock new.seats.seats.items (vec_capacity new.seats.seats)) }
+        ensures all { IfOk result (λ new. length new.seats.seats.items ≡ handles) }
+        ensures err { IfErr result (λ none. (none.plan ≡ plan) × (none.core ≡ core)) }
+    {
+        let shared = Shared {
+            core,
+            plan: Snapshot::of(&plan),
+            entries: 1,
+            fresh: Fresh::Nothing,
+        };
+        match Lock::new(alloc, shared, handles) {
+            Ok(NewLock { lock, seats }) => Ok(NewStore {
+                store: Locked { plan, lock },
+                seats: FreeSeats { seats },
+            }),
+            Err(NoLock { value }) => {
+                let Shared { core, .. } = value;
+                Err(NotShared { plan, core })
+            }
+        }
+    }
+}
+
+impl<V: Storied, F: Formats + Drop> Locked<V, F> {
+    /// What the opening of the store fixed.
+    pub fn plan(&self) -> &Plan<F>
+        ensures { result.now ≡ self.now.plan }
+    {
+        &self.plan
+    }
+}

@@ -1,0 +1,117 @@
+//! What the core of an open store does in one turn.
+ghost use Rattle.std.specs.Prelude.{◌≡◌, ◌≤◌, ◌<◌, ◌+◌, ◌-◌, ◌^◌, ◌++◌, ℕ, [], List, Option, length, map as over};
+ghost use Rattle.kdb_handle.specs.Opened.{store_at};
+ghost use Rattle.kdb_handle.specs.Shares.{IsShared, told_now};
+ghost use Rattle.kdb_handle.specs.Story.{Told, commits_of};
+ghost use Rattle.kdb_handle.specs.Turns.{MayCommit, record_by, told_by};
+ghost use Rattle.model_maps.specs.KeyMap.{KeyMap};
+ghost use Rattle.model_store.specs.Records as model;
+ghost use Rattle.model_store.specs.Records.{IsRecord};
+ghost use Rattle.model_store.specs.Sets as sets;
+ghost use Rattle.model_store.specs.Sets.{front_in};
+ghost use Rattle.store_core.specs.Answers.{IsJudged};
+ghost use Rattle.store_core.specs.Gets.{HasGot};
+ghost use Rattle.store_core.specs.Plans.{store_of};
+ghost use Rattle.store_verdict.specs.Preparing.{IsPlan};
+ghost use Rattle.store_verdict.specs.PreparedView.{prepared_of};
+ghost use Rattle.store_verdict.specs.RecordView.{handle_of, places_of, proc_of, record_of};
+
+use crate::Shared;
+use crate::shared::Fresh;
+use kdb_outside::Disk;
+use key_name::KeyName;
+use mounted_files::GetFault;
+use std::alloc::Global;
+use std::snapshot::Snapshot;
+use storage_api::Formats;
+use store_core::{CommitFault, Done, Got, Plan};
+use store_verdict::{Prepared, Record};
+
+impl<D: Disk, F: Formats + Drop> Shared<D, F> {
+    /// How many commits there are.
+    pub(crate) fn commits(&self) -> u64
+        ensures { result ≡ length self.now.core.history.commits }
+    {
+        self.core.history().len()
+    }
+
+    /// A get, of which the story tells nothing.
+    pub(crate) fn get(
+        &mut self,
+        alloc: Global,
+        plan: &Plan<F>,
+        rec: &mut Record,
+        parent: &KeyName,
+    ) -> Result<Got, GetFault>
+        requires fixed { (procs : ℕ → KeyMap) → IsPlan (store_of plan.now.mounted procs) plan.now.fixed }
+        requires places { length plan.now.mounted ≤ places_of rec.old }
+        ensures got { (procs : ℕ → KeyMap) (records : ℕ → model.Record) (prepared : ℕ → Option sets.Prepared) → procs (handle_of rec.old) ≡ proc_of rec.old → records (handle_of rec.old) ≡ record_of rec.old
+            → HasGot (record { text = F.text; IsStorable = F.is_storable; BreaksAt = F.breaks_at }) (store_of plan.now.mounted procs) plan.now.mounted self.old.core records prepared parent.now rec.old rec.new result }
+        ensures handle { handle_of rec.new ≡ handle_of rec.old }
+        ensures places { places_of rec.new ≡ places_of rec.old }
+        ensures proc { proc_of rec.new ≡ proc_of rec.old }
+        ensures core { self.new.core ≡ self.old.core }
+        ensures entries { self.new.entries ≡ self.old.entries }
+        ensures told { told_now self.new.fresh ≡ [] }
+    {
+        self.fresh = Fresh::Nothing;
+        self.core.get(alloc, plan, rec, parent)
+    }
+
+    /// A commit. The story tells of it where it was made, or begun; so there has to be room for one more entry before the disk is touched.
+    pub(crate) fn commit(
+        &mut self,
+        alloc: Global,
+        plan: &Plan<F>,
+        rec: &mut Record,
+        prepared: Prepared,
+    ) -> Result<Done, CommitFault>
+        requires may { (log : List Told) × MayCommit (record { text = F.text; IsStorable = F.is_storable; BreaksAt = F.breaks_at }) D.Disk D.row.coded plan.now.mounted self.old.core self.old.entries log rec.old prepared }
+        ensures shared { (log : List Told) → MayCommit (record { text = F.text; IsStorable = F.is_storable; BreaksAt = F.breaks_at }) D.Disk D.row.coded plan.now.mounted self.old.core self.old.entries log rec.old prepared
+            → IsShared (record { text = F.text; IsStorable = F.is_storable; BreaksAt = F.breaks_at }) D.Disk D.row.coded self.new.core self.new.entries (log ++ told_now self.new.fresh) }
+        ensures keeps { (log : List Told) → MayCommit (record { text = F.text; IsStorable = F.is_storable; BreaksAt = F.breaks_at }) D.Disk D.row.coded plan.now.mounted self.old.core self.old.entries log rec.old prepared
+            → IsRecord (store_at plan.now.mounted) (commits_of (log ++ told_now self.new.fresh)) (front_in (record_of rec.new)) (record_of rec.new) }
+        ensures told { told_now self.new.fresh ≡ told_by (prepared_of prepared) result }
+        ensures judged { IsJudged (over (λ file. file.mount) plan.now.mounted) self.old.core.history.commits self.old.core.keys (prepared_of prepared) result }
+        ensures kept { (log : List Told) → MayCommit (record { text = F.text; IsStorable = F.is_storable; BreaksAt = F.breaks_at }) D.Disk D.row.coded plan.now.mounted self.old.core self.old.entries log rec.old prepared
+            → record_of rec.new ≡ record_by (store_at plan.now.mounted) self.old.core.history.commits (prepared_of prepared) result (record_of rec.old) }
+        ensures handle { handle_of rec.new ≡ handle_of rec.old }
+        ensures places { places_of rec.new ≡ places_of rec.old }
+        ensures proc { proc_of rec.new ≡ proc_of rec.old }
+    {
+        self.fresh = Fresh::Nothing;
+        if self.entries == u64::MAX {
+            return Err(CommitFault::Memory);
+        }
+        let set = Snapshot::of(&prepared);
+        let answer = self.core.commit(alloc, plan, rec, prepared);
+        self.tell(set, &answer);
+        answer
+    }
+
+    /// Has the story tell of a set by the answer to its commit.
+    fn tell(&mut self, set: Snapshot<Prepared>, answer: &Result<Done, CommitFault>)
+        requires { self.old.entries < 2 ^ 64 - 1 }
+        ensures told { told_now self.new.fresh ≡ told_by (prepared_of set.value) answer.now }
+        ensures count { self.new.entries ≡ self.old.entries + length (told_by (prepared_of set.value) answer.now) }
+        ensures core { self.new.core ≡ self.old.core }
+    {
+        match answer {
+            Ok(Done::Committed { .. }) => {
+                self.entries += 1;
+                self.fresh = Fresh::Committed(set);
+            }
+            Err(CommitFault::DiskFault { .. }) => {
+                self.entries += 1;
+                self.fresh = Fresh::Failed(set);
+            }
+            Ok(Done::Same { .. })
+            | Err(
+                CommitFault::Conflict { .. }
+                | CommitFault::DatabaseFull { .. }
+                | CommitFault::HistoryFull { .. }
+                | CommitFault::Memory,
+            ) => self.fresh = Fresh::Nothing,
+        }
+    }
+}
