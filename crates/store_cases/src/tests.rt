@@ -150,6 +150,42 @@ fn count(counts: &mut [u32], lines: &str) {
     }
 }
 
+/// The first events of a list, played on a store over the disk that each list begins with, of which these calls fail.
+fn run_of(
+    alloc: Global,
+    asks: &[Ask],
+    length: usize,
+    failing: &[u64],
+) -> Result<Option<Played>, Fail> {
+    let start = start_of(alloc, failing)?;
+    let events = events_of(alloc, asks, length)?;
+    match Quiet::of(alloc, &start, None)? {
+        Some(quiet) => Ok(Some(quiet.play(alloc, &events)?)),
+        None => Ok(None),
+    }
+}
+
+/// What a crash of a disk leaves, once the store was opened again.
+fn left_by_crash(alloc: Global, left: Left, choice: u64) -> Result<Left, Memory> {
+    let quiet = left.crash(choice)?;
+    Ok(quiet.play(alloc, &[])?.left)
+}
+
+/// The files of a disk are what they are to be: behind a run without a failing call, and behind a crash.
+fn leaves_outcomes(
+    alloc: Global,
+    left: Left,
+    slow: &SlowStore,
+    is_faultless: bool,
+    choice: u64,
+) -> Result<bool, Memory> {
+    if is_faultless && !has_outcome(alloc, &left, slow, 0)? {
+        return Ok(false);
+    }
+    let left = left_by_crash(alloc, left, choice)?;
+    has_some_outcome(alloc, &left, slow)
+}
+
 /// The store answers the first events of a list as the slow one does, and the files are what they are to be: behind the run, and behind a crash of what
 /// that leaves, once the store was opened again.
 fn is_alike(
@@ -160,22 +196,15 @@ fn is_alike(
     choice: u64,
     counts: &mut [u32],
 ) -> Result<bool, Fail> {
-    let start = start_of(alloc, failing)?;
-    let events = events_of(alloc, asks, length)?;
-    let Some(quiet) = Quiet::of(alloc, &start, None)? else {
+    let Some(Played { left, answers }) = run_of(alloc, asks, length, failing)? else {
         return Ok(false);
     };
-    let Played { left, answers } = quiet.play(alloc, &events)?;
     let lines = lines_of(alloc, &answers)?;
     count(counts, &lines);
-    let Some(slow) = slow_behind(alloc, asks, length, &lines)? else {
-        return Ok(false);
-    };
-    if failing.is_empty() && !has_outcome(alloc, &left, &slow, 0)? {
-        return Ok(false);
+    match slow_behind(alloc, asks, length, &lines)? {
+        Some(slow) => Ok(leaves_outcomes(alloc, left, &slow, failing.is_empty(), choice)?),
+        None => Ok(false),
     }
-    let left = left.crash(choice)?.play(alloc, &[])?.left;
-    Ok(has_some_outcome(alloc, &left, &slow)?)
 }
 
 /// The same for each front of a list that ends with a commit.
