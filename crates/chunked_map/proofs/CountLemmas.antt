@@ -6,7 +6,7 @@ use Rattle.std.specs.FinMap.Entries.{below_all}
 use Rattle.std.specs.Ordering.{is_lt}
 use Rattle.std.specs.declared.cmp.Ordering.{Ordering}
 use Rattle.std.specs.declared.cmp.Ordering.TheVariants.{Less}
-use Rattle.std.proofs.lemmas.List.{length-append, length-take-le, take_all, drop_all}
+use Rattle.std.proofs.lemmas.List.{length-append, length-take-le}
 use Rattle.general_words.proofs.Entries.{below_at}
 use Rattle.general_words.proofs.Orders.{less, is_less, turned}
 use Rattle.general_words.proofs.Tests.{both, first, second}
@@ -94,16 +94,3 @@ module _ {K X : Type 0} (R : K → K → Ordering) (o : IsTotalOrder R) (q : K) 
       none_in_all none =
           let parts = ap (drop p) whole ∙ drop_past (joined (take at cs)) (c ++ joined (drop (suc at) cs)) m p sum ∙ drop_in c (joined (drop (suc at) cs)) m few in
           subst (λ es. T (none_before R q es)) (sym parts) (none_before-append (drop m c) (joined (drop (suc at) cs)) none (none_below (joined (drop (suc at) cs)) place.behind))
-
-    module _ (p : ℕ) (past : length cs ≤ at) (sum : p ≡ length (joined (take at cs))) where
-      all_counted : p ≡ length (joined cs)
-      all_counted = sum ∙ ap (λ ds. length (joined ds)) (take_all at cs past)
-
-      pub bounded_end : p ≤ length (joined cs)
-      bounded_end = let e = all_counted in omega arith
-
-      pub before_end : T (all_before R q (take p (joined cs)))
-      before_end = subst (λ es. T (all_before R q es)) (ap joined (take_all at cs past) ∙ sym (take_all p (joined cs) (let e = all_counted in omega arith))) place.before
-
-      pub none_end : T (none_before R q (drop p (joined cs)))
-      none_end = subst (λ es. T (none_before R q es)) (sym (drop_all p (joined cs) (let e = all_counted in omega arith))) tt

@@ -1,5 +1,5 @@
 -- Entries in order, of which a key is behind a front and before a rest: what is found, put and taken out stands between these.
-use Rattle.std.proofs.Common.{◌≡◌, ℕ, zero, suc, ◌<◌, ◌≤◌, Bool, true, false, cond, not, T, List, [], ◌∷◌, ◌++◌, length, get_or, Some, None, refl, sym, ap, ◌∙◌, arith}
+use Rattle.std.proofs.Common.{◌≡◌, ℕ, zero, suc, ◌<◌, ◌≤◌, Bool, true, false, cond, not, T, List, [], ◌∷◌, ◌++◌, length, get_or, Some, refl, sym, ap, ◌∙◌, arith}
 use Rattle.std.specs.Cmp.{IsTotalOrder}
 use Rattle.std.specs.FinMap.{find, is_sorted}
 use Rattle.std.specs.FinMap.Entries.{below_all, put, where_key, by_order}
@@ -9,6 +9,7 @@ use Rattle.std.specs.declared.cmp.Ordering.TheVariants.{Less, Equal, Greater}
 use Rattle.std.proofs.lemmas.List.Elements.{filter-append}
 use Rattle.general_words.proofs.Tests.{both, first, second}
 use Rattle.general_words.proofs.Orders.{less, is_less, turned}
+use Rattle.general_words.proofs.Entries.{find-below}
 use Rattle.chunked_map.specs.Chunks.{all_before}
 
 module _ {K X : Type 0} (R : K → K → Ordering) where
@@ -74,12 +75,8 @@ module _ {K X : Type 0} (R : K → K → Ordering) where
     find-past q (x ∷ xs) ys h =
         ap (λ r. cond (is_eq r) (Some x.1) (find R q (xs ++ ys))) (turned o x.0 q Less (less _ (first _ _ h))) ∙ find-past q xs ys (second _ _ h)
 
-    find-none : (q : K) (ys : List (K × X)) → T (below_all R q ys) → find R q ys ≡ None
-    find-none q [] h = refl
-    find-none q (y ∷ ys) h = ap (λ r. cond (is_eq r) (Some y.1) (find R q ys)) (less _ (first _ _ h)) ∙ find-none q ys (second _ _ h)
-
     find-short : (q : K) (xs ys : List (K × X)) → T (below_all R q ys) → find R q (xs ++ ys) ≡ find R q xs
-    find-short q [] ys h = find-none q ys h
+    find-short q [] ys h = find-below R q ys h
     find-short q (x ∷ xs) ys h = ap (cond (eq_by_cmp R q x.0) (Some x.1)) (find-short q xs ys h)
 
     put-past : (q : K) (v : X) (xs ys : List (K × X)) → T (all_before R q xs) → put R q v (xs ++ ys) ≡ xs ++ put R q v ys
@@ -153,7 +150,7 @@ module _ {K X : Type 0} (R : K → K → Ordering) where
   length-put_there q v w [] o h found = absurd cc
   length-put_there q v w (e ∷ es) o h found =
       elim (R q e.0) as (λ r. R q e.0 ≡ r → cond (is_eq r) (Some e.1) (find R q es) ≡ Some w → length (by_order r ((q, v) ∷ e ∷ es) ((e.0, v) ∷ es) (e ∷ put R q v es)) ≡ suc (length es)) [
-        | Less ↦ λ p s. absurd (cc (s, find-none o q es (behind_less o q e.0 es p (first _ _ h))))
+        | Less ↦ λ p s. absurd (cc (s, find-below R q es (behind_less o q e.0 es p (first _ _ h))))
         | Equal ↦ λ p s. refl
         | Greater ↦ λ p s. ap suc (length-put_there q v w es o (second _ _ h) s)
       ] refl found

@@ -11,6 +11,7 @@ use Rattle.std.specs.declared.cmp.Ordering.{Ordering}
 use Rattle.std.specs.declared.cmp.Ordering.TheVariants.{Less, Equal, Greater}
 use Rattle.std.proofs.lemmas.Cmp.{nat_list_cmp_total}
 use Rattle.general_words.specs.Texts.{text_cmp}
+use Rattle.general_words.proofs.Searches.{or_none}
 use Rattle.model_maps.specs.Entry.{Entry, Meta}
 use Rattle.dump_storage.specs.SoFarView.{HasMetaLength, HaveMetaLengths}
 
@@ -60,10 +61,6 @@ Splits whole meta rest = (q : List ℕ) → option_or (finite.get (meta_of rest)
 
 pub Splits-start : (es : Items) (meta : Meta) → meta ≡ finite.empty → Splits (meta_of es) meta es
 Splits-start es meta none q = ap (option_or (finite.get (meta_of es) q)) (ap (λ (m : Meta). finite.get m q) none ∙ finite.get-empty text_cmp q) ∙ or_none (finite.get (meta_of es) q)
-  where
-    or_none : (o : Option (List ℕ)) → option_or o None ≡ o
-    or_none None = refl
-    or_none (Some e) = refl
 
 moves_over : (b : Bool) (e : List ℕ) (o meta : Option (List ℕ)) → (b ≡ true → o ≡ None) → option_or o (cond b (Some e) meta) ≡ option_or (cond b (Some e) o) meta
 moves_over true e o meta none = ap (λ p. option_or p (Some e)) (none refl)

@@ -7,7 +7,7 @@ use Rattle.model_maps.specs.Entry.{Entry}
 use Rattle.model_maps.specs.KeyMap.{KeyMap}
 use Rattle.model_formats.specs.Holding.{EachHas, LacksFirst}
 use Rattle.model_formats.proofs.HoldingLemmas.{EachHas-entries}
-use Rattle.model_lines.proofs.AllLemmas.{all-append}
+use Rattle.general_words.proofs.Lists.{all_append}
 
 pub record HaveBefore (Has : Name → Entry → Type 0) (keys : KeyMap) (left : List (Name × Entry)) : Type 0 where
   pub front : List (Name × Entry)
@@ -23,7 +23,7 @@ module _ (Has : Name → Entry → Type 0) (keys : KeyMap) where
   HaveBefore-more name entry left behind h cut has = record {
     front = h.front ++ (name, entry) ∷ [];
     all = subst (λ rest. map.entries keys ≡ h.front ++ rest) cut h.all ∙ sym (append_assoc h.front ((name, entry) ∷ []) behind);
-    before = all-append (λ key. Has key.0 key.1) h.front ((name, entry) ∷ []) h.before (has, tt);
+    before = all_append (λ key. Has key.0 key.1) h.front ((name, entry) ∷ []) h.before (has, tt);
   }
 
   -- none is left

@@ -6,6 +6,7 @@ use Rattle.std.specs.FinMap.Entries.{below_all, put, find-append}
 use Rattle.std.specs.Ordering.{eq_by_cmp}
 use Rattle.std.specs.declared.cmp.Ordering.{Ordering}
 use Rattle.std.specs.declared.cmp.Ordering.TheVariants.{Less, Greater}
+use Rattle.std.specs.Option.{option_or}
 use Rattle.general_words.proofs.Tests.{first, second, both}
 use Rattle.general_words.proofs.Orders.{less, not_tied, turned}
 use Rattle.general_words.proofs.Lists.{take-next, cut-next}
@@ -53,6 +54,14 @@ module _ {K X : Type 0} (R : K → K → Ordering) where
         | true ↦ λ h. h
         | false ↦ λ h. find-front n es q v h
       ] found
+
+  -- what is found in two lists, one after the other
+  pub find-both : (es fs : List (K × X)) (q : K) → find R q (es ++ fs) ≡ option_or (find R q es) (find R q fs)
+  find-both [] fs q = refl
+  find-both (e ∷ es) fs q = elim (eq_by_cmp R q e.0) as (λ b. cond b (Some e.1) (find R q (es ++ fs)) ≡ option_or (cond b (Some e.1) (find R q es)) (find R q fs)) [
+    | true ↦ refl
+    | false ↦ find-both es fs q
+  ]
 
   -- a key below all others is none of them
   pub find-below : (q : K) (es : List (K × X)) → T (below_all R q es) → find R q es ≡ None

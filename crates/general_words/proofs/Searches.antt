@@ -5,6 +5,16 @@ use Rattle.std.proofs.lemmas.List.{take_all}
 use Rattle.general_words.specs.Searches.{first_some, IsFirstAnswer}
 use Rattle.general_words.proofs.Lists.{some_is, take-next}
 
+-- no answer behind another adds nothing
+pub or_none : {A : Type 0} (o : Option A) → option_or o None ≡ o
+or_none None = refl
+or_none (Some x) = refl
+
+-- the first of three answers, joined either way
+pub or_assoc : {A : Type 0} (a b c : Option A) → option_or (option_or a b) c ≡ option_or a (option_or b c)
+or_assoc None b c = refl
+or_assoc (Some x) b c = refl
+
 pub first_some-none : {A B : Type 0} (f : A → Option B) (x : A) (xs : List A) → f x ≡ None → first_some f (x ∷ xs) ≡ first_some f xs
 first_some-none f x xs e = ap (λ o. option_or o (first_some f xs)) e
 
@@ -14,11 +24,7 @@ first_some-some f x xs y e = ap (λ o. option_or o (first_some f xs)) e
 -- the first answer of two lists, one after the other
 pub first_some-append : {A B : Type 0} (f : A → Option B) (xs ys : List A) → first_some f (xs ++ ys) ≡ option_or (first_some f xs) (first_some f ys)
 first_some-append f [] ys = refl
-first_some-append f (x ∷ xs) ys = ap (option_or (f x)) (first_some-append f xs ys) ∙ by (f x) (first_some f xs) (first_some f ys)
-  where
-    by : {B : Type 0} (a b c : Option B) → option_or a (option_or b c) ≡ option_or (option_or a b) c
-    by None b c = refl
-    by (Some y) b c = refl
+first_some-append f (x ∷ xs) ys = ap (option_or (f x)) (first_some-append f xs ys) ∙ sym (or_assoc (f x) (first_some f xs) (first_some f ys))
 
 -- where no first one of two answers is, neither is one
 pub none_before : {A : Type 0} (o p : Option A) → option_or o p ≡ None → o ≡ None
@@ -47,11 +53,7 @@ first_some-front {B = B} f (suc n) (x ∷ xs) b e = by (f x) (first_some-front f
 
 -- the first answer of a list and of one more element
 pub first_some-snoc : {A B : Type 0} (f : A → Option B) (xs : List A) (x : A) → first_some f (xs ++ x ∷ []) ≡ option_or (first_some f xs) (f x)
-first_some-snoc {B = B} f xs x = first_some-append f xs (x ∷ []) ∙ ap (option_or (first_some f xs)) (alone (f x))
-  where
-    alone : (o : Option B) → option_or o None ≡ o
-    alone None = refl
-    alone (Some y) = refl
+first_some-snoc f xs x = first_some-append f xs (x ∷ []) ∙ ap (option_or (first_some f xs)) (or_none (f x))
 
 -- nothing is told of the first elements: so what is told of those and the next is what is told of the next
 pub first_some-next : {A B : Type 0} (f : A → Option B) (xs : List A) (i : ℕ) (x : A) {o : Option B} → Some x ≡ slice_get xs i → first_some f (take i xs) ≡ None → f x ≡ o → first_some f (take (i + 1) xs) ≡ o

@@ -1,5 +1,6 @@
--- Tests: two that are joined by `&&`, what holds where one does, and branches on them.
-use Rattle.std.proofs.Common.{◌≡◌, Bool, true, false, T, ◌&&◌, cond, refl, sym, subst}
+-- Tests: two that are joined by `&&` or `||`, what holds where one does, and branches on them.
+use Rattle.std.proofs.Common.{◌≡◌, ℕ, Bool, true, false, T, not, ◌&&◌, ◌||◌, cond, nat_eq, Option, Some, None, refl, sym, ap, subst, eqb-true, eq-eqb}
+use Rattle.std.specs.Option.{option_eq}
 
 -- of two tests that hold together, the first
 pub first : (a b : Bool) → T (a && b) → T a
@@ -26,6 +27,25 @@ true_is b e = subst T (sym e) tt
 pub not_true : (b : Bool) → (T b → ⊥) → b ≡ false
 not_true true h = absurd (h tt)
 not_true false h = refl
+
+-- what isn't so, where the test of that passed
+pub not_is : (b : Bool) → not b ≡ true → b ≡ false
+not_is true e = absurd cc
+not_is false e = refl
+
+-- one of two tests that holds is enough
+pub or_behind : (a b : Bool) → b ≡ true → (a || b) ≡ true
+or_behind true b e = refl
+or_behind false b e = e
+
+-- a number that passes the test of another is that one
+pub is_number : (o : Option ℕ) (i : ℕ) → option_eq nat_eq o (Some i) ≡ true → o ≡ Some i
+is_number None i e = absurd cc
+is_number (Some n) i e = ap Some (eqb-true n i e)
+
+pub number_itself : (o : Option ℕ) → option_eq nat_eq o o ≡ true
+number_itself None = refl
+number_itself (Some n) = eq-eqb n n refl
 
 -- a test that is repeated: the inner branch is never reached
 pub shadowed : {A : Type 0} (b : Bool) (x y z : A) → cond b x (cond b y z) ≡ cond b x z

@@ -9,12 +9,12 @@ use Rattle.model_names.specs.Spelling.{path}
 use Rattle.model_names.specs.Spells.{longest_path}
 use Rattle.model_names.specs.WellFormed.{IsName, IsPart}
 use Rattle.model_names.proofs.RefusesLemmas.{position-no_nul}
-use Rattle.model_lines.proofs.AllLemmas.{all-back}
 use Rattle.key_name.specs.Children.{child_of, child_refusal, is_misspelled, too_long_path}
 use Rattle.key_name.specs.Refused.{IsChildRefusal}
 use Rattle.key_name.specs.declared.faults.NameFault.{NameFault}
 use Rattle.key_name.specs.declared.faults.NameFault.TheVariants as faults
 use Rattle.key_name.proofs.NameOfLemmas.{refusal_is}
+use Rattle.general_words.proofs.Lists.{all_back}
 
 spelled_well : (part : Part) → IsPart part → is_misspelled part ≡ false
 spelled_well part is = by (is_array_like part) (is_canonical part) is.canonical
@@ -26,7 +26,7 @@ spelled_well part is = by (is_array_like part) (is_canonical part) is.canonical
 
 accepted : (above : Name) (part : Part) → IsName (child_of above part) → child_refusal above part ≡ None
 accepted above part is =
-    let last = (all-back IsPart above.parts (part ∷ []) is.parts).0 in
+    let last = (all_back IsPart above.parts (part ∷ []) is.parts).0 in
     cond-false _ _ _ (spelled_well part last) ∙ ap (λ nul. option_or (option_map Nul nul) (too_long_path (child_of above part))) (position-no_nul part last.no_nul)
     ∙ cond-false (ltb longest_path (length (path (child_of above part)))) _ _ (false_from_ne_true _ (λ long. let over = ltb-true longest_path (length (path (child_of above part))) long in let limit = is.limit in absurd (omega arith)))
 

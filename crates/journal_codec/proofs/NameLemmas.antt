@@ -3,8 +3,7 @@ use Rattle.std.proofs.Common.{◌≡◌, ℕ, ◌<◌, ◌≤◌, true, false, n
 use Rattle.std.specs.List.{AllByRecursion}
 use Rattle.std.specs.List.Sorted.{IsStrictlySortedBy}
 use Rattle.std.specs.Ordering.{nat_cmp, is_lt}
-use Rattle.std.specs.declared.cmp.Ordering.{Ordering}
-use Rattle.std.specs.declared.cmp.Ordering.TheVariants.{Less, Equal, Greater}
+use Rattle.std.specs.declared.cmp.Ordering.TheVariants.{Less}
 use Rattle.std.specs.Cmp.Lexicographic.{slice_cmp, nat_list_cmp_total}
 use Rattle.std.proofs.lemmas.Bool.{true≢false, cases_lt, and_parts, and_from, not-true, not_from_false}
 use Rattle.std.proofs.lemmas.List.{get_or_past}
@@ -13,11 +12,8 @@ use Rattle.kdb_outside.specs.FileName.{IsNameByte, IsFileName, is_file_name}
 use Rattle.kdb_outside.proofs.FileNameLemmas.{is_file_name-Decides}
 use Rattle.journal_codec.specs.Entry.{begins_with_journal}
 use Rattle.journal_codec.specs.Reading.{is_next_name}
-
-is_less : (o : Ordering) → is_lt o ≡ true → o ≡ Less
-is_less Less e = refl
-is_less Equal e = absurd cc
-is_less Greater e = absurd cc
+use Rattle.general_words.proofs.Tests.{true_is}
+use Rattle.general_words.proofs.Orders.{less}
 
 -- what the test of a name behind another one says
 pub record IsNext (previous name : List ℕ) : Type 0 where
@@ -32,7 +28,7 @@ next_name_is previous name e =
     record {
       is_name = (is_file_name-Decides name).0 named.0;
       not_journal = not-true (begins_with_journal name) own.0;
-      above = is_less (slice_cmp nat_cmp previous name) own.1;
+      above = less (slice_cmp nat_cmp previous name) (true_is _ own.1);
     }
 
 pub next_name_from : (previous name : List ℕ) → IsNext previous name → is_next_name previous name ≡ true
@@ -66,7 +62,7 @@ pub found_is : {E : Type 0} (previous name text : List ℕ) (result : Result (Op
 found_is previous name text (Err fault) same own above h = tt
 found_is previous name text (Ok None) same own above h = λ e. h (subst IsFileName (sym same) (next_name_is previous name e).is_name)
 found_is previous name text (Ok (Some found)) same own above h =
-    (next_name_from previous name (record { is_name = subst IsFileName same h.0; not_journal = own; above = is_less (slice_cmp nat_cmp previous name) above }), h.1 ∙ same)
+    (next_name_from previous name (record { is_name = subst IsFileName same h.0; not_journal = own; above = less (slice_cmp nat_cmp previous name) (true_is _ above) }), h.1 ∙ same)
 
 -- each name is above the one before it, and the first one above the given one
 abbrev pub Rises : List ℕ → List (List ℕ) → Type 0

@@ -18,7 +18,7 @@ use Rattle.model_store.specs.Sets as sets
 use Rattle.model_store.specs.Sets.{front_in, prepared}
 use Rattle.model_store.specs.Store.{Store, Formats, points_of}
 use Rattle.model_store.specs.Worlds.{World}
-use Rattle.kdb_handle.proofs.KeptLemmas.{put-each, record-whole}
+use Rattle.model_store.proofs.Kept.{put-each, record-whole}
 use Rattle.mounted_files.specs.Getting.{visible_keys}
 use Rattle.mounted_files.specs.declared.files.MountedFile.{MountedFile}
 use Rattle.store_core.specs.Cores.{StandsIn}

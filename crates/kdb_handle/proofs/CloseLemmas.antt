@@ -8,6 +8,8 @@ use Rattle.kdb_outside.specs.Crashes.{EveryImage}
 use Rattle.kdb_outside.specs.Faults.{HasRisen}
 use Rattle.kdb_outside.specs.Frames.{GoesOn}
 use Rattle.kdb_outside.specs.declared.disks.Disk.{Ghosts}
+use Rattle.kdb_outside.proofs.Rises.{risen_since}
+use Rattle.kdb_outside.proofs.Frames.{GoesOn-then}
 use Rattle.intent_journal.specs.Journal.{JournalValue}
 use Rattle.intent_journal.specs.Moments.{LeavesOnly}
 use Rattle.intent_journal.specs.Outcomes.{SameFiles, HasOnly, IsEither}
@@ -20,8 +22,7 @@ use Rattle.kdb_handle.specs.Runs.{RunsBy}
 use Rattle.kdb_handle.specs.Shares.{IsShared}
 use Rattle.kdb_handle.specs.Story.{Told, Opening, Opened, Committed, Failed, maker_of, commits_of, failures_in}
 use Rattle.kdb_handle.specs.Stores.{AreFree, IsHandle, IsStarted, seat_of, seats_back}
-use Rattle.kdb_handle.proofs.RunLemmas.{risen-since, risen-still}
-use Rattle.kdb_handle.proofs.SharedLemmas.{goes_far}
+use Rattle.kdb_handle.proofs.RunLemmas.{risen-still}
 use Rattle.model_crashes.specs.Runs.{Run, files_of, IsReached}
 use Rattle.model_store.specs.Legal.{IsLegal}
 use Rattle.model_store.specs.Store.{Formats}
@@ -168,7 +169,7 @@ module _ {D : Type 0} (formats : Formats) (g : Ghosts D) (code : Coded D) {F : T
         only = λ number. only_handles number all;
         history = ap (λ h. h.commits) history ∙ shared.history;
         legal = subst (λ (fs : List MountedFile). IsLegal formats (store_at fs) (commits_of shared.rest)) files_are shared.legal;
-        goes = subst (λ (j : JournalValue D). GoesOn g j.disk closed.disk) same_journal (goes_far g shared.journal.disk core.journal.disk closed.disk shared.goes goes);
+        goes = subst (λ (j : JournalValue D). GoesOn g j.disk closed.disk) same_journal (GoesOn-then g shared.journal.disk core.journal.disk closed.disk shared.goes goes);
         faults =
             subst (λ (j : JournalValue D). HasRisenBy (failures_in shared.rest) (g.faults j.disk) (g.faults closed.disk)) same_journal
             (risen-still (failures_in shared.rest) (g.faults shared.journal.disk) (g.faults core.journal.disk) (g.faults closed.disk) shared.faults goes.later);
@@ -180,6 +181,6 @@ module _ {D : Type 0} (formats : Formats) (g : Ghosts D) (code : Coded D) {F : T
               any_moment = always start before.0 before.2;
               now = now start before.0 before.2;
               shown = λ none. shown start before.0 before.2
-                  (λ rose. none (risen-since (g.faults journal.disk) (g.faults core.journal.disk) (g.faults closed.disk) (subst (λ (j : JournalValue D). g.faults j.disk ≤ g.faults core.journal.disk) same_journal shared.goes.later) rose));
+                  (λ rose. none (risen_since (g.faults journal.disk) (g.faults core.journal.disk) (g.faults closed.disk) (subst (λ (j : JournalValue D). g.faults j.disk ≤ g.faults core.journal.disk) same_journal shared.goes.later) rose));
             };
       }

@@ -30,7 +30,7 @@ use Rattle.model_store.specs.Sets as sets
 use Rattle.model_store.specs.Sets.{front_in, wants}
 use Rattle.model_store.specs.Store.{Store, Formats, points_of}
 use Rattle.model_store.specs.Verdicts.{commit_of}
-use Rattle.kdb_handle.proofs.KeptLemmas.{record-moves}
+use Rattle.model_store.proofs.Kept.{record-moves, good_mount}
 use Rattle.model_store.proofs.Members.{nothing_at}
 use Rattle.mounted_files.specs.Getting.{visible_keys}
 use Rattle.mounted_files.specs.declared.files.MountedFile.{MountedFile}
@@ -142,11 +142,8 @@ module _ (store : Store) (files : List MountedFile) (history : List past.Commit)
       (subst (λ (r : model.Record). IsRecord store history (seen_at involved (length history) (front_in old)) r) (sym gives.kept)
       (record-moves store history (front_in old) old involved (length history) (wants (points_of store) (replay store.start history)) h refl (λ m among. good m gives.good among) (λ m among. refl)))
     where
-      good_mount : (m : ℕ) → if_bad store m ≡ None → store.is_bad m ≡ false
-      good_mount m none = elim (store.is_bad m) as (λ b. cond b (Some m) None ≡ None → b ≡ false) [ true ↦ λ e. absurd cc | false ↦ λ e. refl ] none
-
       good : (m : ℕ) → first_bad store parent ≡ None → is_among (involved_in (points_of store) parent) m ≡ true → store.is_bad m ≡ false
-      good m none among = good_mount m (nothing_at (if_bad store) (involved_in (points_of store) parent) m none among)
+      good m none among = good_mount store m (nothing_at (if_bad store) (involved_in (points_of store) parent) m none among)
   record_got (Err why) refused = subst (λ (r : model.Record). IsRecord store history (front_in r) r) (sym refused.1) h
 
 -- whose keys are in `proc` doesn't matter to a record
@@ -287,9 +284,6 @@ module _ {F : Type 0} (lock : Place Told) (plan : Plan F) (old : HandleValue) (s
       (ap (λ (k : Known Told). k.seen) left_is) (ap (λ (k : Known Told). k.own) left_is ∙ ap (λ (l : List Told). l ++ told) same.2) one places kept
 
   module _ {D : Type 0} (formats : Formats) (g : Ghosts D) (code : Coded D) (core : Core D) (entries : ℕ) (found : List Told) (seen : IsPrefix seat.seen found) (shared : IsShared formats g code core entries found) where
-    pub legal_seen : IsLegal formats (store_at plan.mounted) (commits_of found)
-    legal_seen = legal_found formats g code lock plan taken core entries found taken_is seen shared
-
     -- the clause of the core's get
     abbrev GotClause : Name → Record → Result Got GetFault → Type 0
     GotClause parent new result = (procs : ℕ → KeyMap) (records : ℕ → model.Record) (prepared : ℕ → Option sets.Prepared) → procs (handle_of rec) ≡ proc_of rec → records (handle_of rec) ≡ record_of rec

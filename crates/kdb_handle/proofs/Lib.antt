@@ -1,7 +1,6 @@
 -- How the story of a store goes on.
 mod StoryLemmas
 mod RunLemmas
-mod KeptLemmas
 mod RecordLemmas
 mod AcceptLemmas
 mod BelongLemmas

@@ -1,5 +1,5 @@
 -- A handle's record, as the history that it has seen goes on.
-use Rattle.std.proofs.Common.{◌≡◌, ℕ, ◌≤◌, Bool, true, false, cond, ◌&&◌, ◌||◌, nat_eq, List, [], ◌∷◌, ◌++◌, length, Option, Some, None, refl, sym, ap, ap₂, subst, ◌∙◌, eq-eqb, arith}
+use Rattle.std.proofs.Common.{◌≡◌, ℕ, ◌≤◌, Bool, true, cond, ◌&&◌, ◌||◌, nat_eq, List, [], ◌∷◌, ◌++◌, length, Option, None, refl, sym, ap, ap₂, subst, ◌∙◌, eq-eqb, arith}
 use mathlib.Core.List.{IsPrefix}
 use Rattle.std.specs.List.{list_all}
 use Rattle.std.specs.Option.{option_eq, option_map}
@@ -10,9 +10,10 @@ use Rattle.model_store.specs.Cores.{accepts}
 use Rattle.model_store.specs.Records.{Fronts, Record, Fetched, IsRecord, record_of, no_fronts}
 use Rattle.model_store.specs.Sets.{Prepared, front_in, only, prepared}
 use Rattle.model_store.specs.Store.{Store, points_of}
-use Rattle.kdb_handle.proofs.KeptLemmas.{front-of, record-stays, record-whole}
+use Rattle.model_store.proofs.Kept.{front-of, record-stays, record-whole}
 use Rattle.model_store.proofs.Members.{only-there}
 use Rattle.set_split.specs.Involved.{involved_in}
+use Rattle.general_words.proofs.Tests.{or_behind, number_itself}
 
 module _ (store : Store) where
   -- a record that keeps nothing is that of no fronts
@@ -33,15 +34,7 @@ module _ (store : Store) where
 all-of : (P : ℕ → Bool) (ms among : List ℕ) → ((m : ℕ) → is_among among m ≡ true → P m ≡ true) → ((m : ℕ) → is_among ms m ≡ true → is_among among m ≡ true) → list_all P ms ≡ true
 all-of P [] among each within = refl
 all-of P (m ∷ ms) among each within =
-    ap₂ (λ a b. a && b) (each m (within m (ap (λ b. b || is_among ms m) (eq-eqb m m refl)))) (all-of P ms among each (λ n is. within n (behind (nat_eq n m) (is_among ms n) is)))
-  where
-    behind : (a b : Bool) → b ≡ true → (a || b) ≡ true
-    behind true b is = refl
-    behind false b is = is
-
-same-option : (o : Option ℕ) → option_eq nat_eq o o ≡ true
-same-option None = refl
-same-option (Some n) = eq-eqb n n refl
+    ap₂ (λ a b. a && b) (each m (within m (ap (λ b. b || is_among ms m) (eq-eqb m m refl)))) (all-of P ms among each (λ n is. within n (or_behind (nat_eq n m) (is_among ms n) is)))
 
 -- a record accepts the set that it makes
 pub accepts-own : (points : List Name) (number : ℕ) (rec : Record) (parent : Name) (keys : KeyMap) → accepts rec number (prepared points number rec parent keys) ≡ true
@@ -49,5 +42,5 @@ accepts-own points number rec parent keys =
     let involved : List ℕ = involved_in points parent in
     ap₂ (λ a b. a && b) (eq-eqb number number refl)
     (all-of (λ m. option_eq nat_eq (front_in rec m) (front_in (only involved rec) m)) involved involved
-    (λ m among. ap (λ (o : Option Fetched). option_eq nat_eq (front_in rec m) (option_map (λ (f : Fetched). f.front) o)) (only-there involved rec m among) ∙ same-option (front_in rec m))
+    (λ m among. ap (λ (o : Option Fetched). option_eq nat_eq (front_in rec m) (option_map (λ (f : Fetched). f.front) o)) (only-there involved rec m among) ∙ number_itself (front_in rec m))
     (λ m among. among))

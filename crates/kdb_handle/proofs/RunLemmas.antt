@@ -38,8 +38,3 @@ risen-once n before mid now (inr stands) rose later = inr (omega arith)
 pub risen-still : (n before mid now : ℕ) → HasRisenBy n before mid → mid ≤ now → HasRisenBy n before now
 risen-still n before mid now (inl so) later = inl (omega arith)
 risen-still n before mid now (inr stands) later = inr (omega arith)
-
--- a count that rose since a later reading rose since an earlier one
-pub risen-since : (before mid now : ℕ) → before ≤ mid → HasRisen mid now → HasRisen before now
-risen-since before mid now le (inl rose) = inl (omega arith)
-risen-since before mid now le (inr stands) = inr stands

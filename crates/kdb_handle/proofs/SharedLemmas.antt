@@ -5,6 +5,7 @@ use Rattle.general_words.proofs.Lists.{some_is}
 use Rattle.kdb_outside.specs.Faults.{HasRisen}
 use Rattle.kdb_outside.specs.Frames.{GoesOn}
 use Rattle.kdb_outside.specs.declared.disks.Disk.{Ghosts}
+use Rattle.kdb_outside.proofs.Frames.{GoesOn-then}
 use Rattle.kdb_handle.specs.Opened.{opening_of, store_at}
 use Rattle.kdb_handle.specs.Rising.{HasRisenBy}
 use Rattle.kdb_handle.specs.Runs.{RunsBy}
@@ -51,9 +52,6 @@ use Rattle.store_verdict.specs.RecordView.{handle_of, record_of}
 use Rattle.store_verdict.specs.declared.prepared.Prepared.{Prepared}
 use Rattle.store_verdict.specs.declared.records.Record.{Record}
 
-pub goes_far : {D : Type 0} (g : Ghosts D) (old mid new : D) → GoesOn g old mid → GoesOn g mid new → GoesOn g old new
-goes_far g old mid new a b = record { tells = b.tells ∙ a.tells; moment = omega (arith, a.moment, b.moment); later = omega (arith, a.later, b.later) }
-
 -- what stands as it was stands for the story that it stood for
 pub shared_same : (formats : Formats) {D : Type 0} (g : Ghosts D) (code : Coded D) (core next : Core D) (entries count : ℕ) (log told : List Told) → next ≡ core → count ≡ entries → told ≡ [] → IsShared formats g code core entries log
     → IsShared formats g code next count (log ++ told)
@@ -61,10 +59,6 @@ shared_same formats {D} g code core next entries count log told same counted non
     subst (λ (c : Core D). IsShared formats g code c count (log ++ told)) (sym same)
     (subst (λ n. IsShared formats g code core n (log ++ told)) (sym counted)
     (subst (λ (l : List Told). IsShared formats g code core entries l) (sym (append-nil log) ∙ ap (λ (l : List Told). log ++ l) (sym none)) shared))
-
--- a turn that tells nothing leaves the story
-pub shared_still : (formats : Formats) {D : Type 0} (g : Ghosts D) (code : Coded D) (core : Core D) (entries : ℕ) (log : List Told) → IsShared formats g code core entries log → IsShared formats g code core entries (log ++ [])
-shared_still formats g code core entries log shared = subst (λ (l : List Told). IsShared formats g code core entries l) (sym (append-nil log)) shared
 
 -- a core that was just opened stands for its opening alone
 pub shared_first : (formats : Formats) {D : Type 0} (g : Ghosts D) (code : Coded D) (files held : List MountedFile) (core : Core D) → held ≡ files → StandsIn formats (store_at files) core (λ r m. None) (λ p. None) first_world
@@ -222,7 +216,7 @@ module _ (formats : Formats) {D : Type 0} (g : Ghosts D) (code : Coded D) (files
         legal = subst (λ (fs : List MountedFile). IsLegal formats (store_at fs) (commits_of (shared.rest ++ told))) (sym may.opening) (subst (λ (cs : List past.Commit). IsLegal formats store cs) past_is on.stands.legal);
         journal = shared.journal;
         journal_is = shared.journal_is;
-        goes = goes_far g shared.journal.disk core.journal.disk after.journal.disk shared.goes goes;
+        goes = GoesOn-then g shared.journal.disk core.journal.disk after.journal.disk shared.goes goes;
         faults =
             subst (λ n. HasRisenBy n (g.faults shared.journal.disk) (g.faults after.journal.disk)) (sym (failures-append shared.rest told))
             (subst (λ (ts : List Told). HasRisenBy (failures_in shared.rest + failures_in ts) (g.faults shared.journal.disk) (g.faults after.journal.disk)) (sym told_is)

@@ -61,17 +61,14 @@ use Rattle.kdb_tool.specs.Serving.{BeginsEntry, FailsToStore, HasFetched, Serves
 use Rattle.kdb_tool.specs.declared.answers.Stop.{Stop}
 use Rattle.kdb_tool.specs.declared.answers.Stop.TheVariants as stops
 use Rattle.kdb_tool.specs.Sets.{AnswersSet, Judged, IsJudgement, formats, set_alone, store_alone, stored_by, the_handle}
+use Rattle.general_words.proofs.Tests.{number_itself}
 
 -- ---- a record accepts what it just made
-
-same_front : (o : Option ℕ) → option_eq nat_eq o o ≡ true
-same_front None = refl
-same_front (Some n) = itself_number n
 
 all_fronts : (rec : model.Record) (involved ms : List ℕ) → ((m : ℕ) → is_among ms m ≡ true → is_among involved m ≡ true) → list_all (λ m. option_eq nat_eq (front_in rec m) (front_in (only involved rec) m)) ms ≡ true
 all_fronts rec involved [] there = refl
 all_fronts rec involved (m ∷ ms) there =
-    both _ _ (ap (λ b. option_eq nat_eq (front_in rec m) (front_of (cond b (rec m) None))) (there m (among-first m ms)) ∙ same_front (front_in rec m))
+    both _ _ (ap (λ b. option_eq nat_eq (front_in rec m) (front_of (cond b (rec m) None))) (there m (among-first m ms)) ∙ number_itself (front_in rec m))
     (all_fronts rec involved ms (λ k among. there k (among-rest m k ms among)))
   where
     front_of : Option model.Fetched → Option ℕ

@@ -14,8 +14,9 @@ use Rattle.kdb_outside.specs.Faults.{HasRisen}
 use Rattle.kdb_outside.specs.Frames.{GoesOn, OnlyReads}
 use Rattle.kdb_outside.specs.Images.{Image, IsImage}
 use Rattle.kdb_outside.specs.declared.disks.Disk.{Ghosts}
+use Rattle.kdb_outside.proofs.Rises.{risen_since}
 use Rattle.model_crashes.specs.Runs.{Run, IsOneOf, IsReached, after_begun, files_of, new_run}
-use Rattle.model_crashes.proofs.Moments.{only_both, only_follows, only_now, risen_since}
+use Rattle.model_crashes.proofs.Moments.{only_both, only_follows, only_now}
 use Rattle.model_crashes.proofs.Reached.{only_weaker}
 use Rattle.store_core.specs.Frames.{IsUnwritten}
 use Rattle.store_core.specs.declared.cores.Core.{Core}

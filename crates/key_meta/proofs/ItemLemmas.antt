@@ -6,10 +6,10 @@ use Rattle.std.specs.List.{remove}
 use Rattle.std.specs.Ordering.{eq_by_cmp}
 use Rattle.std.specs.declared.cmp.Ordering.TheVariants.{Less, Equal, Greater}
 use Rattle.std.specs.FinMap.{slice_cmp-IsAntisymmetric, nat_cmp-IsAntisymmetric}
-use Rattle.model_names.proofs.PartLemmas.{all_append}
 use Rattle.general_words.specs.Texts.{text_cmp}
 use Rattle.key_meta.specs.MetaView.{IsItem, AreItems}
 use Rattle.general_words.proofs.Orders.{tied}
+use Rattle.general_words.proofs.Lists.{all_append}
 
 pub AreItems-put : (name text : List ℕ) → IsItem (name, text) → (items : List (List ℕ × List ℕ)) → AreItems items → AreItems (put text_cmp name text items)
 AreItems-put name text is [] all = (is, tt)

@@ -5,6 +5,7 @@ use Rattle.std.specs.Option.{option_map, option_or}
 use Rattle.std.specs.Str.{IsUtf8}
 use Rattle.std.proofs.lemmas.Bool.{cond-false, false_from_ne_true, ltb-true}
 use Rattle.general_words.specs.Saturated.{saturated}
+use Rattle.general_words.proofs.Lists.{all_append}
 use Rattle.model_names.specs.declared.namespaces.Namespace.{Namespace}
 use Rattle.model_names.specs.ArrayPart.{is_array_like, is_canonical}
 use Rattle.model_names.specs.Name.{Name, Part}
@@ -12,7 +13,6 @@ use Rattle.model_names.specs.Refuses.{Nul}
 use Rattle.model_names.specs.Spelling.{path, path_of_parts}
 use Rattle.model_names.specs.Spells.{longest_path}
 use Rattle.model_names.specs.WellFormed.{IsName, IsPart}
-use Rattle.model_names.proofs.PartLemmas.{all_append}
 use Rattle.model_names.proofs.RefusesLemmas.{no_nul-from_position}
 use Rattle.key_name.specs.Children.{child_of, child_refusal, is_misspelled, too_long_path}
 

@@ -1,12 +1,11 @@
 -- Points at or above one name are fronts of each other, so in name order the last of them is the longest.
-use Rattle.std.proofs.Common.{◌≡◌, ℕ, ◌+◌, ◌-◌, ◌<◌, ◌≤◌, Bool, true, false, cond, not, leb, nat_lt, true≢false, ◌||◌, nat_eq, List, [], ◌∷◌, length, get_or, Some, None, refl, sym, ap, ap₂, ◌∙◌, inl, inr, ◌⊎◌, arith}
+use Rattle.std.proofs.Common.{◌≡◌, ℕ, ◌+◌, ◌-◌, ◌<◌, ◌≤◌, Bool, true, false, cond, not, leb, nat_lt, true≢false, ◌||◌, nat_eq, List, [], ◌∷◌, length, get_or, Some, None, sym, ap, ap₂, ◌∙◌, inl, inr, ◌⊎◌, arith}
 use Rattle.std.specs.Cmp.{tied_itself}
 use Rattle.std.specs.Cmp.Lexicographic.{slice_cmp, pointwise}
 use Rattle.std.specs.List.{position, starts_with}
 use Rattle.std.specs.List.Sorted.{IsStrictlySortedBy}
-use Rattle.std.specs.Ordering.{nat_cmp, ordering_then, is_lt}
-use Rattle.std.specs.declared.cmp.Ordering.{Ordering}
-use Rattle.std.specs.declared.cmp.Ordering.TheVariants.{Less, Equal, Greater}
+use Rattle.std.specs.Ordering.{nat_cmp, ordering_then}
+use Rattle.std.specs.declared.cmp.Ordering.TheVariants.{Less, Equal}
 use Rattle.std.proofs.lemmas.Bool.{and_parts, and_from, and_left, and_right, or_left, or_right, or_from, cases_Bool, cases_order, cond-true, cond-false, eqb-true, le-leb, leb-true, lt-ltb, ltb-true, false_from_ne_true, not_from_true, not_from_false}
 use Rattle.std.proofs.lemmas.Cmp.{nat_cmp_total, nat_list_cmp_total}
 use Rattle.std.proofs.lemmas.List.{get_or_default}
@@ -66,11 +65,6 @@ neighbours names i a b within p q less k d next =
 pub neighbours_rise : (names : List Name) (i : ℕ) (a b : Name) → 0 < i → i < length names → a ≡ get_or names (i - 1) a → b ≡ get_or names i b → IsStrictlySortedBy name_cmp names → name_cmp a b ≡ Less
 neighbours_rise names i a b some within p q rise =
     ap₂ name_cmp p (q ∙ get_or_default names i b a within) ∙ Less-from_sorted name_cmp names (i - 1) i a rise (omega arith) within
-
-pub less : (o : Ordering) → is_lt o ≡ true → o ≡ Less
-less Less h = refl
-less Equal h = absurd cc
-less Greater h = absurd cc
 
 -- ---- places
 

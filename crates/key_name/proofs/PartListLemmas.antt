@@ -16,8 +16,8 @@ use denote.Ref.{Bor}
 use Rattle.std.proofs.lemmas.List.Concat.{flat_map-append}
 use Rattle.model_names.specs.Name.{Part}
 use Rattle.model_names.specs.WellFormed.{IsPart}
-use Rattle.model_names.proofs.PartLemmas.{all_append, all_back}
 use Rattle.key_name.specs.PartList.{HasNoNul, behind_nuls, between_nuls, parts_in, begins_part}
+use Rattle.general_words.proofs.Lists.{all_append, all_back}
 
 -- nothing, or a part begins with its NUL
 abbrev pub BeginsPart : List ℕ → Type 0

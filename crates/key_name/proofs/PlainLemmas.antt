@@ -9,6 +9,8 @@ use Rattle.std.proofs.lemmas.Str.{IsUtf8-append}
 use Rattle.model_names.specs.declared.namespaces.Namespace.{Namespace}
 use Rattle.model_names.specs.declared.namespaces.Namespace.TheVariants.{Cascading, Spec, Proc, Dir, User, System, Default}
 use Rattle.general_words.specs.Texts.{is_text}
+use Rattle.general_words.proofs.Tests.{not_is}
+use Rattle.general_words.proofs.Lists.{all_append, all_back}
 use Rattle.model_names.specs.ArrayPart.{is_array_like}
 use Rattle.model_names.specs.Name.{Part}
 use Rattle.model_names.specs.RawParts.{raw_parts, raw_parts_from, put_before}
@@ -16,7 +18,7 @@ use Rattle.model_names.specs.Spelling.{is_reserved, path_of_parts, spelled, word
 use Rattle.model_names.specs.Spells.{Adds, Spells, longest_path, meaning, moved, part_of_text, unescaped, walked}
 use Rattle.model_names.proofs.EscapeLemmas.{IsUnescaped, flat_map-escaped-same}
 use Rattle.model_names.proofs.NameLemmas.{spelled-text}
-use Rattle.model_names.proofs.PartLemmas.{IsText, all_append, all_back, slashed-raw_parts, text_from_test}
+use Rattle.model_names.proofs.PartLemmas.{IsText, slashed-raw_parts, text_from_test}
 use Rattle.model_names.proofs.ReadLemmas.{meaning-by_form, unescaped-plain}
 use Rattle.key_name.specs.Plain.{between_slashes, is_ordinary, is_plain, is_plain_byte, plain_parts}
 use Rattle.key_name.specs.PartList.{HasNoNul}
@@ -29,17 +31,13 @@ pub record IsPlainByte (b : ℕ) : Type 0 where
   pub no_escape : b ≢ 92
   pub some : 0 < b
 
-not_true : (t : Bool) → not t ≡ true → t ≡ false
-not_true true h = absurd cc
-not_true false h = refl
-
 pub plain_bytes : (bytes : List ℕ) → list_all is_plain_byte bytes ≡ true → AllByRecursion IsPlainByte bytes
 plain_bytes [] h = tt
 plain_bytes (b ∷ bytes) h =
     let first = and_parts (is_plain_byte b) (list_all is_plain_byte bytes) h in
     let tests = and_parts (not (b == 92)) (not (b == 0)) first.0 in
-    let none = eqb-false b 0 (not_true (b == 0) tests.1) in
-    (record { no_escape = eqb-false b 92 (not_true (b == 92) tests.0); some = omega (arith, none) }, plain_bytes bytes first.1)
+    let none = eqb-false b 0 (not_is (b == 0) tests.1) in
+    (record { no_escape = eqb-false b 92 (not_is (b == 92) tests.0); some = omega (arith, none) }, plain_bytes bytes first.1)
 
 pub no_nuls : (bytes : List ℕ) → AllByRecursion IsPlainByte bytes → AllByRecursion (λ b. 0 < b) bytes
 no_nuls [] h = tt
@@ -88,7 +86,7 @@ pub ordinary : (raw : List ℕ) → is_ordinary raw ≡ true → IsOrdinary raw
 ordinary raw h =
     let first = and_parts (not (length raw == 0)) (not (is_reserved raw) && not (is_array_like raw)) h in
     let rest = and_parts (not (is_reserved raw)) (not (is_array_like raw)) first.1 in
-    record { filled = not_true _ first.0; no_reserved = not_true _ rest.0; no_array = not_true _ rest.1 }
+    record { filled = not_is _ first.0; no_reserved = not_is _ rest.0; no_array = not_is _ rest.1 }
 
 no_escape_first : (raw text : List ℕ) → AllByRecursion IsUnescaped raw → is_text raw (92 ∷ text) ≡ false
 no_escape_first [] text h = refl

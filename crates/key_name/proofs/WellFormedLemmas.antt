@@ -11,8 +11,8 @@ use Rattle.model_names.specs.Name.{Name, Part}
 use Rattle.model_names.specs.Spelling.{escaped, is_reserved, path_of_parts, spelled}
 use Rattle.model_names.specs.WellFormed.{IsName, IsPart}
 use Rattle.model_names.proofs.BelowLemmas.{at_or_below-rest}
-use Rattle.model_names.proofs.PartLemmas.{all_back}
 use Rattle.key_name.specs.Joining.{joined}
+use Rattle.general_words.proofs.Lists.{all_back}
 
 -- a slash and the spelling of each part
 abbrev pub slashed : List Part → List ℕ

@@ -1,12 +1,11 @@
 -- Where the keys at or below a name begin and end.
-use Rattle.std.proofs.Common.{◌≡◌, ℕ, ◌+◌, zero, suc, ◌<◌, ◌≤◌, Bool, true, false, T, not, ◌||◌, List, length, take, drop, get_or, slice_range, refl, sym, ap, ◌∙◌, inl, inr, ◌⊎◌, [], ◌∷◌, true≢false, arith}
+use Rattle.std.proofs.Common.{◌≡◌, ℕ, ◌+◌, zero, suc, ◌<◌, ◌≤◌, Bool, true, false, T, not, ◌||◌, List, length, take, drop, get_or, slice_range, refl, sym, ap, ◌∙◌, inl, inr, [], ◌∷◌, true≢false, arith}
 use Rattle.std.specs.FinMap.{is_sorted}
 use Rattle.std.specs.FinMap.Entries.{where_key}
 use Rattle.std.specs.List.{remove_range, list_all}
 use Rattle.std.specs.List.Sorted.{IsPartitionedBy, IsPartitionPoint}
 use Rattle.std.specs.Ordering.{is_lt}
-use Rattle.std.specs.declared.cmp.Ordering.{Ordering}
-use Rattle.std.specs.declared.cmp.Ordering.TheVariants.{Less, Equal, Greater}
+use Rattle.std.specs.declared.cmp.Ordering.TheVariants.{Less}
 use Rattle.std.proofs.lemmas.Bool.{cases_lt}
 use Rattle.model_names.specs.Below.{is_at_or_below}
 use Rattle.model_names.specs.Name.{Name}
@@ -14,26 +13,14 @@ use Rattle.model_names.specs.Order.{name_cmp}
 use Rattle.model_names.proofs.OrderLemmas.{name_cmp_total}
 use Rattle.model_names.proofs.BelowOrder.{at_or_below-not_before, at_or_below-between}
 use Rattle.sorted_map.proofs.RangeLemmas.{where_key-range, where_key-rest, parts_in_two}
-use Rattle.general_words.proofs.Tests.{first, second, true_of, true_is}
+use Rattle.general_words.proofs.Tests.{first, second, true_of, true_is, not_is}
+use Rattle.general_words.proofs.Orders.{less}
 use Rattle.chunked_map.specs.Chunks.{all_before, none_before}
 use Rattle.chunked_map.proofs.JoinLemmas.{same_default}
-
-less : (r : Ordering) → is_lt r ≡ true → r ≡ Less
-less Less e = refl
-less Equal e = absurd cc
-less Greater e = absurd cc
 
 or_second : (a b : Bool) → a ≡ false → (a || b) ≡ b
 or_second true b e = absurd cc
 or_second false b e = refl
-
-not_first : (a b : Bool) → (a || b) ≡ false → a ≡ false
-not_first true b e = absurd cc
-not_first false b e = refl
-
-some_or_none : {A : Type 0} (xs : List A) → (length xs ≡ 0) ⊎ A
-some_or_none [] = inl refl
-some_or_none (x ∷ xs) = inr x
 
 neither : (a b : Bool) → (a || b) ≡ false → b ≡ false
 neither true b e = absurd cc
@@ -48,7 +35,7 @@ module _ (above : Name) where
   is_not_behind name = is_lt (name_cmp name above) || is_at_or_below above name
 
   before_closed : (x y : Name) → name_cmp x y ≡ Less → is_before y ≡ true → is_before x ≡ true
-  before_closed x y nearer before = ap is_lt (name_cmp_total.trans x y above nearer (less _ before))
+  before_closed x y nearer before = ap is_lt (name_cmp_total.trans x y above nearer (less _ (true_is _ before)))
 
   not_behind_closed : (x y : Name) → name_cmp x y ≡ Less → is_not_behind y ≡ true → is_not_behind x ≡ true
   not_behind_closed x y nearer h =
@@ -85,19 +72,6 @@ module _ (above : Name) where
       behind_outside : (k : ℕ) (d : Name × X) → to ≤ k → k < length es → is_at_or_below above (get_or es k d).0 ≡ false
       behind_outside k d le in_list = neither _ _ (ends.1 k d le in_list)
 
-      ordered_by : (d : Name × X) → from ≤ to
-      ordered_by d = elim (cases_lt to from) [
-        | inl lt ↦
-            let name = (get_or es to d).0 in
-            let before : is_before name ≡ true = begins.0 to d (omega arith) lt in
-            let behind : is_before name ≡ false = not_first (is_before name) (is_at_or_below above name) (ends.1 to d (omega arith) (omega arith)) in
-            absurd (true≢false (sym before ∙ behind))
-        | inr le ↦ le
-      ]
-
-      pub ordered : from ≤ to
-      ordered = elim (some_or_none es) [ inl none ↦ omega arith | inr d ↦ ordered_by d ]
-
       pub inside_range : from ≤ to → where_key name_cmp (is_at_or_below above) es ≡ slice_range es from to
       inside_range le = where_key-range name_cmp (is_at_or_below above) es from to le before_outside within_inside behind_outside
 
@@ -118,10 +92,6 @@ all_from p (e ∷ es) zero zero d h le in_list = true_of _ (first _ _ h)
 all_from p (e ∷ es) zero (suc k) d h le in_list = all_from p es zero k d (second _ _ h) (omega arith) (omega arith)
 all_from p (e ∷ es) (suc n) zero d h le in_list = absurd (omega arith)
 all_from p (e ∷ es) (suc n) (suc k) d h le in_list = all_from p es n k d h (omega arith) (omega arith)
-
-not_is : (b : Bool) → not b ≡ true → b ≡ false
-not_is true e = absurd cc
-not_is false e = refl
 
 -- the first of the keys from a place on
 module _ {A : Type 0} where

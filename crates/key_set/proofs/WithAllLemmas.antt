@@ -1,5 +1,5 @@
 -- Keys with others set among them: what is found there, and how sorted entries make them.
-use Rattle.std.proofs.Common.{◌≡◌, true, false, T, cond, List, [], ◌∷◌, length, Option, Some, None, refl, sym, ap, subst, ◌∙◌}
+use Rattle.std.proofs.Common.{◌≡◌, true, false, T, cond, List, [], ◌∷◌, length, Some, refl, sym, ap, subst, ◌∙◌}
 use Rattle.std.specs.FinMap as map
 use Rattle.std.specs.FinMap.{find, is_sorted}
 use Rattle.std.specs.FinMap.Entries.{below_all, put, is_sorted-put}
@@ -19,6 +19,7 @@ use Rattle.general_words.proofs.Tests.{first, second}
 use Rattle.general_words.proofs.Lists.{no_entries}
 use Rattle.general_words.proofs.Orders.{tied}
 use Rattle.general_words.proofs.Entries.{find-below}
+use Rattle.general_words.proofs.Searches.{or_none}
 
 -- what is found among keys with others: the others' entry, and else the keys'
 get-with_keys : (others : List (Name × Entry)) (keys : KeyMap) (name : Name) → T (is_sorted name_cmp others) → map.get (with_keys others keys) name ≡ option_or (find name_cmp name others) (map.get keys name)
@@ -54,7 +55,3 @@ with_all-none others keys none = map.same_map name_cmp_total name_cmp-IsAntisymm
     sym (get-with_all others keys name
     ∙ ap (option_or (map.get others name)) (map.get-entries keys name ∙ ap (find name_cmp name) (no_entries (map.entries keys) none))
     ∙ or_none (map.get others name)))
-  where
-    or_none : (o : Option Entry) → option_or o None ≡ o
-    or_none None = refl
-    or_none (Some e) = refl

@@ -1,8 +1,6 @@
--- What a crash might have left while calls went on, one after the other, and what a count of faults tells of them.
-use Rattle.std.proofs.Common.{◌≡◌, ℕ, ◌-◌, ◌^◌, ◌<◌, ◌≤◌, List, true, inl, inr, arith}
-use Rattle.std.proofs.lemmas.Bool.{cases_lt}
+-- What a crash might have left while calls went on, one after the other.
+use Rattle.std.proofs.Common.{◌≡◌, ◌-◌, ◌^◌, ◌<◌, ◌≤◌, List, true, inl, inr, arith}
 use Rattle.kdb_outside.specs.declared.disks.Disk.{Ghosts}
-use Rattle.kdb_outside.specs.Faults.{HasRisen}
 use Rattle.kdb_outside.specs.Frames.{OnlyReads}
 use Rattle.kdb_outside.specs.Images.{Image, IsImage}
 use Rattle.intent_journal.specs.Moments.{LeavesOnly}
@@ -44,13 +42,3 @@ only_now g disk P tells every = record {
   each = λ image left. every image (g.only_now disk image tells left);
   earlier = λ moment image le left. inl left;
 }
-
--- a count that rose later rose since earlier
-pub risen_since : (a b c : ℕ) → a ≤ b → HasRisen b c → HasRisen a c
-risen_since a b c le (inl lt) = inl (omega arith)
-risen_since a b c le (inr top) = inr top
-
--- a count that rose stays risen
-pub risen_still : (a b c : ℕ) → a ≤ b → b ≤ c → HasRisen a b → HasRisen a c
-risen_still a b c first second (inl lt) = inl (omega arith)
-risen_still a b c first second (inr top) = elim (cases_lt a c) [ inl lt ↦ inl lt | inr le ↦ inr (omega arith) ]

@@ -16,7 +16,7 @@ use Rattle.general_words.proofs.Lists.{all_from_places}
 use Rattle.general_words.proofs.Lookups.{get-cases}
 use Rattle.general_words.proofs.Maps.{get-at}
 use Rattle.general_words.proofs.Orders.{less}
-use Rattle.general_words.proofs.Tests.{first, second}
+use Rattle.general_words.proofs.Tests.{first, second, is_number}
 use Rattle.general_words.proofs.Texts.{text_cmp-total, text_cmp-IsAntisymmetric}
 use Rattle.journal_codec.specs.Entry.{IsEntry, IsEntryFile, names_of}
 use Rattle.journal_codec.specs.declared.files.FileText.{FileText}
@@ -27,7 +27,7 @@ use Rattle.model_history.specs.History.{Commit, is_among}
 use Rattle.model_store.specs.Fitting.{Early, Fits, too_long, long_text}
 use Rattle.model_store.specs.Legal.{HasChange, IsLegalCommit}
 use Rattle.model_store.specs.Store.{Store, Formats, points_of, contents}
-use Rattle.model_store.proofs.Members.{is_number, among-first, among-rest, from_all}
+use Rattle.model_store.proofs.Members.{among-first, among-rest, from_all}
 use Rattle.model_files.specs.Files.{HaveFiles, text_of}
 use Rattle.model_files.specs.Texts.{with_text, texts_at, as_file, as_entry, entry_of}
 use Rattle.general_words.proofs.Places.{there_is}

@@ -26,7 +26,7 @@ get-there keys front name entry behind all =
     map.get-entries keys name ∙ ap (find name_cmp name) all ∙ find-there name_cmp_total front (name, entry) behind (subst (λ es. T (is_sorted name_cmp es)) all (map.entries_sorted keys))
 
 -- and a key of the map has what all entries have
-found-has : (Has : Name → Entry → Type 0) (es : List (Name × Entry)) (name : Name) (entry : Entry) → AllByRecursion (λ key. Has key.0 key.1) es → find name_cmp name es ≡ Some entry → Has name entry
+pub found-has : (Has : Name → Entry → Type 0) (es : List (Name × Entry)) (name : Name) (entry : Entry) → AllByRecursion (λ key. Has key.0 key.1) es → find name_cmp name es ≡ Some entry → Has name entry
 found-has Has [] name entry all found = absurd (none_is_no_some entry found)
 found-has Has (key ∷ es) name entry all found = by (name_cmp name key.0) refl (found-has Has es name entry all.1)
   where

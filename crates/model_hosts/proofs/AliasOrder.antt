@@ -8,6 +8,7 @@ use Rattle.std.specs.Ordering.{is_lt, ordering_reverse}
 use Rattle.std.specs.declared.cmp.Ordering.{Ordering}
 use Rattle.std.specs.declared.cmp.Ordering.TheVariants.{Less}
 use Rattle.general_words.proofs.Tests.{true_of}
+use Rattle.general_words.proofs.Lists.{all_append}
 use Rattle.model_names.specs.Below.{is_at_or_below}
 use Rattle.model_names.specs.Name.{Part, Name}
 use Rattle.model_names.specs.Order.{name_cmp}
@@ -16,7 +17,7 @@ use Rattle.model_names.proofs.BelowOrder.{at_or_below-not_before, at_or_below-be
 use Rattle.model_names.proofs.OrderLemmas.{name_cmp_total}
 use Rattle.model_maps.specs.Entry.{Entry}
 use Rattle.model_maps.specs.KeyMap.{KeyMap}
-use Rattle.model_lines.proofs.AllLemmas.{all-append, all-weaker}
+use Rattle.model_lines.proofs.AllLemmas.{all-weaker}
 use Rattle.model_formats.proofs.HoldingLemmas.{EachHas-entries}
 use Rattle.model_lines.proofs.SortedKeys.{below, before_all, below_each, sorted-behind}
 use Rattle.model_hosts.specs.Keys.{host_name, alias_name}
@@ -67,9 +68,9 @@ module _ (whole : KeyMap) (front : List (Name × Entry)) (f h : Part) (host_entr
   places =
       let P : Name × Entry → Type 0 = λ key. Place (host_name f h) (alias_name x y a) key.0 in
       let again : T (is_sorted name_cmp ((front ++ host ∷ aliases) ++ alias ∷ rest)) = subst (λ es. T (is_sorted name_cmp es)) (sym (append_assoc front (host ∷ aliases) (alias ∷ rest))) sorted in
-      all-append P front (host ∷ (aliases ++ alias ∷ rest)) (all-weaker (λ (key : Name × Entry). name_cmp key.0 (host_name f h) ≡ Less) P (λ key e. inl e) front (before_all front host (aliases ++ alias ∷ rest) sorted)) (
+      all_append P front (host ∷ (aliases ++ alias ∷ rest)) (all-weaker (λ (key : Name × Entry). name_cmp key.0 (host_name f h) ≡ Less) P (λ key e. inl e) front (before_all front host (aliases ++ alias ∷ rest) sorted)) (
         inr (inl refl),
-        all-append P aliases (alias ∷ rest) (all-weaker (λ (key : Name × Entry). length key.0.parts ≢ 2) P (λ key n. inr (inr (inl n))) aliases no_hosts) (
+        all_append P aliases (alias ∷ rest) (all-weaker (λ (key : Name × Entry). length key.0.parts ≢ 2) P (λ key n. inr (inr (inl n))) aliases no_hosts) (
           inr (inr (inl (λ e. absurd cc))),
           all-weaker (λ (key : Name × Entry). name_cmp (alias_name x y a) key.0 ≡ Less) P (λ key e. inr (inr (inr e))) rest (below_each (alias_name x y a) rest (sorted-behind (front ++ host ∷ aliases) alias rest again)),
         ),

@@ -12,17 +12,17 @@ use Rattle.model_names.specs.Order.{name_cmp}
 use Rattle.model_names.specs.WellFormed.{IsName}
 use Rattle.model_names.proofs.OrderLemmas.{name_cmp_total}
 use Rattle.general_words.specs.Texts.{text_cmp}
+use Rattle.general_words.proofs.Lists.{all_append}
 use Rattle.model_formats.proofs.Telling.{names-told}
 use Rattle.model_maps.specs.Entry.{Entry, plain_entry, IsValue}
 use Rattle.model_maps.specs.KeyMap.{KeyMap, no_keys, weight, heaviest_map}
 use Rattle.model_maps.specs.Limits.{IsLimitedKey, IsLimited}
 use Rattle.model_lines.specs.Lines.{lines}
-use Rattle.model_lines.proofs.AllLemmas.{all-append}
 use Rattle.model_lines.proofs.EachKey.{EachHas-no_keys, EachHas-insert, found_in_grown}
 use Rattle.model_lines.proofs.Leading.{IsFunctional, IsDecided, Leads-kept}
 use Rattle.model_lines.proofs.LineLemmas.{IsInLine, lines-in_line}
 use Rattle.model_lines.proofs.MapFacts.{get-insert_same, weight-no_keys}
-use Rattle.model_lines.proofs.Telling.{IsTold, IsFound, both-told, either-told, le-told, none-told, bytes-told, all-told, utf8-told, value-told, name-told, meta-told}
+use Rattle.model_lines.proofs.Telling.{IsTold, IsFound, both-told, either-told, le-told, none-told, texts-told, all-told, utf8-told, value-told, name-told, meta-told}
 use Rattle.model_hosts.specs.Line.{Meaning, Skipped, Comment, Gives, Unreadable, meaning}
 use Rattle.model_hosts.specs.Comments.{comments, texts_of}
 use Rattle.model_hosts.specs.Keys.{family, host_name, alias_name, IsWordByte, IsWord, IsOneLine, IsHostKey, IsAliasKey, IsHostsKey, IsStorable}
@@ -141,7 +141,7 @@ host_key-told name entry =
 
 plain-told : (entry : Entry) → IsTold (entry ≡ plain_entry [])
 plain-told entry =
-    elim (both-told (bytes-told entry.value []) (meta-told entry.meta finite.empty)) [
+    elim (both-told (texts-told entry.value []) (meta-told entry.meta finite.empty)) [
       | inl h ↦ inl (λ i. record { value = h.0 i; meta = h.1 i })
       | inr bad ↦ inr (λ e. bad (ap (λ (x : Entry). x.value) e, ap (λ (x : Entry). x.meta) e))
     ]
@@ -242,7 +242,7 @@ start-good = record {
 
 with_own-one_line : (waiting : List (List ℕ)) (own : Option (List ℕ)) → AllByRecursion IsOneLine waiting → IsOwn own → AllByRecursion IsOneLine (with_own waiting own)
 with_own-one_line waiting None h is = h
-with_own-one_line waiting (Some own) h is = all-append IsOneLine waiting (own ∷ []) h (is, tt)
+with_own-one_line waiting (Some own) h is = all_append IsOneLine waiting (own ∷ []) h (is, tt)
 
 AddsHost-good : (before : Progress) (address host : List ℕ) (aliases : List (List ℕ)) (own : Option (List ℕ)) (after : Progress) → IsFine (Gives address host aliases own) → IsGood before → AddsHost before address host aliases own after → IsGood after
 AddsHost-good before address host aliases own after fine good adds =
@@ -279,7 +279,7 @@ AddsHost-good before address host aliases own after fine good adds =
 Does-good : (m : Meaning) (before after : Progress) → IsFine m → IsGood before → Does m before after → IsGood after
 Does-good Skipped before after fine good does = subst IsGood (sym does) good
 Does-good (Comment text) before after fine good does =
-    subst IsGood (sym does) (record { limited = good.limited; storable = good.storable; waiting = all-append IsOneLine before.waiting (text ∷ []) good.waiting (fine, tt) })
+    subst IsGood (sym does) (record { limited = good.limited; storable = good.storable; waiting = all_append IsOneLine before.waiting (text ∷ []) good.waiting (fine, tt) })
 Does-good (Gives address host aliases own) before after fine good does = AddsHost-good before address host aliases own after fine good does
 Does-good Unreadable before after fine good does = absurd does
 

@@ -10,7 +10,6 @@ use Rattle.model_maps.specs.Entry.{Entry, plain_entry, IsValue}
 use Rattle.model_maps.specs.KeyMap.{KeyMap, no_keys, weight, weight_of_key, heaviest_map}
 use Rattle.model_maps.specs.Limits.{IsLimitedKey, IsLimited}
 use Rattle.model_lines.specs.Reading.{Leads}
-use Rattle.model_lines.proofs.AllLemmas.{all-append}
 use Rattle.model_lines.proofs.Leading.{Leads-append}
 use Rattle.model_lines.proofs.LineLemmas.{IsInLine, lines-ended}
 use Rattle.model_lines.proofs.MapFacts.{next_is_new, next_is_there, next_joins, none_left, all_left, sum_by-front}
@@ -21,6 +20,7 @@ use Rattle.model_hosts.specs.Text.{Group, grouped, lines_of, text}
 use Rattle.model_hosts.proofs.AliasOrder.{alias_follows, alias_not_first}
 use Rattle.model_hosts.proofs.CommentLemmas.{texts_of-all}
 use Rattle.model_hosts.proofs.GroupLines.{IsEntry, with_group, group_leads, group-in_line}
+use Rattle.general_words.proofs.Lists.{all_append}
 
 -- a map without waiting comments
 abbrev at : KeyMap → Progress
@@ -83,7 +83,7 @@ module _ (whole : KeyMap) (limited : IsLimited whole) (part : KeyMap) (name : Na
         leads = Leads-append Step (lines_of group) (flat_map lines_of groups.1) (at part) (at (with_group part entry.value key.host (texts_of entry.meta) groups.0)) (at whole)
             (group_leads part entry.value key.host (texts_of entry.meta) groups.0 is)
             (subst (λ keys. Leads Step (at (with_aliases (family entry.value) key.host groups.0 keys)) (flat_map lines_of groups.1) (at whole)) made w.leads);
-        in_line = all-append (AllByRecursion IsInLine) (lines_of group) (flat_map lines_of groups.1) (group-in_line part entry.value key.host (texts_of entry.meta) groups.0 is) w.in_line;
+        in_line = all_append (AllByRecursion IsInLine) (lines_of group) (flat_map lines_of groups.1) (group-in_line part entry.value key.host (texts_of entry.meta) groups.0 is) w.in_line;
       }
 
 -- ---- the keys that are left
@@ -139,7 +139,7 @@ written whole limited storable (key ∷ rest) part f h front last aliases cut or
           let no_host : length key.0.parts ≢ 2 = λ e. three alias.of_family alias.host alias.alias (sym (ap (λ (n : Name). length n.parts) alias.is_alias) ∙ e) in
           written-alias whole limited part f h key.0 key.1 rest cut alias same
           (written whole limited storable rest (finite.insert part key.0 key.1) f h front last (aliases ++ key ∷ []) joined (one_alias_more front (host_name f h, last) aliases key rest (finite.entries whole) order)
-          (all-append (λ (k : Name × Entry). length k.0.parts ≢ 2) aliases (key ∷ []) no_hosts (no_host, tt)))
+          (all_append (λ (k : Name × Entry). length k.0.parts ≢ 2) aliases (key ∷ []) no_hosts (no_host, tt)))
     ]
   where
     three : (x y z : Part) → length (x ∷ y ∷ z ∷ []) ≡ 2 → ⊥

@@ -3,12 +3,13 @@ use Rattle.std.specs.Prelude.{◌≡◌, ◌≢◌, ℕ, false, ◌==◌, List, 
 use Rattle.std.proofs.Common.{cond, refl, ap, ◌∙◌}
 use Rattle.std.specs.List.{AllByRecursion, flat_map, list_any}
 use Rattle.std.proofs.lemmas.Bool.{ne_eqb, eqb-false, cond-false, or_from}
-use Rattle.model_lines.proofs.AllLemmas.{all-append, all-weaker, all-flat_map}
+use Rattle.model_lines.proofs.AllLemmas.{all-weaker, all-flat_map}
 use Rattle.model_lines.proofs.LineLemmas.{IsInLine, without_return-same}
 use Rattle.model_hosts.specs.Line.{cut_at_hash, words, Meaning, Comment, Gives, Unreadable, meaning_of, meaning}
 use Rattle.model_hosts.specs.Keys.{IsWordByte, IsWord, IsOneLine}
 use Rattle.model_hosts.specs.Text.{host_line}
 use Rattle.model_hosts.proofs.WordLemmas.{words-word, words-row}
+use Rattle.general_words.proofs.Lists.{all_append}
 
 no_return-any : (bytes : List ℕ) → AllByRecursion (λ b. b ≢ 13) bytes → list_any (λ b. b == 13) bytes ≡ false
 no_return-any [] h = refl
@@ -50,9 +51,9 @@ tab-entry = record { no_feed = eqb-false 9 10 refl; no_return = eqb-false 9 13 r
 
 host_line-entry : (address host : List ℕ) (aliases : List (List ℕ)) → IsWord address → IsWord host → AllByRecursion IsWord aliases → AllByRecursion IsEntryByte (host_line address host aliases)
 host_line-entry address host aliases is_address is_host are_aliases =
-    all-append IsEntryByte address (9 ∷ (host ++ flat_map (λ alias. 32 ∷ alias) aliases)) (word-entry address is_address) (
+    all_append IsEntryByte address (9 ∷ (host ++ flat_map (λ alias. 32 ∷ alias) aliases)) (word-entry address is_address) (
       tab-entry,
-      all-append IsEntryByte host (flat_map (λ alias. 32 ∷ alias) aliases) (word-entry host is_host)
+      all_append IsEntryByte host (flat_map (λ alias. 32 ∷ alias) aliases) (word-entry host is_host)
           (all-flat_map IsEntryByte (λ alias. 32 ∷ alias) aliases (all-weaker IsWord (λ alias. AllByRecursion IsEntryByte (32 ∷ alias)) (λ alias is. (blank-entry, word-entry alias is)) aliases are_aliases)),
     )
 

@@ -5,7 +5,7 @@ use Rattle.std.specs.List.{AllByRecursion, flat_map}
 use Rattle.std.proofs.lemmas.Bool.{ne_eqb, eqb-false, cond-false, or_from}
 use Rattle.std.proofs.lemmas.List.Concat.{flat_map-append}
 use Rattle.model_lines.specs.Lines.{without_return}
-use Rattle.model_lines.proofs.AllLemmas.{all-append, all-weaker, all-flat_map}
+use Rattle.model_lines.proofs.AllLemmas.{all-weaker, all-flat_map}
 use Rattle.model_lines.proofs.LineLemmas.{IsInLine, without_return-same}
 use Rattle.model_ini.specs.declared.signs.Sign.{Sign}
 use Rattle.model_ini.specs.declared.signs.Sign.TheVariants.{Plain, Covered}
@@ -16,6 +16,7 @@ use Rattle.model_ini.proofs.SignLemmas.{IsBare, signs-spelled, byte_of-value_sig
 use Rattle.model_ini.proofs.Trimming.{LastFails, trimmed-same, trimmed-blank_behind, cut_at_equals-at}
 use Rattle.model_ini.proofs.WrittenSigns.{IsWritten, Begins, AreBegun, IsFilled, value_signs-written, name_signs-written, value_signs-first, value_signs-last, name_signs-last, name_signs-not_equals, name_signs-begun, bare-written}
 use Rattle.std.specs.Prelude.{map}
+use Rattle.general_words.proofs.Lists.{all_append}
 
 pub text_of-value_signs : (text : List ℕ) → text_of (value_signs text) ≡ Some text
 text_of-value_signs text =
@@ -39,7 +40,7 @@ pub line_signs-written : (name value : List ℕ) → AllByRecursion IsWritten (l
 line_signs-written name value =
     let blank : IsWritten (Plain 32) = record { no_backslash = eqb-false 32 92 refl; no_feed = eqb-false 32 10 refl; no_return = eqb-false 32 13 refl; no_tab = eqb-false 32 9 refl } in
     let equals : IsWritten (Plain 61) = record { no_backslash = eqb-false 61 92 refl; no_feed = eqb-false 61 10 refl; no_return = eqb-false 61 13 refl; no_tab = eqb-false 61 9 refl } in
-    all-append IsWritten (name_signs name) (Plain 32 ∷ Plain 61 ∷ Plain 32 ∷ value_signs value) (name_signs-written name) (blank, (equals, (blank, value_signs-written value)))
+    all_append IsWritten (name_signs name) (Plain 32 ∷ Plain 61 ∷ Plain 32 ∷ value_signs value) (name_signs-written name) (blank, (equals, (blank, value_signs-written value)))
 
 spelled-in_line : (s : Sign) → IsWritten s → AllByRecursion (λ b. (b ≢ 10) × (b ≢ 13)) (spelled_sign s)
 spelled-in_line (Plain b) h = ((h.no_feed, h.no_return), tt)
@@ -83,7 +84,7 @@ trimmed-begun (s ∷ ss) begun last = trimmed-blank_behind s ss (begun-not_blank
 cut-line_signs : (name value : List ℕ) → cut_at_equals (line_signs name value) ≡ Some (name_signs name ++ Plain 32 ∷ [], Plain 32 ∷ value_signs value)
 cut-line_signs name value =
     ap cut_at_equals (sym (append_assoc (name_signs name) (Plain 32 ∷ []) (Plain 61 ∷ Plain 32 ∷ value_signs value)))
-    ∙ cut_at_equals-at (name_signs name ++ Plain 32 ∷ []) (Plain 32 ∷ value_signs value) (all-append (λ s. is_equals s ≡ false) (name_signs name) (Plain 32 ∷ []) (name_signs-not_equals name) (refl, tt))
+    ∙ cut_at_equals-at (name_signs name ++ Plain 32 ∷ []) (Plain 32 ∷ value_signs value) (all_append (λ s. is_equals s ≡ false) (name_signs name) (Plain 32 ∷ []) (name_signs-not_equals name) (refl, tt))
 
 pub meaning-line_of : (name value : List ℕ) → IsFilled name → meaning (line_of name value) ≡ Pair name value
 meaning-line_of name value filled =

@@ -1,14 +1,7 @@
 -- What holds of each element of a list.
-use Rattle.std.specs.Prelude.{List, [], ◌∷◌, ◌++◌, map}
+use Rattle.std.specs.Prelude.{List, [], ◌∷◌, map}
 use Rattle.std.specs.List.{AllByRecursion, flat_map}
-
-pub all-back : {A : Type 0} (P : A → Type 0) (xs ys : List A) → AllByRecursion P (xs ++ ys) → AllByRecursion P ys
-all-back P [] ys h = h
-all-back P (x ∷ xs) ys h = all-back P xs ys h.1
-
-pub all-append : {A : Type 0} (P : A → Type 0) (xs ys : List A) → AllByRecursion P xs → AllByRecursion P ys → AllByRecursion P (xs ++ ys)
-all-append P [] ys p q = q
-all-append P (x ∷ xs) ys p q = (p.0, all-append P xs ys p.1 q)
+use Rattle.general_words.proofs.Lists.{all_append}
 
 pub all-weaker : {A : Type 0} (P Q : A → Type 0) → ((x : A) → P x → Q x) → (xs : List A) → AllByRecursion P xs → AllByRecursion Q xs
 all-weaker P Q f [] h = tt
@@ -24,4 +17,4 @@ all-map P f (x ∷ xs) h = (h.0, all-map P f xs h.1)
 
 pub all-flat_map : {A B : Type 0} (P : B → Type 0) (f : A → List B) (xs : List A) → AllByRecursion (λ x. AllByRecursion P (f x)) xs → AllByRecursion P (flat_map f xs)
 all-flat_map P f [] h = tt
-all-flat_map P f (x ∷ xs) h = all-append P (f x) (flat_map f xs) h.0 (all-flat_map P f xs h.1)
+all-flat_map P f (x ∷ xs) h = all_append P (f x) (flat_map f xs) h.0 (all-flat_map P f xs h.1)

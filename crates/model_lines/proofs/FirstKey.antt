@@ -15,7 +15,8 @@ use Rattle.model_names.proofs.OrderLemmas.{name_cmp_total, name_cmp-IsAntisymmet
 use Rattle.model_maps.specs.Entry.{Entry}
 use Rattle.model_maps.specs.KeyMap.{KeyMap}
 use Rattle.model_formats.specs.Holding.{LacksFirst}
-use Rattle.model_lines.proofs.SortedKeys.{has_found, sorted-behind}
+use Rattle.model_formats.proofs.HoldingLemmas.{found-has}
+use Rattle.model_lines.proofs.SortedKeys.{sorted-behind}
 
 module _ (Has : Name → Entry → Type 0) where
   -- what is found in two lists joined is found in one of them
@@ -49,6 +50,6 @@ module _ (Has : Name → Entry → Type 0) where
       let sorted = subst (λ es. T (is_sorted name_cmp es)) lacks.all (finite.entries_sorted keys) in
       let behind : find name_cmp other ((name, lacks.entry) ∷ lacks.behind) ≡ None = ap (λ r. cond (is_eq r) (Some lacks.entry) (find name_cmp other lacks.behind)) before ∙ none_above name other lacks.behind before (sorted-behind lacks.front (name, lacks.entry) lacks.behind sorted) in
       elim (find-append lacks.front ((name, lacks.entry) ∷ lacks.behind) other entry found_in) [
-        | inl there ↦ has_found Has lacks.front other entry lacks.before there
+        | inl there ↦ found-has Has lacks.front other entry lacks.before there
         | inr there ↦ let none : ◌≡◌ {A = Option Entry} None (Some entry) = sym behind ∙ there in absurd cc
       ]

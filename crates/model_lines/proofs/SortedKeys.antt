@@ -1,18 +1,18 @@
 -- Keys in name order: what stands in a sorted list is found, and what stands before a key is less.
-use Rattle.std.specs.Prelude.{◌≡◌, Bool, true, false, T, List, [], ◌∷◌, ◌++◌, Option, Some, None}
-use Rattle.std.proofs.Common.{cond, refl, sym, ap, subst, ◌∙◌}
+use Rattle.std.specs.Prelude.{◌≡◌, T, List, [], ◌∷◌, ◌++◌}
+use Rattle.std.proofs.Common.{ap, ◌∙◌}
 use Rattle.std.specs.Cmp.{tied_itself}
 use Rattle.std.specs.FinMap as finite
-use Rattle.std.specs.FinMap.{find, is_sorted}
+use Rattle.std.specs.FinMap.{is_sorted}
 use Rattle.std.specs.FinMap.Entries.{below_all}
 use Rattle.std.specs.List.{AllByRecursion}
-use Rattle.std.specs.Ordering.{is_lt, eq_by_cmp, ordering_reverse}
+use Rattle.std.specs.Ordering.{is_lt, ordering_reverse}
 use Rattle.std.specs.declared.cmp.Ordering.TheVariants.{Less, Greater}
 use Rattle.general_words.proofs.Tests.{first, second}
-use Rattle.general_words.proofs.Orders.{less, tied}
+use Rattle.general_words.proofs.Orders.{less}
 use Rattle.model_names.specs.Name.{Name}
 use Rattle.model_names.specs.Order.{name_cmp}
-use Rattle.model_names.proofs.OrderLemmas.{name_cmp_total, name_cmp-IsAntisymmetric}
+use Rattle.model_names.proofs.OrderLemmas.{name_cmp_total}
 use Rattle.model_maps.specs.Entry.{Entry}
 use Rattle.model_maps.specs.KeyMap.{KeyMap}
 
@@ -23,20 +23,6 @@ below x (f ∷ front) key rest h = below x front key rest (second _ _ h)
 
 above : (x : Name) (front : List (Name × Entry)) (key : Name × Entry) (rest : List (Name × Entry)) → T (below_all name_cmp x (front ++ key ∷ rest)) → name_cmp key.0 x ≡ Greater
 above x front key rest h = name_cmp_total.antisymm key.0 x ∙ ap ordering_reverse (below x front key rest h)
-
-same_some : {A : Type 0} (x y : A) → ◌≡◌ {A = Option A} (Some x) (Some y) → x ≡ y
-same_some x y e = cc
-
--- what is found in a list has what each element has
-pub has_found : (Has : Name → Entry → Type 0) (keys : List (Name × Entry)) (name : Name) (entry : Entry) → AllByRecursion (λ key. Has key.0 key.1) keys → find name_cmp name keys ≡ Some entry → Has name entry
-has_found Has [] name entry each found = let none : ◌≡◌ {A = Option Entry} None (Some entry) = found in absurd cc
-has_found Has (key ∷ keys) name entry each found = by (λ later. has_found Has keys name entry each.1 later) (eq_by_cmp name_cmp name key.0) refl found
-  where
-    by : (find name_cmp name keys ≡ Some entry → Has name entry) → (t : Bool) → eq_by_cmp name_cmp name key.0 ≡ t → cond t (Some key.1) (find name_cmp name keys) ≡ Some entry → Has name entry
-    by more true e here =
-        let same = name_cmp-IsAntisymmetric name key.0 (tied (name_cmp name key.0) e) in
-        subst (λ n. Has n entry) (sym same) (subst (Has key.0) (same_some key.1 entry here) each.0)
-    by more false e later = more later
 
 pub sorted-behind : (front : List (Name × Entry)) (key : Name × Entry) (rest : List (Name × Entry)) → T (is_sorted name_cmp (front ++ key ∷ rest)) → T (below_all name_cmp key.0 rest)
 sorted-behind [] key rest h = first _ _ h

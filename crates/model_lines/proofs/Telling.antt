@@ -1,13 +1,11 @@
 -- What can be told: each condition that the line of a file or a key of a map must meet holds or doesn't.
-pub use Rattle.model_formats.proofs.Telling.{IsTold, le-told, utf8-told, value-told}
-use Rattle.std.specs.Prelude.{◌≡◌, ◌⊎◌, ℕ, ◌<◌, Bool, true, false, List, [], ◌∷◌, length, Option, Some, None, nat_eq}
+pub use Rattle.model_formats.proofs.Telling.{IsTold, le-told, texts-told, utf8-told, value-told}
+use Rattle.std.specs.Prelude.{◌≡◌, ◌⊎◌, ℕ, ◌<◌, Bool, true, false, List, [], ◌∷◌, length, Option, Some, None}
 use Rattle.std.proofs.Common.{refl, sym, ap, ◌∙◌, inl, inr}
 use Rattle.std.specs.FinMap as finite
 use Rattle.std.specs.List.{AllByRecursion}
 use Rattle.std.specs.Str.{IsUtf8}
-use Rattle.std.specs.Cmp.Lexicographic.{pointwise}
-use Rattle.std.proofs.lemmas.Bool.{cases_Bool, true≢false}
-use Rattle.std.proofs.lemmas.Slice.Eq.{bytes_eq-Decides}
+use Rattle.std.proofs.lemmas.Bool.{true≢false}
 use Rattle.model_names.specs.ArrayPart.{is_array_like, is_canonical}
 use Rattle.model_names.specs.Name.{Part, Name}
 use Rattle.model_names.specs.Refuses.{Refusal, refusal_of}
@@ -38,11 +36,6 @@ true-told false = inr (λ e. true≢false (sym e))
 pub none-told : {A : Type 0} (o : Option A) → IsTold (o ≡ None)
 none-told None = inl refl
 none-told (Some x) = inr (λ e. absurd cc)
-
-pub bytes-told : (a b : List ℕ) → IsTold (a ≡ b)
-bytes-told a b =
-    let decides = bytes_eq-Decides a b in
-    elim (cases_Bool (pointwise nat_eq a b)) [ inl same ↦ inl (decides.0 same) | inr other ↦ inr (λ e. true≢false (sym (decides.1 e) ∙ other)) ]
 
 pub lists-told : {A : Type 0} → ((x y : A) → IsTold (x ≡ y)) → (xs ys : List A) → IsTold (xs ≡ ys)
 lists-told told [] [] = inl refl
@@ -93,8 +86,8 @@ name-told name =
 
 pairs-told : (x y : List ℕ × List ℕ) → IsTold (x ≡ y)
 pairs-told x y =
-    elim (bytes-told x.0 y.0) [
-      | inl first ↦ elim (bytes-told x.1 y.1) [ inl second ↦ inl (λ i. (first i, second i)) | inr other ↦ inr (λ e. other (ap (λ p. p.1) e)) ]
+    elim (texts-told x.0 y.0) [
+      | inl first ↦ elim (texts-told x.1 y.1) [ inl second ↦ inl (λ i. (first i, second i)) | inr other ↦ inr (λ e. other (ap (λ p. p.1) e)) ]
       | inr other ↦ inr (λ e. other (ap (λ p. p.0) e))
     ]
 

@@ -21,11 +21,11 @@ use Rattle.model_names.specs.Spelling.{spelling, spelled, escaped, is_reserved, 
 use Rattle.model_names.specs.WellFormed.{IsName, IsPart}
 use Rattle.model_names.proofs.ArrayLemmas.{canonical_part-own}
 use Rattle.model_names.proofs.EscapeLemmas.{flat_map-escaped-letter}
-use Rattle.model_names.proofs.PartLemmas.{IsText, IsText-raw_parts, IsUtf8-byte, IsUtf8-cons, all_append, all_back, text_from_test, utf8_behind_slash, walked_parts}
+use Rattle.model_names.proofs.PartLemmas.{IsText, IsText-raw_parts, IsUtf8-byte, IsUtf8-cons, text_from_test, utf8_behind_slash, walked_parts}
 use Rattle.model_names.proofs.ReadLemmas.{meaning-by_form, unescaped-escape, unescaped-plain}
 use Rattle.model_names.proofs.RefusesLemmas.{slash_begins}
 use Rattle.model_names.proofs.SpellsLemmas.{Spells-once, same_cut}
-use Rattle.general_words.proofs.Lists.{some_is}
+use Rattle.general_words.proofs.Lists.{some_is, all_append, all_back}
 use Rattle.general_words.proofs.Texts.{same_text}
 
 -- ---- what a text spells

@@ -22,7 +22,7 @@ use Rattle.model_names.proofs.EscapeLemmas.{IsUnescaped-encode_utf8, read_all, e
 use Rattle.model_names.proofs.ReadLemmas.{meaning-by_form, unescaped_from, unescaped-escape, unescaped-next}
 use Rattle.model_names.proofs.RefusesLemmas.{from_map, from_and_then, cond_some, branch_taken}
 use Rattle.model_names.proofs.SpellsLemmas.{is_ascii_text_byte, no_nul-from_test, is_ascii-from_test}
-use Rattle.general_words.proofs.Lists.{some_is}
+use Rattle.general_words.proofs.Lists.{some_is, all_append, all_back}
 
 -- ---- texts
 
@@ -43,14 +43,6 @@ IsUtf8-cons b bytes small h = IsUtf8-append (b ∷ []) bytes (IsUtf8-byte b smal
 all_front : {A : Type 0} (P : A → Type 0) (xs ys : List A) → AllByRecursion P (xs ++ ys) → AllByRecursion P xs
 all_front P [] ys h = tt
 all_front P (x ∷ xs) ys h = (h.0, all_front P xs ys h.1)
-
-pub all_back : {A : Type 0} (P : A → Type 0) (xs ys : List A) → AllByRecursion P (xs ++ ys) → AllByRecursion P ys
-all_back P [] ys h = h
-all_back P (x ∷ xs) ys h = all_back P xs ys h.1
-
-pub all_append : {A : Type 0} (P : A → Type 0) (xs ys : List A) → AllByRecursion P xs → AllByRecursion P ys → AllByRecursion P (xs ++ ys)
-all_append P [] ys p q = q
-all_append P (x ∷ xs) ys p q = (p.0, all_append P xs ys p.1 q)
 
 pub text_from_ascii : (bytes : List ℕ) → AllByRecursion (λ b. (0 < b) × (b < 128)) bytes → IsText bytes
 text_from_ascii bytes h = record { utf8 = IsUtf8-from_ascii bytes (IsAscii-from_all bytes (All-from_recursion (λ b. b < 128) bytes (all_small bytes h))); no_nul = all_some bytes h }

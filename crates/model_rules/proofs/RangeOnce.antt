@@ -8,6 +8,7 @@ use Rattle.model_rules.specs.Number.{IsNumber, with_sign}
 use Rattle.model_rules.specs.Range.{IsItem, Single, Between, IsRange, is_comma}
 use Rattle.model_rules.specs.declared.intervals.Interval.{Interval}
 use Rattle.model_rules.proofs.NumberOnce.{no_minus, IsNumber-once}
+use Rattle.general_words.proofs.Lists.{head_is}
 
 -- no byte is a minus
 abbrev pub HasNoMinus : List ℕ → Type 0
@@ -41,17 +42,14 @@ number_front false (c ∷ digits) h = record { first = c; rest = digits; whole =
 pub IsNumber-front : (text : List ℕ) (value : ℤ) → IsNumber text value → IsFront text
 IsNumber-front text value p = subst IsFront (sym p.spelled) (number_front p.minus p.digits p.number.numeral)
 
-head_of : (c d : ℕ) (x y : List ℕ) → c ∷ x ≡ d ∷ y → c ≡ d
-head_of c d x y e = ap (λ l. get_or l 0 0) e
-
 -- what stands before the first minus is told by it
 fronts_once : (r s x y : List ℕ) → HasNoMinus r → HasNoMinus s → r ++ (45 ∷ x) ≡ s ++ (45 ∷ y) → (r ≡ s) × (x ≡ y)
 fronts_once [] [] x y p q e = (refl, ap (drop 1) e)
-fronts_once [] (c ∷ s) x y p q e = absurd (q.0 (sym (head_of 45 c x (s ++ (45 ∷ y)) e)))
-fronts_once (c ∷ r) [] x y p q e = absurd (p.0 (head_of c 45 (r ++ (45 ∷ x)) y e))
+fronts_once [] (c ∷ s) x y p q e = absurd (q.0 (sym (head_is 45 c x (s ++ (45 ∷ y)) e)))
+fronts_once (c ∷ r) [] x y p q e = absurd (p.0 (head_is c 45 (r ++ (45 ∷ x)) y e))
 fronts_once (c ∷ r) (d ∷ s) x y p q e =
     let more = fronts_once r s x y p.1 q.1 (ap (drop 1) e) in
-    (ap₂ (λ (b : ℕ) (bytes : List ℕ). b ∷ bytes) (head_of c d (r ++ (45 ∷ x)) (s ++ (45 ∷ y)) e) more.0, more.1)
+    (ap₂ (λ (b : ℕ) (bytes : List ℕ). b ∷ bytes) (head_is c d (r ++ (45 ∷ x)) (s ++ (45 ∷ y)) e) more.0, more.1)
 
 -- a front has no minus behind its first byte
 pub one_front_alone : (text first last : List ℕ) → IsFront text → IsFront first → text ≡ first ++ (45 ∷ last) → ⊥
@@ -64,7 +62,7 @@ pub two_parts_once : (first last first' last' : List ℕ) → IsFront first → 
 two_parts_once first last first' last' p q e =
     let whole : p.first ∷ (p.rest ++ (45 ∷ last)) ≡ q.first ∷ (q.rest ++ (45 ∷ last')) = sym (ap (λ t. t ++ (45 ∷ last)) p.whole) ∙ e ∙ ap (λ t. t ++ (45 ∷ last')) q.whole in
     let more = fronts_once p.rest q.rest last last' p.none q.none (ap (drop 1) whole) in
-    let heads = head_of p.first q.first (p.rest ++ (45 ∷ last)) (q.rest ++ (45 ∷ last')) whole in
+    let heads = head_is p.first q.first (p.rest ++ (45 ∷ last)) (q.rest ++ (45 ∷ last')) whole in
     (p.whole ∙ ap₂ (λ (b : ℕ) (bytes : List ℕ). b ∷ bytes) heads more.0 ∙ sym q.whole, more.1)
 
 abbrev interval : ℤ → ℤ → Interval

@@ -7,8 +7,9 @@ use Rattle.std.specs.FinMap.Entries.{below_all, where_key}
 use Rattle.std.specs.List.{AllByRecursion, flat_map, starts_with}
 use Rattle.std.specs.Option.{option_map, option_or, option_to_list}
 use Rattle.std.specs.Ordering.{eq_by_cmp}
-use Rattle.std.specs.Cmp.Lexicographic.{pointwise}
 use Rattle.std.proofs.lemmas.Bool.Decides.{Decides-eqb}
+use Rattle.std.proofs.lemmas.Bool.{and_parts}
+use Rattle.std.specs.Cmp.Lexicographic.{pointwise}
 use Rattle.general_words.proofs.Entries.{find-below}
 use Rattle.general_words.proofs.Lookups.{tied_or_not}
 use Rattle.general_words.proofs.Maps.{entries-retain}
@@ -129,16 +130,12 @@ get-made q (spec ∷ specs) keys sorted all =
     ∙ ap (option_or (made_in q specs)) (get-one q spec keys)
     ∙ one_more q spec specs (map.get keys q) all.0 (first _ _ sorted)
 
-front_holds : (a b : Bool) → (a && b) ≡ true → a ≡ true
-front_holds true b e = refl
-front_holds false b e = e
-
 -- the keys of `spec:` are in it
 kept_in_spec : (keys : List (Name × Entry)) → AllByRecursion (λ spec. spec.0.namespace ≡ Spec) (where_key name_cmp (is_at_or_below (spec_name [])) keys)
 kept_in_spec [] = tt
 kept_in_spec (key ∷ keys) =
     elim (is_at_or_below (spec_name []) key.0) as (λ b. is_at_or_below (spec_name []) key.0 ≡ b → AllByRecursion (λ spec. spec.0.namespace ≡ Spec) (cond b (key ∷ where_key name_cmp (is_at_or_below (spec_name [])) keys) (where_key name_cmp (is_at_or_below (spec_name [])) keys))) [
-      | true ↦ λ is. (same_rank key.0.namespace Spec ((Decides-eqb (rank key.0.namespace) (rank Spec)).0 (front_holds (nat_eq (rank key.0.namespace) (rank Spec)) (starts_with (pointwise nat_eq) key.0.parts []) is)), kept_in_spec keys)
+      | true ↦ λ is. (same_rank key.0.namespace Spec ((Decides-eqb (rank key.0.namespace) (rank Spec)).0 (and_parts (nat_eq (rank key.0.namespace) (rank Spec)) (starts_with (pointwise nat_eq) key.0.parts []) is).0), kept_in_spec keys)
       | false ↦ λ is. kept_in_spec keys
     ] refl
 

@@ -1,32 +1,16 @@
 -- What metadata laid over other has at a name.
-use Rattle.std.proofs.Common.{◌≡◌, ℕ, true, false, cond, List, [], ◌∷◌, ◌++◌, Option, Some, None, refl, sym, ap, ap₂, ◌∙◌}
+use Rattle.std.proofs.Common.{◌≡◌, ℕ, List, [], ◌∷◌, refl, sym, ap, ap₂, ◌∙◌}
 use Rattle.std.specs.FinMap as map
 use Rattle.std.specs.FinMap.{find}
 use Rattle.std.specs.List.{flat_map}
 use Rattle.std.specs.Option.{option_or}
-use Rattle.std.specs.Ordering.{eq_by_cmp}
-use Rattle.std.specs.declared.cmp.Ordering.{Ordering}
 use Rattle.general_words.specs.Searches.{first_some}
 use Rattle.general_words.specs.Texts.{text_cmp}
 use Rattle.general_words.proofs.Texts.{text_cmp-total, text_cmp-IsAntisymmetric}
+use Rattle.general_words.proofs.Searches.{or_none, or_assoc}
+use Rattle.general_words.proofs.Entries.{find-both}
 use Rattle.model_maps.specs.Entry.{Meta}
 use Rattle.model_specified.specs.SpecMeta.{laid_over}
-
--- what is found in two lists of entries, one after the other
-pub find-both : {K X : Type 0} (R : K → K → Ordering) (es fs : List (K × X)) (q : K) → find R q (es ++ fs) ≡ option_or (find R q es) (find R q fs)
-find-both R [] fs q = refl
-find-both R (e ∷ es) fs q = elim (eq_by_cmp R q e.0) as (λ b. cond b (Some e.1) (find R q (es ++ fs)) ≡ option_or (cond b (Some e.1) (find R q es)) (find R q fs)) [
-  | true ↦ refl
-  | false ↦ find-both R es fs q
-]
-
-pub or_none : {A : Type 0} (o : Option A) → option_or o None ≡ o
-or_none None = refl
-or_none (Some x) = refl
-
-or_both : {A : Type 0} (a b c : Option A) → option_or (option_or a b) c ≡ option_or a (option_or b c)
-or_both None b c = refl
-or_both (Some x) b c = refl
 
 found : (metas : List Meta) (name : List ℕ) → find text_cmp name (flat_map (λ meta. map.entries meta) metas) ≡ first_some (λ meta. map.get meta name) metas
 found [] name = refl
@@ -60,5 +44,5 @@ pub laid_over-next : (upper lower : Meta) (metas : List Meta) → laid_over (lai
 laid_over-next upper lower metas = same_meta (laid_over (laid_over (upper ∷ lower ∷ []) ∷ metas)) (laid_over (upper ∷ lower ∷ metas)) (λ q.
     get-laid_over (laid_over (upper ∷ lower ∷ []) ∷ metas) q
     ∙ ap (λ o. option_or o (first_some (λ meta. map.get meta q) metas)) (get-over upper lower q)
-    ∙ or_both (map.get upper q) (map.get lower q) (first_some (λ meta. map.get meta q) metas)
+    ∙ or_assoc (map.get upper q) (map.get lower q) (first_some (λ meta. map.get meta q) metas)
     ∙ sym (get-laid_over (upper ∷ lower ∷ metas) q))

@@ -11,7 +11,7 @@ use Rattle.model_store.specs.Store.{Store, Formats, points_of}
 use Rattle.model_store.specs.Records.{Fronts, Record, Fetched, IsRecord, record_of, fetched_at, kept_at, seen_at}
 use Rattle.model_store.specs.Sets.{Prepared, only, kept, front_in, set_of, prepared, prepared_by}
 use Rattle.model_store.specs.Cores.{keeping}
-use Rattle.model_store.specs.Events.{put}
+use Rattle.model_store.specs.Events.{if_bad, put}
 use Rattle.model_store.specs.Promise.{IsAsked, IsSet}
 use Rattle.model_store.specs.Worlds.{Asked}
 use Rattle.model_store.proofs.Members.{only-alike}
@@ -23,6 +23,10 @@ pub put-each : {A B : Type 0} (P : A → B → Type 0) (r : ℕ) (a : A) (b : B)
 put-each P r a b f g new old n = elim (nat_eq n r) as (λ t. P (cond t a (f n)) (cond t b (g n))) [ true ↦ new | false ↦ old n ]
 
 module _ (store : Store) where
+  -- a mount that isn't told as bad is good
+  pub good_mount : (m : ℕ) → if_bad store m ≡ None → store.is_bad m ≡ false
+  good_mount m none = elim (store.is_bad m) as (λ b. cond b (Some m) None ≡ None → b ≡ false) [ true ↦ λ e. absurd cc | false ↦ λ e. refl ] none
+
   -- a front keeps what it kept while the history goes on
   pub records-stay : (history later : List Commit) (fronts : Fronts) → ((m front : ℕ) → fronts m ≡ Some front → front ≤ length history) → record_of store history fronts ≡ record_of store (history ++ later) fronts
   records-stay history later fronts within = λ i m. at m i

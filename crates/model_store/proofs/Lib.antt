@@ -3,7 +3,7 @@ pub mod Owners
 pub mod Histories
 pub mod Touched
 mod Judged
-mod Kept
+pub mod Kept
 mod Committing
 pub mod Owning
 mod Others

@@ -7,12 +7,9 @@ use Rattle.std.specs.Ordering.{nat_cmp}
 use Rattle.std.specs.declared.cmp.Ordering.TheVariants.{Less, Equal, Greater}
 use Rattle.general_words.specs.Searches.{first_some}
 use Rattle.general_words.proofs.Searches.{none_before, none_behind}
+use Rattle.general_words.proofs.Tests.{or_behind}
 use Rattle.model_history.specs.History.{is_among}
 use Rattle.model_store.specs.Sets.{only}
-
-pub is_number : (o : Option ℕ) (i : ℕ) → option_eq nat_eq o (Some i) ≡ true → o ≡ Some i
-is_number None i e = absurd cc
-is_number (Some n) i e = ap Some (eqb-true n i e)
 
 pub same_numbers : (o p : Option ℕ) → option_eq nat_eq o p ≡ true → o ≡ p
 same_numbers None None e = refl
@@ -36,11 +33,7 @@ pub among-first : (m : ℕ) (ms : List ℕ) → is_among (m ∷ ms) m ≡ true
 among-first m ms = ap (λ b. b || is_among ms m) (itself_number m)
 
 pub among-rest : (n m : ℕ) (ms : List ℕ) → is_among ms m ≡ true → is_among (n ∷ ms) m ≡ true
-among-rest n m ms e = or_second (nat_eq m n) (is_among ms m) e
-  where
-    or_second : (a b : Bool) → b ≡ true → (a || b) ≡ true
-    or_second true b e = refl
-    or_second false b e = e
+among-rest n m ms e = or_behind (nat_eq m n) (is_among ms m) e
 
 pub all_among : (P : ℕ → Type 0) (ms : List ℕ) → ((m : ℕ) → is_among ms m ≡ true → P m) → AllByRecursion P ms
 all_among P [] h = tt

@@ -3,13 +3,14 @@ use Rattle.std.proofs.Common.{◌≡◌, ℕ, Bool, true, false, cond, ◌||◌,
 use Rattle.std.specs.FinMap as map
 use Rattle.general_words.proofs.Lists.{some_is}
 use Rattle.general_words.proofs.Maps.{get-retain}
+use Rattle.general_words.proofs.Tests.{or_behind, is_number}
 use Rattle.key_name.specs.Owner.{owner_of}
 use Rattle.model_names.specs.Name.{Name}
 use Rattle.model_names.proofs.OrderLemmas.{name_cmp_total, name_cmp-IsAntisymmetric}
 use Rattle.model_maps.specs.KeyMap.{KeyMap}
 use Rattle.model_history.specs.History.{is_among}
 use Rattle.model_store.specs.Store.{is_owned}
-use Rattle.model_store.proofs.Members.{is_number, among-first, among-rest}
+use Rattle.model_store.proofs.Members.{among-first, among-rest}
 use Rattle.set_split.specs.Involved.{owns}
 use Rattle.set_split.specs.Parts.{owned_by}
 
@@ -51,9 +52,5 @@ module _ (points : List Name) where
   owned-among [] m q among is = absurd cc
   owned-among (n ∷ mounts) m q among is = elim (nat_eq m n) as (λ b. nat_eq m n ≡ b → (b || is_among mounts m) ≡ true → (owns points n q || is_owned points mounts q) ≡ true) [
     | true ↦ λ same e. ap (λ b. b || is_owned points mounts q) (ap (λ i. owns points i q) (sym (eqb-true m n same)) ∙ is)
-    | false ↦ λ same e. second (owns points n q) (is_owned points mounts q) (owned-among mounts m q e is)
+    | false ↦ λ same e. or_behind (owns points n q) (is_owned points mounts q) (owned-among mounts m q e is)
   ] refl among
-    where
-      second : (a b : Bool) → b ≡ true → (a || b) ≡ true
-      second true b e = refl
-      second false b e = e

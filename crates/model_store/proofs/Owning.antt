@@ -1,5 +1,5 @@
 -- Each step of a core is a step of the world for which it stands, and so is every run.
-use Rattle.std.proofs.Common.{◌≡◌, ℕ, ◌+◌, true, false, cond, nat_eq, List, [], ◌∷◌, ◌++◌, length, Option, Some, None, refl, sym, ap, subst, ◌∙◌, arith, length-append, eqb-true}
+use Rattle.std.proofs.Common.{◌≡◌, ℕ, ◌+◌, true, nat_eq, List, [], ◌∷◌, ◌++◌, length, Option, Some, None, refl, sym, ap, subst, ◌∙◌, arith, length-append, eqb-true}
 use Rattle.std.specs.Option.{option_eq, option_map}
 use Rattle.model_names.specs.Name.{Name}
 use Rattle.model_maps.specs.KeyMap.{KeyMap}
@@ -18,7 +18,7 @@ use Rattle.model_store.specs.Promise.{Runs, IsAsked, IsSet, Stands, IsOneOwner}
 use Rattle.model_store.proofs.Members.{first_of, second_of, from_list_all, nothing_at, same_numbers, only-there}
 use Rattle.model_store.proofs.Histories.{legal-more}
 use Rattle.model_store.proofs.Judged.{HasPassed, has_passed, IsCommitted, is_committed}
-use Rattle.model_store.proofs.Kept.{put-each, record-stays, record-moves, set-stays, front-of, set-alike}
+use Rattle.model_store.proofs.Kept.{put-each, record-stays, record-moves, set-stays, front-of, set-alike, good_mount}
 use Rattle.model_store.proofs.Committing.{legal_commit, stored_at, good_at}
 use Rattle.set_split.specs.Involved.{involved_in}
 use Rattle.set_split.specs.Parts.{owned_by}
@@ -52,9 +52,6 @@ module _ (formats : Formats) (store : Store) where
   stays : (world : World) (sets : ℕ → Option Prepared) (next : Core) → Known world sets → next ≡ core_at world sets → Stands formats store world next
   stays world sets next k is = subst (λ (core : Core). Stands formats store world core) (sym is) (stand world sets k)
 
-  good_mount : (m : ℕ) → if_bad store m ≡ None → store.is_bad m ≡ false
-  good_mount m none = elim (store.is_bad m) as (λ b. cond b (Some m) None ≡ None → b ≡ false) [ true ↦ λ e. absurd cc | false ↦ λ e. refl ] none
-
   -- ---- a get
 
   gets : (world : World) (sets : ℕ → Option Prepared) (r : ℕ) (parent : Name) (front : ℕ) (keys : KeyMap) (next : Core) → Known world sets → GetMade store (core_at world sets) r parent front keys next → Goes world (Get r parent) (Got front keys) next
@@ -68,7 +65,7 @@ module _ (formats : Formats) (store : Store) where
       sets = k.asked;
       records = put-each (λ (f : Fronts) (rec : Record). IsRecord store world.history f rec) r _ _ world.fronts (λ n. record_of store world.history (world.fronts n))
           (record-moves store world.history (world.fronts r) (record_of store world.history (world.fronts r)) involved (length world.history) (wants (points_of store) (replay store.start world.history)) (k.records r) refl
-          (λ m among. good_mount m (nothing_at (if_bad store) involved m made.good among)) (λ m among. refl))
+          (λ m among. good_mount store m (nothing_at (if_bad store) involved m made.good among)) (λ m among. refl))
           k.records;
     });
   }

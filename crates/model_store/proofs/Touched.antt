@@ -1,10 +1,11 @@
 -- What the changes of the touched mounts are, name by name, and what a map is after them.
-use Rattle.std.proofs.Common.{◌≡◌, ℕ, Bool, true, false, cond, not, ◌||◌, nat_eq, List, [], ◌∷◌, ◌++◌, Option, Some, None, refl, sym, ap, ◌∙◌, eqb-true, eq-eqb}
+use Rattle.std.proofs.Common.{◌≡◌, ℕ, Bool, true, false, cond, not, ◌||◌, nat_eq, List, [], ◌∷◌, Option, Some, None, refl, sym, ap, ◌∙◌, eqb-true, eq-eqb}
 use Rattle.std.specs.FinMap as map
 use Rattle.std.specs.FinMap.{find}
 use Rattle.std.specs.Option.{option_or, unwrap_or}
-use Rattle.std.specs.Ordering.{eq_by_cmp}
 use Rattle.general_words.proofs.Orders.{itself}
+use Rattle.general_words.proofs.Searches.{or_none}
+use Rattle.general_words.proofs.Entries.{find-both}
 use Rattle.key_set.specs.Same.{same_keys}
 use Rattle.key_set.proofs.SameLemmas.{keys_decides}
 use Rattle.model_names.specs.Name.{Name}
@@ -22,25 +23,9 @@ use Rattle.model_store.proofs.Owners.{one_owner, get-owned, get-mine}
 use Rattle.set_split.specs.Involved.{owns}
 use Rattle.set_split.specs.Parts.{owned_by}
 
-pub find-both : (q : Name) (xs ys : List Change) → find name_cmp q (xs ++ ys) ≡ option_or (find name_cmp q xs) (find name_cmp q ys)
-find-both q [] ys = refl
-find-both q (x ∷ xs) ys = elim (eq_by_cmp name_cmp q x.0) as (λ b. cond b (Some x.1) (find name_cmp q (xs ++ ys)) ≡ option_or (cond b (Some x.1) (find name_cmp q xs)) (find name_cmp q ys)) [
-  | true ↦ refl
-  | false ↦ find-both q xs ys
-]
-
-pub or_none : {A : Type 0} (o : Option A) → option_or o None ≡ o
-or_none None = refl
-or_none (Some x) = refl
-
 pub or_same : {A : Type 0} (o : Option A) → option_or o o ≡ o
 or_same None = refl
 or_same (Some x) = refl
-
--- what is found somewhere is found in the one or in the other
-from_or : {A : Type 0} (o p : Option A) (x : A) → option_or o p ≡ Some x → (o ≡ Some x → ⊥) → p ≡ Some x
-from_or None p x e off = e
-from_or (Some y) p x e off = absurd (off e)
 
 module _ (points : List Name) (before wanted : ℕ → KeyMap) where
   -- neither has a name that its mount doesn't own
@@ -56,7 +41,7 @@ module _ (points : List Name) (before wanted : ℕ → KeyMap) where
     find-changes : (ms : List ℕ) (m : ℕ) (q : Name) → owns points m q ≡ true → find name_cmp q (changes_of before wanted ms) ≡ cond (is_among ms m) (change_at (before m) (wanted m) q) None
     find-changes [] m q mine = refl
     find-changes (n ∷ ms) m q mine =
-        find-both q (changes_of before wanted ms) (map.entries (difference (before n) (wanted n)))
+        find-both name_cmp (changes_of before wanted ms) (map.entries (difference (before n) (wanted n))) q
         ∙ ap (option_or (find name_cmp q (changes_of before wanted ms))) (sym (map.get-entries (difference (before n) (wanted n)) q) ∙ get-difference (before n) (wanted n) q)
         ∙ ap (λ o. option_or o (change_at (before n) (wanted n) q)) (find-changes ms m q mine)
         ∙ elim (nat_eq m n) as (λ b. nat_eq m n ≡ b → option_or (cond (is_among ms m) (change_at (before m) (wanted m) q) None) (change_at (before n) (wanted n) q) ≡ cond (b || is_among ms m) (change_at (before m) (wanted m) q) None) [
@@ -84,7 +69,7 @@ module _ (points : List Name) (before wanted : ℕ → KeyMap) where
     pub changed-by : (ms : List ℕ) (q : Name) (new : Option Entry) → find name_cmp q (changes_of before wanted ms) ≡ Some new → Changed ms q new
     changed-by [] q new e = absurd cc
     changed-by (n ∷ ms) q new e = by (find name_cmp q (changes_of before wanted ms)) refl (owns points n q) refl
-        (sym (find-both q (changes_of before wanted ms) (map.entries (difference (before n) (wanted n)))
+        (sym (find-both name_cmp (changes_of before wanted ms) (map.entries (difference (before n) (wanted n))) q
         ∙ ap (option_or (find name_cmp q (changes_of before wanted ms))) (sym (map.get-entries (difference (before n) (wanted n)) q) ∙ get-difference (before n) (wanted n) q)) ∙ e)
         (changed-by ms q new)
       where

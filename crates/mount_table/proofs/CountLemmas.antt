@@ -16,8 +16,10 @@ use Rattle.model_names.specs.Name.{Name, Part, rank}
 use Rattle.model_names.specs.Order.{name_cmp}
 use Rattle.model_names.specs.Spelling.{spelling}
 use Rattle.model_names.proofs.OrderLemmas.{name_cmp_total, name_cmp-IsAntisymmetric}
-use Rattle.model_names.proofs.PartLemmas.{all_append}
 use Rattle.general_words.specs.Texts.{text_cmp}
+use Rattle.general_words.proofs.Tests.{first, second}
+use Rattle.general_words.proofs.Orders.{less}
+use Rattle.general_words.proofs.Lists.{all_append}
 use Rattle.model_maps.specs.KeyMap.{KeyMap}
 use Rattle.mount_table.specs.Entries.{Entries, entries_of}
 use Rattle.mount_table.specs.Points.{own_point}
@@ -27,7 +29,7 @@ use Rattle.mount_table.specs.declared.entries.MountEntry.{MountEntry}
 use Rattle.mount_table.specs.declared.faults.TableFault.{TableFault}
 use Rattle.mount_table.specs.declared.faults.TableFault.TheVariants.{TooMany}
 use Rattle.mount_table.specs.declared.mounts.Mount.{Mount}
-use Rattle.mount_table.proofs.TableLemmas.{from_then, ok_is, all_filter, less_is, T_front, T_back, point_of-mount, mount_of-next, IsPoint-from}
+use Rattle.mount_table.proofs.TableLemmas.{from_then, ok_is, all_filter, point_of-mount, mount_of-next, IsPoint-from}
 
 -- no mount has the mountpoint of one before it
 abbrev IsApart : List Mount → Type 0
@@ -94,7 +96,7 @@ not_itself text e = absurd (less_equal (sym e ∙ tied_itself nat_list_cmp_total
 
 later_texts : (text : Part) (entries : List (Part × MountEntry)) → T (below_all text_cmp text entries) → AllByRecursion (λ entry. entry.0 ≢ text) entries
 later_texts text [] h = tt
-later_texts text (entry ∷ entries) h = ((λ e. not_itself text (ap (text_cmp text) (sym e) ∙ less_is _ (T_front _ _ h))), later_texts text entries (T_back _ _ h))
+later_texts text (entry ∷ entries) h = ((λ e. not_itself text (ap (text_cmp text) (sym e) ∙ less _ (first _ _ h))), later_texts text entries (second _ _ h))
 
 apart_from : (mounts : List Mount) (entries : List (Part × MountEntry)) (all : List Mount) → IsApart mounts → AllByRecursion (IsOther entries) mounts → T (is_sorted text_cmp entries) → mounts_from mounts entries ≡ Ok all → IsApart all × (length all ≡ length mounts + length entries)
 apart_from mounts [] all apart others sorted ok = (subst IsApart (ok_is mounts all ok) apart, omega (arith, ap length (ok_is mounts all ok)))
@@ -104,11 +106,11 @@ apart_from mounts (entry ∷ entries) all apart others sorted ok =
     let point = IsPoint-from entry.0 mount.at (point_of-mount entry.0 entry.1 mount (mount_of-next (is_taken mounts) entry.0 entry.1 mount next.1)) in
     let parts = and_parts _ _ (and_parts _ _ (and_parts _ _ point.is).1).1 in
     let spelled : spelling mount.at ≡ entry.0 = (bytes_eq-Decides (spelling mount.at) entry.0).0 parts.0 in
-    let later : IsOther entries mount = inr (subst (λ text. AllByRecursion (λ e. e.0 ≢ text) entries) (sym spelled) (later_texts entry.0 entries (T_front _ _ sorted))) in
+    let later : IsOther entries mount = inr (subst (λ text. AllByRecursion (λ e. e.0 ≢ text) entries) (sym spelled) (later_texts entry.0 entries (first _ _ sorted))) in
     let rest = apart_from (mounts ++ mount ∷ []) entries all
     (apart_push mounts mount apart (other_points entry entries mount.at mounts spelled (not-true _ parts.1) others))
     (all_append (IsOther entries) mounts (mount ∷ []) (others_rest entry entries mounts others) (later, tt))
-    (T_back _ _ sorted) next.2 in
+    (second _ _ sorted) next.2 in
     (rest.0, omega (arith, rest.1, length-append mounts (mount ∷ [])))
 
 -- ---- the default mounts that remain

@@ -1,12 +1,11 @@
 -- What a table that was read is: mounts in the order of their mountpoints, each in a namespace whose keys are in files.
-use Rattle.std.proofs.Common.{◌≡◌, ℕ, ◌+◌, ◌<◌, ◌≤◌, Bool, true, false, cond, ◌&&◌, ltb, T, List, [], ◌∷◌, ◌++◌, length, take, get_or, map as over, filter, fold, Option, Some, None, is_some, ok_or, Result, Ok, Err, refl, sym, ap, subst, ◌∙◌, arith, length-append, Bor}
+use Rattle.std.proofs.Common.{◌≡◌, ℕ, ◌+◌, ◌<◌, ◌≤◌, Bool, true, false, cond, ltb, T, List, [], ◌∷◌, ◌++◌, length, take, get_or, map as over, filter, fold, Option, Some, None, is_some, ok_or, Result, Ok, Err, refl, sym, ap, subst, ◌∙◌, arith, length-append, Bor}
 use Rattle.std.specs.FinMap as map
 use Rattle.std.specs.FinMap.{FinMap, is_sorted}
 use Rattle.std.specs.FinMap.Entries.{put, by_order, below_all}
 use Rattle.std.specs.List.{AllByRecursion, list_all}
 use Rattle.std.specs.List.Sorted.{IsStrictlySortedBy}
 use Rattle.std.specs.Option.{option_copied}
-use Rattle.std.specs.Ordering.{is_lt}
 use Rattle.std.specs.declared.cmp.Ordering.{Ordering}
 use Rattle.std.specs.declared.cmp.Ordering.TheVariants.{Less, Equal, Greater}
 use Rattle.std.proofs.lemmas.Bool.{and_from, and_parts, cond-true, cond-false, lt-ltb, le-ltb}
@@ -18,7 +17,6 @@ use Rattle.model_names.specs.NameOf.{name_of}
 use Rattle.model_names.specs.Namespaces.{has_files}
 use Rattle.model_names.specs.Order.{name_cmp}
 use Rattle.model_names.proofs.OrderLemmas.{name_cmp_total, name_cmp-IsAntisymmetric}
-use Rattle.model_names.proofs.PartLemmas.{all_append}
 use Rattle.model_names.proofs.RefusesLemmas.{from_and_then, cond_some}
 use Rattle.general_words.specs.Texts.{text_cmp}
 use Rattle.mount_table.specs.Entries.{Entries}
@@ -29,7 +27,9 @@ use Rattle.mount_table.specs.declared.entries.MountEntry.{MountEntry}
 use Rattle.mount_table.specs.declared.faults.TableFault.{TableFault}
 use Rattle.mount_table.specs.declared.faults.TableFault.TheVariants.{BadMountpoint, NoPath, BadPath, UnknownPlugin, FileTwice, TooMany}
 use Rattle.mount_table.specs.declared.mounts.Mount.{Mount}
-use Rattle.general_words.proofs.Lists.{some_is}
+use Rattle.general_words.proofs.Lists.{some_is, all_append}
+use Rattle.general_words.proofs.Tests.{first, second}
+use Rattle.general_words.proofs.Orders.{less}
 
 pub is_some-copied : {X : Type 0} (o : Option (Bor X)) → is_some (option_copied o) ≡ is_some o
 is_some-copied None = refl
@@ -166,27 +166,14 @@ length-by_point (mount ∷ mounts) some = omega (arith, length-first mount, leng
 
 -- ---- in their order
 
-pub less_is : (o : Ordering) → T (is_lt o) → o ≡ Less
-less_is Less h = refl
-less_is Equal h = absurd h
-less_is Greater h = absurd h
-
-pub T_front : (a b : Bool) → T (a && b) → T a
-T_front true b h = tt
-T_front false b h = h
-
-pub T_back : (a b : Bool) → T (a && b) → T b
-T_back true b h = h
-T_back false b h = absurd h
-
 all_behind : (name : Name) (es : List (Name × Mount)) → T (below_all name_cmp name es) → AllByRecursion (λ other. name_cmp name other ≡ Less) (over (λ e. e.0) es)
 all_behind name [] h = tt
-all_behind name (e ∷ es) h = (less_is _ (T_front _ _ h), all_behind name es (T_back _ _ h))
+all_behind name (e ∷ es) h = (less _ (first _ _ h), all_behind name es (second _ _ h))
 
 pub ascend : (es : List (Name × Mount)) → T (is_sorted name_cmp es) → IsStrictlySortedBy name_cmp (over (λ e. e.0) es)
 unfolding IsStrictlySortedBy
 ascend [] h = tt
-ascend (e ∷ es) h = (all_behind e.0 es (T_front _ _ h), ascend es (T_back _ _ h))
+ascend (e ∷ es) h = (all_behind e.0 es (first _ _ h), ascend es (second _ _ h))
 
 pub points-keyed : (es : List (Name × Mount)) → AllByRecursion IsKeyed es → over (λ m. m.at) (over (λ e. e.1) es) ≡ over (λ e. e.0) es
 points-keyed [] h = refl

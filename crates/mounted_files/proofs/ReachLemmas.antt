@@ -9,6 +9,7 @@ use Rattle.std.proofs.lemmas.Option.{none-some, same_Some}
 use Rattle.general_words.specs.Saturated.{saturated}
 use Rattle.general_words.specs.Searches.{first_some}
 use Rattle.general_words.proofs.Maps.{get-retain, retain-empty}
+use Rattle.general_words.proofs.Tests.{is_number}
 use Rattle.key_name.specs.Owner.{owner_of}
 use Rattle.key_set.specs.WithAll.{with_all}
 use Rattle.key_set.proofs.WithAllLemmas.{get-with_all}
@@ -168,15 +169,10 @@ module _ (whole : List MountedFile) (points : List Name) (shows : ShowOwn points
           ∙ ap (λ o. fold adds (map.retain_keys keys reached) (cons_option o (filter_map (slice_get whole) (passing involved (start + 1) (length files))))) (sym there)
       by false is = ap (λ k. fold adds k (filter_map (slice_get whole) (passing involved (start + 1) (length files)))) (retained-without reached (visible_of file.state) keys (told false is))
 
--- the owner of a name is its one owner
-owner-is : (o : Option ℕ) (i : ℕ) → option_eq nat_eq o (Some i) ≡ true → o ≡ Some i
-owner-is None i is = absurd cc
-owner-is (Some j) i is = ap Some (eqb-true j i is)
-
 -- a name is reached where its owner is involved
 reached-owner : (points : List Name) (parent : Name) (i : ℕ) (name : Name) → i < length points → owns points i name ≡ true → is_reached points parent name ≡ is_involved points parent i
 reached-owner points parent i name within is =
-    ap (λ o. list_any (λ j. option_eq nat_eq o (Some j)) (involved_in points parent)) (owner-is (owner_of points name) i is)
+    ap (λ o. list_any (λ j. option_eq nat_eq o (Some j)) (involved_in points parent)) (is_number (owner_of points name) i is)
     ∙ among (is_involved points parent) i 0 (length points) (omega arith) (omega (arith, within))
 
 involved-show : (files : List MountedFile) (parent : Name) → ShowOwn (points_of files) (λ i. i) files → visible_keys (involved_files files parent) ≡ in_reach (points_of files) parent (visible_keys files)

@@ -8,12 +8,11 @@ use Rattle.std.proofs.lemmas.Cmp.{nat_list_cmp_total}
 use Rattle.std.proofs.lemmas.List.Sums.{fold-append}
 use Rattle.kdb_outside.specs.declared.kinds.Kind.{Kind}
 use Rattle.key_name.specs.Joining.{joined}
-use Rattle.model_names.proofs.PartLemmas.{all_append}
 use Rattle.model_names.specs.Name.{Name}
 use Rattle.general_words.specs.Searches.{first_some}
 use Rattle.general_words.specs.Texts.{text_cmp}
 use Rattle.model_maps.specs.KeyMap.{KeyMap}
-use Rattle.general_words.proofs.Lists.{take-next, cut-next}
+use Rattle.general_words.proofs.Lists.{take-next, cut-next, all_append}
 use Rattle.general_words.proofs.Maps.{from_sorted-nil}
 use Rattle.mounted_files.specs.Preparing.{AreStorable, Breaks, if_too_long, texts_of, too_long}
 use Rattle.mounted_files.specs.Written.{AreWritten}

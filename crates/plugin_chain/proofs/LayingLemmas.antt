@@ -10,6 +10,7 @@ use Rattle.general_words.specs.Texts.{text_cmp}
 use Rattle.general_words.proofs.Entries.{find-next, next-new}
 use Rattle.general_words.proofs.Orders.{tied}
 use Rattle.general_words.proofs.Texts.{text_cmp-total, text_cmp-IsAntisymmetric}
+use Rattle.general_words.proofs.Searches.{or_none, none_before}
 use Rattle.model_maps.specs.Entry.{Meta}
 use Rattle.model_specified.specs.SpecMeta.{laid_over}
 use Rattle.model_specified.proofs.LaidOver.{get-over}
@@ -27,13 +28,9 @@ laid_over_all old other new n all each = map.same_map text_cmp-total text_cmp-Is
     ∙ ap (option_or (map.get old q)) (sym (map.get-entries other q))
     ∙ sym (get-over old other q))
 
-or_none : {A : Type 0} (o : Option A) → o ≡ option_or o None
-or_none None = refl
-or_none (Some x) = refl
-
 -- over none
 pub laid_over_none : (old : Meta) → IsLaidOver old [] old
-laid_over_none old = λ q. or_none (map.get old q)
+laid_over_none old = λ q. sym (or_none (map.get old q))
 
 pub laid_over_nothing : (old other : Meta) → length (map.entries other) ≡ 0 → old ≡ laid_over (old ∷ other ∷ [])
 laid_over_nothing old other none = laid_over_all old other old 0 (omega (arith, none)) (laid_over_none old)
@@ -41,10 +38,6 @@ laid_over_nothing old other none = laid_over_all old other old 0 (omega (arith, 
 first_stays : {A : Type 0} (a : Option A) (x y : A) → option_or a None ≡ Some y → option_or a (Some x) ≡ option_or a None
 first_stays None x y e = absurd cc
 first_stays (Some z) x y e = refl
-
-no_first : {A : Type 0} (a b : Option A) → option_or a b ≡ None → a ≡ None
-no_first None b e = refl
-no_first (Some x) b e = absurd cc
 
 -- over one more
 pub laid_over_next : (old new : Meta) (es : List (List ℕ × List ℕ)) (i : ℕ) (name text : List ℕ) → Some (name, text) ≡ slice_get es i → find text_cmp name (take i es) ≡ None
@@ -67,7 +60,7 @@ laid_over_next old new es i name text there fresh next each = by (map.get new na
         let step = elim (eq_by_cmp text_cmp q name) as (λ b. eq_by_cmp text_cmp q name ≡ b → cond b (Some text) (map.get new q) ≡ option_or (map.get old q) (cond b (Some text) (find text_cmp q (take i es)))) [
           | true ↦ λ same.
               let alike : q ≡ name = text_cmp-IsAntisymmetric q name (tied _ same) in
-              let none : map.get old q ≡ None = no_first (map.get old q) (find text_cmp q (take i es)) (sym (each q) ∙ ap (map.get new) alike ∙ is) in
+              let none : map.get old q ≡ None = none_before (map.get old q) (find text_cmp q (take i es)) (sym (each q) ∙ ap (map.get new) alike ∙ is) in
               ap (λ o. option_or o (Some text)) (sym none)
           | false ↦ λ other. each q
         ] refl in

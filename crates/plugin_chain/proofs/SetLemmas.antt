@@ -4,7 +4,6 @@ use Rattle.std.specs.Prelude.{if◌then◌else◌, codes, Result, Ok, Err, IfOk}
 use Rattle.std.specs.Bool.{Decides, one_answer}
 use Rattle.std.specs.FinMap as finite
 use Rattle.std.specs.FinMap.{find, is_sorted}
-use Rattle.std.specs.List.{flat_map}
 use Rattle.std.specs.Option.{option_map, option_map_or, option_or, option_to_list, unwrap_or}
 use Rattle.std.specs.Ordering.{eq_by_cmp}
 use Rattle.general_words.proofs.Entries.{find-below}
@@ -21,7 +20,6 @@ use Rattle.key_set.specs.WithAll.{with_keys}
 use Rattle.model_specified.specs.Globs.{has_glob}
 use Rattle.model_specified.specs.SpecMeta.{laid_over, said_of, spec_keys}
 use Rattle.model_specified.specs.Specified.{bit_under, default_name, default_of, is_specified, specified, specified_entry, specified_meta, specified_value, with_defaults}
-use Rattle.model_specified.proofs.DefaultLemmas.{with_keys-append}
 use Rattle.model_specified.proofs.GlobTests.{has_glob-Decides}
 use Rattle.model_specified.proofs.LaidOver.{laid_over-alone, laid_over-empty}
 use Rattle.model_specified.proofs.SpecifiedLemmas.{changed, find-changed, get-specified}
@@ -46,25 +44,6 @@ pub one_default : (spec : Name × Entry) (keys : KeyMap) (glob : Bool) (text : L
 one_default spec keys glob text decides is got =
     ap (λ o. made_when false o spec.0.parts keys) (sym got)
     ∙ ap (λ b. made_when b (finite.get spec.1.meta (codes "default")) spec.0.parts keys) (sym (glob_told spec.0.parts glob false decides is))
-
--- and one without it makes none
-pub default_missing : (spec : Name × Entry) (keys : KeyMap) (glob : Bool) → Decides glob (HasGlob spec.0.parts) → glob ≡ false → finite.get spec.1.meta (codes "default") ≡ None
-    → keys ≡ with_keys (default_of spec) keys
-default_missing spec keys glob decides is got =
-    ap (λ o. made_when false o spec.0.parts keys) (sym got)
-    ∙ ap (λ b. made_when b (finite.get spec.1.meta (codes "default")) spec.0.parts keys) (sym (glob_told spec.0.parts glob false decides is))
-
--- one more key
-pub default_next : (keys rest : List (Name × Entry)) (key : Name × Entry) (made after all : KeyMap) → keys ≡ key ∷ rest → after ≡ with_keys (default_of key) made
-    → with_keys (flat_map default_of keys) made ≡ all → with_keys (flat_map default_of rest) after ≡ all
-default_next keys rest key made after all are is so_far =
-    ap (with_keys (flat_map default_of rest)) is
-    ∙ sym (with_keys-append (default_of key) (flat_map default_of rest) made)
-    ∙ ap (λ ks. with_keys (flat_map default_of ks) made) (sym are)
-    ∙ so_far
-
-pub default_last : (keys : List (Name × Entry)) (made all : KeyMap) → keys ≡ [] → with_keys (flat_map default_of keys) made ≡ all → made ≡ all
-default_last keys made all none so_far = ap (λ ks. with_keys (flat_map default_of ks) made) (sym none) ∙ so_far
 
 -- ---- the entry of a key
 

@@ -1,11 +1,9 @@
 -- The violations so far, in the midst of a walk over the keys of a set.
-use Rattle.std.proofs.Common.{◌≡◌, ℕ, ◌≤◌, Bool, true, false, cond, List, [], ◌∷◌, ◌++◌, map, Option, Some, None, refl, sym, ap, ap₂, subst, ◌∙◌, inl, inr, arith, append-nil, append_assoc}
-use Rattle.std.specs.Prelude.{slice_get, Result, IfOk, OnOk}
+use Rattle.std.proofs.Common.{◌≡◌, ℕ, Bool, true, false, cond, List, [], ◌∷◌, ◌++◌, map, Option, Some, None, refl, sym, ap, ap₂, subst, ◌∙◌, append-nil, append_assoc}
+use Rattle.std.specs.Prelude.{slice_get, Result, IfOk}
 use Rattle.std.specs.FinMap as finite
 use Rattle.std.specs.List.{filter}
 use Rattle.std.specs.Option.{option_to_list}
-use Rattle.std.proofs.lemmas.Bool.{cases_lt}
-use Rattle.kdb_outside.specs.Faults.{HasRisen}
 use Rattle.model_names.specs.Name.{Name}
 use Rattle.model_maps.specs.Entry.{Entry, Meta}
 use Rattle.model_maps.specs.KeyMap.{KeyMap}
@@ -18,13 +16,6 @@ use Rattle.model_specified.specs.declared.violations.Violation.{Violation}
 use Rattle.model_specified.proofs.SpecifiedLemmas.{entries-specified}
 use Rattle.model_specified.proofs.ViolationLemmas.{AreOfKey-still, AreOfKeys-append, AreOfKeys-one, AreOfKeys-still}
 use Rattle.plugin_chain.specs.Steps.{Adds, AddsIf, IsFirstOf, checked}
-
--- ---- a count that rose
-
--- a count that rose in one of the calls rose over all of them
-pub rose_within : (a b c d : ℕ) → a ≤ b → b ≤ c → c ≤ d → HasRisen b c → HasRisen a d
-rose_within a b c d first middle last (inl lt) = inl (omega arith)
-rose_within a b c d first middle last (inr top) = elim (cases_lt a d) as (λ _. HasRisen a d) [ inl lt ↦ inl lt | inr le ↦ inr (omega arith) ]
 
 -- ---- the four checks of a value
 
@@ -152,6 +143,3 @@ pub first_is : {E : Type 0} (M : Type 0) (keys specs made : KeyMap) (is_chosen :
 first_is M keys specs made is_chosen r is_specs is_made h = subst (λ ks. IfOk r (IsFirstOf M ks)) (checked_are keys specs made is_chosen is_specs is_made) h
 
 -- ---- a key where it stands as the specifications have it
-
-pub adds_as : {E X : Type 0} (r : Result X E) (M : Type 0) (name : Name) (one other : Entry) (before after : List Violation) → one ≡ other → OnOk r (Adds M (name, one) before after) → OnOk r (Adds M (name, other) before after)
-adds_as r M name one other before after same h = subst (λ entry. OnOk r (Adds M (name, entry) before after)) same h

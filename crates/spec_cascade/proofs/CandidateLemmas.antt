@@ -1,7 +1,6 @@
 -- Lists of candidates, one piece behind the other.
-use Rattle.std.proofs.Common.{◌≡◌, ℕ, ◌+◌, ◌<◌, Bool, true, false, List, [], ◌∷◌, ◌++◌, length, get_or, take, Option, sym, ap, ap₂, subst, ◌∙◌, append_assoc}
+use Rattle.std.proofs.Common.{◌≡◌, ℕ, Bool, true, false, List, [], ◌∷◌, ◌++◌, Option, sym, ap, ap₂, subst, ◌∙◌, append_assoc}
 use Rattle.std.specs.List.{flat_map}
-use Rattle.general_words.proofs.Lists.{appended, at_place, flat_map-more}
 use Rattle.std.specs.Prelude.{◌==◌, Result, Ok, Err, IfOk, codes}
 use Rattle.std.specs.Bool.{MatchBool}
 use Rattle.std.specs.FinMap as finite
@@ -17,11 +16,6 @@ use Rattle.model_specified.specs.Specified.{default_name}
 use Rattle.spec_cascade.specs.Candidates.{AreCandidates, names_of, paths_by}
 use Rattle.spec_cascade.specs.Found.{IsFirstPresent, IsFound, found_at, present}
 use Rattle.spec_cascade.specs.declared.founds.Found.{Found}
-
--- one more element of a list adds what it stands for
-pub more_of : {A B : Type 0} (f : A → List B) (xs : List A) (i : ℕ) (x : A) (before now after : List B) → i < length xs → x ≡ get_or xs i x → now ≡ before ++ flat_map f (take i xs) → after ≡ now ++ f x → after ≡ before ++ flat_map f (take (i + 1) xs)
-more_of f xs i x before now after lt is so_far step =
-    appended before now after (flat_map f (take i xs)) (f x) so_far step ∙ ap (λ ys. before ++ ys) (sym (flat_map-more f xs i x (at_place xs i x lt is)))
 
 -- four pieces
 pub four_pieces : {A : Type 0} (l0 l1 l2 l3 l4 a b c d : List A) → l1 ≡ l0 ++ a → l2 ≡ l1 ++ b → l3 ≡ l2 ++ c → l4 ≡ l3 ++ d → l4 ≡ l0 ++ (a ++ (b ++ (c ++ d)))

@@ -5,6 +5,7 @@ use Rattle.kdb_outside.specs.declared.faults.Failed.{Failed}
 use Rattle.kdb_outside.specs.Faults.{HasRisen}
 use Rattle.kdb_outside.specs.Frames.{GoesOn, OnlyReads}
 use Rattle.kdb_outside.specs.Images.{Image}
+use Rattle.kdb_outside.proofs.Rises.{risen_since, risen_still}
 use Rattle.journal_codec.specs.declared.files.FileText.{FileText}
 use Rattle.intent_journal.specs.declared.states.State.TheVariants.{Clean, Doubt, Lag}
 use Rattle.intent_journal.specs.JournalBytes.{IsOwnFile}
@@ -14,7 +15,7 @@ use Rattle.intent_journal.specs.Outcomes.{with_entry, HasOnly, IsEither}
 use Rattle.intent_journal.specs.States.{IsCalm}
 use Rattle.intent_journal.proofs.Calm.{calm_kept, settled_calm}
 use Rattle.model_crashes.specs.Runs.{Run, files_of, IsBegun, IsReached, IsAmid, IsOneOf, new_run, after_begun, after_commit}
-use Rattle.model_crashes.proofs.Moments.{only_both, only_read, only_now, risen_since, risen_still}
+use Rattle.model_crashes.proofs.Moments.{only_both, only_read, only_now}
 use Rattle.model_crashes.proofs.Reached.{files_of-commit, IsBegun-more, IsBegun-before, begun_last, reached_more, reached_next, reached_begun, reached_now, reached_amid}
 use Rattle.store_phases.specs.Resting.{IsResting}
 use Rattle.store_phases.specs.Stores.{IsStore}

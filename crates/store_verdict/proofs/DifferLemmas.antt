@@ -6,6 +6,8 @@ use Rattle.std.specs.List.{list_any, filter}
 use Rattle.std.specs.Option.{option_or}
 use Rattle.std.specs.Ordering.{eq_by_cmp}
 use Rattle.general_words.proofs.Lookups.{tied_or_not}
+use Rattle.general_words.proofs.Searches.{or_none, or_assoc}
+use Rattle.general_words.proofs.Entries.{find-both}
 use Rattle.key_set.specs.Same.{same_keys}
 use Rattle.model_names.specs.Name.{Name}
 use Rattle.model_names.specs.Order.{name_cmp}
@@ -17,7 +19,6 @@ use Rattle.model_history.proofs.ChangeLemmas.{get-difference, change_at-same, un
 use Rattle.model_store.specs.Records.{Record}
 use Rattle.model_store.specs.Sets.{kept, changes_of, changes_at, differs}
 use Rattle.store_verdict.specs.Touching.{differs_at, with_some, with_change, with_changes}
-use Rattle.model_store.proofs.Touched.{or_none, find-both}
 
 -- ---- names
 
@@ -77,10 +78,6 @@ abbrev pub changed_in : (ℕ → KeyMap) → List (ℕ × KeyMap) → Name → O
 changed_in before [] q = None
 changed_in before (part ∷ parts) q = option_or (changed_in before parts q) (change_at (before part.0) part.1 q)
 
-or_assoc : {A : Type 0} (a b c : Option A) → option_or (option_or a b) c ≡ option_or a (option_or b c)
-or_assoc None b c = refl
-or_assoc (Some x) b c = refl
-
 pub changed_in-snoc : (before : ℕ → KeyMap) (parts : List (ℕ × KeyMap)) (part : ℕ × KeyMap) (q : Name) → changed_in before (parts ++ part ∷ []) q ≡ option_or (change_at (before part.0) part.1 q) (changed_in before parts q)
 changed_in-snoc before [] part q = sym (or_none (change_at (before part.0) part.1 q))
 changed_in-snoc before (first ∷ parts) part q =
@@ -90,7 +87,7 @@ changed_in-snoc before (first ∷ parts) part q =
 find-changes : (before wanted : ℕ → KeyMap) (ms : List ℕ) (q : Name) → find name_cmp q (changes_of before wanted ms) ≡ changed_in before (over (λ m. (m, wanted m)) ms) q
 find-changes before wanted [] q = refl
 find-changes before wanted (m ∷ ms) q =
-    find-both q (changes_of before wanted ms) (map.entries (difference (before m) (wanted m)))
+    find-both name_cmp (changes_of before wanted ms) (map.entries (difference (before m) (wanted m))) q
     ∙ ap (λ o. option_or o (find name_cmp q (map.entries (difference (before m) (wanted m))))) (find-changes before wanted ms q)
     ∙ ap (option_or (changed_in before (over (λ n. (n, wanted n)) ms) q)) (sym (map.get-entries (difference (before m) (wanted m)) q) ∙ get-difference (before m) (wanted m) q)
 

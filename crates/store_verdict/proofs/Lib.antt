@@ -4,5 +4,4 @@ pub mod DifferLemmas
 pub mod FileLemmas
 pub mod TextLemmas
 pub mod SetLemmas
-pub mod LateLemmas
 pub mod PrepareLemmas

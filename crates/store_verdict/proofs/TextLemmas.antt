@@ -8,6 +8,7 @@ use Rattle.general_words.specs.Texts.{text_cmp}
 use Rattle.general_words.proofs.Lists.{some_is}
 use Rattle.general_words.proofs.Lookups.{tied_or_not}
 use Rattle.general_words.proofs.Texts.{text_cmp-total, text_cmp-IsAntisymmetric}
+use Rattle.general_words.proofs.Searches.{or_none}
 use Rattle.model_files.specs.Files.{HaveOwnFiles, text_of}
 use Rattle.model_files.specs.Texts.{Texts, texts_at, with_text}
 use Rattle.model_store.specs.Sets.{Prepared}
@@ -16,7 +17,6 @@ use Rattle.mount_table.specs.declared.mounts.Mount.{Mount}
 use Rattle.mounted_files.specs.Preparing.{texts_of}
 use Rattle.mounted_files.specs.declared.changes.Change.{Change}
 use Rattle.store_verdict.proofs.FileLemmas.{made, file_for}
-use Rattle.model_store.proofs.Touched.{or_none}
 
 module _ (formats : Formats) (store : Store) (set : Prepared) (own : HaveOwnFiles store.mounts) where
   get-with : (m : ℕ) (mount : Mount) (texts : Texts) (q : List ℕ) → map.get (with_text formats store set.keys m (Some mount) texts) q ≡ cond (eq_by_cmp text_cmp q mount.file) (Some (text_of formats store set.keys m mount)) (map.get texts q)

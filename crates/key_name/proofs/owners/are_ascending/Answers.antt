@@ -2,8 +2,10 @@
 use Rattle.std.proofs.Common.{◌+◌, refl, sym, ap, ◌∙◌, inl, inr, arith}
 use Rattle.std.specs.Ordering.{is_lt}
 use Rattle.std.proofs.lemmas.Bool.{cases_lt, false≢true}
-use Rattle.key_name.proofs.OwnerLemmas.{ascending, less, neighbours, neighbours_rise}
+use Rattle.key_name.proofs.OwnerLemmas.{ascending, neighbours, neighbours_rise}
 use Rattle.key_name.proofs.owners.are_ascending.Goals as goal
+use Rattle.general_words.proofs.Orders.{less}
+use Rattle.general_words.proofs.Tests.{true_is}
 
 pub returns-then-not-is_lt : goal.returns-then-not-is_lt
 returns-then-not-is_lt c =
@@ -17,7 +19,7 @@ loop-i-preserved c = λ k d lt.
     let b = c.index-names-i-in-loop-i.result in
     elim (cases_lt (k + 1) c.loop-i.i) [
       | inl before ↦ c.loop-i.invariant k d before
-      | inr last ↦ neighbours c.args.names.now c.loop-i.i a b c.loop-i-test.true c.index-names-i.is c.index-names-i-in-loop-i.is (less _ (ap is_lt (sym c.cmp.ensures) ∙ sym c.is_lt.ensures ∙ c.if-not-is_lt.false)) k d (omega arith)
+      | inr last ↦ neighbours c.args.names.now c.loop-i.i a b c.loop-i-test.true c.index-names-i.is c.index-names-i-in-loop-i.is (less _ (true_is _ (ap is_lt (sym c.cmp.ensures) ∙ sym c.is_lt.ensures ∙ c.if-not-is_lt.false))) k d (omega arith)
     ]
 
 pub returns : goal.returns

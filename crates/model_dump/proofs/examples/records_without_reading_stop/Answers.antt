@@ -1,4 +1,4 @@
-use Rattle.std.specs.Prelude.{◌≡◌, ℕ, List, [], ◌∷◌, ◌++◌, codes, Option, None, Some}
+use Rattle.std.specs.Prelude.{◌≡◌, ℕ, List, [], ◌∷◌, ◌++◌, codes, None, Some}
 use Rattle.std.specs.Fmt.{digits}
 use Rattle.std.specs.FinMap as map
 use Rattle.std.proofs.Common.{refl, sym, ap, ◌∙◌, arith, lit<, lit≤}
@@ -19,10 +19,7 @@ use Rattle.general_words.proofs.Maps.{get-insert_same, insert-insert}
 use Rattle.model_dump.proofs.MapLemmas.{weight-insert, weight-no_keys, weight_of_key-plain, weight_of_key-meta, IsValue-from_ascii}
 use Rattle.model_dump.proofs.SmallDumps.{small, name_a, plain_a, record_a, after_a, spells_a, plain_a_has, adds_a, HasNoNext-record}
 use Rattle.model_dump.proofs.examples.records_without_reading_stop.Goals as goal
-use Rattle.general_words.proofs.Lists.{some_is}
-
-nothing_is_some : {A : Type 0} (x : A) → ◌≡◌ {A = Option A} None (Some x) → ⊥
-nothing_is_some x e = absurd cc
+use Rattle.general_words.proofs.Lists.{some_is, none_is_no_some}
 
 -- behind the key `/a` = `1` stands this record
 behind_a : (r : Record) (more bytes : List ℕ) → bytes ≡ codes "kdbOpen 2\n$key string 1 1\na\n1\n" ++ (spelled_record r ++ more) → Begins Adds bytes (record_a ∷ []) after_a (spelled_record r ++ more)
@@ -36,7 +33,7 @@ again = record { kind = KeyKind; first = codes "a"; second = codes "2" }
 not_again : (after : Progress) → Adds after_a again after → ⊥
 not_again after step =
     let name : step.adds.name ≡ name_a = Spells-once (codes "/a") step.adds.name name_a step.adds.spelled spells_a in
-    nothing_is_some (plain_entry (codes "1")) (sym step.adds.is_new ∙ ap (map.get plain_a) name ∙ plain_a_has)
+    none_is_no_some (plain_entry (codes "1")) (sym step.adds.is_new ∙ ap (map.get plain_a) name ∙ plain_a_has)
 
 pub returns-clause-key_twice : goal.returns-clause-key_twice
 unfolding digits
@@ -54,7 +51,7 @@ abbrev meta_x : Record
 meta_x = record { kind = MetaKind; first = codes "m"; second = codes "x" }
 
 not_first : (after : Progress) → Adds start meta_x after → ⊥
-not_first after step = nothing_is_some step.adds.puts.key step.adds.puts.present
+not_first after step = none_is_no_some step.adds.puts.key step.adds.puts.present
 
 pub returns-clause-no_key_yet : goal.returns-clause-no_key_yet
 unfolding digits
@@ -107,7 +104,7 @@ not_another : (after : Progress) → Adds after_meta meta_y after → ⊥
 not_another after step =
     let key : name_a ≡ step.adds.puts.key = some_is name_a step.adds.puts.key step.adds.puts.present in
     let entry : marked ≡ step.adds.puts.entry = some_is marked step.adds.puts.entry (sym (get-insert_same name_cmp_total plain_a name_a marked) ∙ ap (map.get marked_a) key ∙ step.adds.puts.found) in
-    nothing_is_some (codes "x") (sym step.adds.puts.is_new ∙ ap (λ (e : Entry). map.get e.meta (codes "m")) (sym entry) ∙ get-insert_same nat_list_cmp_total map.empty (codes "m") (codes "x"))
+    none_is_no_some (codes "x") (sym step.adds.puts.is_new ∙ ap (λ (e : Entry). map.get e.meta (codes "m")) (sym entry) ∙ get-insert_same nat_list_cmp_total map.empty (codes "m") (codes "x"))
 
 pub returns-clause-meta_twice : goal.returns-clause-meta_twice
 unfolding digits
@@ -149,7 +146,7 @@ b_is_missing = map.get-insert name_cmp_total no_keys name_a _ name_b ∙ map.get
 not_missing : (after : Progress) → Adds after_a (copy_of (codes "b")) after → ⊥
 not_missing after step =
     let source : step.adds.source ≡ name_b = Spells-once (codes "/b") step.adds.source name_b step.adds.spelled (Spells-from_tests _ _ (codes "b") refl refl refl (lit≤ tt)) in
-    nothing_is_some step.adds.entry (sym b_is_missing ∙ ap (map.get plain_a) (sym source) ∙ step.adds.found)
+    none_is_no_some step.adds.entry (sym b_is_missing ∙ ap (map.get plain_a) (sym source) ∙ step.adds.found)
 
 pub returns-clause-copied_from_nowhere : goal.returns-clause-copied_from_nowhere
 unfolding digits

@@ -1,9 +1,10 @@
 use Rattle.std.proofs.Common.{[], sym, subst, ◌∙◌, arith}
 use Rattle.std.specs.FinMap as finite
 use Rattle.kdb_outside.specs.Faults.{HasRisen}
+use Rattle.kdb_outside.proofs.Rises.{risen_since, risen_still}
 use Rattle.key_set.specs.EntryView.{entry_of}
 use Rattle.model_specified.specs.Violations.{is_within}
-use Rattle.plugin_chain.proofs.WalkLemmas.{Reached, reached_first, reached_last, reached_next, rose_within}
+use Rattle.plugin_chain.proofs.WalkLemmas.{Reached, reached_first, reached_last, reached_next}
 use Rattle.plugin_chain.proofs.listing.all_at.Goals as goal
 
 pub loop-name-init : goal.loop-name-init
@@ -27,7 +28,7 @@ loop-name-preserved g c =
       reached = reached_next (HasRisen start before) (HasRisen before after) (HasRisen start after) c.args.specs.now (is_within c.args.at.now) (finite.entries c.args.made.now)
           c.loop-name.name-iterator c.next.new.self (c.in-Some.name.now, entry_of c.in-Some.entry.now) c.in_ok-is_chosen.is_chosen c.loop-name.list.items c.check_if.new.list.items
           c.in-Some.ensures.steps c.in_ok-is_chosen.ensures
-          (rose_within start start before after (omega arith) earlier later) (rose_within start before after after earlier later (omega arith))
+          (risen_still start before after earlier later) (risen_since start before after earlier)
           c.in_ok-check_if.ensures.ok c.loop-name.invariant.reached;
       later = omega (arith, earlier, later);
     }

@@ -1,9 +1,10 @@
 use Rattle.std.proofs.Common.{[], sym, subst, ◌∙◌, arith}
 use Rattle.std.specs.FinMap as finite
 use Rattle.kdb_outside.specs.Faults.{HasRisen}
+use Rattle.kdb_outside.proofs.Rises.{risen_since, risen_still}
 use Rattle.key_set.specs.EntryView.{entry_of}
 use Rattle.model_specified.specs.Violations.{is_owned}
-use Rattle.plugin_chain.proofs.WalkLemmas.{Reached, none_there, reached_first, reached_found, reached_last, reached_next_from, rose_within}
+use Rattle.plugin_chain.proofs.WalkLemmas.{Reached, none_there, reached_first, reached_found, reached_last, reached_next_from}
 use Rattle.plugin_chain.proofs.listing.first_in.Goals as goal
 
 pub loop-name-init : goal.loop-name-init
@@ -33,7 +34,7 @@ returns-in-Some-first_of-clause-first g c =
     (reached_next_from (HasRisen start before) (HasRisen before after) (HasRisen start after) c.args.specs.now (is_owned c.args.points.now c.args.touched.now) (finite.entries c.args.made.now)
     c.loop-name.name-iterator c.next.new.self (c.in-Some.name.now, entry_of c.in-Some.entry.now) c.is_touched-is_chosen.result c.new-own.result.items c.check_if.new.list.items
     c.new-own.ensures.items c.in-Some.ensures.steps c.is_touched-is_chosen.ensures
-    (rose_within start start before after (omega arith) earlier later) (rose_within start before after after earlier later (omega arith))
+    (risen_still start before after earlier later) (risen_since start before after earlier)
     c.in_ok-check_if.ensures.ok c.loop-name.invariant.reached)
 
 pub loop-name-preserved : goal.loop-name-preserved
@@ -49,7 +50,7 @@ loop-name-preserved g c =
           (reached_next_from (HasRisen start before) (HasRisen before after) (HasRisen start after) c.args.specs.now (is_owned c.args.points.now c.args.touched.now) (finite.entries c.args.made.now)
           c.loop-name.name-iterator c.next.new.self (c.in-Some.name.now, entry_of c.in-Some.entry.now) c.is_touched-is_chosen.result c.new-own.result.items c.check_if.new.list.items
           c.new-own.ensures.items c.in-Some.ensures.steps c.is_touched-is_chosen.ensures
-          (rose_within start start before after (omega arith) earlier later) (rose_within start before after after earlier later (omega arith))
+          (risen_still start before after earlier later) (risen_since start before after earlier)
           c.in_ok-check_if.ensures.ok c.loop-name.invariant.reached);
       later = omega (arith, earlier, later);
     }

@@ -1,5 +1,5 @@
 -- One front that differs is enough.
-use Rattle.std.proofs.Common.{◌≡◌, ℕ, zero, suc, nat_eq, Bool, true, false, not, ◌&&◌, List, [], ◌∷◌, get_or, map as over, slice_get, Some, refl, sym, ap, ◌∙◌}
+use Rattle.std.proofs.Common.{◌≡◌, ℕ, zero, suc, nat_eq, Bool, true, false, ◌&&◌, List, [], ◌∷◌, get_or, map as over, slice_get, Some, refl, sym, ap, ◌∙◌}
 use Rattle.std.specs.List.{list_all}
 use Rattle.std.specs.Option.{option_eq}
 use Rattle.std.proofs.lemmas.Option.{slice_get-get_or}
@@ -8,14 +8,11 @@ use Rattle.store_verdict.specs.PreparedView.{front_of}
 use Rattle.store_verdict.specs.RecordView.{record_of}
 use Rattle.store_verdict.specs.declared.prepared.Seen.{Seen}
 use Rattle.store_verdict.proofs.accepting.has_fronts.Goals as goal
+use Rattle.general_words.proofs.Tests.{not_is}
 
 and-false : (b : Bool) → (b && false) ≡ false
 and-false true = refl
 and-false false = refl
-
-off : (b : Bool) → not b ≡ true → b ≡ false
-off true e = absurd cc
-off false e = refl
 
 all-fails : (p : ℕ → Bool) (seen : List Seen) (i : ℕ) (one : Seen) → Some one ≡ slice_get seen i → p one.mount ≡ false → list_all p (over (λ s. s.mount) seen) ≡ false
 all-fails p [] i one there fails = absurd cc
@@ -29,4 +26,4 @@ returns-then-ne c =
     let p : ℕ → Bool = λ m. option_eq nat_eq (front_in (record_of c.args.rec.now) m) (front_of c.args.seen.now m) in
     sym (all-fails p c.args.seen.now c.loop-one.one-index one
     (sym (slice_get-get_or c.args.seen.now c.loop-one.one-index d c.loop-one-test.true))
-    ((λ i. option_eq nat_eq (sym c.fetched.ensures i) (sym c.front_of.ensures i)) ∙ off (option_eq nat_eq c.fetched.result c.front_of.result) (sym c.ne.ensures ∙ c.if-ne.true)))
+    ((λ i. option_eq nat_eq (sym c.fetched.ensures i) (sym c.front_of.ensures i)) ∙ not_is (option_eq nat_eq c.fetched.result c.front_of.result) (sym c.ne.ensures ∙ c.if-ne.true)))

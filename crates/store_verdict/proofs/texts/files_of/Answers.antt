@@ -1,7 +1,6 @@
 -- Each turn looks at one more part.
 use Rattle.std.proofs.Common.{List, ◌++◌, ◌∷◌, [], Option, Some, IfSome, ap, sym, subst, ◌∙◌}
-use Rattle.general_words.proofs.Lists.{at_place}
-use Rattle.model_names.proofs.PartLemmas.{all_append}
+use Rattle.general_words.proofs.Lists.{at_place, all_append}
 use Rattle.mounted_files.specs.Sound.{AreSound, AreSoundChanges}
 use Rattle.mounted_files.specs.declared.changes.Change.{Change}
 use Rattle.store_verdict.specs.Filing.{file_at}
