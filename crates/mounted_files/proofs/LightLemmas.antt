@@ -1,6 +1,5 @@
 -- What a get gives has short texts and weighs little enough for a file, and so has what is at or below a name.
-use Rattle.std.proofs.Common.{◌≡◌, ◌⊎◌, ℕ, zero, suc, ◌+◌, ◌≤◌, ◌<◌, Bool, true, false, cond, List, [], ◌∷◌, ◌++◌, length, length-append, take, drop, map as over, filter, filter_map, slice_get, Option, Some, None, Result, Ok, Err, refl, sym, ap, subst, ◌∙◌, arith, inl, inr}
-use Rattle.std.specs.Prelude.{option_and_then}
+use Rattle.std.proofs.Common.{◌≡◌, ◌⊎◌, ℕ, zero, suc, ◌+◌, ◌≤◌, Bool, true, false, cond, List, [], ◌∷◌, ◌++◌, length, length-append, take, drop, map as over, filter, filter_map, slice_get, Option, Some, None, Result, Ok, Err, refl, sym, ap, subst, ◌∙◌, arith, inl, inr}
 use Rattle.std.specs.FinMap as map
 use Rattle.std.specs.FinMap.Entries.{by_order, put}
 use Rattle.std.specs.List.{cons_option, flat_map, fold, insert, range_with_len, remove, sum_by}
@@ -9,8 +8,7 @@ use Rattle.std.specs.Option.{option_map}
 use Rattle.std.specs.declared.cmp.Ordering.{Ordering}
 use Rattle.std.specs.declared.cmp.Ordering.TheVariants.{Less, Equal, Greater}
 use Rattle.std.proofs.lemmas.List.Sums.{sum_by-append, sum_by-cons, sum_by-take-drop}
-use Rattle.std.proofs.lemmas.Option.{none-some, slice_get-map}
-use Rattle.key_name.specs.Joining.{way_to}
+use Rattle.std.proofs.lemmas.Option.{slice_get-map}
 use Rattle.key_set.specs.WithAll.{with_all, with_keys}
 use Rattle.model_names.specs.declared.namespaces.Namespace.TheVariants.{Cascading}
 use Rattle.model_names.specs.Name.{Name, Part}
@@ -25,7 +23,7 @@ use Rattle.mount_table.specs.Table.{own_mount}
 use Rattle.mount_table.specs.declared.mounts.Mount.{Mount}
 use Rattle.general_words.proofs.Maps.{entries-empty}
 use Rattle.general_words.specs.Searches.{first_some}
-use Rattle.set_split.specs.Involved.{involved_in, is_involved}
+use Rattle.set_split.specs.Involved.{is_involved}
 use Rattle.mounted_files.specs.Files.{points_of}
 use Rattle.mounted_files.specs.Getting.{got, involved_files, visible_keys, visible_of, fault_in}
 use Rattle.mounted_files.specs.Short.{AreShort, HasShortTexts, HaveShortTexts}

@@ -1,6 +1,7 @@
 -- What stands in a finite map is found in it, and a property of its entries lasts where one more is inserted.
-use Rattle.std.proofs.Common.{◌≡◌, ℕ, ◌+◌, ◌≤◌, Bool, true, false, cond, List, [], ◌∷◌, ◌++◌, length, slice_get, Some, refl, sym, ap, ◌∙◌}
+use Rattle.std.proofs.Common.{◌≡◌, ℕ, ◌+◌, ◌≤◌, Bool, true, false, cond, not, List, [], ◌∷◌, ◌++◌, length, slice_get, Some, refl, sym, ap, ◌∙◌, arith}
 use Rattle.std.specs.FinMap as map
+use Rattle.std.specs.FinMap.Entries.{where_key}
 use Rattle.std.specs.List.{AllByRecursion}
 use Rattle.std.proofs.lemmas.Bool.{cond-true, cond-false}
 use Rattle.model_names.specs.Name.{Name}
@@ -11,8 +12,9 @@ use Rattle.model_maps.specs.KeyMap.{KeyMap, no_keys}
 use Rattle.key_set.specs.WithAll.{with_keys}
 use Rattle.general_words.specs.Fronts.{front}
 use Rattle.general_words.proofs.Fronts.{front-all, front-next}
-use Rattle.general_words.proofs.Maps.{get-at, each-insert, from_sorted-nil, retain-empty, retain-insert}
+use Rattle.general_words.proofs.Maps.{entries-empty, entries-retain, get-at, each-insert, from_sorted-nil, retain-empty, retain-insert}
 use Rattle.general_words.proofs.Lists.{all_from_places}
+use Rattle.set_split.proofs.SplitLemmas.{both}
 
 -- keys that are set in a list, one more behind it
 pub with_keys-more : (es : List (Name × Entry)) (key : Name × Entry) (keys : KeyMap) → with_keys (es ++ key ∷ []) keys ≡ map.insert (with_keys es keys) key.0 key.1
@@ -69,3 +71,24 @@ module _ (keys : KeyMap) (p : Name → Bool) where
 
   pub kept-all : (n : ℕ) → length (map.entries keys) ≤ n → kept n ≡ map.retain_keys keys p
   kept-all n le = ap (λ k. map.retain_keys k p) (front-all keys n le)
+
+-- where as many pass a test as there are, none fails it
+pub none-fails : (keys : KeyMap) (p : Name → Bool) → length (map.entries (map.retain_keys keys p)) ≡ length (map.entries keys) → no_keys ≡ map.retain_keys keys (λ name. not (p name))
+none-fails keys p all =
+    let fails : Name → Bool = λ name. not (p name) in
+    let passing = ap length (sym (entries-retain name_cmp_total name_cmp-IsAntisymmetric keys p)) ∙ all in
+    let counted = both (λ name. true) p fails (λ name. by (p name)) (map.entries keys) in
+    map.same_entries_map no_keys (map.retain_keys keys fails)
+    (entries-empty name_cmp Entry ∙ sym (entries-retain name_cmp_total name_cmp-IsAntisymmetric keys fails ∙ nothing (where_key name_cmp fails (map.entries keys)) (omega (arith, counted, passing, whole (map.entries keys)))))
+  where
+    by : (b : Bool) → 1 ≡ cond b 1 0 + cond (not b) 1 0
+    by true = refl
+    by false = refl
+
+    whole : (es : List (Name × Entry)) → length (where_key name_cmp (λ name. true) es) ≡ length es
+    whole [] = refl
+    whole (e ∷ es) = let rest = whole es in omega (arith, rest)
+
+    nothing : (es : List (Name × Entry)) → length es ≡ 0 → es ≡ []
+    nothing [] e = refl
+    nothing (f ∷ es) e = absurd (omega (arith, e))

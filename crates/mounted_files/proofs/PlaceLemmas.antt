@@ -12,9 +12,8 @@ use Rattle.std.proofs.lemmas.List.Sums.{fold-append}
 use Rattle.std.proofs.lemmas.Map.Keys.{Less-from_sorted}
 use Rattle.std.proofs.lemmas.Option.{slice_get_within, slice_get-map, get_or_from_slice_get, same_Some}
 use Rattle.general_words.proofs.Lists.{at_place}
-use Rattle.general_words.proofs.Lookups.{tied_or_not, get-elsewhere}
+use Rattle.general_words.proofs.Lookups.{get-elsewhere}
 use Rattle.general_words.proofs.Maps.{get-insert_same}
-use Rattle.key_name.specs.Comparing.{name_ties}
 use Rattle.general_words.specs.Texts.{is_text}
 use Rattle.model_names.specs.Below.{is_at_or_below}
 use Rattle.model_names.specs.Name.{Name, Part}

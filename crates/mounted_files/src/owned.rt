@@ -12,6 +12,7 @@ use crate::adding::put;
 use key_meta::Memory;
 use key_name::{KeyName, owner};
 use key_set::KeySet;
+use set_split::owned;
 use std::alloc::Global;
 
 /// The state of a file with these keys: those that the mount of this number owns are visible, and the others are its shadow.
@@ -24,20 +25,37 @@ pub fn good_state(
     requires { IsStrictlySortedBy name_cmp points.now }
     ensures { IfOk result (λ state. state ≡ Good (owned_by points.now i keys.now) (not_owned_by points.now i keys.now)) }
 {
-    let mut visible = KeySet::new(alloc);
+    let visible = owned(points, i, keys)?;
+    let shadow = not_owned(alloc, points, i, keys, &visible)?;
+    Ok(FileState::Good { visible, shadow })
+}
+
+/// A copy of the keys that the mount of this number doesn't own, given those that it owns. Mostly it owns all, and then none is looked at.
+fn not_owned(
+    alloc: Global,
+    points: &[KeyName],
+    i: usize,
+    keys: &KeySet,
+    visible: &KeySet,
+) -> Result<KeySet, Memory>
+    requires order { IsStrictlySortedBy name_cmp points.now }
+    requires visible { visible.now ≡ owned_by points.now i keys.now }
+    ensures { IfOk result (λ shadow. shadow ≡ not_owned_by points.now i keys.now) }
+{
+    if visible.len() == keys.len() {
+        return Ok(KeySet::new(alloc));
+    }
     let mut shadow = KeySet::new(alloc);
     let mut rest = keys.iter();
     for place in 0..keys.len() {
         let Some((name, entry)) = rest.next() else {
             unreachable!()
         };
-        if owns(points, i, name) {
-            put(&mut visible, name.copy()?, entry)?;
-        } else {
+        if !owns(points, i, name) {
             put(&mut shadow, name.copy()?, entry)?;
         }
     }
-    Ok(FileState::Good { visible, shadow })
+    Ok(shadow)
 }
 
 /// Whether the mount of this number owns a name.

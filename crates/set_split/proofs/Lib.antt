@@ -1,4 +1,5 @@
 pub mod MountLemmas
+pub mod OwningLemmas
 pub mod SplitLemmas
 pub mod UnionLemmas
 pub mod NowhereLemmas

@@ -1,147 +1,113 @@
--- What one more key does to the parts, and to the keys that are left aside.
-use Rattle.std.proofs.Common.{◌≡◌, ℕ, ◌+◌, ◌≤◌, Bool, true, false, cond, ◌||◌, nat_eq, zero, suc, ◌<◌, List, [], ◌∷◌, ◌++◌, length, get_or, set, map as over, drop, take, slice_get, Option, Some, None, refl, sym, ap, ap₂, ◌∙◌, arith, length-append}
+-- How many keys are left aside by the mounts so far: no two of them own one key.
+use Rattle.std.proofs.Common.{◌≡◌, ℕ, ◌+◌, ◌<◌, Bool, true, false, cond, not, ◌||◌, true≢false, List, [], ◌∷◌, ◌++◌, length, get_or, map as over, take, refl, sym, ap, ap₂, subst, ◌∙◌, arith}
 use Rattle.std.specs.FinMap as map
 use Rattle.std.specs.FinMap.Entries.{where_key}
-use Rattle.std.specs.List.{list_any}
-use Rattle.std.specs.Option.{option_eq}
-use Rattle.std.proofs.lemmas.Bool.{cond_both, cond-true, cond-false}
-use Rattle.std.proofs.lemmas.List.{take_all, map-set, get_or-map, length-map}
-use Rattle.std.proofs.lemmas.List.Edits.{map_over_more}
+use Rattle.std.specs.Cmp.{tied_itself}
+use Rattle.std.specs.List.{list_any, range_with_len}
+use Rattle.std.specs.List.Sorted.{IsStrictlyIncreasing, IsStrictlySortedBy}
+use Rattle.std.specs.Ordering.{nat_cmp}
+use Rattle.std.specs.declared.cmp.Ordering.TheVariants.{Less, Equal}
+use Rattle.std.proofs.lemmas.Bool.{false_from_ne_true}
+use Rattle.std.proofs.lemmas.Cmp.{nat_cmp_total}
+use Rattle.std.proofs.lemmas.List.{get_or-take, get_or_default, length-take-le, map-append}
 use Rattle.std.proofs.lemmas.List.Folds.{list_any_more}
+use Rattle.std.proofs.lemmas.List.FromFn.{get_or-range_with_len, length-range_with_len}
+use Rattle.std.proofs.lemmas.List.Kept.{IsStrictlySortedBy-filter}
+use Rattle.std.proofs.lemmas.Map.Keys.{Less-from_sorted, sorted_from_strictly_increasing}
+use Rattle.std.proofs.lemmas.Option.{same_Some, slice_get-get_or}
+use Rattle.general_words.proofs.Lists.{take-next}
 use Rattle.model_names.specs.Name.{Name}
 use Rattle.model_names.specs.Order.{name_cmp}
 use Rattle.model_names.proofs.OrderLemmas.{name_cmp_total, name_cmp-IsAntisymmetric}
 use Rattle.model_maps.specs.Entry.{Entry}
-use Rattle.model_maps.specs.KeyMap.{KeyMap, no_keys}
-use Rattle.general_words.proofs.Maps.{from_sorted-nil, retain-insert, retain-empty, entries-retain}
-use Rattle.general_words.specs.Fronts.{front}
-use Rattle.general_words.proofs.Fronts.{front-all, front-next}
-use Rattle.general_words.proofs.Lists.{take-next}
-use Rattle.key_name.specs.Owner.{owner_of}
-use Rattle.set_split.specs.declared.parts.Part.{Part}
-use Rattle.set_split.specs.Involved.{involved_in, owns}
-use Rattle.set_split.specs.Parts.{owned_by, parts_of, is_reached}
+use Rattle.model_maps.specs.KeyMap.{KeyMap}
+use Rattle.general_words.proofs.Maps.{entries-retain}
+use Rattle.set_split.specs.Involved.{involved_in, is_involved, owns}
+use Rattle.set_split.specs.Parts.{owned_by}
 use Rattle.set_split.specs.Seen.{numbered}
-use Rattle.set_split.proofs.MountLemmas.{any-map}
+use Rattle.set_split.specs.declared.parts.Part.{Part}
+use Rattle.set_split.proofs.OwningLemmas.{owner_is, place_of}
+
+-- ---- counts
+
+where-first : (p : Name → Bool) (e : Name × Entry) (es : List (Name × Entry)) → length (where_key name_cmp p (e ∷ es)) ≡ cond (p e.0) 1 0 + length (where_key name_cmp p es)
+where-first p e es = by (p e.0)
+  where
+    by : (b : Bool) → length (cond b (e ∷ where_key name_cmp p es) (where_key name_cmp p es)) ≡ cond b 1 0 + length (where_key name_cmp p es)
+    by true = omega arith
+    by false = omega arith
+
+-- where each name that passes one test passes one of two others, and no other name does
+pub both : (p q r : Name → Bool) → ((name : Name) → cond (p name) 1 0 ≡ cond (q name) 1 0 + cond (r name) 1 0) → (es : List (Name × Entry)) → length (where_key name_cmp p es) ≡ length (where_key name_cmp q es) + length (where_key name_cmp r es)
+both p q r each [] = refl
+both p q r each (e ∷ es) = let rest = both p q r each es in let first = each e.0 in omega (arith, where-first p e es, where-first q e es, where-first r e es, rest, first)
+
+-- ---- the mounts so far
+
+module _ (points : List Name) (keys : KeyMap) where
+  -- the keys that none of some mounts owns
+  abbrev pub unowned : List ℕ → KeyMap
+  unowned mounts = map.retain_keys keys (λ (name : Name). not (list_any (λ i. owns points i name) mounts))
+
+  pub unowned-none : length (map.entries keys) ≡ length (map.entries (unowned []))
+  unowned-none = all (map.entries keys) ∙ ap length (sym (entries-retain name_cmp_total name_cmp-IsAntisymmetric keys (λ (name : Name). not (list_any (λ i. owns points i name) []))))
+    where
+      all : (es : List (Name × Entry)) → length es ≡ length (where_key name_cmp (λ (name : Name). true) es)
+      all [] = refl
+      all (e ∷ es) = let rest = all es in omega (arith, rest)
+
+rising : (n : ℕ) → IsStrictlyIncreasing (range_with_len 0 n)
+rising n k lt = let within : k + 1 < n = omega (arith, length-range_with_len 0 n) in omega (arith, get_or-range_with_len 0 n k 0 (omega arith), get_or-range_with_len 0 n (k + 1) 0 within)
+
+-- the mounts that are involved ascend
+involved-rise : (points : List Name) (parent : Name) → IsStrictlySortedBy nat_cmp (involved_in points parent)
+involved-rise points parent =
+    IsStrictlySortedBy-filter nat_cmp (is_involved points parent) (range_with_len 0 (length points)) (sorted_from_strictly_increasing (range_with_len 0 (length points)) (rising (length points)))
+
+-- so none of them owns what one before it owns
+apart : (points : List Name) (mounts : List ℕ) (n m : ℕ) (name : Name) → IsStrictlySortedBy nat_cmp mounts → n < length mounts → m ≡ get_or mounts n m → owns points m name ≡ true → list_any (λ i. owns points i name) (take n mounts) ≡ false
+apart points mounts n m name rise lt is mine = false_from_ne_true _ (λ e.
+    let before = place_of (λ i. owns points i name) (take n mounts) m e in
+    let earlier : before.0 < n = omega (arith, before.1, length-take-le n mounts (omega arith)) in
+    let other : ℕ = get_or (take n mounts) before.0 m in
+    let same : other ≡ m = same_Some other m (sym (owner_is points other name before.2) ∙ owner_is points m name mine) in
+    let less : nat_cmp (get_or mounts before.0 m) (get_or mounts n m) ≡ Less = Less-from_sorted nat_cmp mounts before.0 n m rise earlier lt in
+    let tie : nat_cmp m m ≡ Less = ap₂ nat_cmp (sym same ∙ get_or-take n mounts before.0 m earlier) is ∙ less in
+    let itself : nat_cmp m m ≡ Equal = tied_itself nat_cmp_total m in
+    absurd cc)
+
+-- one mount more: what it owns is no longer left aside
+pub unowned-next : (points : List Name) (parent : Name) (keys : KeyMap) (n m : ℕ) → n < length (involved_in points parent) → m ≡ get_or (involved_in points parent) n m → length (map.entries (unowned points keys (take n (involved_in points parent)))) ≡ length (map.entries (owned_by points m keys)) + length (map.entries (unowned points keys (take (n + 1) (involved_in points parent))))
+unowned-next points parent keys n m lt is =
+    let mounts = involved_in points parent in
+    let p : Name → Bool = λ name. not (list_any (λ i. owns points i name) (take n mounts)) in
+    let r : Name → Bool = λ name. not (list_any (λ i. owns points i name) (take (n + 1) mounts)) in
+    ap length (entries-retain name_cmp_total name_cmp-IsAntisymmetric keys p)
+    ∙ both p (owns points m) r (λ name.
+    by (list_any (λ i. owns points i name) (take n mounts)) (owns points m name) (apart points mounts n m name (involved-rise points parent) lt is)
+    ∙ ap (λ b. cond (owns points m name) 1 0 + cond (not b) 1 0) (ap (λ j. list_any (λ i. owns points i name) (take n mounts) || owns points j name) is ∙ sym (list_any_more (λ i. owns points i name) mounts n m lt))) (map.entries keys)
+    ∙ ap₂ (λ a b. a + b) (ap length (sym (entries-retain name_cmp_total name_cmp-IsAntisymmetric keys (owns points m)))) (ap length (sym (entries-retain name_cmp_total name_cmp-IsAntisymmetric keys r)))
+  where
+    by : (a b : Bool) → (b ≡ true → a ≡ false) → cond (not a) 1 0 ≡ cond b 1 0 + cond (not (a || b)) 1 0
+    by true true h = absurd (true≢false (h refl))
+    by true false h = refl
+    by false true h = refl
+    by false false h = refl
+
+-- the same by the list that is walked
+pub unowned-step : (points : List Name) (parent : Name) (keys : KeyMap) (items : List ℕ) (n : ℕ) → items ≡ involved_in points parent → n < length items → length (map.entries (unowned points keys (take n items))) ≡ length (map.entries (owned_by points (get_or items n 0) keys)) + length (map.entries (unowned points keys (take (n + 1) items)))
+unowned-step points parent keys items n is lt =
+    subst (λ ms. length (map.entries (unowned points keys (take n ms))) ≡ length (map.entries (owned_by points (get_or ms n 0) keys)) + length (map.entries (unowned points keys (take (n + 1) ms)))) (sym is)
+    (let within : n < length (involved_in points parent) = subst (λ ms. n < length ms) is lt in
+    unowned-next points parent keys n (get_or (involved_in points parent) n 0) within (get_or_default (involved_in points parent) n 0 (get_or (involved_in points parent) n 0) within))
 
 -- ---- the parts
 
--- a part as its number and its keys
-abbrev shown : Part → ℕ × KeyMap
-shown part = (part.mount, part.keys)
-
--- a key that is put into a part where an owner has the part's number
-abbrev pub put_in : Option ℕ → Name → Entry → ℕ × KeyMap → ℕ × KeyMap
-put_in owner name entry part = (part.0, cond (option_eq nat_eq owner (Some part.0)) (map.insert part.1 name entry) part.1)
-
-behind : {A : Type 0} (f : A → A) (xs : List A) (i : ℕ) (d : A) → i < length xs → get_or (over f (take i xs) ++ drop i xs) i d ≡ get_or xs i d
-behind f [] i d lt = absurd (omega arith)
-behind f (x ∷ xs) zero d lt = refl
-behind f (x ∷ xs) (suc i) d lt = behind f xs i d (omega arith)
-
-module _ (points : List Name) where
-  -- the parts of the first keys
-  abbrev pub parts_so_far : List ℕ → KeyMap → ℕ → List (ℕ × KeyMap)
-  parts_so_far mounts keys n = over (λ m. (m, owned_by points m (front keys n))) mounts
-
-  owned-none : (keys : KeyMap) (m : ℕ) → owned_by points m (front keys 0) ≡ no_keys
-  owned-none keys m = ap (λ k. map.retain_keys k (owns points m)) (from_sorted-nil name_cmp) ∙ retain-empty name_cmp_total name_cmp-IsAntisymmetric (owns points m)
-
-  -- at first they are empty
-  pub parts-none : (mounts : List ℕ) (keys : KeyMap) → over (λ m. (m, no_keys)) mounts ≡ parts_so_far mounts keys 0
-  parts-none [] keys = refl
-  parts-none (m ∷ mounts) keys = ap₂ (λ (k : KeyMap) (ps : List (ℕ × KeyMap)). (m, k) ∷ ps) (sym (owned-none keys m)) (parts-none mounts keys)
-
-  owned-next : (keys : KeyMap) (i : ℕ) (e : Name × Entry) (m : ℕ) → Some e ≡ slice_get (map.entries keys) i → cond (owns points m e.0) (map.insert (owned_by points m (front keys i)) e.0 e.1) (owned_by points m (front keys i)) ≡ owned_by points m (front keys (i + 1))
-  owned-next keys i e m found =
-      sym (retain-insert name_cmp_total name_cmp-IsAntisymmetric (front keys i) (owns points m) e.0 e.1)
-      ∙ ap (λ k. map.retain_keys k (owns points m)) (sym (front-next name_cmp_total name_cmp-IsAntisymmetric keys i e found))
-
-  -- the next key joins the part of its owner
-  pub parts-next : (mounts : List ℕ) (keys : KeyMap) (i : ℕ) (e : Name × Entry) → Some e ≡ slice_get (map.entries keys) i → over (put_in (owner_of points e.0) e.0 e.1) (parts_so_far mounts keys i) ≡ parts_so_far mounts keys (i + 1)
-  parts-next [] keys i e found = refl
-  parts-next (m ∷ mounts) keys i e found = ap₂ (λ (k : KeyMap) (ps : List (ℕ × KeyMap)). (m, k) ∷ ps) (owned-next keys i e m found) (parts-next mounts keys i e found)
-
-  -- at the end they are those of all keys
-  pub parts-all : (parent : Name) (keys : KeyMap) (n : ℕ) → length (map.entries keys) ≤ n → parts_so_far (involved_in points parent) keys n ≡ parts_of points parent keys
-  parts-all parent keys n le = ap (λ k. over (λ m. (m, owned_by points m k)) (involved_in points parent)) (front-all keys n le)
-
-  -- a part takes the next key where an involved mount owns it
-  pub taken-is : (parts : List Part) (keys : KeyMap) (n : ℕ) (parent name : Name) → numbered parts ≡ parts_so_far (involved_in points parent) keys n → list_any (λ part. option_eq nat_eq (owner_of points name) (Some part.mount)) parts ≡ is_reached points parent name
-  taken-is parts keys n parent name same =
-      sym (any-map shown (λ p. option_eq nat_eq (owner_of points name) (Some p.0)) parts)
-      ∙ ap (list_any (λ (p : ℕ × KeyMap). option_eq nat_eq (owner_of points name) (Some p.0))) same
-      ∙ any-map (λ m. (m, owned_by points m (front keys n))) (λ (p : ℕ × KeyMap). option_eq nat_eq (owner_of points name) (Some p.0)) (involved_in points parent)
-
--- ---- one part
-
-seen_at : (parts : List Part) (i : ℕ) (part : Part) → i < length parts → part ≡ get_or parts i part → (part.mount, part.keys) ≡ get_or (numbered parts) i (part.mount, part.keys)
-seen_at parts i part lt is = ap shown is ∙ sym (get_or-map shown parts i part (part.mount, part.keys) lt)
-
-module _ (owner : Option ℕ) (name : Name) (entry : Entry) (old parts : List Part) (i : ℕ) (part new : Part) (lt : i < length old) (long : length parts ≡ length old) (so_far : numbered parts ≡ over (put_in owner name entry) (take i (numbered old)) ++ drop i (numbered old)) (is : part ≡ get_or parts i part) where
-  -- the next part is written
-  pub part-next : new.mount ≡ part.mount → new.keys ≡ cond (option_eq nat_eq owner (Some part.mount)) (map.insert part.keys name entry) part.keys → numbered (set parts i new) ≡ over (put_in owner name entry) (take (i + 1) (numbered old)) ++ drop (i + 1) (numbered old)
-  part-next mount keys =
-      let within : i < length (numbered old) = omega (arith, length-map old shown) in
-      map-set shown parts i new
-      ∙ ap₂ (λ (m : ℕ) (k : KeyMap). set (numbered parts) i (m, k)) mount keys
-      ∙ map_over_more (put_in owner name entry) (numbered old) (numbered parts) i (part.mount, part.keys) within so_far (seen_at parts i part (omega arith) is)
-
-  -- its number is the one that it had
-  number_is : (get_or old i part).mount ≡ part.mount
-  number_is =
-      let within : i < length (numbered old) = omega (arith, length-map old shown) in
-      let d : ℕ × KeyMap = (part.mount, part.keys) in
-      let there : get_or (numbered old) i d ≡ get_or (numbered parts) i d = sym (ap (λ ps. get_or ps i d) so_far ∙ behind (put_in owner name entry) (numbered old) i d within) in
-      ap (λ (p : ℕ × KeyMap). p.0) (sym (get_or-map shown old i part d lt) ∙ there ∙ sym (seen_at parts i part (omega arith) is))
-
-  pub taken-next : (taken now : Bool) → taken ≡ list_any (λ (p : Part). option_eq nat_eq owner (Some p.mount)) (take i old) → now ≡ option_eq nat_eq owner (Some part.mount) → (taken || now) ≡ list_any (λ (p : Part). option_eq nat_eq owner (Some p.mount)) (take (i + 1) old)
-  taken-next taken now before this =
-      ap₂ (λ a b. a || b) before (this ∙ ap (λ m. option_eq nat_eq owner (Some m)) (sym number_is)) ∙ sym (list_any_more (λ (p : Part). option_eq nat_eq owner (Some p.mount)) old i part lt)
-
--- ---- the keys aside
-
-module _ (p : Name → Bool) where
-  where_key-append : (xs ys : List (Name × Entry)) → where_key name_cmp p (xs ++ ys) ≡ where_key name_cmp p xs ++ where_key name_cmp p ys
-  where_key-append [] ys = refl
-  where_key-append (x ∷ xs) ys = by (p x.0) (where_key-append xs ys)
-    where
-      by : (b : Bool) → where_key name_cmp p (xs ++ ys) ≡ where_key name_cmp p xs ++ where_key name_cmp p ys → cond b (x ∷ where_key name_cmp p (xs ++ ys)) (where_key name_cmp p (xs ++ ys)) ≡ cond b (x ∷ where_key name_cmp p xs) (where_key name_cmp p xs) ++ where_key name_cmp p ys
-      by true rest = ap (λ l. x ∷ l) rest
-      by false rest = rest
-
-  -- how many of the first keys pass
-  abbrev pub counted : KeyMap → ℕ → ℕ
-  counted keys n = length (where_key name_cmp p (take n (map.entries keys)))
-
-  counted-next : (keys : KeyMap) (i : ℕ) (e : Name × Entry) → Some e ≡ slice_get (map.entries keys) i → counted keys (i + 1) ≡ counted keys i + cond (p e.0) 1 0
-  counted-next keys i e found =
-      ap (λ l. length (where_key name_cmp p l)) (take-next (map.entries keys) i e found)
-      ∙ ap length (where_key-append (take i (map.entries keys)) (e ∷ []))
-      ∙ length-append (where_key name_cmp p (take i (map.entries keys))) (where_key name_cmp p (e ∷ []))
-      ∙ ap (λ n. counted keys i + n) (by (p e.0))
-    where
-      by : (b : Bool) → length (cond b (e ∷ []) []) ≡ cond b 1 0
-      by true = refl
-      by false = refl
-
-  pub counted-more : (keys : KeyMap) (i : ℕ) (e : Name × Entry) → Some e ≡ slice_get (map.entries keys) i → p e.0 ≡ true → counted keys (i + 1) ≡ counted keys i + 1
-  counted-more keys i e found passes = counted-next keys i e found ∙ ap (λ n. counted keys i + n) (cond-true (p e.0) 1 0 passes)
-
-  pub counted-same : (keys : KeyMap) (i : ℕ) (e : Name × Entry) → Some e ≡ slice_get (map.entries keys) i → p e.0 ≡ false → counted keys (i + 1) ≡ counted keys i
-  counted-same keys i e found fails = counted-next keys i e found ∙ ap (λ n. counted keys i + n) (cond-false (p e.0) 1 0 fails) ∙ omega arith
-
-  pub counted-all : (keys : KeyMap) (n : ℕ) → length (map.entries keys) ≤ n → counted keys n ≡ length (map.entries (map.retain_keys keys p))
-  counted-all keys n le =
-      ap (λ l. length (where_key name_cmp p l)) (take_all n (map.entries keys) le) ∙ ap length (sym (entries-retain name_cmp_total name_cmp-IsAntisymmetric keys p))
-
-  -- no more than there are
-  pub counted-le : (keys : KeyMap) (n : ℕ) → counted keys n ≤ n
-  counted-le keys n = fewer (map.entries keys) n
-    where
-      fewer : (es : List (Name × Entry)) (n : ℕ) → length (where_key name_cmp p (take n es)) ≤ n
-      fewer es zero = omega arith
-      fewer [] (suc n) = omega arith
-      fewer (e ∷ es) (suc n) =
-          let rest = fewer es n in
-          cond_both (p e.0) (e ∷ where_key name_cmp p (take n es)) (where_key name_cmp p (take n es)) (λ (l : List (Name × Entry)). length l ≤ suc n) (λ _. omega arith) (λ _. omega arith)
+-- one part more
+pub parts-more : (points : List Name) (keys : KeyMap) (parts : List Part) (items : List ℕ) (n : ℕ) (part : Part) → n < length items → part.mount ≡ get_or items n 0 → part.keys ≡ owned_by points (get_or items n 0) keys → numbered parts ≡ over (λ i. (i, owned_by points i keys)) (take n items) → numbered (parts ++ part ∷ []) ≡ over (λ i. (i, owned_by points i keys)) (take (n + 1) items)
+parts-more points keys parts items n part lt number owned so_far =
+    let pair : ℕ → ℕ × KeyMap = λ i. (i, owned_by points i keys) in
+    let shown : Part → ℕ × KeyMap = λ p. (p.mount, p.keys) in
+    map-append shown parts (part ∷ [])
+    ∙ ap₂ (λ (ps : List (ℕ × KeyMap)) (p : ℕ × KeyMap). ps ++ p ∷ []) so_far (ap₂ (λ (i : ℕ) (k : KeyMap). (i, k)) number owned)
+    ∙ sym (ap (over pair) (take-next items n (get_or items n 0) (sym (slice_get-get_or items n 0 lt))) ∙ map-append pair (take n items) (get_or items n 0 ∷ []))

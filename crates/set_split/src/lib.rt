@@ -4,6 +4,7 @@
 
 mod laws;
 mod mounts;
+mod owning;
 mod parts;
 mod points;
 mod splitting;
@@ -12,6 +13,7 @@ mod uniting;
 pub use key_name::owner;
 pub use laws::{nothing_is_involved_elsewhere, what_is_split_is_united_again};
 pub use mounts::involved;
+pub use owning::owned;
 pub use parts::{Part, Parts};
 pub use points::are_points;
 pub use splitting::split;

@@ -3,6 +3,7 @@ pub mod ProcKeys
 pub mod Kept
 pub mod Changing
 pub mod Touching
+pub mod Walking
 pub mod PreparedView
 pub mod LateView
 pub mod Seeing

@@ -14,6 +14,7 @@ mod records;
 mod seeing;
 mod texts;
 mod touching;
+mod walking;
 mod wanting;
 
 pub use change_sets::ChangeSet;

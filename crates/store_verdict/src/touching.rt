@@ -1,21 +1,19 @@
 //! The mounts that a set of keys touches, and what it changes there.
 ghost use Rattle.std.specs.Prelude.{◌≡◌, ◌<◌, ◌^◌, ℕ, All, IfOk, List, OnOk, filter, map as over};
 ghost use Rattle.std.specs.FinMap as map;
-ghost use Rattle.std.specs.Option.{option_eq, option_map, option_or};
-ghost use Rattle.key_set.specs.EntryView.{entry_of};
-ghost use Rattle.key_set.specs.Same.{same_entry};
+ghost use Rattle.std.specs.Option.{option_or};
 ghost use Rattle.model_history.specs.Changes.{change_at};
 ghost use Rattle.model_maps.specs.KeyMap.{KeyMap};
 ghost use Rattle.model_names.specs.Name.{Name};
 ghost use Rattle.model_store.specs.Sets.{changes_at, kept};
 ghost use Rattle.set_split.specs.Seen.{numbered};
 ghost use Rattle.store_verdict.specs.RecordView.{record_of};
-ghost use Rattle.store_verdict.specs.Touching.{differs_at, with_change, with_changes};
+ghost use Rattle.store_verdict.specs.Touching.{differs_at};
 
+use crate::walking::{Walk, add_first, is_under_way};
 use crate::{ChangeSet, Record};
 use key_meta::{List, Memory};
-use key_name::KeyName;
-use key_set::{Entry, KeySet};
+use key_set::KeySet;
 use set_split::Part;
 use std::alloc::Global;
 
@@ -79,55 +77,10 @@ fn add_part(changes: &mut ChangeSet, rec: &Record, part: &Part) -> Result<(), Me
 fn add_difference(changes: &mut ChangeSet, before: &KeySet, wanted: &KeySet) -> Result<(), Memory>
     ensures { OnOk result ((q : Name) → map.get changes.new q ≡ option_or (change_at before.now wanted.now q) (map.get changes.old q)) }
 {
-    add_named(changes, before, wanted, before)?;
-    add_named(changes, before, wanted, wanted)
-}
-
-/// Adds what changes at the names of some keys.
-fn add_named(
-    changes: &mut ChangeSet,
-    before: &KeySet,
-    wanted: &KeySet,
-    named: &KeySet,
-) -> Result<(), Memory>
-    ensures { OnOk result (changes.new ≡ with_changes before.now wanted.now (map.keys named.now) changes.old) }
-{
-    for i in 0..named.len() {
-        let Some((name, _)) = named.at(i) else {
-            unreachable!()
-        };
-        add_change(changes, before, wanted, name)?;
+    let mut had = Walk::new(before);
+    let mut new = Walk::new(wanted);
+    while is_under_way(&had, &new) {
+        add_first(changes, &mut had, &mut new)?;
     }
     Ok(())
-}
-
-/// Adds what changes at a name.
-fn add_change(
-    changes: &mut ChangeSet,
-    before: &KeySet,
-    wanted: &KeySet,
-    name: &KeyName,
-) -> Result<(), Memory>
-    ensures { OnOk result (changes.new ≡ with_change before.now wanted.now name.now changes.old) }
-{
-    let had = before.lookup(name);
-    let new = wanted.lookup(name);
-    if are_same(had, new) {
-        return Ok(());
-    }
-    match new {
-        Some(entry) => changes.put(name.copy()?, Some(entry.copy()?)),
-        None => changes.put(name.copy()?, None),
-    }
-}
-
-/// Whether two entries are the same, or both missing.
-fn are_same(one: Option<&Entry>, other: Option<&Entry>) -> bool
-    ensures { result ≡ option_eq same_entry (option_map (λ entry. entry_of entry.now) one.entry) (option_map (λ entry. entry_of entry.now) other.entry) }
-{
-    match (one, other) {
-        (Some(one), Some(other)) => one == other,
-        (None, None) => true,
-        _ => false,
-    }
 }
