@@ -24,7 +24,7 @@ use kdb_outside::{Disk, Source};
 use key_meta::{Memory, Text};
 use std::alloc::Global;
 use tool_commands::{Report, warn_of_name, warn_of_words};
-use tool_words::{Request, read_words};
+use tool_words::{Request, lend_words, read_words};
 
 /// Reads the words of a command line, and does what they ask for.
 pub fn carry_out<S: Source, D: Disk>(
@@ -49,7 +49,13 @@ pub fn carry_out<S: Source, D: Disk>(
     ensures cause { result.answer ≡ Err Stop.DiskFault → HasRisen (D.faults disk) (D.faults result.disk) }
     ensures goes { GoesOn D.Disk disk result.disk }
 {
-    match read_words(alloc, words) {
+    let Ok(lent) = lend_words(alloc, words) else {
+        return Ended {
+            answer: Err(Stop::Memory),
+            disk,
+        };
+    };
+    match read_words(alloc, &lent) {
         Ok(Request::Asks(question)) => answer_question(alloc, question, disk),
         Ok(Request::Imports { name, kind }) => import(alloc, name, kind, input, disk),
         Ok(Request::Refuses(refusal)) => without_store(warn_of_words(alloc, refusal), disk),

@@ -1,3 +1,5 @@
 pub mod LowestLemmas
 pub mod FrontLemmas
 pub mod StandsLemmas
+pub mod NamesLemmas
+pub mod MergedLemmas

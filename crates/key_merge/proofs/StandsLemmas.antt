@@ -20,7 +20,7 @@ use Rattle.key_merge.specs.declared.strategies.Strategy.{Strategy}
 use Rattle.key_merge.specs.declared.strategies.Strategy.TheVariants.{Abort, Our, Their}
 use Rattle.key_merge.specs.declared.choices.Choice as choices
 use Rattle.key_merge.specs.declared.choices.Choice.TheVariants as choice
-use Rattle.key_merge.specs.Merging.{choice_of, is_taken_from_their, merged_entry, IsConflict, IsMerged, AreConflicts}
+use Rattle.key_merge.specs.Merging.{choice_of, is_taken_from_their, merged_entry, IsConflict, AreConflicts}
 use Rattle.key_merge.specs.Front.{next_name, entry_at, behind}
 use Rattle.key_merge.specs.Walk.{lower, with_entry, is_told, keys_with, names_with}
 use Rattle.key_merge.proofs.LowestLemmas.{lowest-is, none-lowest}

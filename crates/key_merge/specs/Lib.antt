@@ -2,3 +2,4 @@ pub mod Merging
 pub mod Refusing
 pub mod Front
 pub mod Walk
+pub mod Merged

@@ -7,12 +7,14 @@ use Rattle.model_names.specs.Spelling.{spelling}
 use Rattle.model_maps.specs.KeyMap.{KeyMap}
 use Rattle.mount_table.specs.Changing as table
 use Rattle.mount_table.specs.Points.{own_point}
-use Rattle.tool_words.specs.Request.{Action, Get, Set, Remove, Names, GetMeta, SetMeta, MetaNames, Bring, MountFile, Unmount, Replace}
+use Rattle.tool_words.specs.Request.{Action, Get, Set, Remove, Names, GetMeta, SetMeta, MetaNames, Bring, MountFile, Unmount, Replace, Merge}
+use Rattle.tool_commands.specs.Commands.Merging.{merged_in}
 use Rattle.tool_commands.specs.Commands.Metadata.{meta_got, meta_set_in, meta_listed}
 use Rattle.tool_commands.specs.Commands.Mounting.{mounted}
 use Rattle.tool_commands.specs.Commands.Trees.{sources, others, removed, listed, brought_in, replaced}
 use Rattle.tool_commands.specs.Commands.Values.{got, set_in}
 use Rattle.tool_commands.specs.Step.{Step, Tells}
+pub mod Merging
 pub mod Metadata
 pub mod Mounting
 pub mod Trees
@@ -41,6 +43,7 @@ row_of name (Bring way extent to) = record { parent = every_key; step = λ keys.
 row_of name (MountFile file kind) = record { parent = own_point; step = λ keys. mounted (table.added keys (spelling name) file kind); statuses = [] }
 row_of name Unmount = record { parent = own_point; step = λ keys. mounted (table.removed keys (spelling name)); statuses = [] }
 row_of name (Replace others) = record { parent = name; step = λ keys. replaced name others keys; statuses = [] }
+row_of name (Merge strategy our their base) = record { parent = every_key; step = λ keys. merged_in keys strategy our their base name; statuses = 2 ∷ 12 ∷ [] }
 
 -- the parent whose keys a command gets, and sets where it sets any
 abbrev pub parent_of : Name → Action → Name

@@ -93,6 +93,10 @@ set_to value = codes "Set string to " ++ (quoted value ++ 10 ∷ [])
 abbrev pub line_of_name : Name → List ℕ
 line_of_name name = shown name ++ 10 ∷ []
 
+-- what `merge` prints of a key that both sides changed, and not alike
+abbrev pub line_of_conflict : Name → List ℕ
+line_of_conflict name = codes "conflict " ++ line_of_name name
+
 -- what `mounts` prints of a mount: its mountpoint, its file and the word of its format
 abbrev pub line_of_mount : Mount → List ℕ
 line_of_mount mount = shown mount.at ++ (32 ∷ (mount.file ++ (32 ∷ (kind_word mount.kind ++ 10 ∷ []))))

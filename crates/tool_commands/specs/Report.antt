@@ -16,6 +16,10 @@ told out = record { status = 0; out = out; err = [] }
 abbrev pub warned : ℕ → List ℕ → Report
 warned status text = record { status = status; out = []; err = line text }
 
+-- a merge met conflicts, and puts their lines on out
+abbrev pub met : List ℕ → Report
+met out = record { status = 12; out = out; err = [] }
+
 -- the status of a run that ended neither in want of memory nor in a fault
 abbrev pub IsAnswered : ℕ → Type 0
 IsAnswered status = (status ≢ 70) × (status ≢ 74)

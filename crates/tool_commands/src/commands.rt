@@ -5,11 +5,13 @@ ghost use Rattle.tool_commands.specs.StepView.{seen_step};
 ghost use Rattle.tool_commands.specs.Commands.{parent_of, row_of, step_of};
 ghost use Rattle.tool_words.specs.RequestView.{action_of};
 
+mod merging;
 mod metadata;
 mod mounting;
 mod trees;
 mod values;
 
+use crate::commands::merging::merge;
 use crate::commands::metadata::{get_meta, list_meta, set_meta};
 use crate::commands::mounting::{mount, unmount};
 use crate::commands::trees::{bring, list, remove, replace};
@@ -32,9 +34,11 @@ pub fn parent_of(alloc: Global, name: &KeyName, action: &Action<'_>) -> Result<K
         | Action::Names
         | Action::SetMeta(_, _)
         | Action::Replace(_) => name.copy(),
-        Action::Get | Action::GetMeta(_) | Action::MetaNames | Action::Bring { .. } => {
-            Ok(every_key(alloc))
-        }
+        Action::Get
+        | Action::GetMeta(_)
+        | Action::MetaNames
+        | Action::Bring { .. }
+        | Action::Merge { .. } => Ok(every_key(alloc)),
         Action::MountFile { .. } | Action::Unmount => own_point(alloc),
     }
 }
@@ -55,6 +59,12 @@ pub fn step(alloc: Global, name: &KeyName, action: Action<'_>, keys: KeySet) -> 
         Action::Bring { way, extent, to } => bring(alloc, name, way, extent, &to, keys),
         Action::MountFile { file, kind } => mount(alloc, name, file, kind, keys),
         Action::Unmount => unmount(alloc, name, keys),
+        Action::Merge {
+            strategy,
+            our,
+            their,
+            base,
+        } => merge(alloc, name, strategy, &our, &their, &base, keys),
         Action::Replace(others) => replace(alloc, name, others, keys),
     }
 }

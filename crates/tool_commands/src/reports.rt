@@ -1,10 +1,10 @@
 //! What a run tells, made whole before anything is put out or stored.
 ghost use Rattle.std.specs.Prelude.{◌≡◌, IfOk, string_bytes};
 ghost use Rattle.tool_commands.specs.Lines.{not_found, no_metadata};
-ghost use Rattle.tool_commands.specs.Report.{told, warned};
+ghost use Rattle.tool_commands.specs.Report.{met, told, warned};
 ghost use Rattle.tool_commands.specs.StepView.{report_of};
 
-use crate::status::{DONE, NOT_FOUND, Status};
+use crate::status::{CONFLICTS, DONE, NOT_FOUND, Status};
 use kdb_text::{quoted, shown};
 use key_meta::Memory;
 use key_name::KeyName;
@@ -38,6 +38,18 @@ pub fn tell_bytes(alloc: Global, out: Vec<u8>) -> Report
     Report {
         status: Status::new(DONE),
         out,
+        err: String::new(alloc),
+    }
+}
+
+/// A merge met conflicts, and puts their lines on out.
+pub fn tell_conflicts(alloc: Global, out: String) -> Report
+    ensures met { report_of result ≡ met (string_bytes out) }
+    ensures status { result.status ≡ 12 }
+{
+    Report {
+        status: Status::new(CONFLICTS),
+        out: out.into_bytes(),
         err: String::new(alloc),
     }
 }

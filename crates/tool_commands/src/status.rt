@@ -15,6 +15,8 @@ pub const NO_COMMAND: u8 = 4;
 pub const REFUSED: u8 = 5;
 /// The key or its metadata isn't there.
 pub const NOT_FOUND: u8 = 11;
+/// Both sides of a merge changed a key, and not alike.
+pub const CONFLICTS: u8 = 12;
 /// Want of memory.
 pub const OUT_OF_MEMORY: u8 = 70;
 /// A fault of the disk, of out or of err.

@@ -1,5 +1,5 @@
 -- What the rows of the commands ask for: the file of a key where keys of its namespace are in files.
-use Rattle.std.specs.Prelude.{◌≡◌, ℕ, Bool, true, false, List, [], ◌∷◌, Option, Some, None}
+use Rattle.std.specs.Prelude.{◌≡◌, ℕ, Bool, true, false, List, [], ◌∷◌, Option, Some, None, codes}
 use Rattle.std.proofs.Common.{refl, cond, subst}
 use Rattle.std.specs.List.{AllByRecursion}
 use Rattle.general_words.specs.Texts.{is_text}
@@ -19,9 +19,13 @@ use Rattle.tool_words.specs.declared.uses.Use.{Use}
 use Rattle.tool_words.specs.declared.uses.Use.TheVariants.{Looks, Writes}
 use Rattle.tool_words.specs.declared.ways.Way.{Way}
 use Rattle.tool_words.specs.declared.ways.Way.TheVariants.{Copies, Moves}
-use Rattle.tool_words.specs.Request.{Action, Get, Set, Remove, Names, GetMeta, SetMeta, MetaNames, Bring, MountFile, Unmount, Question, Mounts, FileOf, TextOf, On, NamesFiles, Request, Refuses, Bars, Asks, Imports, options, arguments, extent_of, plain, extended, on_none, on_one, on_two, on_three, on_two_or_three, on_name, on_name_for, on_meta, on_kind, is_meta, unnamed, asks, asks_to_bring, asks_to_mount, asks_to_pass, passing}
+use Rattle.tool_words.specs.Request.{Action, Get, Set, Remove, Names, GetMeta, SetMeta, MetaNames, Bring, MountFile, Unmount, Merge, Question, Mounts, FileOf, On, NamesFiles, Request, Refuses, Bars, Asks, Imports, read_by, extent_in, on_none, on_one, on_two, on_three, on_two_or_three, on_one_extended, on_two_extended, on_four_by_strategy, on_strategy, on_name, on_name_for, on_meta, on_kind, is_meta, unnamed, asks, asks_to_bring, asks_to_merge, asks_to_mount, asks_to_pass, passing}
+use Rattle.clap.specs.Words.{App, Row as Values}
+use Rattle.tool_words.specs.CommandLines.{no_arguments, one_argument, two_arguments, three_arguments, two_or_three_arguments, one_extended, two_extended, four_by_strategy, given_value, refuses, value, values}
 use Rattle.tool_words.specs.Lines.{argument, no_name, options_refused}
 use Rattle.tool_words.specs.Rows.{Row, asked_by, request, rows}
+use Rattle.key_merge.specs.declared.strategies.Strategy.{Strategy}
+use Rattle.tool_words.specs.Strategies.{strategy_of}
 use Rattle.tool_words.specs.Uses.{bars}
 
 -- what is asked for names files
@@ -33,48 +37,39 @@ NamesAny (Imports name kind) = Unit {0}
 
 -- ---- the words behind a command
 
-plain-names : (take : List (List ℕ) → Request) → ((words : List (List ℕ)) → NamesAny (take words)) → (words : List (List ℕ)) → NamesAny (plain take words)
-plain-names take each words = by (options words)
+read_by-names : (app : App) (take : List Values → Request) → ((rows : List Values) → NamesAny (take rows)) → (words : List (List ℕ)) → NamesAny (read_by app take words)
+read_by-names app take each words = by (refuses app words)
   where
-    by : (o : List (List ℕ)) → NamesAny (elim o [ [] ↦ take (arguments words) | option ∷ others ↦ Refuses 1 options_refused ])
-    by [] = each (arguments words)
-    by (option ∷ others) = tt
-
-extended-names : (take : Extent → List (List ℕ) → Request) → ((extent : Extent) (words : List (List ℕ)) → NamesAny (take extent words)) → (words : List (List ℕ)) → NamesAny (extended take words)
-extended-names take each words = by (extent_of (options words))
-  where
-    by : (o : Option Extent) → NamesAny (elim o [ None ↦ Refuses 1 options_refused | Some extent ↦ take extent (arguments words) ])
-    by None = tt
-    by (Some extent) = each extent (arguments words)
+    by : (b : Bool) → NamesAny (cond b (Refuses 1 options_refused) (take (values app words)))
+    by true = tt
+    by false = each (values app words)
 
 none-names : (asked : Request) → NamesAny asked → (words : List (List ℕ)) → NamesAny (on_none asked words)
-none-names asked names [] = names
-none-names asked names (a ∷ words) = tt
+none-names asked names = read_by-names no_arguments (λ rows. asked) (λ rows. names)
 
 one-names : (take : List ℕ → Request) → ((a : List ℕ) → NamesAny (take a)) → (words : List (List ℕ)) → NamesAny (on_one take words)
-one-names take each [] = tt
-one-names take each (a ∷ []) = each a
-one-names take each (a ∷ b ∷ words) = tt
+one-names take each = read_by-names one_argument (λ rows. take (value (codes "1") rows)) (λ rows. each (value (codes "1") rows))
 
 two-names : (take : List ℕ → List ℕ → Request) → ((a b : List ℕ) → NamesAny (take a b)) → (words : List (List ℕ)) → NamesAny (on_two take words)
-two-names take each [] = tt
-two-names take each (a ∷ []) = tt
-two-names take each (a ∷ b ∷ []) = each a b
-two-names take each (a ∷ b ∷ c ∷ words) = tt
+two-names take each = read_by-names two_arguments (λ rows. take (value (codes "1") rows) (value (codes "2") rows)) (λ rows. each (value (codes "1") rows) (value (codes "2") rows))
 
 three-names : (take : List ℕ → List ℕ → List ℕ → Request) → ((a b c : List ℕ) → NamesAny (take a b c)) → (words : List (List ℕ)) → NamesAny (on_three take words)
-three-names take each [] = tt
-three-names take each (a ∷ []) = tt
-three-names take each (a ∷ b ∷ []) = tt
-three-names take each (a ∷ b ∷ c ∷ []) = each a b c
-three-names take each (a ∷ b ∷ c ∷ d ∷ words) = tt
+three-names take each = read_by-names three_arguments (λ rows. take (value (codes "1") rows) (value (codes "2") rows) (value (codes "3") rows)) (λ rows. each (value (codes "1") rows) (value (codes "2") rows) (value (codes "3") rows))
 
 two_or_three-names : (take : List ℕ → List ℕ → Option (List ℕ) → Request) → ((a b : List ℕ) (c : Option (List ℕ)) → NamesAny (take a b c)) → (words : List (List ℕ)) → NamesAny (on_two_or_three take words)
-two_or_three-names take each [] = tt
-two_or_three-names take each (a ∷ []) = tt
-two_or_three-names take each (a ∷ b ∷ []) = each a b None
-two_or_three-names take each (a ∷ b ∷ c ∷ []) = each a b (Some c)
-two_or_three-names take each (a ∷ b ∷ c ∷ d ∷ words) = tt
+two_or_three-names take each =
+    read_by-names two_or_three_arguments (λ rows. take (value (codes "1") rows) (value (codes "2") rows) (given_value (codes "3") rows)) (λ rows. each (value (codes "1") rows) (value (codes "2") rows) (given_value (codes "3") rows))
+
+one_extended-names : (take : Extent → List ℕ → Request) → ((extent : Extent) (a : List ℕ) → NamesAny (take extent a)) → (words : List (List ℕ)) → NamesAny (on_one_extended take words)
+one_extended-names take each = read_by-names one_extended (λ rows. take (extent_in rows) (value (codes "1") rows)) (λ rows. each (extent_in rows) (value (codes "1") rows))
+
+two_extended-names : (take : Extent → List ℕ → List ℕ → Request) → ((extent : Extent) (a b : List ℕ) → NamesAny (take extent a b)) → (words : List (List ℕ)) → NamesAny (on_two_extended take words)
+two_extended-names take each = read_by-names two_extended (λ rows. take (extent_in rows) (value (codes "1") rows) (value (codes "2") rows)) (λ rows. each (extent_in rows) (value (codes "1") rows) (value (codes "2") rows))
+
+four_by_strategy-names : (take : List ℕ → List ℕ → List ℕ → List ℕ → List ℕ → Request) → ((a b c d word : List ℕ) → NamesAny (take a b c d word)) → (words : List (List ℕ)) → NamesAny (on_four_by_strategy take words)
+four_by_strategy-names take each =
+    read_by-names four_by_strategy (λ rows. take (value (codes "1") rows) (value (codes "2") rows) (value (codes "3") rows) (value (codes "4") rows) (value (codes "s") rows))
+    (λ rows. each (value (codes "1") rows) (value (codes "2") rows) (value (codes "3") rows) (value (codes "4") rows) (value (codes "s") rows))
 
 -- ---- a word
 
@@ -114,6 +109,13 @@ kind-names (Some word) asked each = by (kind_of word)
     by None = tt
     by (Some kind) = each kind
 
+strategy-names : (word : List ℕ) (asked : Strategy → Request) → ((strategy : Strategy) → NamesAny (asked strategy)) → NamesAny (on_strategy word asked)
+strategy-names word asked each = by (strategy_of word)
+  where
+    by : (o : Option Strategy) → NamesAny (elim o [ None ↦ Refuses 2 (argument word) | Some strategy ↦ asked strategy ])
+    by None = tt
+    by (Some strategy) = each strategy
+
 -- a name that can be written to is in files
 writable-in_files : (namespace : Namespace) → bars Writes namespace ≡ false → has_files namespace ≡ true
 writable-in_files Cascading is = absurd cc
@@ -129,61 +131,69 @@ writable-in_files Default is = absurd cc
 on_key : (purpose : Use) (action : Action) (word : List ℕ) → NamesAny (asks purpose action word)
 on_key purpose action word = name_for-names purpose word (λ name. Asks (On name action)) (λ name is. tt)
 
-key_alone : (purpose : Use) (action : Action) (words : List (List ℕ)) → NamesAny (plain (on_one (asks purpose action)) words)
-key_alone purpose action = plain-names (on_one (asks purpose action)) (one-names (asks purpose action) (on_key purpose action))
+key_alone : (purpose : Use) (action : Action) (words : List (List ℕ)) → NamesAny (on_one (asks purpose action) words)
+key_alone purpose action = one-names (asks purpose action) (on_key purpose action)
 
-setting : (words : List (List ℕ)) → NamesAny (plain (on_two (λ word value. asks Writes (Set value) word)) words)
-setting = plain-names (on_two (λ word value. asks Writes (Set value) word)) (two-names (λ word value. asks Writes (Set value) word) (λ word value. on_key Writes (Set value) word))
+setting : (words : List (List ℕ)) → NamesAny (on_two (λ word value. asks Writes (Set value) word) words)
+setting = two-names (λ word value. asks Writes (Set value) word) (λ word value. on_key Writes (Set value) word)
 
-removing : (words : List (List ℕ)) → NamesAny (extended (λ extent. on_one (asks Writes (Remove extent))) words)
-removing = extended-names (λ extent. on_one (asks Writes (Remove extent))) (λ extent. one-names (asks Writes (Remove extent)) (on_key Writes (Remove extent)))
+removing : (words : List (List ℕ)) → NamesAny (on_one_extended (λ extent. asks Writes (Remove extent)) words)
+removing = one_extended-names (λ extent. asks Writes (Remove extent)) (λ extent. on_key Writes (Remove extent))
 
 abbrev listing_of : List ℕ → Request
 listing_of word = on_name word (λ name. Asks (On name Names))
 
-listing : (words : List (List ℕ)) → NamesAny (plain (on_one listing_of) words)
-listing = plain-names (on_one listing_of) (one-names listing_of (λ word. name-names word (λ name. Asks (On name Names)) (λ name. tt)))
+listing : (words : List (List ℕ)) → NamesAny (on_one listing_of words)
+listing = one-names listing_of (λ word. name-names word (λ name. Asks (On name Names)) (λ name. tt))
 
 abbrev meta_of : List ℕ → List ℕ → Request
 meta_of word meta = on_name_for Looks word (λ name. on_meta meta (Asks (On name (GetMeta meta))))
 
-meta_getting : (words : List (List ℕ)) → NamesAny (plain (on_two meta_of) words)
-meta_getting = plain-names (on_two meta_of) (two-names meta_of (λ word meta. name_for-names Looks word (λ name. on_meta meta (Asks (On name (GetMeta meta)))) (λ name is. meta-names meta (Asks (On name (GetMeta meta))) tt)))
+meta_getting : (words : List (List ℕ)) → NamesAny (on_two meta_of words)
+meta_getting = two-names meta_of (λ word meta. name_for-names Looks word (λ name. on_meta meta (Asks (On name (GetMeta meta)))) (λ name is. meta-names meta (Asks (On name (GetMeta meta))) tt))
 
 abbrev meta_with : List ℕ → List ℕ → List ℕ → Request
 meta_with word meta text = on_name_for Writes word (λ name. on_meta meta (Asks (On name (SetMeta meta text))))
 
-meta_setting : (words : List (List ℕ)) → NamesAny (plain (on_three meta_with) words)
-meta_setting = plain-names (on_three meta_with) (three-names meta_with (λ word meta text. name_for-names Writes word (λ name. on_meta meta (Asks (On name (SetMeta meta text)))) (λ name is. meta-names meta (Asks (On name (SetMeta meta text))) tt)))
+meta_setting : (words : List (List ℕ)) → NamesAny (on_three meta_with words)
+meta_setting = three-names meta_with (λ word meta text. name_for-names Writes word (λ name. on_meta meta (Asks (On name (SetMeta meta text)))) (λ name is. meta-names meta (Asks (On name (SetMeta meta text))) tt))
 
-bringing : (way : Way) (words : List (List ℕ)) → NamesAny (extended (λ extent. on_two (asks_to_bring way extent)) words)
-bringing way = extended-names (λ extent. on_two (asks_to_bring way extent)) (λ extent. two-names (asks_to_bring way extent) (λ from to.
-    name_for-names Writes from (λ name. on_name_for Writes to (λ other. Asks (On name (Bring way extent other)))) (λ name is. name_for-names Writes to (λ other. Asks (On name (Bring way extent other))) (λ other free. tt))))
+bringing : (way : Way) (words : List (List ℕ)) → NamesAny (on_two_extended (asks_to_bring way) words)
+bringing way = two_extended-names (asks_to_bring way) (λ extent from to.
+    name_for-names Writes from (λ name. on_name_for Writes to (λ other. Asks (On name (Bring way extent other)))) (λ name is. name_for-names Writes to (λ other. Asks (On name (Bring way extent other))) (λ other free. tt)))
 
-mounting : (words : List (List ℕ)) → NamesAny (plain (on_two_or_three asks_to_mount) words)
-mounting = plain-names (on_two_or_three asks_to_mount) (two_or_three-names asks_to_mount (λ file word plugin.
-    name_for-names Writes word (λ name. on_kind plugin (λ kind. Asks (On name (MountFile file kind)))) (λ name is. kind-names plugin (λ kind. Asks (On name (MountFile file kind))) (λ kind. tt))))
+merging-names : (words : List (List ℕ)) → NamesAny (on_four_by_strategy asks_to_merge words)
+merging-names = four_by_strategy-names asks_to_merge (λ our their base into word.
+    name_for-names Writes our (λ o. on_name_for Writes their (λ t. on_name_for Writes base (λ b. on_name_for Writes into (λ i. on_strategy word (λ strategy. Asks (On i (Merge strategy o t b))))))) (λ o free.
+    name_for-names Writes their (λ t. on_name_for Writes base (λ b. on_name_for Writes into (λ i. on_strategy word (λ strategy. Asks (On i (Merge strategy o t b)))))) (λ t free.
+    name_for-names Writes base (λ b. on_name_for Writes into (λ i. on_strategy word (λ strategy. Asks (On i (Merge strategy o t b))))) (λ b free.
+    name_for-names Writes into (λ i. on_strategy word (λ strategy. Asks (On i (Merge strategy o t b)))) (λ i free.
+    strategy-names word (λ strategy. Asks (On i (Merge strategy o t b))) (λ strategy. tt))))))
 
-mounts : (words : List (List ℕ)) → NamesAny (plain (on_none (Asks Mounts)) words)
-mounts = plain-names (on_none (Asks Mounts)) (none-names (Asks Mounts) tt)
+mounting : (words : List (List ℕ)) → NamesAny (on_two_or_three asks_to_mount words)
+mounting = two_or_three-names asks_to_mount (λ file word plugin.
+    name_for-names Writes word (λ name. on_kind plugin (λ kind. Asks (On name (MountFile file kind)))) (λ name is. kind-names plugin (λ kind. Asks (On name (MountFile file kind))) (λ kind. tt)))
+
+mounts : (words : List (List ℕ)) → NamesAny (on_none (Asks Mounts) words)
+mounts = none-names (Asks Mounts) tt
 
 abbrev file_asked : List ℕ → Request
 file_asked word = on_name_for Writes word (λ name. Asks (FileOf name))
 
-file : (words : List (List ℕ)) → NamesAny (plain (on_one file_asked) words)
-file = plain-names (on_one file_asked) (one-names file_asked (λ word. name_for-names Writes word (λ name. Asks (FileOf name)) (λ name is. writable-in_files name.namespace is)))
+file : (words : List (List ℕ)) → NamesAny (on_one file_asked words)
+file = one-names file_asked (λ word. name_for-names Writes word (λ name. Asks (FileOf name)) (λ name is. writable-in_files name.namespace is))
 
 passed-names : (flow : Flow) (name : Name) (kind : Kind) → NamesAny (passing flow name kind)
 passed-names Out name kind = tt
 passed-names In name kind = tt
 
-passing-names : (flow : Flow) (words : List (List ℕ)) → NamesAny (plain (on_two (asks_to_pass flow)) words)
-passing-names flow = plain-names (on_two (asks_to_pass flow)) (two-names (asks_to_pass flow) (λ word format.
-    name_for-names Writes word (λ name. on_kind (Some format) (λ kind. passing flow name kind)) (λ name is. kind-names (Some format) (λ kind. passing flow name kind) (λ kind. passed-names flow name kind))))
+passing-names : (flow : Flow) (words : List (List ℕ)) → NamesAny (on_two (asks_to_pass flow) words)
+passing-names flow = two-names (asks_to_pass flow) (λ word format.
+    name_for-names Writes word (λ name. on_kind (Some format) (λ kind. passing flow name kind)) (λ name is. kind-names (Some format) (λ kind. passing flow name kind) (λ kind. passed-names flow name kind)))
 
 -- a line for each row, in their order
 rows-name : AllByRecursion (λ (row : Row). (words : List (List ℕ)) → NamesAny (row.asks_for words)) rows
-rows-name = (key_alone Looks Get, (setting, (removing, (listing, (meta_getting, (meta_setting, (key_alone Looks MetaNames, (bringing Copies, (bringing Moves, (mounting, (key_alone Writes Unmount, (mounts, (file, (passing-names Out, (passing-names In, tt)))))))))))))))
+rows-name = (key_alone Looks Get, (setting, (removing, (listing, (meta_getting, (meta_setting, (key_alone Looks MetaNames, (bringing Copies, (bringing Moves, (mounting, (key_alone Writes Unmount, (mounts, (file, (passing-names Out, (passing-names In, (merging-names, tt))))))))))))))))
 
 asked_by-names : (some : List Row) → AllByRecursion (λ (row : Row). (words : List (List ℕ)) → NamesAny (row.asks_for words)) some → (word : List ℕ) (words : List (List ℕ)) → NamesAny (asked_by some word words)
 asked_by-names [] each word words = tt

@@ -1,8 +1,9 @@
--- Where the first of some words stands, and what words in a row ask for.
-use Rattle.std.specs.Prelude.{◌≡◌, ◌≢◌, ℕ, Bool, true, false, nat_lt, not, cond, List, length, Option, Some, None}
-use Rattle.std.proofs.Common.{refl, ap, ◌∙◌, arith}
-use Rattle.std.specs.List.{position, position_or_len}
-use Rattle.std.proofs.lemmas.Bool.{ltb-false}
+-- What words in a row ask for, and when `clap` refuses words.
+use Rattle.std.specs.Prelude.{◌≡◌, ◌≢◌, ℕ, ◌&&◌, Bool, true, false, cond, List, [], ◌∷◌, Option, Some, None}
+use Rattle.std.proofs.Common.{refl, ap, ◌∙◌}
+use Rattle.clap.specs.Words.{IsAmong, Kinds}
+use Rattle.clap.specs.declared.error.kind.ErrorKind.{ErrorKind}
+use Rattle.tool_words.specs.CommandLines.{has_fault}
 use Rattle.tool_words.specs.Lines.{argument, no_name}
 use Rattle.tool_words.specs.Request.{Request, Refuses, Asks, On, MountFile, is_meta, on_meta, on_name, on_name_for, unnamed, asks, asks_to_mount, asks_to_pass, passing}
 use Rattle.tool_words.specs.RequestView.{text_of_fault}
@@ -19,23 +20,16 @@ use Rattle.model_names.specs.Spells.{Spells}
 use Rattle.model_names.proofs.NameOfLemmas.{name_of-spelled, name_of-refused}
 use Rattle.kdb_outside.specs.declared.kinds.Kind.{Kind}
 use Rattle.kdb_outside.specs.declared.kinds.Kind.TheVariants.{Dump}
-use Rattle.std.proofs.lemmas.List.Sums.{prefix_len-le-length}
 
--- the place of the first that passes is the count of those before it
-pub count-at : {X : Type 0} (p : X → Bool) (xs : List X) (at : ℕ) → position p xs ≡ Some at → at ≡ position_or_len p xs
-count-at p xs at is = by_test (nat_lt (position_or_len p xs) (length xs)) is
-  where
-    by_test : (b : Bool) → cond b (Some (position_or_len p xs)) None ≡ Some at → at ≡ position_or_len p xs
-    by_test true is = cc
-    by_test false is = absurd cc
+-- the first of two tests that both pass
+pub both_first : (a b : Bool) → (a && b) ≡ true → a ≡ true
+both_first true b is = refl
+both_first false b is = is
 
--- where none passes, all are before it
-pub count-all : {X : Type 0} (p : X → Bool) (xs : List X) → position p xs ≡ None → length xs ≡ position_or_len p xs
-count-all p xs is = by_test (nat_lt (position_or_len p xs) (length xs)) refl is
-  where
-    by_test : (b : Bool) → nat_lt (position_or_len p xs) (length xs) ≡ b → cond b (Some (position_or_len p xs)) None ≡ None → length xs ≡ position_or_len p xs
-    by_test true within is = absurd cc
-    by_test false past is = omega (arith, ltb-false (position_or_len p xs) (length xs) past, prefix_len-le-length (λ x. not (p x)) xs)
+-- an error's kind is one of those for which words are refused
+pub among-some : (kind : ErrorKind) (kinds : Kinds) → IsAmong kind kinds → has_fault kinds ≡ true
+among-some kind [] is = absurd is
+among-some kind (k ∷ kinds) is = refl
 
 -- a metadata name behind a name that is tested first
 pub asks_of_meta : (by : Use) (text word : List ℕ) (asked : Name → Request) → is_meta word ≡ true → on_name_for by text (λ name. on_meta word (asked name)) ≡ on_name_for by text asked

@@ -1,3 +1,5 @@
+pub mod Strategies
+pub mod CommandLines
 pub mod Lines
 pub mod Uses
 pub mod Request

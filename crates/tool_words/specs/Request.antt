@@ -1,6 +1,6 @@
 -- What a command line asks for, or how its words are refused. (This project's own.)
-use Rattle.std.specs.Prelude.{◌≡◌, ℕ, true, nat_le, nat_lt, not, ◌&&◌, ◌==◌, Bool, List, [], ◌∷◌, ◌++◌, length, if◌then◌else◌, Option, None, Some, codes, filter, slice_index}
-use Rattle.std.specs.List.{before_first, after_first}
+use Rattle.std.specs.Prelude.{◌≡◌, ℕ, true, nat_le, nat_lt, ◌&&◌, Bool, List, length, if◌then◌else◌, Option, None, Some, codes}
+use Rattle.clap.specs.Words.{App, Row}
 use Rattle.model_names.specs.Name.{Name}
 use Rattle.model_names.specs.NameOf.{name_of}
 use Rattle.model_names.specs.Namespaces.{has_files}
@@ -18,12 +18,16 @@ use Rattle.tool_words.specs.declared.uses.Use.TheVariants.{Writes}
 use Rattle.kdb_outside.specs.Kind.{kind_of}
 use Rattle.kdb_outside.specs.declared.kinds.Kind.{Kind}
 use Rattle.kdb_outside.specs.declared.kinds.Kind.TheVariants.{Dump}
+use Rattle.tool_words.specs.CommandLines.{no_arguments, one_argument, two_arguments, three_arguments, two_or_three_arguments, one_extended, two_extended, four_by_strategy, given_value, refuses, value, values}
+use Rattle.key_merge.specs.declared.strategies.Strategy.{Strategy}
+use Rattle.tool_words.specs.Strategies.{strategy_of}
 use Rattle.tool_words.specs.Uses.{bars}
 use Rattle.tool_words.specs.Lines.{argument, options_refused, no_name}
 
 -- what is done with a key: it is looked up, gets a value, is taken out, or is listed with all below it; its metadata
--- is looked up, set or listed; it is brought to another name; its name becomes or ceases to be a mountpoint; or all keys at or
--- below it are replaced by others. Any other key of the action is given by its name
+-- is looked up, set or listed; it is brought to another name; its name becomes or ceases to be a mountpoint; all keys at or
+-- below it are replaced by others, or by what those at or below three names are merged into: ours, theirs, and their base. Any other
+-- key of the action is given by its name
 pub data Action : Type 0 where
   Get : Action
   Set : List ℕ → Action
@@ -36,6 +40,7 @@ pub data Action : Type 0 where
   MountFile : List ℕ → Kind → Action
   Unmount : Action
   Replace : KeyMap → Action
+  Merge : Strategy → Name → Name → Name → Action
 
 -- what is asked of a store: its mounts, the file of a key, the text of the keys at or below a name, or an action on a key
 pub data Question : Type 0 where
@@ -59,73 +64,42 @@ pub data Request : Type 0 where
   Asks : Question → Request
   Imports : Name → Kind → Request
 
--- a word that ends the options
-abbrev pub ends_options : List ℕ → Bool
-ends_options word = is_text word (codes "--")
+-- the words behind a command: what is asked for by the values that `clap` finds in them, or they are refused
+abbrev pub read_by : App → (List Row → Request) → List (List ℕ) → Request
+read_by app take words = if refuses app words then Refuses 1 options_refused else take (values app words)
 
--- a word that looks like an option: a `-` and more
-abbrev pub is_option : List ℕ → Bool
-is_option word = nat_le 2 (length word) && (slice_index word 0 == 45)
+-- which keys a command is for, by its option `-r`
+abbrev pub extent_in : List Row → Extent
+extent_in rows = if is_text (value (codes "r") rows) (codes "true") then WithBelow else Alone
 
--- the words behind a command before the first `--`
-abbrev pub before_dashes : List (List ℕ) → List (List ℕ)
-before_dashes words = before_first ends_options words
-
--- the options among them
-abbrev pub options : List (List ℕ) → List (List ℕ)
-options words = filter is_option (before_dashes words)
-
--- the arguments among the words behind a command: those that look like no option, and all behind the first `--`
-abbrev pub arguments : List (List ℕ) → List (List ℕ)
-arguments words = filter (λ word. not (is_option word)) (before_dashes words) ++ after_first ends_options words
-
--- which keys a command is for by its options; none where they are refused
-abbrev pub extent_of : List (List ℕ) → Option Extent
-extent_of [] = Some Alone
-extent_of (word ∷ []) = if is_text word (codes "-r") then Some WithBelow else None
-extent_of (word ∷ other ∷ words) = None
-
--- the words behind a command that takes no options
-abbrev pub plain : (List (List ℕ) → Request) → List (List ℕ) → Request
-plain take words = elim (options words) [ [] ↦ take (arguments words) | option ∷ others ↦ Refuses 1 options_refused ]
-
--- the words behind a command that takes `-r`
-abbrev pub extended : (Extent → List (List ℕ) → Request) → List (List ℕ) → Request
-extended take words = elim (extent_of (options words)) [ None ↦ Refuses 1 options_refused | Some extent ↦ take extent (arguments words) ]
-
--- the arguments of a command that takes none
+-- the words behind a command that takes no argument, one, two, or three
 abbrev pub on_none : Request → List (List ℕ) → Request
-on_none asked [] = asked
-on_none asked (a ∷ words) = Refuses 1 options_refused
+on_none asked = read_by no_arguments (λ rows. asked)
 
--- the arguments of a command that takes one
 abbrev pub on_one : (List ℕ → Request) → List (List ℕ) → Request
-on_one take [] = Refuses 1 options_refused
-on_one take (a ∷ []) = take a
-on_one take (a ∷ b ∷ words) = Refuses 1 options_refused
+on_one take = read_by one_argument (λ rows. take (value (codes "1") rows))
 
--- the arguments of a command that takes two
 abbrev pub on_two : (List ℕ → List ℕ → Request) → List (List ℕ) → Request
-on_two take [] = Refuses 1 options_refused
-on_two take (a ∷ []) = Refuses 1 options_refused
-on_two take (a ∷ b ∷ []) = take a b
-on_two take (a ∷ b ∷ c ∷ words) = Refuses 1 options_refused
+on_two take = read_by two_arguments (λ rows. take (value (codes "1") rows) (value (codes "2") rows))
 
--- the arguments of a command that takes three
 abbrev pub on_three : (List ℕ → List ℕ → List ℕ → Request) → List (List ℕ) → Request
-on_three take [] = Refuses 1 options_refused
-on_three take (a ∷ []) = Refuses 1 options_refused
-on_three take (a ∷ b ∷ []) = Refuses 1 options_refused
-on_three take (a ∷ b ∷ c ∷ []) = take a b c
-on_three take (a ∷ b ∷ c ∷ d ∷ words) = Refuses 1 options_refused
+on_three take = read_by three_arguments (λ rows. take (value (codes "1") rows) (value (codes "2") rows) (value (codes "3") rows))
 
--- the arguments of a command that takes two, and a third that may be left out
+-- of one that takes two, and a third that may be left out
 abbrev pub on_two_or_three : (List ℕ → List ℕ → Option (List ℕ) → Request) → List (List ℕ) → Request
-on_two_or_three take [] = Refuses 1 options_refused
-on_two_or_three take (a ∷ []) = Refuses 1 options_refused
-on_two_or_three take (a ∷ b ∷ []) = take a b None
-on_two_or_three take (a ∷ b ∷ c ∷ []) = take a b (Some c)
-on_two_or_three take (a ∷ b ∷ c ∷ d ∷ words) = Refuses 1 options_refused
+on_two_or_three take = read_by two_or_three_arguments (λ rows. take (value (codes "1") rows) (value (codes "2") rows) (given_value (codes "3") rows))
+
+-- of one that takes one or two, and `-r`
+abbrev pub on_one_extended : (Extent → List ℕ → Request) → List (List ℕ) → Request
+on_one_extended take = read_by one_extended (λ rows. take (extent_in rows) (value (codes "1") rows))
+
+abbrev pub on_two_extended : (Extent → List ℕ → List ℕ → Request) → List (List ℕ) → Request
+on_two_extended take = read_by two_extended (λ rows. take (extent_in rows) (value (codes "1") rows) (value (codes "2") rows))
+
+-- of one that takes four, and `-s`
+abbrev pub on_four_by_strategy : (List ℕ → List ℕ → List ℕ → List ℕ → List ℕ → Request) → List (List ℕ) → Request
+on_four_by_strategy take =
+    read_by four_by_strategy (λ rows. take (value (codes "1") rows) (value (codes "2") rows) (value (codes "3") rows) (value (codes "4") rows) (value (codes "s") rows))
 
 -- a word that is to be a name and is none: it is told why. Bytes that are no text have no refusal, and no word is such
 abbrev pub unnamed : List ℕ → Request
@@ -172,3 +146,12 @@ passing In name kind = Imports name kind
 -- keys at or below the name of a word go out or come in, in the format of another word
 abbrev pub asks_to_pass : Flow → List ℕ → List ℕ → Request
 asks_to_pass flow word format = on_name_for Writes word (λ name. on_kind (Some format) (λ kind. passing flow name kind))
+
+-- a word that is to be a strategy's, and what is asked for by the strategy
+abbrev pub on_strategy : List ℕ → (Strategy → Request) → Request
+on_strategy word asked = elim (strategy_of word) [ None ↦ Refuses 2 (argument word) | Some strategy ↦ asked strategy ]
+
+-- the keys at or below three names are merged into those of a fourth; what is wrong with the strategy is told last
+abbrev pub asks_to_merge : List ℕ → List ℕ → List ℕ → List ℕ → List ℕ → Request
+asks_to_merge our their base into word =
+    on_name_for Writes our (λ o. on_name_for Writes their (λ t. on_name_for Writes base (λ b. on_name_for Writes into (λ i. on_strategy word (λ strategy. Asks (On i (Merge strategy o t b)))))))

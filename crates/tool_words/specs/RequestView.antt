@@ -16,7 +16,7 @@ use Rattle.tool_words.specs.declared.requests.Named.TheVariants as code_names
 use Rattle.tool_words.specs.declared.requests.Refusal.{Refusal}
 use Rattle.tool_words.specs.declared.requests.Refusal.TheVariants as refusals
 use Rattle.tool_words.specs.Lines.{argument, no_command, unknown_command, options_refused, no_name, out_of_memory}
-use Rattle.tool_words.specs.Request.{Action, Get, Set, Remove, Names, GetMeta, SetMeta, MetaNames, Bring, MountFile, Unmount, Replace, Question, Mounts, FileOf, TextOf, On, Request, Refuses, Bars, Asks, Imports}
+use Rattle.tool_words.specs.Request.{Action, Get, Set, Remove, Names, GetMeta, SetMeta, MetaNames, Bring, MountFile, Unmount, Replace, Merge, Question, Mounts, FileOf, TextOf, On, Request, Refuses, Bars, Asks, Imports}
 
 -- the status of a refusal
 abbrev pub status_of : Refusal → ℕ
@@ -57,6 +57,7 @@ action_of (code_actions.Bring way extent to) = Bring way extent to
 action_of (code_actions.MountFile file kind) = MountFile file.now kind
 action_of code_actions.Unmount = Unmount
 action_of (code_actions.Replace keys) = Replace keys
+action_of (code_actions.Merge strategy our their base) = Merge strategy our their base
 
 abbrev pub question_of : code_question.Question → Question
 question_of code_questions.Mounts = Mounts

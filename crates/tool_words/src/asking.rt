@@ -2,14 +2,16 @@
 ghost use Rattle.std.specs.Prelude.{IfOk};
 ghost use Rattle.std.specs.Option.{option_map};
 ghost use Rattle.tool_words.specs.Request as asked;
-ghost use Rattle.tool_words.specs.Request.{on_name, on_name_for, asks, asks_to_bring, asks_to_mount, asks_to_pass, passing};
+ghost use Rattle.tool_words.specs.Request.{on_name, on_name_for, asks, asks_to_bring, asks_to_merge, asks_to_mount, asks_to_pass, on_strategy, passing};
 ghost use Rattle.tool_words.specs.Lines.{argument};
 ghost use Rattle.tool_words.specs.RequestView.{IsRead, IsSeenAs, action_of};
 ghost use Rattle.tool_words.specs.declared.uses.Use.TheVariants.{Writes};
 
+use crate::arguments::MergeWords;
 use crate::extents::Extent;
 use crate::flows::Flow;
 use crate::requests::{Action, Named, Question, Refusal, Request};
+use crate::strategies::strategy_of;
 use crate::uses::{Use, bars};
 use crate::ways::Way;
 use kdb_outside::Kind;
@@ -166,6 +168,66 @@ fn ask_to_bring_key<'a>(
             Ok(Request::Asks(Question::On { name, action }))
         }
         Named::IsNone(request) => Ok(request),
+    }
+}
+
+/// Keys at or below three names are merged into those of a fourth.
+pub fn ask_to_merge<'a>(alloc: Global, words: MergeWords<'a>) -> Result<Request<'a>, Memory>
+    ensures { IfOk result (λ read. IsSeenAs read (asks_to_merge words.entry.our.now words.entry.their.now words.entry.base.now words.entry.into.now words.entry.strategy.now)) }
+{
+    let our = match read_name(alloc, words.our, Use::Writes)? {
+        Named::Is(name) => name,
+        Named::IsNone(request) => return Ok(request),
+    };
+    let their = match read_name(alloc, words.their, Use::Writes)? {
+        Named::Is(name) => name,
+        Named::IsNone(request) => return Ok(request),
+    };
+    let base = match read_name(alloc, words.base, Use::Writes)? {
+        Named::Is(name) => name,
+        Named::IsNone(request) => return Ok(request),
+    };
+    ask_to_merge_into(alloc, words.into, our, their, base, words.strategy)
+}
+
+/// Keys at or below three names are merged into those of the name that a word is to spell.
+fn ask_to_merge_into<'a>(
+    alloc: Global,
+    into: &'a str,
+    our: KeyName,
+    their: KeyName,
+    base: KeyName,
+    word: &'a str,
+) -> Result<Request<'a>, Memory>
+    ensures { IfOk result (λ read. IsSeenAs read (on_name_for Writes into.now (λ name. on_strategy word.now (λ strategy. asked.Asks (asked.On name (asked.Merge strategy our their base)))))) }
+{
+    match read_name(alloc, into, Use::Writes)? {
+        Named::Is(name) => Ok(merging(name, our, their, base, word)),
+        Named::IsNone(request) => Ok(request),
+    }
+}
+
+/// Keys are merged by the strategy of a word.
+fn merging<'a>(
+    name: KeyName,
+    our: KeyName,
+    their: KeyName,
+    base: KeyName,
+    word: &'a str,
+) -> Request<'a>
+    ensures { IsSeenAs result (on_strategy word.now (λ strategy. asked.Asks (asked.On name (asked.Merge strategy our their base)))) }
+{
+    match strategy_of(word) {
+        Some(strategy) => {
+            let action = Action::Merge {
+                strategy,
+                our,
+                their,
+                base,
+            };
+            Request::Asks(Question::On { name, action })
+        }
+        None => Request::Refuses(Refusal::NoArgument(word)),
     }
 }
 

@@ -1,14 +1,17 @@
 //! The words of a command line: what they ask for, or why they are refused.
 #![tactic(auto)]
 
+mod arguments;
 mod asking;
+mod command_lines;
 mod extents;
 mod flows;
 mod laws;
 mod meta_names;
-mod options;
 mod requests;
+mod strategies;
 mod uses;
+mod values;
 mod ways;
 mod words;
 
@@ -19,4 +22,4 @@ pub use meta_names::MetaName;
 pub use requests::{Action, Question, Refusal, Request};
 pub use uses::Use;
 pub use ways::Way;
-pub use words::read_words;
+pub use words::{lend_words, read_words};

@@ -4,6 +4,7 @@ use crate::meta_names::MetaName;
 use crate::uses::Use;
 use crate::ways::Way;
 use kdb_outside::Kind;
+use key_merge::Strategy;
 use key_name::{KeyName, NameFault};
 use key_set::KeySet;
 
@@ -15,7 +16,7 @@ pub enum Refusal<'a> {
     OptionsRefused,
     /// A word that is to be a name is none, for another cause than want of memory.
     NoName(NameFault),
-    /// A word that is to be a metadata name or a format's word is none.
+    /// A word that is to be a metadata name a format's word or a strategy's is none.
     NoArgument(&'a str),
 }
 
@@ -41,6 +42,13 @@ pub enum Action<'a> {
     Unmount,
     /// All keys at or below the name give way to these.
     Replace(KeySet),
+    /// All keys at or below the name give way to what those at or below three names are merged into.
+    Merge {
+        strategy: Strategy,
+        our: KeyName,
+        their: KeyName,
+        base: KeyName,
+    },
 }
 
 /// What is asked of a store.

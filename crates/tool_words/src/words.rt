@@ -1,31 +1,45 @@
 //! What the words of a command line ask for.
-ghost use Rattle.std.specs.Prelude.{IfOk};
+ghost use Rattle.std.specs.Prelude.{◌≡◌, IfOk};
 ghost use Rattle.tool_words.specs.Request as asked;
-ghost use Rattle.tool_words.specs.Request.{plain, extended, on_none, on_one, on_two, on_three, on_two_or_three, on_name, on_name_for, on_meta, asks, asks_to_bring, asks_to_mount, asks_to_pass};
+ghost use Rattle.tool_words.specs.Request.{on_none, on_one, on_two, on_three, on_two_or_three, on_one_extended, on_two_extended, on_four_by_strategy, on_name, on_name_for, on_meta, asks, asks_to_bring, asks_to_merge, asks_to_mount, asks_to_pass};
 ghost use Rattle.tool_words.specs.Rows.{asked_by, request, rows};
-ghost use Rattle.tool_words.specs.RequestView.{IsSeenAs, action_of};
+ghost use Rattle.tool_words.specs.RequestView.{IsSeenAs, action_of, texts_of};
 ghost use Rattle.tool_words.specs.declared.uses.Use.TheVariants.{Looks, Writes};
 
+use crate::arguments::{
+    four_and_strategy, none, one, one_and_extent, three, two, two_and_extent, two_or_three,
+};
 use crate::asking::{
-    ask, ask_any, ask_for_file, ask_to_bring, ask_to_mount, ask_to_pass, refuse_argument,
+    ask, ask_any, ask_for_file, ask_to_bring, ask_to_merge, ask_to_mount, ask_to_pass,
+    refuse_argument,
 };
 use crate::extents::Extent;
 use crate::flows::Flow;
 use crate::meta_names::MetaName;
-use crate::options::{extended_arguments, none, one, plain_arguments, three, two, two_or_three};
 use crate::requests::{Action, Question, Refusal, Request};
 use crate::uses::Use;
 use crate::ways::Way;
 use key_meta::{Memory, Text};
 use std::alloc::Global;
 
-/// Reads the words, which come without the program's name.
-pub fn read_words(alloc: Global, words: &[Text]) -> Result<Request<'_>, Memory>
-    ensures { IfOk result (λ read. IsSeenAs read (request words.now)) }
+/// Words as they are read.
+pub fn lend_words<'a>(alloc: Global, words: &'a [Text]) -> Result<Vec<&'a str>, Memory>
+    ensures { IfOk result (λ lent. texts_of lent.items ≡ words.now) }
 {
-    match words {
-        [] => Ok(Request::Refuses(Refusal::NoCommand)),
-        [command, words @ ..] => read_behind(alloc, command.as_str(), words),
+    let mut lent = Vec::new(alloc);
+    for word in words {
+        lent.push(word.as_str())?;
+    }
+    Ok(lent)
+}
+
+/// Reads the words, which come without the program's name.
+pub fn read_words<'a>(alloc: Global, words: &'a [&'a str]) -> Result<Request<'a>, Memory>
+    ensures { IfOk result (λ read. IsSeenAs read (request (texts_of words.now))) }
+{
+    match words.split_first() {
+        Some((command, words)) => read_behind(alloc, *command, words),
+        None => Ok(Request::Refuses(Refusal::NoCommand)),
     }
 }
 
@@ -33,9 +47,9 @@ pub fn read_words(alloc: Global, words: &[Text]) -> Result<Request<'_>, Memory>
 fn read_behind<'a>(
     alloc: Global,
     command: &'a str,
-    words: &'a [Text],
+    words: &'a [&'a str],
 ) -> Result<Request<'a>, Memory>
-    ensures { IfOk result (λ read. IsSeenAs read (asked_by rows command.now words.now)) }
+    ensures { IfOk result (λ read. IsSeenAs read (asked_by rows command.now (texts_of words.now))) }
 {
     match command {
         "get" => read_one(alloc, words, Use::Looks, Action::Get),
@@ -53,6 +67,7 @@ fn read_behind<'a>(
         "file" => read_file_name(alloc, words),
         "export" => read_passing(alloc, words, Flow::Out),
         "import" => read_passing(alloc, words, Flow::In),
+        "merge" => read_merging(alloc, words),
         _ => Ok(Request::Refuses(Refusal::UnknownCommand(command))),
     }
 }
@@ -60,55 +75,43 @@ fn read_behind<'a>(
 /// The words behind a command that takes a name and no option.
 fn read_one<'a>(
     alloc: Global,
-    words: &'a [Text],
+    words: &'a [&'a str],
     by: Use,
     action: Action<'a>,
 ) -> Result<Request<'a>, Memory>
-    ensures { IfOk result (λ read. IsSeenAs read (plain (on_one (asks by (action_of action.entry))) words.now)) }
+    ensures { IfOk result (λ read. IsSeenAs read (on_one (asks by (action_of action.entry)) (texts_of words.now))) }
 {
-    let Some(arguments) = plain_arguments(alloc, words)? else {
-        return Ok(Request::Refuses(Refusal::OptionsRefused));
-    };
-    let Some(name) = one(&arguments) else {
+    let Some(name) = one(alloc, words)? else {
         return Ok(Request::Refuses(Refusal::OptionsRefused));
     };
     ask(alloc, name, by, action)
 }
 
 /// The words behind `set`.
-fn read_name_and_value<'a>(alloc: Global, words: &'a [Text]) -> Result<Request<'a>, Memory>
-    ensures { IfOk result (λ read. IsSeenAs read (plain (on_two (λ word value. asks Writes (asked.Set value) word)) words.now)) }
+fn read_name_and_value<'a>(alloc: Global, words: &'a [&'a str]) -> Result<Request<'a>, Memory>
+    ensures { IfOk result (λ read. IsSeenAs read (on_two (λ word value. asks Writes (asked.Set value) word) (texts_of words.now))) }
 {
-    let Some(arguments) = plain_arguments(alloc, words)? else {
-        return Ok(Request::Refuses(Refusal::OptionsRefused));
-    };
-    let Some((name, value)) = two(&arguments) else {
+    let Some((name, value)) = two(alloc, words)? else {
         return Ok(Request::Refuses(Refusal::OptionsRefused));
     };
     ask(alloc, name, Use::Writes, Action::Set(value))
 }
 
 /// The words behind `rm`.
-fn read_removal<'a>(alloc: Global, words: &'a [Text]) -> Result<Request<'a>, Memory>
-    ensures { IfOk result (λ read. IsSeenAs read (extended (λ extent. on_one (asks Writes (asked.Remove extent))) words.now)) }
+fn read_removal<'a>(alloc: Global, words: &'a [&'a str]) -> Result<Request<'a>, Memory>
+    ensures { IfOk result (λ read. IsSeenAs read (on_one_extended (λ extent. asks Writes (asked.Remove extent)) (texts_of words.now))) }
 {
-    let Some((extent, arguments)) = extended_arguments(alloc, words)? else {
-        return Ok(Request::Refuses(Refusal::OptionsRefused));
-    };
-    let Some(name) = one(&arguments) else {
+    let Some((extent, name)) = one_and_extent(alloc, words)? else {
         return Ok(Request::Refuses(Refusal::OptionsRefused));
     };
     ask(alloc, name, Use::Writes, Action::Remove(extent))
 }
 
 /// The words behind `meta-get`.
-fn read_meta<'a>(alloc: Global, words: &'a [Text]) -> Result<Request<'a>, Memory>
-    ensures { IfOk result (λ read. IsSeenAs read (plain (on_two (λ word meta. on_name_for Looks word (λ name. on_meta meta (asked.Asks (asked.On name (asked.GetMeta meta)))))) words.now)) }
+fn read_meta<'a>(alloc: Global, words: &'a [&'a str]) -> Result<Request<'a>, Memory>
+    ensures { IfOk result (λ read. IsSeenAs read (on_two (λ word meta. on_name_for Looks word (λ name. on_meta meta (asked.Asks (asked.On name (asked.GetMeta meta))))) (texts_of words.now))) }
 {
-    let Some(arguments) = plain_arguments(alloc, words)? else {
-        return Ok(Request::Refuses(Refusal::OptionsRefused));
-    };
-    let Some((name, word)) = two(&arguments) else {
+    let Some((name, word)) = two(alloc, words)? else {
         return Ok(Request::Refuses(Refusal::OptionsRefused));
     };
     match MetaName::new(word) {
@@ -118,13 +121,10 @@ fn read_meta<'a>(alloc: Global, words: &'a [Text]) -> Result<Request<'a>, Memory
 }
 
 /// The words behind `meta-set`.
-fn read_meta_and_text<'a>(alloc: Global, words: &'a [Text]) -> Result<Request<'a>, Memory>
-    ensures { IfOk result (λ read. IsSeenAs read (plain (on_three (λ word meta text. on_name_for Writes word (λ name. on_meta meta (asked.Asks (asked.On name (asked.SetMeta meta text)))))) words.now)) }
+fn read_meta_and_text<'a>(alloc: Global, words: &'a [&'a str]) -> Result<Request<'a>, Memory>
+    ensures { IfOk result (λ read. IsSeenAs read (on_three (λ word meta text. on_name_for Writes word (λ name. on_meta meta (asked.Asks (asked.On name (asked.SetMeta meta text))))) (texts_of words.now))) }
 {
-    let Some(arguments) = plain_arguments(alloc, words)? else {
-        return Ok(Request::Refuses(Refusal::OptionsRefused));
-    };
-    let Some((name, word, text)) = three(&arguments) else {
+    let Some((name, word, text)) = three(alloc, words)? else {
         return Ok(Request::Refuses(Refusal::OptionsRefused));
     };
     match MetaName::new(word) {
@@ -134,52 +134,40 @@ fn read_meta_and_text<'a>(alloc: Global, words: &'a [Text]) -> Result<Request<'a
 }
 
 /// The words behind `cp` and `mv`.
-fn read_bringing<'a>(alloc: Global, words: &'a [Text], way: Way) -> Result<Request<'a>, Memory>
-    ensures { IfOk result (λ read. IsSeenAs read (extended (λ extent. on_two (asks_to_bring way extent)) words.now)) }
+fn read_bringing<'a>(alloc: Global, words: &'a [&'a str], way: Way) -> Result<Request<'a>, Memory>
+    ensures { IfOk result (λ read. IsSeenAs read (on_two_extended (asks_to_bring way) (texts_of words.now))) }
 {
-    let Some((extent, arguments)) = extended_arguments(alloc, words)? else {
-        return Ok(Request::Refuses(Refusal::OptionsRefused));
-    };
-    let Some((from, to)) = two(&arguments) else {
+    let Some((extent, from, to)) = two_and_extent(alloc, words)? else {
         return Ok(Request::Refuses(Refusal::OptionsRefused));
     };
     ask_to_bring(alloc, from, to, way, extent)
 }
 
 /// The words behind `ls`.
-fn read_listing<'a>(alloc: Global, words: &'a [Text]) -> Result<Request<'a>, Memory>
-    ensures { IfOk result (λ read. IsSeenAs read (plain (on_one (λ word. on_name word (λ name. asked.Asks (asked.On name asked.Names)))) words.now)) }
+fn read_listing<'a>(alloc: Global, words: &'a [&'a str]) -> Result<Request<'a>, Memory>
+    ensures { IfOk result (λ read. IsSeenAs read (on_one (λ word. on_name word (λ name. asked.Asks (asked.On name asked.Names))) (texts_of words.now))) }
 {
-    let Some(arguments) = plain_arguments(alloc, words)? else {
-        return Ok(Request::Refuses(Refusal::OptionsRefused));
-    };
-    let Some(name) = one(&arguments) else {
+    let Some(name) = one(alloc, words)? else {
         return Ok(Request::Refuses(Refusal::OptionsRefused));
     };
     ask_any(alloc, name, Action::Names)
 }
 
 /// The words behind `mount`.
-fn read_mounting<'a>(alloc: Global, words: &'a [Text]) -> Result<Request<'a>, Memory>
-    ensures { IfOk result (λ read. IsSeenAs read (plain (on_two_or_three asks_to_mount) words.now)) }
+fn read_mounting<'a>(alloc: Global, words: &'a [&'a str]) -> Result<Request<'a>, Memory>
+    ensures { IfOk result (λ read. IsSeenAs read (on_two_or_three asks_to_mount (texts_of words.now))) }
 {
-    let Some(arguments) = plain_arguments(alloc, words)? else {
-        return Ok(Request::Refuses(Refusal::OptionsRefused));
-    };
-    let Some((file, name, plugin)) = two_or_three(&arguments) else {
+    let Some((file, name, plugin)) = two_or_three(alloc, words)? else {
         return Ok(Request::Refuses(Refusal::OptionsRefused));
     };
     ask_to_mount(alloc, file, name, plugin)
 }
 
 /// The words behind `mounts`.
-fn read_none<'a>(alloc: Global, words: &'a [Text]) -> Result<Request<'a>, Memory>
-    ensures { IfOk result (λ read. IsSeenAs read (plain (on_none (asked.Asks asked.Mounts)) words.now)) }
+fn read_none<'a>(alloc: Global, words: &'a [&'a str]) -> Result<Request<'a>, Memory>
+    ensures { IfOk result (λ read. IsSeenAs read (on_none (asked.Asks asked.Mounts) (texts_of words.now))) }
 {
-    let Some(arguments) = plain_arguments(alloc, words)? else {
-        return Ok(Request::Refuses(Refusal::OptionsRefused));
-    };
-    if none(&arguments) {
+    if none(alloc, words)? {
         Ok(Request::Asks(Question::Mounts))
     } else {
         Ok(Request::Refuses(Refusal::OptionsRefused))
@@ -187,27 +175,31 @@ fn read_none<'a>(alloc: Global, words: &'a [Text]) -> Result<Request<'a>, Memory
 }
 
 /// The words behind `export` and `import`.
-fn read_passing<'a>(alloc: Global, words: &'a [Text], flow: Flow) -> Result<Request<'a>, Memory>
-    ensures { IfOk result (λ read. IsSeenAs read (plain (on_two (asks_to_pass flow)) words.now)) }
+fn read_passing<'a>(alloc: Global, words: &'a [&'a str], flow: Flow) -> Result<Request<'a>, Memory>
+    ensures { IfOk result (λ read. IsSeenAs read (on_two (asks_to_pass flow) (texts_of words.now))) }
 {
-    let Some(arguments) = plain_arguments(alloc, words)? else {
-        return Ok(Request::Refuses(Refusal::OptionsRefused));
-    };
-    let Some((name, format)) = two(&arguments) else {
+    let Some((name, format)) = two(alloc, words)? else {
         return Ok(Request::Refuses(Refusal::OptionsRefused));
     };
     ask_to_pass(alloc, name, format, flow)
 }
 
 /// The words behind `file`.
-fn read_file_name<'a>(alloc: Global, words: &'a [Text]) -> Result<Request<'a>, Memory>
-    ensures { IfOk result (λ read. IsSeenAs read (plain (on_one (λ word. on_name_for Writes word (λ name. asked.Asks (asked.FileOf name)))) words.now)) }
+fn read_file_name<'a>(alloc: Global, words: &'a [&'a str]) -> Result<Request<'a>, Memory>
+    ensures { IfOk result (λ read. IsSeenAs read (on_one (λ word. on_name_for Writes word (λ name. asked.Asks (asked.FileOf name))) (texts_of words.now))) }
 {
-    let Some(arguments) = plain_arguments(alloc, words)? else {
-        return Ok(Request::Refuses(Refusal::OptionsRefused));
-    };
-    let Some(name) = one(&arguments) else {
+    let Some(name) = one(alloc, words)? else {
         return Ok(Request::Refuses(Refusal::OptionsRefused));
     };
     ask_for_file(alloc, name)
+}
+
+/// The words behind `merge`.
+fn read_merging<'a>(alloc: Global, words: &'a [&'a str]) -> Result<Request<'a>, Memory>
+    ensures { IfOk result (λ read. IsSeenAs read (on_four_by_strategy asks_to_merge (texts_of words.now))) }
+{
+    let Some(words) = four_and_strategy(alloc, words)? else {
+        return Ok(Request::Refuses(Refusal::OptionsRefused));
+    };
+    ask_to_merge(alloc, words)
 }

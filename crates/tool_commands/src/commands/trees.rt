@@ -1,5 +1,5 @@
 //! The commands on a key alone or on all keys at or below a name.
-ghost use Rattle.std.specs.Prelude.{◌≡◌, ◌++◌, [], ◌∷◌, if◌then◌else◌, filter, true, None, All, IfOk, OnOk, string_bytes};
+ghost use Rattle.std.specs.Prelude.{◌≡◌, ℕ, List, ◌++◌, [], ◌∷◌, if◌then◌else◌, filter, true, None, All, IfOk, OnOk, string_bytes};
 ghost use Rattle.std.specs.FinMap as map;
 ghost use Rattle.std.specs.List.{flat_map};
 ghost use Rattle.model_names.specs.Below.{is_at_or_below};
@@ -119,7 +119,7 @@ pub fn bring(
 }
 
 /// Sets keys over others, under the names to which they are brought.
-fn set_over(
+pub fn set_over(
     alloc: Global,
     from: &KeyName,
     to: &KeyName,
@@ -128,7 +128,7 @@ fn set_over(
 ) -> Result<Step, Memory>
     requires { All (λ key. is_at_or_below from.now key.0 ≡ true) (map.entries taken.now) }
     ensures step { IfOk result (λ step. seen_step step ≡ brought_over from.now to.now (map.entries taken.now) keys) }
-    ensures status { IfOk result (λ step. TellsEnd (2 ∷ 11 ∷ []) (seen_step step)) }
+    ensures status { (own : List ℕ) → IfOk result (λ step. TellsEnd (2 ∷ own) (seen_step step)) }
 {
     let mut keys = keys;
     match set_all(alloc, from, to, taken, &mut keys)? {
@@ -271,7 +271,7 @@ fn is_listed(name: &KeyName, above: &KeyName) -> Result<bool, Memory>
 }
 
 /// Adds a name as it is shown, with a line feed.
-fn push_line_of_name(alloc: Global, lines: &mut String, name: &KeyName) -> Result<(), Memory>
+pub fn push_line_of_name(alloc: Global, lines: &mut String, name: &KeyName) -> Result<(), Memory>
     ensures { OnOk result (string_bytes lines.new ≡ string_bytes lines.old ++ line_of_name name.now) }
 {
     let text = shown(alloc, name)?;

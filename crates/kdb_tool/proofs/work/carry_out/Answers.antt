@@ -1,29 +1,30 @@
 -- What the words ask for is what the definitions make of them.
-use Rattle.std.proofs.Common.{◌≡◌, List, ℕ, sym, ap, subst}
+use Rattle.std.proofs.Common.{◌≡◌, ◌∙◌, sym, ap, subst}
 use Rattle.std.proofs.lemmas.Result.{IfOk-weaker}
 use Rattle.intent_journal.specs.BadJournals.{opened_files}
 use Rattle.kdb_outside.specs.Frames.{OnlyReads}
 use Rattle.kdb_outside.proofs.Frames.{OnlyReads-none}
 use Rattle.tool_commands.specs.StepView.{report_of}
 use Rattle.tool_words.specs.Request.{Request, Asks, Imports, Refuses, Bars}
-use Rattle.tool_words.specs.RequestView.{IsSeenAs, question_of, status_of, text_of}
+use Rattle.tool_words.specs.RequestView.{IsSeenAs, question_of, status_of, text_of, texts_of}
 use Rattle.tool_words.specs.Rows.{request}
 use Rattle.tool_words.specs.declared.requests.Request as code
 use Rattle.tool_words.proofs.RowLemmas.{request-names_files}
-use Rattle.kdb_tool.specs.Answer.{Answer, tells}
+use Rattle.kdb_tool.specs.Answer.{tells}
 use Rattle.kdb_tool.specs.Answers.{AnswersOver, AnswersRequest}
 use Rattle.kdb_tool.specs.Input.{IsInput}
 use Rattle.kdb_tool.specs.Serving.{Serve, Unserved}
+use Rattle.kdb_tool.proofs.InputLemmas.{takes_none}
 use Rattle.kdb_tool.proofs.ServeLemmas.{alone_unserved, handed_on, serve_unserved}
 use Rattle.kdb_tool.proofs.work.carry_out.Goals as goal
 
 pub answer_question-requires : goal.answer_question-requires
 answer_question-requires g c =
-    request-names_files c.args.words.now (question_of c.in-Ok-Asks.question) (subst (λ (r : code.Request). IsSeenAs r (request c.args.words.now)) c.in-Ok-Asks.field-0-is c.in-Ok-Asks.ensures)
+    request-names_files (texts_of c.deref.result.now) (question_of c.in-Ok-Asks.question) (subst (λ (r : code.Request). IsSeenAs r (request (texts_of c.deref.result.now))) c.in-Ok-Asks.field-0-is c.in-Ok-Asks.ensures)
 
 pub returns-in-Ok-Asks-clause-served : goal.returns-in-Ok-Asks-clause-served
 returns-in-Ok-Asks-clause-served g c = λ tells_disk files doubt calm given fed.
-    let asked : request c.args.words.now ≡ Asks (question_of c.in-Ok-Asks.question) = subst (λ (r : code.Request). IsSeenAs r (request c.args.words.now)) c.in-Ok-Asks.field-0-is c.in-Ok-Asks.ensures in
+    let asked : request c.args.words.now ≡ Asks (question_of c.in-Ok-Asks.question) = ap request (sym (ap texts_of c.deref.ensures.value ∙ c.in-Ok.ensures)) ∙ subst (λ (r : code.Request). IsSeenAs r (request (texts_of c.deref.result.now))) c.in-Ok-Asks.field-0-is c.in-Ok-Asks.ensures in
     subst (λ (r : Request). Serve g.D.Disk files doubt (AnswersRequest r given (opened_files (g.D.Disk.seen c.args.disk))) c.answer_question.result.answer c.args.disk c.answer_question.result.disk) (sym asked) (c.answer_question.ensures.served tells_disk files doubt calm)
 
 pub returns-in-Ok-Asks-clause-unserved : goal.returns-in-Ok-Asks-clause-unserved
@@ -32,13 +33,13 @@ returns-in-Ok-Asks-clause-unserved g c = λ tells_disk files doubt calm.
 
 pub returns-in-Ok-Imports-clause-served : goal.returns-in-Ok-Imports-clause-served
 returns-in-Ok-Imports-clause-served g c = λ tells_disk files doubt calm given fed.
-    let asked : request c.args.words.now ≡ Imports c.in-Ok-Imports.name c.in-Ok-Imports.kind = subst (λ (r : code.Request). IsSeenAs r (request c.args.words.now)) c.in-Ok-Imports.field-0-is c.in-Ok-Imports.ensures in
+    let asked : request c.args.words.now ≡ Imports c.in-Ok-Imports.name c.in-Ok-Imports.kind = ap request (sym (ap texts_of c.deref.ensures.value ∙ c.in-Ok.ensures)) ∙ subst (λ (r : code.Request). IsSeenAs r (request (texts_of c.deref.result.now))) c.in-Ok-Imports.field-0-is c.in-Ok-Imports.ensures in
     let told = subst (λ (r : Request). IsInput r (g.S.Source.left c.args.input.now) given) asked fed in
     subst (λ (r : Request). Serve g.D.Disk files doubt (AnswersRequest r given (opened_files (g.D.Disk.seen c.args.disk))) c.import.result.answer c.args.disk c.import.result.disk) (sym asked) (c.import.ensures.served tells_disk files doubt calm given told)
 
 pub returns-in-Ok-Refuses-clause-served : goal.returns-in-Ok-Refuses-clause-served
 returns-in-Ok-Refuses-clause-served g c = λ tells_disk files doubt calm given fed.
-    let asked : request c.args.words.now ≡ Refuses (status_of c.in-Ok-Refuses.refusal) (text_of c.in-Ok-Refuses.refusal) = subst (λ (r : code.Request). IsSeenAs r (request c.args.words.now)) c.in-Ok-Refuses.field-0-is c.in-Ok-Refuses.ensures in
+    let asked : request c.args.words.now ≡ Refuses (status_of c.in-Ok-Refuses.refusal) (text_of c.in-Ok-Refuses.refusal) = ap request (sym (ap texts_of c.deref.ensures.value ∙ c.in-Ok.ensures)) ∙ subst (λ (r : code.Request). IsSeenAs r (request (texts_of c.deref.result.now))) c.in-Ok-Refuses.field-0-is c.in-Ok-Refuses.ensures in
     handed_on g.D.Disk c.args.disk c.without_store.result.disk files doubt (AnswersRequest (request c.args.words.now) given (opened_files (g.D.Disk.seen c.args.disk))) c.warn_of_words.result c.without_store.result.answer c.without_store.ensures.answer c.without_store.ensures.disk tells_disk calm
     (IfOk-weaker c.warn_of_words.result _ _ (λ report told. subst (λ (r : Request). AnswersRequest r given (opened_files (g.D.Disk.seen c.args.disk)) (tells (report_of report))) (sym asked) (ap tells told)) c.warn_of_words.ensures.warned)
 
@@ -48,7 +49,7 @@ returns-in-Ok-Refuses-clause-unserved g c = λ tells_disk files doubt calm stops
 
 pub returns-in-Ok-Bars-clause-served : goal.returns-in-Ok-Bars-clause-served
 returns-in-Ok-Bars-clause-served g c = λ tells_disk files doubt calm given fed.
-    let asked : request c.args.words.now ≡ Bars c.in-Ok-Bars.by c.in-Ok-Bars.name = subst (λ (r : code.Request). IsSeenAs r (request c.args.words.now)) c.in-Ok-Bars.field-0-is c.in-Ok-Bars.ensures in
+    let asked : request c.args.words.now ≡ Bars c.in-Ok-Bars.by c.in-Ok-Bars.name = ap request (sym (ap texts_of c.deref.ensures.value ∙ c.in-Ok.ensures)) ∙ subst (λ (r : code.Request). IsSeenAs r (request (texts_of c.deref.result.now))) c.in-Ok-Bars.field-0-is c.in-Ok-Bars.ensures in
     handed_on g.D.Disk c.args.disk c.without_store-in-Ok-Bars.result.disk files doubt (AnswersRequest (request c.args.words.now) given (opened_files (g.D.Disk.seen c.args.disk))) c.warn_of_name.result c.without_store-in-Ok-Bars.result.answer c.without_store-in-Ok-Bars.ensures.answer c.without_store-in-Ok-Bars.ensures.disk tells_disk calm
     (IfOk-weaker c.warn_of_name.result _ _ (λ report told. subst (λ (r : Request). AnswersRequest r given (opened_files (g.D.Disk.seen c.args.disk)) (tells (report_of report))) (sym asked) (ap tells told)) c.warn_of_name.ensures)
 
@@ -56,20 +57,29 @@ pub returns-in-Ok-Bars-clause-unserved : goal.returns-in-Ok-Bars-clause-unserved
 returns-in-Ok-Bars-clause-unserved g c = λ tells_disk files doubt calm stops.
     subst (Unserved g.D.Disk files doubt c.args.disk) (sym c.without_store-in-Ok-Bars.ensures.disk) (alone_unserved g.D.Disk c.args.disk files doubt tells_disk calm)
 
-pub returns-in-Err-clause-served : goal.returns-in-Err-clause-served
-returns-in-Err-clause-served g c = λ tells_disk files doubt calm given fed. alone_unserved g.D.Disk c.args.disk files doubt tells_disk calm
+pub returns-in_default-clause-served : goal.returns-in_default-clause-served
+returns-in_default-clause-served g c = λ tells_disk files doubt calm given fed. alone_unserved g.D.Disk c.args.disk files doubt tells_disk calm
 
-pub returns-in-Err-clause-unserved : goal.returns-in-Err-clause-unserved
-returns-in-Err-clause-unserved g c = λ tells_disk files doubt calm stops. alone_unserved g.D.Disk c.args.disk files doubt tells_disk calm
+pub returns-in_default-clause-unserved : goal.returns-in_default-clause-unserved
+returns-in_default-clause-unserved g c = λ tells_disk files doubt calm stops. alone_unserved g.D.Disk c.args.disk files doubt tells_disk calm
+
+pub returns-in_default-clause-input : goal.returns-in_default-clause-input
+returns-in_default-clause-input g c = takes_none g.S.Source (request c.args.words.now) _ c.args.input.now (λ answered. absurd cc)
+
+pub returns-clause-served : goal.returns-clause-served
+returns-clause-served g c = λ tells_disk files doubt calm given fed. alone_unserved g.D.Disk c.args.disk files doubt tells_disk calm
+
+pub returns-clause-unserved : goal.returns-clause-unserved
+returns-clause-unserved g c = λ tells_disk files doubt calm stops. alone_unserved g.D.Disk c.args.disk files doubt tells_disk calm
 
 pub returns-in-Ok-Asks-clause-untouched : goal.returns-in-Ok-Asks-clause-untouched
 returns-in-Ok-Asks-clause-untouched g c = λ tells_disk none given fed answer answers.
-    let asked : request c.args.words.now ≡ Asks (question_of c.in-Ok-Asks.question) = subst (λ (r : code.Request). IsSeenAs r (request c.args.words.now)) c.in-Ok-Asks.field-0-is c.in-Ok-Asks.ensures in
+    let asked : request c.args.words.now ≡ Asks (question_of c.in-Ok-Asks.question) = ap request (sym (ap texts_of c.deref.ensures.value ∙ c.in-Ok.ensures)) ∙ subst (λ (r : code.Request). IsSeenAs r (request (texts_of c.deref.result.now))) c.in-Ok-Asks.field-0-is c.in-Ok-Asks.ensures in
     c.answer_question.ensures.untouched tells_disk none answer (subst (λ (r : Request). AnswersRequest r given (g.D.Disk.seen c.args.disk) answer) asked answers)
 
 pub returns-in-Ok-Imports-clause-untouched : goal.returns-in-Ok-Imports-clause-untouched
 returns-in-Ok-Imports-clause-untouched g c = λ tells_disk none given fed answer answers.
-    let asked : request c.args.words.now ≡ Imports c.in-Ok-Imports.name c.in-Ok-Imports.kind = subst (λ (r : code.Request). IsSeenAs r (request c.args.words.now)) c.in-Ok-Imports.field-0-is c.in-Ok-Imports.ensures in
+    let asked : request c.args.words.now ≡ Imports c.in-Ok-Imports.name c.in-Ok-Imports.kind = ap request (sym (ap texts_of c.deref.ensures.value ∙ c.in-Ok.ensures)) ∙ subst (λ (r : code.Request). IsSeenAs r (request (texts_of c.deref.result.now))) c.in-Ok-Imports.field-0-is c.in-Ok-Imports.ensures in
     let told = subst (λ (r : Request). IsInput r (g.S.Source.left c.args.input.now) given) asked fed in
     c.import.ensures.untouched tells_disk none given told answer (subst (λ (r : Request). AnswersRequest r given (g.D.Disk.seen c.args.disk) answer) asked answers)
 
@@ -85,8 +95,8 @@ returns-in-Ok-Bars-clause-untouched g c = λ tells_disk none given fed answer an
 pub returns-in-Ok-Bars-clause-unstored : goal.returns-in-Ok-Bars-clause-unstored
 returns-in-Ok-Bars-clause-unstored g c = λ tells_disk none not_done. subst (OnlyReads g.D.Disk c.args.disk) (sym c.without_store-in-Ok-Bars.ensures.disk) (OnlyReads-none g.D.Disk c.args.disk)
 
-pub returns-in-Err-clause-untouched : goal.returns-in-Err-clause-untouched
-returns-in-Err-clause-untouched g c = λ tells_disk none given fed answer answers nothing. OnlyReads-none g.D.Disk c.args.disk
+pub returns-clause-untouched : goal.returns-clause-untouched
+returns-clause-untouched g c = λ tells_disk none given fed answer answers nothing. OnlyReads-none g.D.Disk c.args.disk
 
-pub returns-in-Err-clause-unstored : goal.returns-in-Err-clause-unstored
-returns-in-Err-clause-unstored g c = λ tells_disk none not_done. OnlyReads-none g.D.Disk c.args.disk
+pub returns-clause-unstored : goal.returns-clause-unstored
+returns-clause-unstored g c = λ tells_disk none not_done. OnlyReads-none g.D.Disk c.args.disk

@@ -1,30 +1,29 @@
 use Rattle.std.proofs.Common.{sym, ap, subst, ◌∙◌, List, ℕ}
 use Rattle.std.proofs.lemmas.Result.{IfOk-weaker}
-use Rattle.tool_words.specs.Request.{Request, GetMeta, Asks, On, on_two, on_name_for, on_meta}
+use Rattle.tool_words.specs.Request.{Request, GetMeta, Asks, On, on_name_for, on_meta}
 use Rattle.tool_words.specs.declared.uses.Use.TheVariants.{Looks}
-use Rattle.tool_words.specs.RequestView.{IsSeenAs, texts_of}
+use Rattle.tool_words.specs.RequestView.{IsSeenAs}
 use Rattle.tool_words.proofs.WordLemmas.{asks_of_meta, refuses_meta}
 use Rattle.tool_words.proofs.words.read_meta.Goals as goal
 
 abbrev taking : List ℕ → List ℕ → Request
 taking word meta = on_name_for Looks word (λ name. on_meta meta (Asks (On name (GetMeta meta))))
 
+pub returns-in_default : goal.returns-in_default
+returns-in_default c = (rw c.in_default.is at c.in_ok-name.ensures) taking
+
 pub returns-in-Some-new : goal.returns-in-Some-new
 returns-in-Some-new c =
-    let name = c.in-Some-two.name.now in
-    let word = c.in-Some-two.word.now in
-    let given = rw c.in-Some.is at c.in_ok-arguments.ensures in
+    let name = c.in-Some.name.now in
+    let word = c.in-Some.word.now in
     let asked =
-    given (on_two taking) ∙ ap (λ words. on_two taking (texts_of words)) (sym c.deref.ensures.value) ∙ c.in-Some-two.ensures taking
-    ∙ asks_of_meta Looks name word (λ key. Asks (On key (GetMeta word))) c.in-Some-new.ensures.0 in
+    (rw c.in-Some.is at c.in_ok-name.ensures) taking ∙ asks_of_meta Looks name word (λ key. Asks (On key (GetMeta word))) c.in-Some-new.ensures.0 in
     IfOk-weaker c.ask.result _ _ (λ read seen. subst (IsSeenAs read) (sym (asked ∙ ap (λ meta. on_name_for Looks name (λ key. Asks (On key (GetMeta meta)))) (sym c.in-Some-new.ensures.1))) seen) c.ask.ensures
 
-pub returns : goal.returns
-returns c =
-    let name = c.in-Some-two.name.now in
-    let word = c.in-Some-two.word.now in
-    let given = rw c.in-Some.is at c.in_ok-arguments.ensures in
+pub returns-in-None : goal.returns-in-None
+returns-in-None c =
+    let name = c.in-Some.name.now in
+    let word = c.in-Some.word.now in
     let asked =
-    given (on_two taking) ∙ ap (λ words. on_two taking (texts_of words)) (sym c.deref.ensures.value) ∙ c.in-Some-two.ensures taking
-    ∙ refuses_meta Looks name word (λ key. Asks (On key (GetMeta word))) c.in-None.ensures in
+    (rw c.in-Some.is at c.in_ok-name.ensures) taking ∙ refuses_meta Looks name word (λ key. Asks (On key (GetMeta word))) c.in-None.ensures in
     IfOk-weaker c.refuse_argument.result _ _ (λ read seen. subst (IsSeenAs read) (sym asked) seen) c.refuse_argument.ensures

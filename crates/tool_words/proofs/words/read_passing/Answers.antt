@@ -1,0 +1,11 @@
+use Rattle.std.proofs.Common.{subst, sym}
+use Rattle.std.proofs.lemmas.Result.{IfOk-weaker}
+use Rattle.tool_words.specs.Request.{asks_to_pass}
+use Rattle.tool_words.specs.RequestView.{IsSeenAs}
+use Rattle.tool_words.proofs.words.read_passing.Goals as goal
+
+pub returns-in_default : goal.returns-in_default
+returns-in_default c = (rw c.in_default.is at c.in_ok-name.ensures) (asks_to_pass c.args.flow)
+
+pub returns : goal.returns
+returns c = IfOk-weaker c.ask_to_pass.result _ _ (λ read seen. subst (IsSeenAs read) (sym ((rw c.in-Some.is at c.in_ok-name.ensures) (asks_to_pass c.args.flow))) seen) c.ask_to_pass.ensures

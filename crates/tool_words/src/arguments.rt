@@ -1,0 +1,166 @@
+//! The arguments behind a command's word, as many as the command takes, and which keys it is for.
+ghost use Rattle.std.specs.Prelude.{◌≡◌, ℕ, List, Option, true, false, IfOk, MatchOption};
+ghost use Rattle.std.specs.Option.{option_map};
+ghost use Rattle.clap.specs.Words.{found_of, rows_of};
+ghost use Rattle.tool_words.specs.Lines.{options_refused};
+ghost use Rattle.tool_words.specs.Request.{Request, Refuses, extent_in, on_none, on_one, on_two, on_three, on_two_or_three, on_one_extended, on_two_extended, on_four_by_strategy};
+ghost use Rattle.tool_words.specs.RequestView.{texts_of};
+
+use crate::command_lines::{
+    four_by_strategy, no_arguments, one_argument, one_extended, three_arguments, two_arguments,
+    two_extended, two_or_three_arguments,
+};
+use crate::extents::Extent;
+use crate::values::{given_value, value_of, values_in};
+use clap::ArgMatches;
+use key_meta::Memory;
+use std::alloc::Global;
+
+/// Whether there are no arguments.
+pub fn none(alloc: Global, words: &[&str]) -> Result<bool, Memory>
+    ensures none { IfOk result (λ none. none ≡ true → (asked : Request) → on_none asked (texts_of words.now) ≡ asked) }
+    ensures some { IfOk result (λ none. none ≡ false → (asked : Request) → on_none asked (texts_of words.now) ≡ Refuses 1 options_refused) }
+{
+    match values_in(no_arguments(alloc), words)? {
+        Some(_) => Ok(true),
+        None => Ok(false),
+    }
+}
+
+/// The argument, where it is the only one.
+pub fn one<'a>(alloc: Global, words: &'a [&'a str]) -> Result<Option<&'a str>, Memory>
+    ensures { IfOk result (λ found. MatchOption found
+        ((take : List ℕ → Request) → on_one take (texts_of words.now) ≡ Refuses 1 options_refused)
+        (λ all. (take : List ℕ → Request) → on_one take (texts_of words.now) ≡ take all.now)) }
+{
+    match values_in(one_argument(alloc)?, words)? {
+        Some(given) => Ok(Some(value_of(&given, "1"))),
+        None => Ok(None),
+    }
+}
+
+/// The arguments, where they are two.
+pub fn two<'a>(alloc: Global, words: &'a [&'a str]) -> Result<Option<(&'a str, &'a str)>, Memory>
+    ensures { IfOk result (λ found. MatchOption found
+        ((take : List ℕ → List ℕ → Request) → on_two take (texts_of words.now) ≡ Refuses 1 options_refused)
+        (λ all. (take : List ℕ → List ℕ → Request) → on_two take (texts_of words.now) ≡ take all.0.now all.1.now)) }
+{
+    match values_in(two_arguments(alloc)?, words)? {
+        Some(given) => Ok(Some((value_of(&given, "1"), value_of(&given, "2")))),
+        None => Ok(None),
+    }
+}
+
+/// The arguments, where they are three.
+pub fn three<'a>(
+    alloc: Global,
+    words: &'a [&'a str],
+) -> Result<Option<(&'a str, &'a str, &'a str)>, Memory>
+    ensures { IfOk result (λ found. MatchOption found
+        ((take : List ℕ → List ℕ → List ℕ → Request) → on_three take (texts_of words.now) ≡ Refuses 1 options_refused)
+        (λ all. (take : List ℕ → List ℕ → List ℕ → Request) → on_three take (texts_of words.now) ≡ take all.0.now all.1.now all.2.now)) }
+{
+    match values_in(three_arguments(alloc)?, words)? {
+        Some(given) => Ok(Some((
+            value_of(&given, "1"),
+            value_of(&given, "2"),
+            value_of(&given, "3"),
+        ))),
+        None => Ok(None),
+    }
+}
+
+/// The arguments, where they are two or three.
+pub fn two_or_three<'a>(
+    alloc: Global,
+    words: &'a [&'a str],
+) -> Result<Option<(&'a str, &'a str, Option<&'a str>)>, Memory>
+    ensures { IfOk result (λ found. MatchOption found
+        ((take : List ℕ → List ℕ → Option (List ℕ) → Request) → on_two_or_three take (texts_of words.now) ≡ Refuses 1 options_refused)
+        (λ all. (take : List ℕ → List ℕ → Option (List ℕ) → Request) → on_two_or_three take (texts_of words.now) ≡ take all.0.now all.1.now (option_map (λ word. word.now) all.2))) }
+{
+    match values_in(two_or_three_arguments(alloc)?, words)? {
+        Some(given) => Ok(Some((
+            value_of(&given, "1"),
+            value_of(&given, "2"),
+            given_value(&given, "3"),
+        ))),
+        None => Ok(None),
+    }
+}
+
+/// The argument, where it is the only one, and which keys the command is for.
+pub fn one_and_extent<'a>(
+    alloc: Global,
+    words: &'a [&'a str],
+) -> Result<Option<(Extent, &'a str)>, Memory>
+    ensures { IfOk result (λ found. MatchOption found
+        ((take : Extent → List ℕ → Request) → on_one_extended take (texts_of words.now) ≡ Refuses 1 options_refused)
+        (λ all. (take : Extent → List ℕ → Request) → on_one_extended take (texts_of words.now) ≡ take all.0 all.1.now)) }
+{
+    match values_in(one_extended(alloc)?, words)? {
+        Some(given) => Ok(Some((extent_in(&given), value_of(&given, "1")))),
+        None => Ok(None),
+    }
+}
+
+/// The arguments, where they are two, and which keys the command is for.
+pub fn two_and_extent<'a>(
+    alloc: Global,
+    words: &'a [&'a str],
+) -> Result<Option<(Extent, &'a str, &'a str)>, Memory>
+    ensures { IfOk result (λ found. MatchOption found
+        ((take : Extent → List ℕ → List ℕ → Request) → on_two_extended take (texts_of words.now) ≡ Refuses 1 options_refused)
+        (λ all. (take : Extent → List ℕ → List ℕ → Request) → on_two_extended take (texts_of words.now) ≡ take all.0 all.1.now all.2.now)) }
+{
+    match values_in(two_extended(alloc)?, words)? {
+        Some(given) => Ok(Some((
+            extent_in(&given),
+            value_of(&given, "1"),
+            value_of(&given, "2"),
+        ))),
+        None => Ok(None),
+    }
+}
+
+/// The words behind `merge`.
+#[derive(Clone, Copy, Debug)]
+pub struct MergeWords<'a> {
+    pub our: &'a str,
+    pub their: &'a str,
+    pub base: &'a str,
+    pub into: &'a str,
+    pub strategy: &'a str,
+}
+
+/// The arguments, where they are four, and the strategy.
+pub fn four_and_strategy<'a>(
+    alloc: Global,
+    words: &'a [&'a str],
+) -> Result<Option<MergeWords<'a>>, Memory>
+    ensures { IfOk result (λ found. MatchOption found
+        ((take : List ℕ → List ℕ → List ℕ → List ℕ → List ℕ → Request) → on_four_by_strategy take (texts_of words.now) ≡ Refuses 1 options_refused)
+        (λ all. (take : List ℕ → List ℕ → List ℕ → List ℕ → List ℕ → Request) → on_four_by_strategy take (texts_of words.now) ≡ take all.our.now all.their.now all.base.now all.into.now all.strategy.now)) }
+{
+    match values_in(four_by_strategy(alloc)?, words)? {
+        Some(given) => Ok(Some(MergeWords {
+            our: value_of(&given, "1"),
+            their: value_of(&given, "2"),
+            base: value_of(&given, "3"),
+            into: value_of(&given, "4"),
+            strategy: value_of(&given, "s"),
+        })),
+        None => Ok(None),
+    }
+}
+
+/// Which keys the command is for.
+fn extent_in(given: &ArgMatches<'_>) -> Extent
+    ensures { result ≡ extent_in (rows_of (found_of given.now)) }
+{
+    if value_of(given, "r") == "true" {
+        Extent::WithBelow
+    } else {
+        Extent::Alone
+    }
+}
