@@ -8,6 +8,7 @@ use disk_memory::MemDisk;
 use kdb_outside::{FileName, MemSink, MemSource, OpenGate, Source};
 use kdb_tool::run;
 use key_meta::{Memory, Text};
+use regex_check::RegexPatterns;
 use std::alloc::Global;
 
 /// A disk, what it begins with, and what the last run put on out.
@@ -135,8 +136,9 @@ impl Runs {
         );
         let mut out = sink(self.alloc, self.out_failing)?;
         let mut err = sink(self.alloc, self.err_failing)?;
-        let (status, disk) = run(
-            self.alloc, &texts, &mut input, &mut out, &mut err, disk, &OpenGate,
+        let patterns = RegexPatterns::new();
+        let (status, disk, _) = run(
+            self.alloc, &texts, &mut input, &mut out, &mut err, disk, patterns, &OpenGate,
         );
         self.disk = Some(disk);
         self.out = out.bytes().to_vec(self.alloc)?;

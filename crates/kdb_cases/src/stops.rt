@@ -5,6 +5,7 @@ use disk_memory::MemDisk;
 use kdb_outside::{MemSink, MemSource, OpenGate};
 use kdb_tool::run;
 use key_meta::{Memory, Text};
+use regex_check::RegexPatterns;
 use std::alloc::Global;
 
 /// How many crashes are tried behind each stop.
@@ -83,8 +84,9 @@ fn run_over(alloc: Global, words: &[Text], disk: MemDisk) -> Result<(u8, MemDisk
     let mut input = MemSource::new(Vec::new(alloc), Vec::new(alloc));
     let mut out = MemSink::new(alloc, Vec::new(alloc));
     let mut err = MemSink::new(alloc, Vec::new(alloc));
-    let (status, disk) = run(
-        alloc, words, &mut input, &mut out, &mut err, disk, &OpenGate,
+    let patterns = RegexPatterns::new();
+    let (status, disk, _) = run(
+        alloc, words, &mut input, &mut out, &mut err, disk, patterns, &OpenGate,
     );
     Ok((status.code(), disk))
 }

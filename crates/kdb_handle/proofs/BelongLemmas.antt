@@ -1,5 +1,5 @@
 -- In its turn a handle's record and its set belong to the core.
-use Rattle.std.proofs.Common.{◌≡◌, ℕ, ◌≤◌, true, cond, nat_eq, List, length, map as over, Option, Some, None, refl, sym, ap, ap₂, subst, ◌∙◌, eq-eqb, arith}
+use Rattle.std.proofs.Common.{◌≡◌, ℕ, true, cond, List, map as over, Option, Some, None, refl, sym, ap, ap₂, subst, ◌∙◌, eq-eqb, arith}
 use Rattle.std.proofs.lemmas.List.{length-map}
 use Rattle.std.specs.Coded.{Coded}
 use Rattle.kdb_outside.specs.declared.disks.Disk.{Ghosts}
@@ -16,7 +16,7 @@ use Rattle.model_store.specs.Records as model
 use Rattle.model_store.specs.Records.{Fronts, IsRecord, no_fronts}
 use Rattle.model_store.specs.Sets as sets
 use Rattle.model_store.specs.Sets.{front_in, prepared}
-use Rattle.model_store.specs.Store.{Store, Formats, points_of}
+use Rattle.model_store.specs.Store.{Formats, points_of}
 use Rattle.model_store.specs.Worlds.{World}
 use Rattle.model_store.proofs.Kept.{put-each, record-whole}
 use Rattle.mounted_files.specs.Getting.{visible_keys}
@@ -26,14 +26,14 @@ use Rattle.store_core.specs.Joined.{BelongsIn, IsReady}
 use Rattle.store_core.specs.declared.cores.Core.{Core}
 use Rattle.store_core.proofs.MadeLemmas.{belongs_made}
 use Rattle.store_verdict.specs.PreparedView.{prepared_of}
-use Rattle.store_verdict.specs.RecordView.{handle_of, places_of, record_of}
+use Rattle.store_verdict.specs.RecordView.{handle_of, record_of}
 use Rattle.store_verdict.specs.declared.prepared.Prepared.{Prepared}
 use Rattle.store_verdict.specs.declared.records.Record.{Record}
 
 pub put-here : {A : Type 0} (n : ℕ) (a : A) (f : ℕ → A) → put n a f n ≡ a
 put-here n a f = ap (λ b. cond b a (f n)) (eq-eqb n n refl)
 
-module _ (formats : Formats) {D : Type 0} (g : Ghosts D) (code : Coded D) (files : List MountedFile) (core : Core D) (entries : ℕ) (log : List Told) (rec : Record) (set : Prepared) (may : MayCommit formats g code files core entries log rec set) where
+module _ (formats : Formats) {D P : Type 0} (g : Ghosts D) (code : Coded D) (refused : P → ℕ) (files : List MountedFile) (core : Core D P) (entries : ℕ) (log : List Told) (rec : Record) (set : Prepared) (may : MayCommit formats g code refused files core entries log rec set) where
   abbrev pub history : List Commit
   history = commits_of log
 

@@ -1,5 +1,5 @@
 -- What the closed lock and the closed core give together.
-use Rattle.std.proofs.Common.{◌≡◌, ◌≢◌, ◌⊎◌, inl, inr, ℕ, zero, suc, ◌+◌, ◌-◌, ◌<◌, ◌≤◌, ◌==◌, Bool, true, false, cond, nat_lt, nat_eq, All, List, [], ◌∷◌, ◌++◌, length, drop, slice_get, Option, Some, None, refl, sym, ap, ap₂, subst, ◌∙◌, eq-eqb, ne_eqb, ltb-true, ltb-false, arith, length-append}
+use Rattle.std.proofs.Common.{◌≡◌, ◌≢◌, ◌⊎◌, inl, inr, ℕ, zero, suc, ◌+◌, ◌-◌, ◌<◌, ◌≤◌, Bool, true, false, cond, nat_lt, All, List, [], ◌∷◌, ◌++◌, length, drop, slice_get, Some, refl, sym, ap, subst, ◌∙◌, ne_eqb, ltb-true, ltb-false, arith, length-append}
 use Rattle.std.proofs.lemmas.List.Elements.{All-nil, All-cons, All-head, All-tail, All-append}
 use mathlib.Core.List.{IsPrefix}
 use Rattle.std.specs.Coded.{Coded}
@@ -13,14 +13,14 @@ use Rattle.kdb_outside.proofs.Frames.{GoesOn-then}
 use Rattle.intent_journal.specs.Journal.{JournalValue}
 use Rattle.intent_journal.specs.Moments.{LeavesOnly}
 use Rattle.intent_journal.specs.Outcomes.{SameFiles, HasOnly, IsEither}
-use Rattle.kdb_handle.specs.Closing.{IsClosed, IsHandedOn}
+use Rattle.kdb_handle.specs.Closing.{IsClosed}
 use Rattle.kdb_handle.specs.Datums.{coded_journal}
 use Rattle.kdb_handle.specs.Handles.{HandleValue}
 use Rattle.kdb_handle.specs.Opened.{opening_in, store_at}
 use Rattle.kdb_handle.specs.Rising.{HasRisenBy}
 use Rattle.kdb_handle.specs.Runs.{RunsBy}
 use Rattle.kdb_handle.specs.Shares.{IsShared}
-use Rattle.kdb_handle.specs.Story.{Told, Opening, Opened, Committed, Failed, maker_of, commits_of, failures_in}
+use Rattle.kdb_handle.specs.Story.{Told, Opening, Opened, maker_of, commits_of, failures_in, refusals_in}
 use Rattle.kdb_handle.specs.Stores.{AreFree, IsHandle, IsStarted, seat_of, seats_back}
 use Rattle.kdb_handle.proofs.RunLemmas.{risen-still}
 use Rattle.model_crashes.specs.Runs.{Run, files_of, IsReached}
@@ -29,7 +29,6 @@ use Rattle.model_store.specs.Store.{Formats}
 use Rattle.mounted_files.specs.Getting.{visible_keys}
 use Rattle.mounted_files.specs.declared.files.MountedFile.{MountedFile}
 use Rattle.seat_lock.specs.Known.{Known, Place, knowledge}
-use Rattle.seat_lock.specs.Story as lock_story
 use Rattle.seat_lock.specs.Story.{made_by}
 use Rattle.store_core.specs.declared.closing.Closed.{Closed}
 use Rattle.store_core.specs.declared.cores.Core.{Core}
@@ -107,11 +106,11 @@ nobody_else opening other rest is = ap (drop 1) is
 others_made : (number : ℕ) (opening : Opening) (rest : List Told) → number ≢ 0 → made_by maker_of number (Opened opening ∷ rest) ≡ made_by maker_of number rest
 others_made number opening rest ne = ap (λ (b : Bool). cond b (Opened opening ∷ made_by maker_of number rest) (made_by maker_of number rest)) (ne_eqb 0 number (λ e. ne (sym e)))
 
-module _ {D : Type 0} (formats : Formats) (g : Ghosts D) (code : Coded D) {F : Type 0} (lock : Place Told) (plan : Plan F) (started : IsStarted lock plan) (free : List (Known Told)) (room : ℕ) (are_free : AreFree lock free room) (handles : List HandleValue) (core : Core D) (entries : ℕ) where
+module _ {D P : Type 0} (formats : Formats) (g : Ghosts D) (code : Coded D) (refused : P → ℕ) {F : Type 0} (lock : Place Told) (plan : Plan F) (started : IsStarted lock plan) (free : List (Known Told)) (room : ℕ) (are_free : AreFree lock free room) (handles : List HandleValue) (core : Core D P) (entries : ℕ) where
   abbrev all_seats : List (Known Told)
   all_seats = free ++ seats_back handles
 
-  module _ (log : List Told) (shared : IsShared formats g code core entries log) (own : All (λ seat. made_by maker_of seat.number log ≡ seat.own) all_seats) (first : made_by maker_of 0 log ≡ lock.start)
+  module _ (log : List Told) (shared : IsShared formats g code refused core entries log) (own : All (λ seat. made_by maker_of seat.number log ≡ seat.own) all_seats) (first : made_by maker_of 0 log ≡ lock.start)
       (others : (number : ℕ) → lock.seats < number → made_by maker_of number log ≡ []) where
     begun : made_by maker_of 0 (Opened shared.opening ∷ shared.rest) ≡ Opened (opening_in lock.start) ∷ []
     begun = sym (ap (made_by maker_of 0) shared.log_is) ∙ first ∙ started.start
@@ -142,7 +141,7 @@ module _ {D : Type 0} (formats : Formats) (g : Ghosts D) (code : Coded D) {F : T
         by true lt = others number (ltb-true lock.seats number lt)
         by false le = free_made (length handles) number all more (ltb-false lock.seats number le)
 
-    module _ (seen : All (λ seat. IsPrefix seat.seen log) all_seats) (closed : Closed D) (journal : JournalValue D) (journal_is : (opening_in lock.start).journal ≡ (coded_journal code).code journal) where
+    module _ (seen : All (λ seat. IsPrefix seat.seen log) all_seats) (closed : Closed D P) (journal : JournalValue D) (journal_is : (opening_in lock.start).journal ≡ (coded_journal code).code journal) where
       seen_by : All (λ handle. IsPrefix handle.seen (Opened (opening_in lock.start) ∷ shared.rest)) handles
       seen_by =
           subst (λ (l : List Told). All (λ (handle : HandleValue). IsPrefix handle.seen l) handles) whole
@@ -156,13 +155,13 @@ module _ {D : Type 0} (formats : Formats) (g : Ghosts D) (code : Coded D) {F : T
       same_journal : shared.journal ≡ journal
       same_journal = (coded_journal code).inj shared.journal journal (sym shared.journal_is ∙ ap (λ (o : Opening). o.journal) opening_is ∙ journal_is)
 
-      pub closed_so : length handles + length free ≡ lock.seats → closed.history ≡ core.history
+      pub closed_so : length handles + length free ≡ lock.seats → closed.history ≡ core.history → closed.patterns ≡ core.patterns
           → ((start : D) (run : Run) → IsStore g start core.journal run → ¬ HasRisen (g.faults core.journal.disk) (g.faults closed.disk) → SameFiles (g.seen closed.disk) (files_of run))
           → ((start : D) (run : Run) → IsStore g start core.journal run → LeavesOnly g start closed.disk (IsReached run.files run.commits run.begun))
           → ((start : D) (run : Run) → IsStore g start core.journal run → EveryImage (g.may_leave closed.disk) (HasOnly (IsEither (files_of run) run.doubt)))
           → GoesOn g core.journal.disk closed.disk
-          → IsClosed formats g plan.mounted journal (opening_in lock.start) (length handles) handles closed
-      closed_so all history shown always now goes = record {
+          → IsClosed formats g refused plan.mounted journal (opening_in lock.start) (length handles) handles closed
+      closed_so all history patterns shown always now goes = record {
         rest = shared.rest;
         seen = seen_by;
         own = own_by;
@@ -173,6 +172,9 @@ module _ {D : Type 0} (formats : Formats) (g : Ghosts D) (code : Coded D) {F : T
         faults =
             subst (λ (j : JournalValue D). HasRisenBy (failures_in shared.rest) (g.faults j.disk) (g.faults closed.disk)) same_journal
             (risen-still (failures_in shared.rest) (g.faults shared.journal.disk) (g.faults core.journal.disk) (g.faults closed.disk) shared.faults goes.later);
+        refusals =
+            subst (λ (o : Opening). HasRisenBy (refusals_in shared.rest) o.refusals (refused closed.patterns)) opening_is
+            (subst (λ (p : P). HasRisenBy (refusals_in shared.rest) shared.opening.refusals (refused p)) (sym patterns) shared.refusals);
         disk = λ start first stands.
             let before = shared.run start first (subst (λ (j : JournalValue D). IsStore g start j first) (sym same_journal) stands) in
             record {

@@ -1,20 +1,20 @@
 -- A handle is one of its store's after each turn.
-use Rattle.std.proofs.Common.{◌≡◌, ◌⊎◌, inl, inr, ℕ, ◌+◌, ◌≤◌, Bool, true, false, cond, List, [], ◌∷◌, ◌++◌, length, map as over, Option, Some, None, Result, Ok, Err, IfOk, IfErr, refl, sym, ap, ap₂, subst, ◌∙◌, append-nil, eq-eqb, arith}
+use Rattle.std.proofs.Common.{◌≡◌, inl, inr, ℕ, ◌≤◌, Bool, true, false, cond, List, [], ◌∷◌, ◌++◌, length, map as over, Option, Some, None, Result, Ok, Err, IfOk, IfErr, refl, sym, ap, ap₂, subst, ◌∙◌, eq-eqb}
 use mathlib.Core.List.{IsPrefix}
 use Rattle.std.specs.Coded.{Coded}
 use Rattle.kdb_outside.specs.declared.disks.Disk.{Ghosts}
-use Rattle.kdb_handle.specs.Gets.{IsGotAt, IsRefused}
+use Rattle.kdb_handle.specs.Gets.{IsGotAt}
 use Rattle.atomic_table.specs.Seated.{TableId}
 use Rattle.kdb_handle.specs.Handles.{HandleValue, IsSeated, handle_with}
 use Rattle.kdb_handle.specs.Opened.{store_at}
 use Rattle.kdb_handle.specs.Shares.{IsShared}
-use Rattle.kdb_handle.specs.Story.{Told, Opening, Opened, Committed, Failed, maker_of, commits_of}
-use Rattle.kdb_handle.specs.Stores.{IsHandle, IsStarted}
+use Rattle.kdb_handle.specs.Story.{Told, Opening, Committed, Failed, Refused, maker_of, commits_of}
+use Rattle.kdb_handle.specs.Stores.{IsHandle}
 use Rattle.kdb_handle.specs.Sets.{IsDone}
-use Rattle.kdb_handle.specs.Turns.{IsPrepared, MayCommit, told_by, record_by}
+use Rattle.kdb_handle.specs.Turns.{IsPrepared, MayCommit, told_by, is_refusal, record_by}
 use Rattle.kdb_handle.proofs.BelongLemmas.{put-here}
 use Rattle.kdb_handle.proofs.RecordLemmas.{own_fronts, record-seen}
-use Rattle.kdb_handle.proofs.StoryLemmas.{commits-append, commits-prefix, one_opening, prefix-both}
+use Rattle.kdb_handle.proofs.StoryLemmas.{commits-prefix, one_opening, prefix-both}
 use Rattle.model_history.specs.History as past
 use Rattle.model_history.specs.History.{is_among, replay}
 use Rattle.model_maps.specs.KeyMap.{KeyMap, no_keys}
@@ -42,7 +42,7 @@ use Rattle.seat_lock.proofs.Prefixes.{prefix-trans, prefix-more}
 use Rattle.set_split.specs.Involved.{involved_in}
 use Rattle.store_core.specs.Answers.{IsJudged}
 use Rattle.store_core.specs.Cores.{core_with}
-use Rattle.store_core.specs.Gets.{HasGot, IsGot, fault_at}
+use Rattle.store_core.specs.Gets.{HasGot, IsGot}
 use Rattle.store_core.specs.Plans.{store_of}
 use Rattle.store_core.specs.declared.committing.CommitFault.{CommitFault}
 use Rattle.store_core.specs.declared.committing.CommitFault.TheVariants as fault
@@ -63,30 +63,30 @@ use Rattle.store_verdict.specs.declared.prepared.Prepared.{Prepared}
 use Rattle.store_verdict.specs.declared.records.Record.{Record}
 
 -- the story that a turn found is that of the plan's opening
-pub same_opening : {D : Type 0} (formats : Formats) (g : Ghosts D) (code : Coded D) {F : Type 0} (lock : Place Told) (plan : Plan F) (handle : HandleValue) (core : Core D) (entries : ℕ) (log : List Told)
-    → IsHandle lock plan handle → IsPrefix handle.seen log → (shared : IsShared formats g code core entries log) → shared.opening.files ≡ plan.mounted
-same_opening formats g code lock plan handle core entries log is seen shared =
+pub same_opening : {D P : Type 0} (formats : Formats) (g : Ghosts D) (code : Coded D) (refused : P → ℕ) {F : Type 0} (lock : Place Told) (plan : Plan F) (handle : HandleValue) (core : Core D P) (entries : ℕ) (log : List Told)
+    → IsHandle lock plan handle → IsPrefix handle.seen log → (shared : IsShared formats g code refused core entries log) → shared.opening.files ≡ plan.mounted
+same_opening formats g code refused lock plan handle core entries log is seen shared =
     let start = is.started.start in
     let first = subst (λ (l : List Told). IsPrefix l log) start (prefix-trans lock.start handle.seen log is.begins seen) in
     ap (λ (o : Opening). o.files) (sym (one_opening _ shared.opening log shared.rest first shared.log_is)) ∙ is.started.files
 
 -- what the story tells of the history
-pub shared_history : {D : Type 0} (formats : Formats) (g : Ghosts D) (code : Coded D) (core : Core D) (entries : ℕ) (log : List Told) → (shared : IsShared formats g code core entries log) → core.history.commits ≡ commits_of log
-shared_history formats g code core entries log shared = shared.history ∙ sym (ap commits_of shared.log_is)
+pub shared_history : {D P : Type 0} (formats : Formats) (g : Ghosts D) (code : Coded D) (refused : P → ℕ) (core : Core D P) (entries : ℕ) (log : List Told) → (shared : IsShared formats g code refused core entries log) → core.history.commits ≡ commits_of log
+shared_history formats g code refused core entries log shared = shared.history ∙ sym (ap commits_of shared.log_is)
 
-pub shared_keys : {D : Type 0} (formats : Formats) (g : Ghosts D) (code : Coded D) (files : List MountedFile) (core : Core D) (entries : ℕ) (log : List Told) → (shared : IsShared formats g code core entries log) → shared.opening.files ≡ files
+pub shared_keys : {D P : Type 0} (formats : Formats) (g : Ghosts D) (code : Coded D) (refused : P → ℕ) (files : List MountedFile) (core : Core D P) (entries : ℕ) (log : List Told) → (shared : IsShared formats g code refused core entries log) → shared.opening.files ≡ files
     → core.keys ≡ replay (visible_keys files) (commits_of log)
-shared_keys formats g code files core entries log shared same = shared.keys ∙ ap₂ (λ (fs : List MountedFile) (cs : List past.Commit). replay (visible_keys fs) cs) same (sym (ap commits_of shared.log_is))
+shared_keys formats g code refused files core entries log shared same = shared.keys ∙ ap₂ (λ (fs : List MountedFile) (cs : List past.Commit). replay (visible_keys fs) cs) same (sym (ap commits_of shared.log_is))
 
-pub shared_legal : {D : Type 0} (formats : Formats) (g : Ghosts D) (code : Coded D) (files : List MountedFile) (core : Core D) (entries : ℕ) (log : List Told) → (shared : IsShared formats g code core entries log) → shared.opening.files ≡ files
+pub shared_legal : {D P : Type 0} (formats : Formats) (g : Ghosts D) (code : Coded D) (refused : P → ℕ) (files : List MountedFile) (core : Core D P) (entries : ℕ) (log : List Told) → (shared : IsShared formats g code refused core entries log) → shared.opening.files ≡ files
     → IsLegal formats (store_at files) (commits_of log)
-shared_legal formats g code files core entries log shared same =
+shared_legal formats g code refused files core entries log shared same =
     subst (λ (cs : List past.Commit). IsLegal formats (store_at files) cs) (sym (ap commits_of shared.log_is))
     (subst (λ (fs : List MountedFile). IsLegal formats (store_at fs) (commits_of shared.rest)) same shared.legal)
 
 -- ---- a get
 
-module _ (store : Store) (files : List MountedFile) (history : List past.Commit) {D : Type 0} (core : Core D) (history_is : core.history.commits ≡ history) (keys_are : core.keys ≡ replay store.start history) (known : ℕ → Option sets.Prepared) (parent : Name) (old new : Record) where
+module _ (store : Store) (files : List MountedFile) (history : List past.Commit) {D P : Type 0} (core : Core D P) (history_is : core.history.commits ≡ history) (keys_are : core.keys ≡ replay store.start history) (known : ℕ → Option sets.Prepared) (parent : Name) (old new : Record) where
   abbrev n : ℕ
   n = handle_of old
 
@@ -160,6 +160,11 @@ pub one_turn : (number : ℕ) (set : sets.Prepared) (result : Result Done Commit
 one_turn number set (Ok (done.Committed commit aside)) is = inr (Committed (commit_of set), is, refl)
 one_turn number set (Ok (done.Same front aside)) is = inl refl
 one_turn number set (Err (fault.Conflict mount by front)) is = inl refl
+one_turn number set (Err (fault.Invalid violation front)) is = by (is_refusal violation)
+  where
+    by : (b : Bool) → IsOneTurn maker_of number (cond b (Refused set.handle ∷ []) [])
+    by true = inr (Refused set.handle, is, refl)
+    by false = inl refl
 one_turn number set (Err (fault.DatabaseFull weight front)) is = inl refl
 one_turn number set (Err (fault.HistoryFull weight front)) is = inl refl
 one_turn number set (Err (fault.DiskFault front)) is = inr (Failed (commit_of set), is, refl)
@@ -184,22 +189,22 @@ handle_moved lock plan old new found told is place number seen own sees gains on
   keeps = subst (λ (l : List Told). IsRecord (store_at plan.mounted) (commits_of l) (front_in (record_of new.rec)) (record_of new.rec)) (sym sees) keeps;
 }
 
-module _ {D : Type 0} (formats : Formats) (g : Ghosts D) (code : Coded D) {F : Type 0} (lock : Place Told) (plan : Plan F) (old : HandleValue) (core : Core D) (entries : ℕ) (found : List Told)
-    (is : IsHandle lock plan old) (seen : IsPrefix old.seen found) (shared : IsShared formats g code core entries found) where
+module _ {D P : Type 0} (formats : Formats) (g : Ghosts D) (code : Coded D) (refused : P → ℕ) {F : Type 0} (lock : Place Told) (plan : Plan F) (old : HandleValue) (core : Core D P) (entries : ℕ) (found : List Told)
+    (is : IsHandle lock plan old) (seen : IsPrefix old.seen found) (shared : IsShared formats g code refused core entries found) where
   opening : shared.opening.files ≡ plan.mounted
-  opening = same_opening formats g code lock plan old core entries found is seen shared
+  opening = same_opening formats g code refused lock plan old core entries found is seen shared
 
   keeps : IsRecord (store_at plan.mounted) (commits_of found) (front_in (record_of old.rec)) (record_of old.rec)
   keeps = record-seen (store_at plan.mounted) (commits_of old.seen) (commits_of found) (record_of old.rec) (commits-prefix old.seen found seen) is.keeps
 
   pub legal_found : IsLegal formats (store_at plan.mounted) (commits_of found)
-  legal_found = shared_legal formats g code plan.mounted core entries found shared opening
+  legal_found = shared_legal formats g code refused plan.mounted core entries found shared opening
 
   -- what a get gave, and that its record is kept
   pub get_found : (procs : ℕ → KeyMap) (parent : Name) (new : Record) (result : Result Got GetFault) → HasGot formats (store_of plan.mounted procs) plan.mounted core (put (handle_of old.rec) (record_of old.rec) (λ r m. None)) (λ p. None) parent old.rec new result
       → IsGotAt (store_of plan.mounted procs) plan.mounted (commits_of found) (handle_of old.rec) parent (record_of old.rec) (record_of new) result
   get_found procs parent new result has =
-      got_at (store_of plan.mounted procs) plan.mounted (commits_of found) core (shared_history formats g code core entries found shared) (shared_keys formats g code plan.mounted core entries found shared opening)
+      got_at (store_of plan.mounted procs) plan.mounted (commits_of found) core (shared_history formats g code refused core entries found shared) (shared_keys formats g code refused plan.mounted core entries found shared opening)
       (λ p. None) parent old.rec new formats result has
 
   pub get_keeps : (procs : ℕ → KeyMap) (parent : Name) (new : Record) (result : Result Got GetFault) → HasGot formats (store_of plan.mounted procs) plan.mounted core (put (handle_of old.rec) (record_of old.rec) (λ r m. None)) (λ p. None) parent old.rec new result
@@ -210,22 +215,23 @@ module _ {D : Type 0} (formats : Formats) (g : Ghosts D) (code : Coded D) {F : T
       (record-procs plan.mounted (λ r. no_keys) procs (commits_of found) (front_in (record_of old.rec)) (record_of old.rec) keeps) result (get_found procs parent new result has))
 
   -- a set that was prepared for the handle may be committed
-  pub may_commit : (set : Prepared) → IsPrepared formats plan.mounted (handle_of old.rec) (record_of old.rec) set → MayCommit formats g code plan.mounted core entries found old.rec set
+  pub may_commit : (set : Prepared) → IsPrepared formats plan.mounted (handle_of old.rec) (record_of old.rec) set → MayCommit formats g code refused plan.mounted core entries found old.rec set
   may_commit set prepared = record { shared = shared; opening = opening; keeps = keeps; places = is.places; prepared = prepared }
 
   -- what a commit did
   pub is_done : (new : HandleValue) (set : Prepared) (result : Result Done CommitFault) (told : List Told) → made_by maker_of old.number found ≡ old.own → told ≡ told_by (prepared_of set) result → new.seen ≡ found ++ told → new.own ≡ old.own ++ told
-      → IsJudged (over (λ file. file.mount) plan.mounted) core.history.commits core.keys (prepared_of set) result
+      → ((risen : Bool) × IsJudged (over (λ file. file.mount) plan.mounted) risen core.history.commits core.keys (prepared_of set) result)
       → record_of new.rec ≡ record_by (store_at plan.mounted) core.history.commits (prepared_of set) result (record_of old.rec) → IsDone formats plan.mounted old new set result
   is_done new set result told own told_is sees gains judged kept =
-      let history = shared_history formats g code core entries found shared in
+      let history = shared_history formats g code refused core entries found shared in
       record {
         found = found;
         seen = seen;
         own = own;
         legal = legal_found;
-        judged = subst (λ (cs : List past.Commit). IsJudged (over (λ file. file.mount) plan.mounted) cs (replay (visible_keys plan.mounted) (commits_of found)) (prepared_of set) result) history
-            (subst (λ (k : KeyMap). IsJudged (over (λ file. file.mount) plan.mounted) core.history.commits k (prepared_of set) result) (shared_keys formats g code plan.mounted core entries found shared opening) judged);
+        risen = judged.0;
+        judged = subst (λ (cs : List past.Commit). IsJudged (over (λ file. file.mount) plan.mounted) judged.0 cs (replay (visible_keys plan.mounted) (commits_of found)) (prepared_of set) result) history
+            (subst (λ (k : KeyMap). IsJudged (over (λ file. file.mount) plan.mounted) judged.0 core.history.commits k (prepared_of set) result) (shared_keys formats g code refused plan.mounted core entries found shared opening) judged.1);
         sees = sees ∙ ap (λ (l : List Told). found ++ l) told_is;
         gains = gains ∙ ap (λ (l : List Told). old.own ++ l) told_is;
         kept = kept ∙ ap (λ (cs : List past.Commit). record_by (store_at plan.mounted) cs (prepared_of set) result (record_of old.rec)) history;
@@ -283,7 +289,7 @@ module _ {F : Type 0} (lock : Place Told) (plan : Plan F) (old : HandleValue) (s
       handle_moved lock plan taken (handle_with (Some left) new) found told taken_is (ap (λ (k : Known Told). k.place) left_is ∙ same.0) (ap (λ (k : Known Told). k.number) left_is ∙ same.1) seen made
       (ap (λ (k : Known Told). k.seen) left_is) (ap (λ (k : Known Told). k.own) left_is ∙ ap (λ (l : List Told). l ++ told) same.2) one places kept
 
-  module _ {D : Type 0} (formats : Formats) (g : Ghosts D) (code : Coded D) (core : Core D) (entries : ℕ) (found : List Told) (seen : IsPrefix seat.seen found) (shared : IsShared formats g code core entries found) where
+  module _ {D P : Type 0} (formats : Formats) (g : Ghosts D) (code : Coded D) (refused : P → ℕ) (core : Core D P) (entries : ℕ) (found : List Told) (seen : IsPrefix seat.seen found) (shared : IsShared formats g code refused core entries found) where
     -- the clause of the core's get
     abbrev GotClause : Name → Record → Result Got GetFault → Type 0
     GotClause parent new result = (procs : ℕ → KeyMap) (records : ℕ → model.Record) (prepared : ℕ → Option sets.Prepared) → procs (handle_of rec) ≡ proc_of rec → records (handle_of rec) ≡ record_of rec
@@ -295,13 +301,13 @@ module _ {F : Type 0} (lock : Place Told) (plan : Plan F) (old : HandleValue) (s
 
     pub got_keeps : (parent : Name) (new : Record) (result : Result Got GetFault) → GotClause parent new result → IsRecord (store_at plan.mounted) (commits_of found) (front_in (record_of new)) (record_of new)
     got_keeps parent new result clause =
-        get_keeps formats g code lock plan taken core entries found taken_is seen shared (λ r. proc_of rec) parent new result (has_got parent new result clause (λ r. proc_of rec) refl)
+        get_keeps formats g code refused lock plan taken core entries found taken_is seen shared (λ r. proc_of rec) parent new result (has_got parent new result clause (λ r. proc_of rec) refl)
 
     pub got_so : handle_of rec ≡ seat.number → (parent : Name) (new : Record) (result : Result Got GetFault) → GotClause parent new result → (procs : ℕ → KeyMap) → procs old.number ≡ proc_of old.rec → (now : List Told) → now ≡ found
         → IsGotAt (store_of plan.mounted procs) plan.mounted (commits_of now) old.number parent (record_of old.rec) (record_of new) result
     got_so number parent new result clause procs own now now_is =
         let mine : procs (handle_of rec) ≡ proc_of rec = ap procs number ∙ subst (λ (o : HandleValue). procs o.number ≡ proc_of o.rec) (sym old_is) own in
-        let there = get_found formats g code lock plan taken core entries found taken_is seen shared procs parent new result (has_got parent new result clause procs mine) in
+        let there = get_found formats g code refused lock plan taken core entries found taken_is seen shared procs parent new result (has_got parent new result clause procs mine) in
         let by_number = subst (λ n. IsGotAt (store_of plan.mounted procs) plan.mounted (commits_of found) n parent (record_of rec) (record_of new) result) number there in
         let by_seen = subst (λ (l : List Told). IsGotAt (store_of plan.mounted procs) plan.mounted (commits_of l) seat.number parent (record_of rec) (record_of new) result) (sym now_is) by_number in
         subst (λ (o : HandleValue). IsGotAt (store_of plan.mounted procs) plan.mounted (commits_of now) o.number parent (record_of o.rec) (record_of new) result) old_is by_seen
@@ -314,8 +320,8 @@ module _ {F : Type 0} (lock : Place Told) (plan : Plan F) (old : HandleValue) (s
           subst (λ n. IsPrepared formats plan.mounted n (record_of rec) set) (sym number)
           (subst (λ (o : HandleValue). IsPrepared formats plan.mounted o.number (record_of o.rec) set) (sym old_is) prepared)
 
-      pub may : MayCommit formats g code plan.mounted core entries found rec set
-      may = may_commit formats g code lock plan taken core entries found taken_is seen shared set own_set
+      pub may : MayCommit formats g code refused plan.mounted core entries found rec set
+      may = may_commit formats g code refused lock plan taken core entries found taken_is seen shared set own_set
 
       -- the set is the seat's own
       pub set_turn : (result : Result Done CommitFault) (told : List Told) → told ≡ told_by (prepared_of set) result → IsOneTurn maker_of seat.number told
@@ -323,17 +329,17 @@ module _ {F : Type 0} (lock : Place Told) (plan : Plan F) (old : HandleValue) (s
           subst (IsOneTurn maker_of seat.number) (sym told_is) (one_turn seat.number (prepared_of set) result (ap (λ (s : sets.Prepared). s.handle) own_set.made.is ∙ number))
 
       pub done_so : (new : HandleValue) (result : Result Done CommitFault) (told : List Told) → made_by maker_of seat.number found ≡ seat.own → told ≡ told_by (prepared_of set) result → new.seen ≡ found ++ told → new.own ≡ seat.own ++ told
-          → IsJudged (over (λ file. file.mount) plan.mounted) core.history.commits core.keys (prepared_of set) result
+          → ((risen : Bool) × IsJudged (over (λ file. file.mount) plan.mounted) risen core.history.commits core.keys (prepared_of set) result)
           → record_of new.rec ≡ record_by (store_at plan.mounted) core.history.commits (prepared_of set) result (record_of rec) → IsDone formats plan.mounted old new set result
       done_so new result told own told_is sees gains judged kept =
           subst (λ (o : HandleValue). IsDone formats plan.mounted o new set result) old_is
-          (is_done formats g code lock plan taken core entries found taken_is seen shared new set result told own told_is sees gains judged kept)
+          (is_done formats g code refused lock plan taken core entries found taken_is seen shared new set result told own told_is sees gains judged kept)
 
 -- a handle that took its seat back
-pub seated : {D : Type 0} (formats : Formats) (g : Ghosts D) (code : Coded D) (core : Core D) (entries commits : ℕ) (log : List Told) (left : Known Told) (rec : Record) → IsShared formats g code core entries log → left.seen ≡ log → handle_of rec ≡ left.number
+pub seated : {D P : Type 0} (formats : Formats) (g : Ghosts D) (code : Coded D) (refused : P → ℕ) (core : Core D P) (entries commits : ℕ) (log : List Told) (left : Known Told) (rec : Record) → IsShared formats g code refused core entries log → left.seen ≡ log → handle_of rec ≡ left.number
     → commits ≡ length core.history.commits → IsSeated (Some left) rec commits
-seated formats g code core entries commits log left rec shared seen number counted = record {
+seated formats g code refused core entries commits log left rec shared seen number counted = record {
   there = refl;
   number = number;
-  commits_are = counted ∙ ap (λ (cs : List past.Commit). length cs) (shared_history formats g code core entries log shared ∙ sym (ap commits_of seen));
+  commits_are = counted ∙ ap (λ (cs : List past.Commit). length cs) (shared_history formats g code refused core entries log shared ∙ sym (ap commits_of seen));
 }

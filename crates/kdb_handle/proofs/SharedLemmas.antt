@@ -1,6 +1,7 @@
 -- The core stands for the story after each turn.
-use Rattle.std.proofs.Common.{◌≡◌, inl, ℕ, ◌+◌, ◌≤◌, List, [], ◌∷◌, ◌++◌, length, map as over, Option, Some, None, Result, Ok, Err, refl, sym, ap, ap₂, subst, ◌∙◌, append-nil, append_assoc, arith, length-append}
+use Rattle.std.proofs.Common.{◌≡◌, inl, ℕ, ◌+◌, ◌≤◌, nat_eq, Bool, true, false, cond, List, [], ◌∷◌, ◌++◌, length, map as over, Option, Some, None, Result, Ok, Err, refl, sym, ap, ap₂, subst, ◌∙◌, append-nil, arith, length-append, eqb-true}
 use Rattle.std.specs.Coded.{Coded}
+use Rattle.std.proofs.lemmas.Bool.{leb-true}
 use Rattle.general_words.proofs.Lists.{some_is}
 use Rattle.kdb_outside.specs.Faults.{HasRisen}
 use Rattle.kdb_outside.specs.Frames.{GoesOn}
@@ -10,17 +11,19 @@ use Rattle.kdb_handle.specs.Opened.{opening_of, store_at}
 use Rattle.kdb_handle.specs.Rising.{HasRisenBy}
 use Rattle.kdb_handle.specs.Runs.{RunsBy}
 use Rattle.kdb_handle.specs.Shares.{IsShared}
-use Rattle.kdb_handle.specs.Story.{Told, Opened, Committed, Failed, commits_of, failures_in}
-use Rattle.kdb_handle.specs.Turns.{MayCommit, told_by, record_by}
+use Rattle.kdb_handle.specs.Story.{Told, Opened, Committed, Failed, Refused, commits_of, failures_in, refusals_in}
+use Rattle.kdb_handle.specs.Turns.{MayCommit, told_by, is_refusal, record_by}
 use Rattle.kdb_handle.proofs.BelongLemmas.{put-here, records, known, world, rest_is, stands_in, belongs_in}
 use Rattle.kdb_handle.proofs.RecordLemmas.{own_fronts}
-use Rattle.kdb_handle.proofs.RunLemmas.{runs-committed, runs-failed, risen-once, risen-still}
-use Rattle.kdb_handle.proofs.StoryLemmas.{commits-append, failures-append}
+use Rattle.kdb_handle.proofs.RunLemmas.{runs-committed, runs-failed, runs-refused, risen-once, risen-still}
+use Rattle.kdb_handle.proofs.StoryLemmas.{commits-append, failures-append, refusals-append}
 use Rattle.model_crashes.specs.Runs.{Run, IsOneOf, after_begun, after_commit}
 use Rattle.model_files.specs.Texts.{entry_of}
 use Rattle.model_history.specs.History as past
 use Rattle.model_history.specs.History.{replay}
 use Rattle.model_maps.specs.KeyMap.{KeyMap}
+use Rattle.model_rules.specs.Rules.{longest_pattern}
+use Rattle.model_specified.specs.declared.violations.Violation.{Violation}
 use Rattle.model_store.specs.Cores as cores
 use Rattle.model_store.specs.Cores.{CommitMade, Made, core_after}
 use Rattle.model_store.specs.Events as event
@@ -34,6 +37,7 @@ use Rattle.model_store.specs.Store.{Store, Formats}
 use Rattle.model_store.specs.Verdicts as late
 use Rattle.model_store.specs.Verdicts.{commit_of}
 use Rattle.model_store.specs.Worlds.{World, first_world}
+use Rattle.model_store.proofs.Members.{first_of, second_of}
 use Rattle.model_store.proofs.Owning.{Goes, follows}
 use Rattle.mounted_files.specs.Getting.{visible_keys}
 use Rattle.mounted_files.specs.declared.files.MountedFile.{MountedFile}
@@ -46,26 +50,25 @@ use Rattle.store_core.specs.declared.committing.CommitFault.TheVariants as fault
 use Rattle.store_core.specs.declared.committing.Done.{Done}
 use Rattle.store_core.specs.declared.committing.Done.TheVariants as done
 use Rattle.store_core.specs.declared.cores.Core.{Core}
-use Rattle.store_phases.specs.Stores.{IsStore}
 use Rattle.store_verdict.specs.PreparedView.{prepared_of}
 use Rattle.store_verdict.specs.RecordView.{handle_of, record_of}
 use Rattle.store_verdict.specs.declared.prepared.Prepared.{Prepared}
 use Rattle.store_verdict.specs.declared.records.Record.{Record}
 
 -- what stands as it was stands for the story that it stood for
-pub shared_same : (formats : Formats) {D : Type 0} (g : Ghosts D) (code : Coded D) (core next : Core D) (entries count : ℕ) (log told : List Told) → next ≡ core → count ≡ entries → told ≡ [] → IsShared formats g code core entries log
-    → IsShared formats g code next count (log ++ told)
-shared_same formats {D} g code core next entries count log told same counted none shared =
-    subst (λ (c : Core D). IsShared formats g code c count (log ++ told)) (sym same)
-    (subst (λ n. IsShared formats g code core n (log ++ told)) (sym counted)
-    (subst (λ (l : List Told). IsShared formats g code core entries l) (sym (append-nil log) ∙ ap (λ (l : List Told). log ++ l) (sym none)) shared))
+pub shared_same : (formats : Formats) {D P : Type 0} (g : Ghosts D) (code : Coded D) (refused : P → ℕ) (core next : Core D P) (entries count : ℕ) (log told : List Told) → next ≡ core → count ≡ entries → told ≡ [] → IsShared formats g code refused core entries log
+    → IsShared formats g code refused next count (log ++ told)
+shared_same formats {D} {P} g code refused core next entries count log told same counted none shared =
+    subst (λ (c : Core D P). IsShared formats g code refused c count (log ++ told)) (sym same)
+    (subst (λ n. IsShared formats g code refused core n (log ++ told)) (sym counted)
+    (subst (λ (l : List Told). IsShared formats g code refused core entries l) (sym (append-nil log) ∙ ap (λ (l : List Told). log ++ l) (sym none)) shared))
 
 -- a core that was just opened stands for its opening alone
-pub shared_first : (formats : Formats) {D : Type 0} (g : Ghosts D) (code : Coded D) (files held : List MountedFile) (core : Core D) → held ≡ files → StandsIn formats (store_at files) core (λ r m. None) (λ p. None) first_world
-    → IsShared formats g code core 1 (Opened (opening_of code held core.journal) ∷ [])
-shared_first formats g code files held core same st =
-    subst (λ (fs : List MountedFile). IsShared formats g code core 1 (Opened (opening_of code fs core.journal) ∷ [])) (sym same) (record {
-      opening = opening_of code files core.journal;
+pub shared_first : (formats : Formats) {D P : Type 0} (g : Ghosts D) (code : Coded D) (refused : P → ℕ) (files held : List MountedFile) (core : Core D P) → held ≡ files → StandsIn formats (store_at files) core (λ r m. None) (λ p. None) first_world
+    → IsShared formats g code refused core 1 (Opened (opening_of code held core.journal (refused core.patterns)) ∷ [])
+shared_first formats g code refused files held core same st =
+    subst (λ (fs : List MountedFile). IsShared formats g code refused core 1 (Opened (opening_of code fs core.journal (refused core.patterns)) ∷ [])) (sym same) (record {
+      opening = opening_of code files core.journal (refused core.patterns);
       rest = [];
       log_is = refl;
       count = refl;
@@ -77,6 +80,7 @@ shared_first formats g code files held core same st =
       journal_is = refl;
       goes = record { tells = refl; moment = omega arith; later = omega arith };
       faults = inl (omega arith);
+      refusals = inl (omega arith);
       run = λ start first stands. (first, refl, stands);
     })
 
@@ -86,7 +90,7 @@ core_by store old r set (Ok (done.Committed number aside)) = core_after store ol
 core_by store old r set (Ok (done.Same front aside)) = old
 core_by store old r set (Err why) = old
 
-module _ (formats : Formats) {D : Type 0} (g : Ghosts D) (code : Coded D) (files : List MountedFile) (core : Core D) (entries : ℕ) (log : List Told) (rec : Record) (set : Prepared) (may : MayCommit formats g code files core entries log rec set) (after : Core D) (new : Record) where
+module _ (formats : Formats) {D P : Type 0} (g : Ghosts D) (code : Coded D) (refused : P → ℕ) (files : List MountedFile) (core : Core D P) (entries : ℕ) (log : List Told) (rec : Record) (set : Prepared) (may : MayCommit formats g code refused files core entries log rec set) (after : Core D P) (new : Record) (risen : Bool) where
   abbrev store : Store
   store = store_at files
 
@@ -94,10 +98,10 @@ module _ (formats : Formats) {D : Type 0} (g : Ghosts D) (code : Coded D) (files
   now = prepared_of set
 
   abbrev recs : ℕ → model.Record
-  recs = records formats g code files core entries log rec set may
+  recs = records formats g code refused files core entries log rec set may
 
   abbrev sets_known : ℕ → Option sets.Prepared
-  sets_known = known formats g code files core entries log rec set may
+  sets_known = known formats g code refused files core entries log rec set may
 
   abbrev old : cores.Core
   old = core_with core recs sets_known
@@ -112,10 +116,11 @@ module _ (formats : Formats) {D : Type 0} (g : Ghosts D) (code : Coded D) (files
   made_of : (answer other : event.Answer) → answer ≡ other → Made formats store old (event.Commit (handle_of rec) 0) answer next → Made formats store old (event.Commit (handle_of rec) 0) other next
   made_of answer other is made = subst (λ (a : event.Answer). Made formats store old (event.Commit (handle_of rec) 0) a next) is made
 
-  next_by : (result : Result Done CommitFault) → HasMade formats store.mounts store core after recs sets_known 0 rec new set result → next ≡ core_by store old (handle_of rec) now result
+  next_by : (result : Result Done CommitFault) → HasMade formats store.mounts store core after recs sets_known 0 rec new set risen result → next ≡ core_by store old (handle_of rec) now result
   next_by (Ok (done.Committed number aside)) has = judged_next (length core.history.commits) aside (made_of has.answer _ has.is_answer.1 has.is_made)
   next_by (Ok (done.Same front aside)) has = (made_of has.answer _ has.is_answer has.is_made).next_is
   next_by (Err (fault.Conflict mount by front)) has = (made_of has.answer _ has.is_answer.2 has.is_made).next_is
+  next_by (Err (fault.Invalid violation front)) has = (made_of has.answer _ has.is_answer has.is_made).next_is
   next_by (Err (fault.DatabaseFull weight front)) has = (made_of has.answer _ has.is_answer has.is_made).next_is
   next_by (Err (fault.HistoryFull weight front)) has = (made_of has.answer _ has.is_answer has.is_made).next_is
   next_by (Err (fault.DiskFault front)) has = (made_of has.answer _ has.is_answer has.is_made).next_is
@@ -124,11 +129,17 @@ module _ (formats : Formats) {D : Type 0} (g : Ghosts D) (code : Coded D) (files
   here : recs (handle_of rec) ≡ record_of rec
   here = put-here (handle_of rec) (record_of rec) (λ n m. None)
 
+  -- a refused pattern adds nothing to the history
+  untold : (b : Bool) → core.history.commits ≡ core.history.commits ++ commits_of (cond b (Refused now.handle ∷ []) [])
+  untold true = sym (append-nil core.history.commits)
+  untold false = sym (append-nil core.history.commits)
+
   -- what the history gains
   history_by : (result : Result Done CommitFault) → (core_by store old (handle_of rec) now result).history ≡ core.history.commits ++ commits_of (told_by now result)
   history_by (Ok (done.Committed number aside)) = refl
   history_by (Ok (done.Same front aside)) = sym (append-nil core.history.commits)
   history_by (Err (fault.Conflict mount by front)) = sym (append-nil core.history.commits)
+  history_by (Err (fault.Invalid violation front)) = untold (is_refusal violation)
   history_by (Err (fault.DatabaseFull weight front)) = sym (append-nil core.history.commits)
   history_by (Err (fault.HistoryFull weight front)) = sym (append-nil core.history.commits)
   history_by (Err (fault.DiskFault front)) = sym (append-nil core.history.commits)
@@ -141,7 +152,7 @@ module _ (formats : Formats) {D : Type 0} (g : Ghosts D) (code : Coded D) (files
   record_next (Err why) = here
 
   -- the record after a commit
-  pub record_after : (result : Result Done CommitFault) → HasMade formats store.mounts store core after recs sets_known 0 rec new set result → record_of new ≡ record_by store core.history.commits now result (record_of rec)
+  pub record_after : (result : Result Done CommitFault) → HasMade formats store.mounts store core after recs sets_known 0 rec new set risen result → record_of new ≡ record_by store core.history.commits now result (record_of rec)
   record_after result has = sym (put-here (handle_of rec) (record_of new) recs) ∙ ap (λ (c : cores.Core). c.records (handle_of rec)) (next_by result has) ∙ record_next result
 
   -- the run goes on by the story
@@ -152,10 +163,14 @@ module _ (formats : Formats) {D : Type 0} (g : Ghosts D) (code : Coded D) (files
     runs_still : later ≡ last → RunsBy formats store (visible_keys files) first (may.shared.rest ++ []) later
     runs_still same = subst (λ (run : Run). RunsBy formats store (visible_keys files) first (may.shared.rest ++ []) run) (sym same) (subst (λ (l : List Told). RunsBy formats store (visible_keys files) first l last) (sym (append-nil may.shared.rest)) runs)
 
+    runs_refused : (b : Bool) → later ≡ last → RunsBy formats store (visible_keys files) first (may.shared.rest ++ cond b (Refused now.handle ∷ []) []) later
+    runs_refused true same = subst (λ (run : Run). RunsBy formats store (visible_keys files) first (may.shared.rest ++ Refused now.handle ∷ []) run) (sym same) (runs-refused formats store (visible_keys files) first last may.shared.rest now.handle runs)
+    runs_refused false same = runs_still same
+
     on_by : (answer other : event.Answer) → answer ≡ other → RunsOn formats store core.keys last (Some now) answer later → RunsOn formats store core.keys last (Some now) other later
     on_by answer other is on = subst (λ (a : event.Answer). RunsOn formats store core.keys last (Some now) a later) is on
 
-    runs_by : (result : Result Done CommitFault) (answer : event.Answer) → IsAnswer store.mounts (length core.history.commits) now result answer → RunsOn formats store core.keys last (Some now) answer later
+    runs_by : (result : Result Done CommitFault) (answer : event.Answer) → IsAnswer store.mounts risen (length core.history.commits) now result answer → RunsOn formats store core.keys last (Some now) answer later
         → RunsBy formats store (visible_keys files) first (may.shared.rest ++ told_by now result) later
     runs_by (Ok (done.Committed number aside)) answer is on =
         let to : later ≡ after_commit last (entry_of formats store core.keys (commit_of now)) = on_by answer (event.Judged (length core.history.commits) (late.Commits (commit_of now) aside)) is.1 on in
@@ -164,6 +179,7 @@ module _ (formats : Formats) {D : Type 0} (g : Ghosts D) (code : Coded D) (files
         (runs-committed formats store (visible_keys files) first last may.shared.rest (commit_of now) runs)
     runs_by (Ok (done.Same front aside)) answer is on = runs_still (on_by answer (event.Judged front (late.Same aside)) is on)
     runs_by (Err (fault.Conflict mount by front)) answer is on = runs_still (on_by answer (event.Judged front (late.Conflict is.0 by)) is.2 on)
+    runs_by (Err (fault.Invalid violation front)) answer is on = runs_refused (is_refusal violation) (on_by answer (event.Judged front (late.Invalid violation risen)) is on)
     runs_by (Err (fault.DatabaseFull weight front)) answer is on = runs_still (on_by answer (event.Judged front (late.DatabaseFull weight)) is on)
     runs_by (Err (fault.HistoryFull weight front)) answer is on = runs_still (on_by answer (event.Judged front (late.HistoryFull weight)) is on)
     runs_by (Err (fault.DiskFault front)) answer is on =
@@ -179,28 +195,60 @@ module _ (formats : Formats) {D : Type 0} (g : Ghosts D) (code : Coded D) (files
       let same : n ≡ n + 0 = omega arith in
       subst (λ k. HasRisenBy k before (g.faults after.journal.disk)) same (risen-still n before (g.faults core.journal.disk) (g.faults after.journal.disk) rose later)
 
+  -- what a call says of a refused pattern
+  abbrev RefusalClause : Result Done CommitFault → Type 0
+  RefusalClause result = (violation : Violation) (front : ℕ) → result ≡ Err (fault.Invalid violation front) → violation.rule ≡ 6 → length violation.given ≤ longest_pattern → HasRisen (refused core.patterns) (refused after.patterns)
+
   -- the count of faults rises by those that are told
   faults_by : (result : Result Done CommitFault) (n before : ℕ) → HasRisenBy n before (g.faults core.journal.disk) → g.faults core.journal.disk ≤ g.faults after.journal.disk
       → ((front : ℕ) → result ≡ Err (fault.DiskFault front) → HasRisen (g.faults core.journal.disk) (g.faults after.journal.disk)) → HasRisenBy (n + failures_in (told_by now result)) before (g.faults after.journal.disk)
   faults_by (Ok (done.Committed number aside)) n before rose later cause = still n before rose later
   faults_by (Ok (done.Same front aside)) n before rose later cause = still n before rose later
   faults_by (Err (fault.Conflict mount by front)) n before rose later cause = still n before rose later
+  faults_by (Err (fault.Invalid violation front)) n before rose later cause = by (is_refusal violation)
+    where
+      by : (b : Bool) → HasRisenBy (n + failures_in (cond b (Refused now.handle ∷ []) [])) before (g.faults after.journal.disk)
+      by true = still n before rose later
+      by false = still n before rose later
   faults_by (Err (fault.DatabaseFull weight front)) n before rose later cause = still n before rose later
   faults_by (Err (fault.HistoryFull weight front)) n before rose later cause = still n before rose later
   faults_by (Err (fault.DiskFault front)) n before rose later cause = risen-once n before (g.faults core.journal.disk) (g.faults after.journal.disk) rose (cause front refl) later
   faults_by (Err fault.Memory) n before rose later cause = still n before rose later
 
+  unrefused : (n before : ℕ) → HasRisenBy n before (refused core.patterns) → refused core.patterns ≤ refused after.patterns → HasRisenBy (n + 0) before (refused after.patterns)
+  unrefused n before rose later =
+      let same : n ≡ n + 0 = omega arith in
+      subst (λ k. HasRisenBy k before (refused after.patterns)) same (risen-still n before (refused core.patterns) (refused after.patterns) rose later)
+
+  -- and the count of refusals by those
+  refusals_by : (result : Result Done CommitFault) (n before : ℕ) → HasRisenBy n before (refused core.patterns) → refused core.patterns ≤ refused after.patterns → RefusalClause result → HasRisenBy (n + refusals_in (told_by now result)) before (refused after.patterns)
+  refusals_by (Ok (done.Committed number aside)) n before rose later cause = unrefused n before rose later
+  refusals_by (Ok (done.Same front aside)) n before rose later cause = unrefused n before rose later
+  refusals_by (Err (fault.Conflict mount by front)) n before rose later cause = unrefused n before rose later
+  refusals_by (Err (fault.Invalid violation front)) n before rose later cause = by (is_refusal violation) refl
+    where
+      by : (b : Bool) → is_refusal violation ≡ b → HasRisenBy (n + refusals_in (cond b (Refused now.handle ∷ []) [])) before (refused after.patterns)
+      by false is = unrefused n before rose later
+      by true is =
+          risen-once n before (refused core.patterns) (refused after.patterns) rose
+          (cause violation front refl (eqb-true violation.rule 6 (first_of _ _ is)) (leb-true (length violation.given) longest_pattern (second_of (nat_eq violation.rule 6) _ is))) later
+  refusals_by (Err (fault.DatabaseFull weight front)) n before rose later cause = unrefused n before rose later
+  refusals_by (Err (fault.HistoryFull weight front)) n before rose later cause = unrefused n before rose later
+  refusals_by (Err (fault.DiskFault front)) n before rose later cause = unrefused n before rose later
+  refusals_by (Err fault.Memory) n before rose later cause = unrefused n before rose later
+
   -- the core stands for the story with what the turn told
   pub shared_next : (result : Result Done CommitFault) (told : List Told) (count : ℕ) → told ≡ told_by now result → count ≡ entries + length told
-      → HasMade formats store.mounts store core after recs sets_known 0 rec new set result
-      → ((start : D) (run : Run) → Belongs formats g store.mounts store start core recs sets_known (world formats g code files core entries log rec set may) run 0 rec set
-      → HasAnswered formats g store.mounts store start core after recs sets_known run 0 rec new set result)
+      → HasMade formats store.mounts store core after recs sets_known 0 rec new set risen result
+      → ((start : D) (run : Run) → Belongs formats g store.mounts store start core recs sets_known (world formats g code refused files core entries log rec set may) run 0 rec set
+      → HasAnswered formats g store.mounts store start core after recs sets_known run 0 rec new set risen result)
       → GoesOn g core.journal.disk after.journal.disk → ((front : ℕ) → result ≡ Err (fault.DiskFault front) → HasRisen (g.faults core.journal.disk) (g.faults after.journal.disk))
-      → IsShared formats g code after count (log ++ told)
-  shared_next result told count told_is counted has answers goes cause =
+      → refused core.patterns ≤ refused after.patterns → RefusalClause result
+      → IsShared formats g code refused after count (log ++ told)
+  shared_next result told count told_is counted has answers goes cause more refusal =
       let shared = may.shared in
-      let w = world formats g code files core entries log rec set may in
-      let on : Goes formats store w (event.Commit (handle_of rec) 0) has.answer next = follows formats store w old (event.Commit (handle_of rec) 0) has.answer next (stands_in formats g code files core entries log rec set may).stands has.is_made in
+      let w = world formats g code refused files core entries log rec set may in
+      let on : Goes formats store w (event.Commit (handle_of rec) 0) has.answer next = follows formats store w old (event.Commit (handle_of rec) 0) has.answer next (stands_in formats g code refused files core entries log rec set may).stands has.is_made in
       let gained : after.history.commits ≡ commits_of (shared.rest ++ told) =
       ap (λ (c : cores.Core). c.history) (next_by result has) ∙ history_by result
       ∙ ap₂ (λ (cs : List past.Commit) (ts : List Told). cs ++ commits_of ts) shared.history (sym told_is) ∙ sym (commits-append shared.rest told) in
@@ -221,11 +269,15 @@ module _ (formats : Formats) {D : Type 0} (g : Ghosts D) (code : Coded D) (files
             subst (λ n. HasRisenBy n (g.faults shared.journal.disk) (g.faults after.journal.disk)) (sym (failures-append shared.rest told))
             (subst (λ (ts : List Told). HasRisenBy (failures_in shared.rest + failures_in ts) (g.faults shared.journal.disk) (g.faults after.journal.disk)) (sym told_is)
             (faults_by result (failures_in shared.rest) (g.faults shared.journal.disk) shared.faults goes.later cause));
+        refusals =
+            subst (λ n. HasRisenBy n shared.opening.refusals (refused after.patterns)) (sym (refusals-append shared.rest told))
+            (subst (λ (ts : List Told). HasRisenBy (refusals_in shared.rest + refusals_in ts) shared.opening.refusals (refused after.patterns)) (sym told_is)
+            (refusals_by result (refusals_in shared.rest) shared.opening.refusals shared.refusals more refusal));
         run = λ start first store_first.
             let before = shared.run start first store_first in
             let last : Run = before.0 in
             let runs : RunsBy formats store (visible_keys files) first shared.rest last = subst (λ (fs : List MountedFile). RunsBy formats (store_at fs) (visible_keys fs) first shared.rest last) may.opening before.1 in
-            let has_run = answers start last (record { here = belongs_in formats g code files core entries log rec set may; on_disk = before.2 }) in (
+            let has_run = answers start last (record { here = belongs_in formats g code refused files core entries log rec set may; on_disk = before.2 }) in (
               has_run.later,
               subst (λ (fs : List MountedFile). RunsBy formats (store_at fs) (visible_keys fs) first (shared.rest ++ told) has_run.later) (sym may.opening)
                   (subst (λ (ts : List Told). RunsBy formats store (visible_keys files) first (shared.rest ++ ts) has_run.later) (sym told_is)
@@ -235,15 +287,15 @@ module _ (formats : Formats) {D : Type 0} (g : Ghosts D) (code : Coded D) (files
       }
 
   -- and the record is that of its fronts in the history then
-  pub record_kept : (result : Result Done CommitFault) (told : List Told) → told ≡ told_by now result → HasMade formats store.mounts store core after recs sets_known 0 rec new set result
+  pub record_kept : (result : Result Done CommitFault) (told : List Told) → told ≡ told_by now result → HasMade formats store.mounts store core after recs sets_known 0 rec new set risen result
       → IsRecord store (commits_of (log ++ told)) (front_in (record_of new)) (record_of new)
   record_kept result told told_is has =
       let shared = may.shared in
-      let w = world formats g code files core entries log rec set may in
-      let on : Goes formats store w (event.Commit (handle_of rec) 0) has.answer next = follows formats store w old (event.Commit (handle_of rec) 0) has.answer next (stands_in formats g code files core entries log rec set may).stands has.is_made in
+      let w = world formats g code refused files core entries log rec set may in
+      let on : Goes formats store w (event.Commit (handle_of rec) 0) has.answer next = follows formats store w old (event.Commit (handle_of rec) 0) has.answer next (stands_in formats g code refused files core entries log rec set may).stands has.is_made in
       let gained : after.history.commits ≡ commits_of (log ++ told) =
       ap (λ (c : cores.Core). c.history) (next_by result has) ∙ history_by result
-      ∙ ap₂ (λ (cs : List past.Commit) (ts : List Told). cs ++ commits_of ts) (shared.history ∙ rest_is formats g code files core entries log rec set may) (sym told_is) ∙ sym (commits-append log told) in
+      ∙ ap₂ (λ (cs : List past.Commit) (ts : List Told). cs ++ commits_of ts) (shared.history ∙ rest_is formats g code refused files core entries log rec set may) (sym told_is) ∙ sym (commits-append log told) in
       let there : IsRecord store on.after.history (on.after.fronts (handle_of rec)) (record_of new) =
       subst (λ (r : model.Record). IsRecord store on.after.history (on.after.fronts (handle_of rec)) r) (put-here (handle_of rec) (record_of new) recs) (on.stands.records (handle_of rec)) in
       subst (λ (cs : List past.Commit). IsRecord store cs (front_in (record_of new)) (record_of new)) (sym on.stands.history ∙ gained) (own_fronts store on.after.history (on.after.fronts (handle_of rec)) (record_of new) there)
@@ -251,19 +303,20 @@ module _ (formats : Formats) {D : Type 0} (g : Ghosts D) (code : Coded D) (files
   -- ---- the same, from the clauses of the call
 
   abbrev MadeClause : Result Done CommitFault → Type 0
-  MadeClause result = (of : Store) (rs : ℕ → model.Record) (ss : ℕ → Option sets.Prepared) (w : World) (p : ℕ) → BelongsIn formats (over (λ file. file.mount) files) of core rs ss w p rec set → HasMade formats (over (λ file. file.mount) files) of core after rs ss p rec new set result
+  MadeClause result = (of : Store) (rs : ℕ → model.Record) (ss : ℕ → Option sets.Prepared) (w : World) (p : ℕ) → BelongsIn formats (over (λ file. file.mount) files) of core rs ss w p rec set → HasMade formats (over (λ file. file.mount) files) of core after rs ss p rec new set risen result
 
-  made_here : (result : Result Done CommitFault) → MadeClause result → HasMade formats store.mounts store core after recs sets_known 0 rec new set result
-  made_here result clause = clause store recs sets_known (world formats g code files core entries log rec set may) 0 (belongs_in formats g code files core entries log rec set may)
+  made_here : (result : Result Done CommitFault) → MadeClause result → HasMade formats store.mounts store core after recs sets_known 0 rec new set risen result
+  made_here result clause = clause store recs sets_known (world formats g code refused files core entries log rec set may) 0 (belongs_in formats g code refused files core entries log rec set may)
 
   pub next_shared : (result : Result Done CommitFault) (told : List Told) (count : ℕ) → told ≡ told_by now result → count ≡ entries + length (told_by now result) → MadeClause result
       → ((of : Store) (start : D) (rs : ℕ → model.Record) (ss : ℕ → Option sets.Prepared) (w : World) (run : Run) (p : ℕ) → Belongs formats g (over (λ file. file.mount) files) of start core rs ss w run p rec set
-      → HasAnswered formats g (over (λ file. file.mount) files) of start core after rs ss run p rec new set result)
+      → HasAnswered formats g (over (λ file. file.mount) files) of start core after rs ss run p rec new set risen result)
       → GoesOn g core.journal.disk after.journal.disk → ((front : ℕ) → result ≡ Err (fault.DiskFault front) → HasRisen (g.faults core.journal.disk) (g.faults after.journal.disk))
-      → IsShared formats g code after count (log ++ told)
-  next_shared result told count told_is counted made answered goes cause =
+      → refused core.patterns ≤ refused after.patterns → RefusalClause result
+      → IsShared formats g code refused after count (log ++ told)
+  next_shared result told count told_is counted made answered goes cause more refusal =
       shared_next result told count told_is (counted ∙ ap (λ (l : List Told). entries + length l) (sym told_is)) (made_here result made)
-      (λ start run b. answered store start recs sets_known (world formats g code files core entries log rec set may) run 0 b) goes cause
+      (λ start run b. answered store start recs sets_known (world formats g code refused files core entries log rec set may) run 0 b) goes cause more refusal
 
   pub next_kept : (result : Result Done CommitFault) (told : List Told) → told ≡ told_by now result → MadeClause result → IsRecord store (commits_of (log ++ told)) (front_in (record_of new)) (record_of new)
   next_kept result told told_is made = record_kept result told told_is (made_here result made)

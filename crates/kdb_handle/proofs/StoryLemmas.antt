@@ -1,20 +1,29 @@
 -- Stories: what they tell together, and how they begin.
-use Rattle.std.proofs.Common.{◌≡◌, ℕ, ◌+◌, ◌≤◌, List, [], ◌∷◌, ◌++◌, length, get_or, drop, sym, refl, ap, ◌∙◌, append_assoc, append-nil, arith, length-append}
+use Rattle.std.proofs.Common.{◌≡◌, ◌+◌, List, [], ◌∷◌, ◌++◌, length, sym, refl, ap, ◌∙◌, append-nil, arith, length-append}
 use mathlib.Core.List.{IsPrefix}
 use Rattle.model_history.specs.History.{Commit}
-use Rattle.kdb_handle.specs.Story.{Told, Opening, Opened, Committed, Failed, commits_of, failures_in}
+use Rattle.kdb_handle.specs.Story.{Told, Opening, Opened, Committed, Failed, Refused, commits_of, failures_in, refusals_in}
 
 pub commits-append : (log more : List Told) → commits_of (log ++ more) ≡ commits_of log ++ commits_of more
 commits-append [] more = refl
 commits-append (Opened opening ∷ log) more = commits-append log more
 commits-append (Committed commit ∷ log) more = ap (λ (cs : List Commit). commit ∷ cs) (commits-append log more)
 commits-append (Failed commit ∷ log) more = commits-append log more
+commits-append (Refused handle ∷ log) more = commits-append log more
 
 pub failures-append : (log more : List Told) → failures_in (log ++ more) ≡ failures_in log + failures_in more
 failures-append [] more = omega arith
 failures-append (Opened opening ∷ log) more = failures-append log more
 failures-append (Committed commit ∷ log) more = failures-append log more
 failures-append (Failed commit ∷ log) more = let rest = failures-append log more in omega arith
+failures-append (Refused handle ∷ log) more = failures-append log more
+
+pub refusals-append : (log more : List Told) → refusals_in (log ++ more) ≡ refusals_in log + refusals_in more
+refusals-append [] more = omega arith
+refusals-append (Opened opening ∷ log) more = refusals-append log more
+refusals-append (Committed commit ∷ log) more = refusals-append log more
+refusals-append (Failed commit ∷ log) more = refusals-append log more
+refusals-append (Refused handle ∷ log) more = let rest = refusals-append log more in omega arith
 
 -- who has seen more of the story has seen more of its history
 pub commits-prefix : (log longer : List Told) → IsPrefix log longer → IsPrefix (commits_of log) (commits_of longer)
@@ -26,6 +35,7 @@ opened_by other [] = other
 opened_by other (Opened opening ∷ log) = opening
 opened_by other (Committed commit ∷ log) = other
 opened_by other (Failed commit ∷ log) = other
+opened_by other (Refused handle ∷ log) = other
 
 pub one_opening : (first second : Opening) (log rest : List Told) → IsPrefix (Opened first ∷ []) log → log ≡ Opened second ∷ rest → first ≡ second
 one_opening first second log rest p is = ap (opened_by first) (p.1 ∙ is)

@@ -1,5 +1,5 @@
 -- What a handle's get gives, by the history that it has then seen. (This project's own.)
-use Rattle.std.specs.Prelude.{◌≡◌, ◌⊎◌, ℕ, List, length, Option, Some, None, Result, Ok, Err}
+use Rattle.std.specs.Prelude.{◌≡◌, ◌⊎◌, ℕ, List, length, Some, None, Result, Ok, Err}
 use Rattle.model_history.specs.History.{Commit, replay}
 use Rattle.model_names.specs.Name.{Name}
 use Rattle.model_store.specs.Cores.{keeping}

@@ -1,5 +1,5 @@
 -- What a handle's commit does, by the history that its turn found. (This project's own.)
-use Rattle.std.specs.Prelude.{◌≡◌, ℕ, List, ◌++◌, Result, Ok, Err}
+use Rattle.std.specs.Prelude.{◌≡◌, Bool, List, ◌++◌, Result, Ok, Err}
 use mathlib.Core.List.{IsPrefix}
 use Rattle.general_words.specs.Memory.{UnlessMemory}
 use Rattle.kdb_handle.specs.Handles.{HandleValue}
@@ -25,13 +25,15 @@ use Rattle.store_verdict.specs.declared.faults.PrepareFault.TheVariants as fault
 use Rattle.store_verdict.specs.declared.prepared.Prepared.{Prepared}
 
 -- A handle's turn with a set. It found a story that begins with all that the handle had seen, and that has of its number just what it made. Its history is
--- legal, and decides the answer. The story gains a commit, or that the set failed, and so do what the handle has seen and what it made; or nothing
+-- legal, and decides the answer, with the rules: with a matcher whose count of refusals rose or not. The story gains a commit, or that the set failed,
+-- or that a pattern of it was refused, and so do what the handle has seen and what it made; or nothing
 pub record IsDone (formats : Formats) (files : List MountedFile) (old new : HandleValue) (set : Prepared) (result : Result Done CommitFault) : Type 0 where
   pub found : List Told
   pub seen : IsPrefix old.seen found
   pub own : made_by maker_of old.number found ≡ old.own
   pub legal : IsLegal formats (store_at files) (commits_of found)
-  pub judged : IsJudged (store_at files).mounts (commits_of found) (replay (store_at files).start (commits_of found)) (prepared_of set) result
+  pub risen : Bool
+  pub judged : IsJudged (store_at files).mounts risen (commits_of found) (replay (store_at files).start (commits_of found)) (prepared_of set) result
   pub sees : new.seen ≡ found ++ told_by (prepared_of set) result
   pub gains : new.own ≡ old.own ++ told_by (prepared_of set) result
   pub kept : record_of new.rec ≡ record_by (store_at files) (commits_of found) (prepared_of set) result (record_of old.rec)

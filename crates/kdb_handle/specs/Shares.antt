@@ -8,7 +8,7 @@ use Rattle.kdb_handle.specs.Datums.{coded_journal}
 use Rattle.kdb_handle.specs.Opened.{store_at}
 use Rattle.kdb_handle.specs.Rising.{HasRisenBy}
 use Rattle.kdb_handle.specs.Runs.{RunsBy}
-use Rattle.kdb_handle.specs.Story.{Told, Opening, Opened, Committed, Failed, commits_of, failures_in}
+use Rattle.kdb_handle.specs.Story.{Told, Opening, Opened, Committed, Failed, Refused, commits_of, failures_in, refusals_in}
 use Rattle.kdb_handle.specs.declared.shared.Fresh.{Fresh}
 use Rattle.kdb_handle.specs.declared.shared.Fresh.TheVariants as fresh
 use Rattle.model_crashes.specs.Runs.{Run}
@@ -22,16 +22,18 @@ use Rattle.store_core.specs.declared.cores.Core.{Core}
 use Rattle.store_phases.specs.Stores.{IsStore}
 use Rattle.store_verdict.specs.PreparedView.{prepared_of}
 
--- what the present turn has told: nothing, a commit, or a set that was begun and failed
+-- what the present turn has told: nothing, a commit, a set that was begun and failed, or one with a refused pattern
 abbrev pub told_now : Fresh → List Told
 told_now fresh.Nothing = []
 told_now (fresh.Committed set) = Committed (commit_of (prepared_of set.value)) ∷ []
 told_now (fresh.Failed set) = Failed (commit_of (prepared_of set.value)) ∷ []
+told_now (fresh.Refused set) = Refused (prepared_of set.value).handle ∷ []
 
 -- A core with a count of entries stands for a story that begins with its opening. It has the history of the story, which is legal, and the keys
--- after it. The disk's count of faults rose by at least the sets that failed. And for whatever run the journal stood at the opening, it stands now
+-- after it. The disk's count of faults rose by at least the sets that failed, and the matcher's count of refusals by at least those with a refused
+-- pattern. And for whatever run the journal stood at the opening, it stands now
 -- for the run that went on by the story.
-pub record IsShared (formats : Formats) {D : Type 0} (g : Ghosts D) (code : Coded D) (core : Core D) (entries : ℕ) (log : List Told) : Type 0 where
+pub record IsShared (formats : Formats) {D P : Type 0} (g : Ghosts D) (code : Coded D) (refused : P → ℕ) (core : Core D P) (entries : ℕ) (log : List Told) : Type 0 where
   pub opening : Opening
   pub rest : List Told
   pub log_is : log ≡ Opened opening ∷ rest
@@ -44,5 +46,6 @@ pub record IsShared (formats : Formats) {D : Type 0} (g : Ghosts D) (code : Code
   pub journal_is : opening.journal ≡ (coded_journal code).code journal
   pub goes : GoesOn g journal.disk core.journal.disk
   pub faults : HasRisenBy (failures_in rest) (g.faults journal.disk) (g.faults core.journal.disk)
+  pub refusals : HasRisenBy (refusals_in rest) opening.refusals (refused core.patterns)
   pub run : (start : D) (first : Run) → IsStore g start journal first
       → (last : Run) × RunsBy formats (store_at opening.files) (visible_keys opening.files) first rest last × IsStore g start core.journal last

@@ -1,13 +1,15 @@
 -- What a turn at an open store needs and leaves. (This project's own.)
-use Rattle.std.specs.Prelude.{◌≡◌, ℕ, ◌+◌, ◌≤◌, List, [], ◌∷◌, length, Result, Ok, Err}
+use Rattle.std.specs.Prelude.{◌≡◌, ℕ, ◌+◌, ◌≤◌, nat_eq, nat_le, Bool, ◌&&◌, if◌then◌else◌, List, [], ◌∷◌, length, Result, Ok, Err}
 use Rattle.std.specs.Coded.{Coded}
 use Rattle.kdb_outside.specs.declared.disks.Disk.{Ghosts}
 use Rattle.kdb_handle.specs.Opened.{store_at}
 use Rattle.kdb_handle.specs.Shares.{IsShared}
-use Rattle.kdb_handle.specs.Story.{Told, Committed, Failed, commits_of}
+use Rattle.kdb_handle.specs.Story.{Told, Committed, Failed, Refused, commits_of}
 use Rattle.model_history.specs.History as past
 use Rattle.model_maps.specs.KeyMap.{KeyMap}
 use Rattle.model_names.specs.Name.{Name}
+use Rattle.model_rules.specs.Rules.{longest_pattern}
+use Rattle.model_specified.specs.declared.violations.Violation.{Violation}
 use Rattle.model_store.specs.Cores.{keeping}
 use Rattle.model_store.specs.Records as model
 use Rattle.model_store.specs.Records.{IsRecord}
@@ -16,7 +18,6 @@ use Rattle.model_store.specs.Sets.{front_in, wants}
 use Rattle.model_store.specs.Store.{Store, Formats, points_of}
 use Rattle.model_store.specs.Verdicts.{commit_of}
 use Rattle.mounted_files.specs.declared.files.MountedFile.{MountedFile}
-use Rattle.store_core.specs.Plans.{store_of}
 use Rattle.store_core.specs.declared.committing.CommitFault.{CommitFault}
 use Rattle.store_core.specs.declared.committing.CommitFault.TheVariants as fault
 use Rattle.store_core.specs.declared.committing.Done.{Done}
@@ -34,19 +35,27 @@ pub record IsPrepared (formats : Formats) (files : List MountedFile) (number : �
   pub made : IsMade formats (store_at files) number rec parent keys set
 
 -- the core stands for a story from the opening of these files on, and the record and the set are those of a handle in its turn
-pub record MayCommit (formats : Formats) {D : Type 0} (g : Ghosts D) (code : Coded D) (files : List MountedFile) (core : Core D) (entries : ℕ) (log : List Told) (rec : Record) (set : Prepared) : Type 0 where
-  pub shared : IsShared formats g code core entries log
+pub record MayCommit (formats : Formats) {D P : Type 0} (g : Ghosts D) (code : Coded D) (refused : P → ℕ) (files : List MountedFile) (core : Core D P) (entries : ℕ) (log : List Told) (rec : Record) (set : Prepared) : Type 0 where
+  pub shared : IsShared formats g code refused core entries log
   pub opening : shared.opening.files ≡ files
   pub keeps : IsRecord (store_at files) (commits_of log) (front_in (record_of rec)) (record_of rec)
   pub places : length files ≤ places_of rec
   pub prepared : IsPrepared formats files (handle_of rec) (record_of rec) set
 
--- what an answer to a commit of a set adds to the story: the commit, or that it failed, or nothing
+-- a pattern that is no longer than one may be was refused
+abbrev pub is_refusal : Violation → Bool
+is_refusal violation = nat_eq violation.rule 6 && nat_le (length violation.given) longest_pattern
+
+abbrev pub told_of_refusal : sets.Prepared → Violation → List Told
+told_of_refusal set violation = if is_refusal violation then Refused set.handle ∷ [] else []
+
+-- what an answer to a commit of a set adds to the story: the commit, or that it failed, or that a pattern was refused, or nothing
 abbrev pub told_by : sets.Prepared → Result Done CommitFault → List Told
 told_by set (Ok (done.Committed number aside)) = Committed (commit_of set) ∷ []
 told_by set (Ok (done.Same front aside)) = []
 told_by set (Err (fault.DiskFault front)) = Failed (commit_of set) ∷ []
 told_by set (Err (fault.Conflict mount by front)) = []
+told_by set (Err (fault.Invalid violation front)) = told_of_refusal set violation
 told_by set (Err (fault.DatabaseFull weight front)) = []
 told_by set (Err (fault.HistoryFull weight front)) = []
 told_by set (Err fault.Memory) = []

@@ -9,20 +9,21 @@ ghost use Rattle.kdb_handle.specs.Stores.{AreFree, IsHandle, IsStarted, seat_of,
 
 use crate::{FreeSeats, Handle, Locked, Shared, SharedStore, StoryEntry};
 use kdb_outside::Disk;
+use regex_check::Patterns;
 use seat_lock::Seat;
 use storage_api::Formats;
 use store_core::Closed;
 
-impl<D: Disk, F: Formats + Drop> Locked<Shared<D, F>, F> {
-    /// Ends the store, with all handles that were opened and the seats that no handle got, and gives its disk and its history back. What a commit left to
+impl<D: Disk, F: Formats + Drop, P: Patterns + Drop> Locked<Shared<D, F, P>, F> {
+    /// Ends the store, with all handles that were opened and the seats that no handle got, and gives its disk, its matcher and its history back. What a commit left to
     /// be done is tried once more, and a failure of it is no refusal.
-    pub fn close_store(self, seats: FreeSeats, handles: Vec<Handle>) -> Closed<D>
+    pub fn close_store(self, seats: FreeSeats, handles: Vec<Handle>) -> Closed<D, P>
         requires started { IsStarted self.lock self.plan }
         requires free { AreFree self.lock seats.seats.items (vec_capacity seats.seats) }
         requires handles { All (IsHandle self.lock self.plan) handles.items }
         requires all { length handles.items + length seats.seats.items ≡ self.lock.seats }
         ensures { (journal : JournalValue D) → (opening_in self.lock.start).journal ≡ (coded_journal D.row.coded).code journal
-            → IsClosed (record { text = F.text; IsStorable = F.is_storable; BreaksAt = F.breaks_at }) D.Disk self.plan.mounted journal (opening_in self.lock.start) (length handles.items) handles.items result }
+            → IsClosed (record { text = F.text; IsStorable = F.is_storable; BreaksAt = F.breaks_at }) D.Disk P.refusals self.plan.mounted journal (opening_in self.lock.start) (length handles.items) handles.items result }
     {
         let seats = gather(seats, handles);
         let Locked { plan: _plan, lock } = self;

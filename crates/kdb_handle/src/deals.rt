@@ -9,6 +9,7 @@ use crate::{Handle, SharedStore, StoryEntry};
 use kdb_outside::Disk;
 use key_meta::Memory;
 use key_set::KeySet;
+use regex_check::Patterns;
 use seat_lock::Seat;
 use std::alloc::Global;
 use storage_api::Formats;
@@ -30,10 +31,10 @@ pub enum NoHandle {
 
 impl FreeSeats {
     /// Opens the handle of the next number, from 1 on, with keys of its own in `proc`. It has fetched nothing and made nothing.
-    pub fn kdb_open<D: Disk, F: Formats + Drop>(
+    pub fn kdb_open<D: Disk, F: Formats + Drop, P: Patterns + Drop>(
         &mut self,
         alloc: Global,
-        store: &SharedStore<D, F>,
+        store: &SharedStore<D, F, P>,
         proc: KeySet,
     ) -> Result<Handle, NoHandle>
         requires started { IsStarted store.now.lock store.now.plan }

@@ -14,6 +14,7 @@ use crate::{Handle, SharedStore};
 use kdb_outside::Disk;
 use key_name::KeyName;
 use mounted_files::GetFault;
+use regex_check::Patterns;
 use std::alloc::Global;
 use std::sync::Wait;
 use storage_api::Formats;
@@ -22,11 +23,11 @@ use store_core::Got;
 impl Handle {
     /// The keys of a parent, as the commits make them that there are in the handle's turn. It has then seen these commits. It is refused
     /// exactly where an involved mount is bad, with the lowest one and why.
-    pub fn kdb_get<D: Disk, F: Formats + Drop, R: Wait>(
+    pub fn kdb_get<D: Disk, F: Formats + Drop, P: Patterns + Drop, R: Wait>(
         &mut self,
         rt: &R,
         alloc: Global,
-        store: &SharedStore<D, F>,
+        store: &SharedStore<D, F, P>,
         parent: &KeyName,
     ) -> Result<Got, GetFault>
         requires { IsHandle store.now.lock store.now.plan self.old }

@@ -6,13 +6,14 @@ ghost use Rattle.seat_lock.specs.Story.{longer};
 
 use crate::{Handle, SharedStore};
 use kdb_outside::Disk;
+use regex_check::Patterns;
 use storage_api::Formats;
 
 impl Handle {
     /// Lets a handle see all that another has seen. Its record stays. It waits for nobody.
-    pub fn meet<D: Disk, F: Formats + Drop>(
+    pub fn meet<D: Disk, F: Formats + Drop, P: Patterns + Drop>(
         &mut self,
-        store: &SharedStore<D, F>,
+        store: &SharedStore<D, F, P>,
         other: &mut Handle,
     )
         requires { IsHandle store.now.lock store.now.plan self.old × IsHandle store.now.lock store.now.plan other.old }

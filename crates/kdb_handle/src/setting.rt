@@ -15,6 +15,7 @@ use crate::{Handle, SharedStore};
 use kdb_outside::Disk;
 use key_name::KeyName;
 use key_set::KeySet;
+use regex_check::Patterns;
 use std::alloc::Global;
 use std::sync::Wait;
 use storage_api::Formats;
@@ -30,10 +31,10 @@ pub enum SetFault {
 
 impl Handle {
     /// What a set of keys at a parent makes against what the handle's record keeps, or the first test that refuses it. It waits for nobody.
-    pub fn prepare<D: Disk, F: Formats + Drop>(
+    pub fn prepare<D: Disk, F: Formats + Drop, P: Patterns + Drop>(
         &self,
         alloc: Global,
-        store: &SharedStore<D, F>,
+        store: &SharedStore<D, F, P>,
         parent: &KeyName,
         keys: &KeySet,
     ) -> Result<Prepared, PrepareFault>
@@ -46,11 +47,11 @@ impl Handle {
 
     /// Commits a set that was prepared for this handle, and for what its record keeps now of the involved mounts. Every `front` is the number of
     /// commits that the turn found. `DiskFault` comes only where the disk failed; a set that ended so may still come into the files.
-    pub fn commit<D: Disk, F: Formats + Drop, R: Wait>(
+    pub fn commit<D: Disk, F: Formats + Drop, P: Patterns + Drop, R: Wait>(
         &mut self,
         rt: &R,
         alloc: Global,
-        store: &SharedStore<D, F>,
+        store: &SharedStore<D, F, P>,
         prepared: Prepared,
     ) -> Result<Done, CommitFault>
         requires handle { IsHandle store.now.lock store.now.plan self.old }
@@ -72,11 +73,11 @@ impl Handle {
     }
 
     /// Stores keys at a parent: `prepare`, and then `commit`.
-    pub fn kdb_set<D: Disk, F: Formats + Drop, R: Wait>(
+    pub fn kdb_set<D: Disk, F: Formats + Drop, P: Patterns + Drop, R: Wait>(
         &mut self,
         rt: &R,
         alloc: Global,
-        store: &SharedStore<D, F>,
+        store: &SharedStore<D, F, P>,
         parent: &KeyName,
         keys: &KeySet,
     ) -> Result<Done, SetFault>

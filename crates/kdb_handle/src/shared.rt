@@ -2,31 +2,34 @@
 
 use crate::StoryEntry;
 use kdb_outside::Disk;
+use regex_check::Patterns;
 use seat_lock::Storied;
 use std::snapshot::Snapshot;
 use storage_api::Formats;
 use store_core::{Core, Plan};
 use store_verdict::Prepared;
 
-/// What the present turn has told: nothing, that its set is a commit, or that its set was begun and the disk failed.
+/// What the present turn has told: nothing, that its set is a commit, that its set was begun and the disk failed, or that the matcher refused a pattern
+/// of it.
 #[derive(Drop)]
 pub enum Fresh {
     Nothing,
     Committed(Snapshot<Prepared>),
     Failed(Snapshot<Prepared>),
+    Refused(Snapshot<Prepared>),
 }
 
-/// The core of an open store, which stands for the story of its handles: the opening, and then the commits and the sets that failed, in the order
-/// of the turns. It stores the commits; of the other entries it has the count alone.
+/// The core of an open store, which stands for the story of its handles: the opening, and then the commits, the sets that failed and those with a
+/// refused pattern, in the order of the turns. It stores the commits; of the other entries it has the count alone.
 #[derive(Drop)]
-pub struct Shared<D: Disk, F: Formats + Drop> {
-    pub(crate) core: Core<D>,
+pub struct Shared<D: Disk, F: Formats + Drop, P: Patterns + Drop> {
+    pub(crate) core: Core<D, P>,
     pub(crate) plan: Snapshot<Plan<F>>,
     pub(crate) entries: u64,
     pub(crate) fresh: Fresh,
 }
 
-impl<D: Disk, F: Formats + Drop> Storied for Shared<D, F> {
+impl<D: Disk, F: Formats + Drop, P: Patterns + Drop> Storied for Shared<D, F, P> {
     ghost use Rattle.std.specs.Prelude.{◌≡◌, [], ◌∷◌, length};
     ghost use Rattle.kdb_handle.specs.Opened.{opening_of};
     ghost use Rattle.kdb_handle.specs.Shares.{IsShared, told_now};
@@ -36,9 +39,9 @@ impl<D: Disk, F: Formats + Drop> Storied for Shared<D, F> {
 
     ghost maker = { maker_of };
 
-    ghost stands = { λ value log. IsShared (record { text = F.text; IsStorable = F.is_storable; BreaksAt = F.breaks_at }) D.Disk D.row.coded value.core value.entries log };
+    ghost stands = { λ value log. IsShared (record { text = F.text; IsStorable = F.is_storable; BreaksAt = F.breaks_at }) D.Disk D.row.coded P.refusals value.core value.entries log };
 
-    ghost first = { λ value. Opened (opening_of D.row.coded value.plan.value.mounted value.core.journal) ∷ [] };
+    ghost first = { λ value. Opened (opening_of D.row.coded value.plan.value.mounted value.core.journal (P.refusals value.core.patterns)) ∷ [] };
 
     ghost more = { λ value. told_now value.fresh };
 

@@ -15,6 +15,7 @@ ghost use Rattle.store_verdict.specs.Preparing.{IsPlan};
 use crate::shared::Fresh;
 use crate::{FreeSeats, Shared};
 use kdb_outside::Disk;
+use regex_check::Patterns;
 use seat_lock::{Lock, NewLock, NoLock, Storied};
 use std::alloc::Global;
 use std::snapshot::Snapshot;
@@ -28,35 +29,35 @@ pub struct Locked<V: Storied, F: Formats + Drop> {
 }
 
 /// An open store that handles share: its plan, and the lock over its core.
-pub type SharedStore<D, F> = Locked<Shared<D, F>, F>;
+pub type SharedStore<D, F, P> = Locked<Shared<D, F, P>, F>;
 
 /// A shared store, and the seats for its handles.
-pub struct NewStore<D: Disk, F: Formats + Drop> {
-    pub store: SharedStore<D, F>,
+pub struct NewStore<D: Disk, F: Formats + Drop, P: Patterns + Drop> {
+    pub store: SharedStore<D, F, P>,
     pub seats: FreeSeats,
 }
 
 /// There was no memory. The plan and the core come back.
 #[derive(Drop)]
-pub struct NotShared<D: Disk, F: Formats + Drop> {
+pub struct NotShared<D: Disk, F: Formats + Drop, P: Patterns + Drop> {
     pub plan: Plan<F>,
-    pub core: Core<D>,
+    pub core: Core<D, P>,
 }
 
-impl<D: Disk, F: Formats + Drop> NewStore<D, F> {
+impl<D: Disk, F: Formats + Drop, P: Patterns + Drop> NewStore<D, F, P> {
     /// Shares a store that was just opened, for 1 to 32 handles. It is refused for want of memory alone.
     pub fn new(
         alloc: Global,
         plan: Plan<F>,
-        core: Core<D>,
+        core: Core<D, P>,
         handles: u32,
-    ) -> Result<NewStore<D, F>, NotShared<D, F>>
+    ) -> Result<NewStore<D, F, P>, NotShared<D, F, P>>
         requires handles { (0 < handles) × (handles ≤ 32) }
         requires world { (procs : ℕ → KeyMap) → StandsIn (record { text = F.text; IsStorable = F.is_storable; BreaksAt = F.breaks_at }) (store_of plan.mounted procs) core (λ r m. None) (λ p. None) first_world }
         requires fixed { (procs : ℕ → KeyMap) → IsPlan (store_of plan.mounted procs) plan.fixed }
         requires short { AllByRecursion AreShort plan.fixed.shadows }
         ensures plan { IfOk result (λ new. new.store.plan ≡ plan) }
-        ensures start { IfOk result (λ new. new.store.lock.start ≡ Opened (opening_of D.row.coded plan.mounted core.journal) ∷ []) }
+        ensures start { IfOk result (λ new. new.store.lock.start ≡ Opened (opening_of D.row.coded plan.mounted core.journal (P.refusals core.patterns)) ∷ []) }
         ensures started { IfOk result (λ new. IsStarted new.store.lock new.store.plan) }
         ensures count { IfOk result (λ new. new.store.lock.seats ≡ handles) }
         ensures seats { IfOk result (λ new. AreFree new.store.lock new.seats.seats.items (vec_capacity new.seats.seats)) }

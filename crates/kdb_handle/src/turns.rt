@@ -1,9 +1,9 @@
 //! What the core of an open store does in one turn.
-ghost use Rattle.std.specs.Prelude.{◌≡◌, ◌≤◌, ◌<◌, ◌+◌, ◌-◌, ◌^◌, ◌++◌, ℕ, [], List, Option, length, map as over};
+ghost use Rattle.std.specs.Prelude.{Bool, ◌≡◌, ◌≤◌, ◌<◌, ◌+◌, ◌-◌, ◌^◌, ◌++◌, ℕ, [], List, Option, length, map as over};
 ghost use Rattle.kdb_handle.specs.Opened.{store_at};
 ghost use Rattle.kdb_handle.specs.Shares.{IsShared, told_now};
 ghost use Rattle.kdb_handle.specs.Story.{Told, commits_of};
-ghost use Rattle.kdb_handle.specs.Turns.{MayCommit, record_by, told_by};
+ghost use Rattle.kdb_handle.specs.Turns.{MayCommit, record_by, told_by, told_of_refusal};
 ghost use Rattle.model_maps.specs.KeyMap.{KeyMap};
 ghost use Rattle.model_store.specs.Records as model;
 ghost use Rattle.model_store.specs.Records.{IsRecord};
@@ -21,13 +21,18 @@ use crate::shared::Fresh;
 use kdb_outside::Disk;
 use key_name::KeyName;
 use mounted_files::GetFault;
+use plugin_chain::Violation;
+use regex_check::Patterns;
 use std::alloc::Global;
 use std::snapshot::Snapshot;
 use storage_api::Formats;
 use store_core::{CommitFault, Done, Got, Plan};
 use store_verdict::{Prepared, Record};
 
-impl<D: Disk, F: Formats + Drop> Shared<D, F> {
+/// The most bytes of a pattern.
+const LONGEST_PATTERN: usize = 1024;
+
+impl<D: Disk, F: Formats + Drop, P: Patterns + Drop> Shared<D, F, P> {
     /// How many commits there are.
     pub(crate) fn commits(&self) -> u64
         ensures { result ≡ length self.now.core.history.commits }
@@ -66,14 +71,14 @@ impl<D: Disk, F: Formats + Drop> Shared<D, F> {
         rec: &mut Record,
         prepared: Prepared,
     ) -> Result<Done, CommitFault>
-        requires may { (log : List Told) × MayCommit (record { text = F.text; IsStorable = F.is_storable; BreaksAt = F.breaks_at }) D.Disk D.row.coded plan.now.mounted self.old.core self.old.entries log rec.old prepared }
-        ensures shared { (log : List Told) → MayCommit (record { text = F.text; IsStorable = F.is_storable; BreaksAt = F.breaks_at }) D.Disk D.row.coded plan.now.mounted self.old.core self.old.entries log rec.old prepared
-            → IsShared (record { text = F.text; IsStorable = F.is_storable; BreaksAt = F.breaks_at }) D.Disk D.row.coded self.new.core self.new.entries (log ++ told_now self.new.fresh) }
-        ensures keeps { (log : List Told) → MayCommit (record { text = F.text; IsStorable = F.is_storable; BreaksAt = F.breaks_at }) D.Disk D.row.coded plan.now.mounted self.old.core self.old.entries log rec.old prepared
+        requires may { (log : List Told) × MayCommit (record { text = F.text; IsStorable = F.is_storable; BreaksAt = F.breaks_at }) D.Disk D.row.coded P.refusals plan.now.mounted self.old.core self.old.entries log rec.old prepared }
+        ensures shared { (log : List Told) → MayCommit (record { text = F.text; IsStorable = F.is_storable; BreaksAt = F.breaks_at }) D.Disk D.row.coded P.refusals plan.now.mounted self.old.core self.old.entries log rec.old prepared
+            → IsShared (record { text = F.text; IsStorable = F.is_storable; BreaksAt = F.breaks_at }) D.Disk D.row.coded P.refusals self.new.core self.new.entries (log ++ told_now self.new.fresh) }
+        ensures keeps { (log : List Told) → MayCommit (record { text = F.text; IsStorable = F.is_storable; BreaksAt = F.breaks_at }) D.Disk D.row.coded P.refusals plan.now.mounted self.old.core self.old.entries log rec.old prepared
             → IsRecord (store_at plan.now.mounted) (commits_of (log ++ told_now self.new.fresh)) (front_in (record_of rec.new)) (record_of rec.new) }
         ensures told { told_now self.new.fresh ≡ told_by (prepared_of prepared) result }
-        ensures judged { IsJudged (over (λ file. file.mount) plan.now.mounted) self.old.core.history.commits self.old.core.keys (prepared_of prepared) result }
-        ensures kept { (log : List Told) → MayCommit (record { text = F.text; IsStorable = F.is_storable; BreaksAt = F.breaks_at }) D.Disk D.row.coded plan.now.mounted self.old.core self.old.entries log rec.old prepared
+        ensures judged { (risen : Bool) × IsJudged (over (λ file. file.mount) plan.now.mounted) risen self.old.core.history.commits self.old.core.keys (prepared_of prepared) result }
+        ensures kept { (log : List Told) → MayCommit (record { text = F.text; IsStorable = F.is_storable; BreaksAt = F.breaks_at }) D.Disk D.row.coded P.refusals plan.now.mounted self.old.core self.old.entries log rec.old prepared
             → record_of rec.new ≡ record_by (store_at plan.now.mounted) self.old.core.history.commits (prepared_of prepared) result (record_of rec.old) }
         ensures handle { handle_of rec.new ≡ handle_of rec.old }
         ensures places { places_of rec.new ≡ places_of rec.old }
@@ -105,6 +110,7 @@ impl<D: Disk, F: Formats + Drop> Shared<D, F> {
                 self.entries += 1;
                 self.fresh = Fresh::Failed(set);
             }
+            Err(CommitFault::Invalid { violation, .. }) => self.tell_refusal(set, violation),
             Ok(Done::Same { .. })
             | Err(
                 CommitFault::Conflict { .. }
@@ -112,6 +118,21 @@ impl<D: Disk, F: Formats + Drop> Shared<D, F> {
                 | CommitFault::HistoryFull { .. }
                 | CommitFault::Memory,
             ) => self.fresh = Fresh::Nothing,
+        }
+    }
+
+    /// Has the story tell of a set with this violation, if it is a refused pattern that could be one by its length.
+    fn tell_refusal(&mut self, set: Snapshot<Prepared>, violation: &Violation)
+        requires { self.old.entries < 2 ^ 64 - 1 }
+        ensures told { told_now self.new.fresh ≡ told_of_refusal (prepared_of set.value) violation.now }
+        ensures count { self.new.entries ≡ self.old.entries + length (told_of_refusal (prepared_of set.value) violation.now) }
+        ensures core { self.new.core ≡ self.old.core }
+    {
+        if violation.rule == 6 && violation.given.as_str().len() <= LONGEST_PATTERN {
+            self.entries += 1;
+            self.fresh = Fresh::Refused(set);
+        } else {
+            self.fresh = Fresh::Nothing;
         }
     }
 }

@@ -3,6 +3,7 @@ use disk_real::RealDisk;
 use kdb_outside::{MemSink, OpenGate, SureSource};
 use kdb_tool::run;
 use key_meta::Text;
+use regex_check::RegexPatterns;
 use std::alloc::Global;
 use std::test::Fail;
 use std::{env, fs, process};
@@ -36,13 +37,14 @@ fn told(rt: HostRuntime, place: &str, words: &[&str]) -> Result<String, Fail> {
     let mut input = SureSource::new(Vec::new(rt.alloc()));
     let words = texts(rt.alloc(), words)?;
     let disk = RealDisk::new(rt, place)?;
-    let (ended, _) = run(
+    let (ended, _, _) = run(
         rt.alloc(),
         &words,
         &mut input,
         &mut out,
         &mut err,
         disk,
+        RegexPatterns::new(),
         &OpenGate,
     );
     let status = ended.code();

@@ -9,6 +9,7 @@ use disk_real::RealDisk;
 use kdb_outside::{OpenGate, ReaderSource, Sink, WriterSink};
 use kdb_tool::run;
 use key_meta::Text;
+use regex_check::RegexPatterns;
 use std::io::ErrorKind;
 use std::process::ExitCode;
 use std::{env, io};
@@ -54,13 +55,14 @@ fn run_in<E: Sink>(rt: HostRuntime, folder: &str, words: &[Text], err: &mut E) -
     };
     let mut input = ReaderSource::new(rt.stdin());
     let mut out = WriterSink::new(rt.stdout());
-    let (status, _) = run(
+    let (status, _, _) = run(
         rt.alloc(),
         words,
         &mut input,
         &mut out,
         err,
         disk,
+        RegexPatterns::new(),
         &OpenGate,
     );
     ExitCode::from(status.code())

@@ -38,10 +38,10 @@ use Rattle.kdb_tool.specs.Answers.{AnswersGot, file_told, line_of_get, owner_in}
 use Rattle.mounted_files.proofs.PointLemmas.{points-of_mounts}
 
 -- the answer to one whose keys can't be got
-pub got-fault : (files : List MountedFile) (name parent : Name) (action : Action) (fault : GetFault) (answer : Answer) → parent ≡ parent_of name action → Gets (got files parent) fault → fault ≢ faults.Memory
-    → answer ≡ refused 5 (line_of_get fault) → AnswersGot files name action (got files (parent_of name action)) answer
-got-fault files name parent action fault answer parent_is gets no_memory is =
-    subst (λ r. AnswersGot files name action r answer) (sym (ap (λ p. got files p) (sym parent_is) ∙ gets no_memory)) is
+pub got-fault : (MayRefuse : Type 0) (files : List MountedFile) (name parent : Name) (action : Action) (fault : GetFault) (answer : Answer) → parent ≡ parent_of name action → Gets (got files parent) fault → fault ≢ faults.Memory
+    → answer ≡ refused 5 (line_of_get fault) → AnswersGot MayRefuse files name action (got files (parent_of name action)) answer
+got-fault MayRefuse files name parent action fault answer parent_is gets no_memory is =
+    subst (λ r. AnswersGot MayRefuse files name action r answer) (sym (ap (λ p. got files p) (sym parent_is) ∙ gets no_memory)) is
 
 -- a table has an owner of each key in files
 pub no-owner : (table : List Mount) (points : List Name) (name : Name) → IsMadeByKeys table → has_files name.namespace ≡ true → points ≡ over (λ mount. mount.at) table → None ≡ owner_of points name → ⊥

@@ -1,5 +1,5 @@
 -- What the commit of a set alone does to a store, and what it answers.
-use Rattle.std.proofs.Common.{◌≡◌, ◌≢◌, ◌⊎◌, inl, inr, ℕ, ◌+◌, ◌≤◌, nat_eq, Bool, true, false, cond, ◌&&◌, List, [], ◌∷◌, ◌++◌, length, map as over, Option, Some, None, Result, Ok, Err, refl, sym, ap, ap₂, subst, ◌∙◌, arith}
+use Rattle.std.proofs.Common.{◌≡◌, ◌≢◌, ◌⊎◌, inl, inr, ℕ, ◌+◌, ◌≤◌, nat_eq, Bool, T, true, false, cond, ◌&&◌, List, [], ◌∷◌, ◌++◌, length, map as over, Option, Some, None, Result, Ok, Err, refl, sym, ap, ap₂, subst, ◌∙◌, arith}
 use Rattle.std.specs.List.{list_all}
 use Rattle.std.specs.Option.{option_eq}
 use Rattle.std.proofs.lemmas.List.{length-map}
@@ -21,7 +21,8 @@ use Rattle.model_store.specs.Promise.{Stands}
 use Rattle.model_store.specs.Records as model
 use Rattle.model_store.specs.Sets as sets
 use Rattle.model_store.specs.Sets.{front_in, only, prepared}
-use Rattle.model_store.specs.Store.{Store, points_of}
+use Rattle.model_specified.specs.declared.violations.Violation.{Violation}
+use Rattle.model_store.specs.Store.{Store, points_at, points_of}
 use Rattle.model_store.specs.Verdicts as late
 use Rattle.model_store.specs.Verdicts.{Late, IsEarly, IsLate, commit_of}
 use Rattle.model_store.specs.Worlds.{World, first_world}
@@ -50,7 +51,7 @@ use Rattle.store_verdict.specs.PreparedView.{prepared_of}
 use Rattle.store_verdict.specs.RecordView.{handle_of, places_of, record_of}
 use Rattle.store_verdict.specs.declared.prepared.Prepared.{Prepared}
 use Rattle.store_verdict.specs.declared.records.Record.{Record}
-use Rattle.tool_commands.specs.Lines.{database_full, history_full}
+use Rattle.tool_commands.specs.Lines.{invalid, database_full, history_full}
 use Rattle.tool_commands.specs.Report.{Report, told, warned}
 use Rattle.kdb_tool.specs.Answer.{Answer, Texts, entry_of}
 use Rattle.kdb_tool.specs.Answer as answer
@@ -85,7 +86,7 @@ accepts-made points handle rec parent keys =
 
 -- ---- where nothing was committed before
 
-module _ {D : Type 0} (g : Ghosts D) (files : List MountedFile) (core : Core D) (rec : Record) (set : Prepared) (here : StandsIn formats (store_alone files) core (λ r m. None) (λ p. None) first_world)
+module _ {D P : Type 0} (g : Ghosts D) (files : List MountedFile) (core : Core D P) (rec : Record) (set : Prepared) (here : StandsIn formats (store_alone files) core (λ r m. None) (λ p. None) first_world)
     (parent : Name) (keys : KeyMap) (fetched : HasFetched files parent rec) (is_made : IsMade formats (store_alone files) the_handle (record_of rec) parent keys set) where
   abbrev store : Store
   store = store_alone files
@@ -155,30 +156,30 @@ module _ {D : Type 0} (g : Ghosts D) (files : List MountedFile) (core : Core D) 
   ready = record { store = store; records = records; made = made; world = world; number = 0; belongs = belongs }
 
   -- what the history decides of the set is what the definitions say of it alone
-  alone : (verdict : Late) → IsLate core.history.commits core.keys (prepared_of set) verdict → IsLate [] store.start (set_alone store parent keys) verdict
+  alone : (verdict : Late) → IsLate (points_at mounts) core.history.commits core.keys (prepared_of set) verdict → IsLate (points_at mounts) [] store.start (set_alone store parent keys) verdict
   alone verdict is =
-      subst (λ (s : sets.Prepared). IsLate [] store.start s verdict) is_set
-      (subst (λ (k : KeyMap). IsLate [] k (prepared_of set) verdict) keys_are (subst (λ (h : List past.Commit). IsLate h core.keys (prepared_of set) verdict) history is))
+      subst (λ (s : sets.Prepared). IsLate (points_at mounts) [] store.start s verdict) is_set
+      (subst (λ (k : KeyMap). IsLate (points_at mounts) [] k (prepared_of set) verdict) keys_are (subst (λ (h : List past.Commit). IsLate (points_at mounts) h core.keys (prepared_of set) verdict) history is))
 
   -- no commit blocks it
-  pub not_blocked : (m by : ℕ) → IsLate core.history.commits core.keys (prepared_of set) (late.Conflict m by) → ⊥
+  pub not_blocked : (m by : ℕ) → IsLate (points_at mounts) core.history.commits core.keys (prepared_of set) (late.Conflict m by) → ⊥
   not_blocked m by is = never-blocked store the_handle parent keys (late.Conflict m by) m by (alone (late.Conflict m by) is) refl
 
-  pub blocks_not : (why : CommitFault) → IsJudged mounts core.history.commits core.keys (prepared_of set) (Err why) → (mount : Name) (by front : ℕ) → why ≡ fault.Conflict mount by front → ⊥
-  blocks_not why judged mount by front is =
-      let conflict = subst (λ (w : CommitFault). IsJudged mounts core.history.commits core.keys (prepared_of set) (Err w)) is judged in
+  pub blocks_not : (risen : Bool) (why : CommitFault) → IsJudged mounts risen core.history.commits core.keys (prepared_of set) (Err why) → (mount : Name) (by front : ℕ) → why ≡ fault.Conflict mount by front → ⊥
+  blocks_not risen why judged mount by front is =
+      let conflict = subst (λ (w : CommitFault). IsJudged mounts risen core.history.commits core.keys (prepared_of set) (Err w)) is judged in
       not_blocked conflict.0 by conflict.3
 
   pub joined : (opened : D) (run : Run) → IsStore g opened core.journal run → Belongs formats g mounts store opened core records made world run 0 rec set
   joined opened run on_disk = record { here = belongs; on_disk = on_disk }
 
-  module _ (out : List ℕ) (after : Core D) (new : Record) where
+  module _ (MayRefuse : Type 0) (risen : Bool) (out : List ℕ) (after : Core D P) (new : Record) where
     -- the set was committed with this answer, for each run that the journal stands for
     abbrev ForEachRun : Result Done CommitFault → Type 0
-    ForEachRun result = (opened : D) (run : Run) → IsStore g opened core.journal run → HasAnswered formats g mounts store opened core after records made run 0 rec new set result
+    ForEachRun result = (opened : D) (run : Run) → IsStore g opened core.journal run → HasAnswered formats g mounts store opened core after records made run 0 rec new set risen result
 
     abbrev Answered : Answer → Type 0
-    Answered = AnswersSet files parent keys out
+    Answered = AnswersSet MayRefuse files parent keys out
 
     abbrev the_commit : past.Commit
     the_commit = commit_of (set_alone store parent keys)
@@ -187,7 +188,7 @@ module _ {D : Type 0} (g : Ghosts D) (files : List MountedFile) (core : Core D) 
     stored = stored_by store store.start the_commit
 
     -- the set is a commit
-    module _ (aside : ℕ) (is : IsLate core.history.commits core.keys (prepared_of set) (late.Commits (commit_of (prepared_of set)) aside)) where
+    module _ (aside : ℕ) (is : IsLate (points_at mounts) core.history.commits core.keys (prepared_of set) (late.Commits (commit_of (prepared_of set)) aside)) where
       entry_is : texts.entry_of formats store core.keys (commit_of (prepared_of set)) ≡ entry_of stored
       entry_is = ap₂ (λ (k : KeyMap) (s : sets.Prepared). texts.entry_of formats store k (commit_of s)) keys_are is_set
 
@@ -200,7 +201,7 @@ module _ {D : Type 0} (g : Ghosts D) (files : List MountedFile) (core : Core D) 
 
       answers : Answered (answer.stores stored out)
       answers = Judged early (late.Commits the_commit aside)
-          (subst (λ (s : sets.Prepared). IsLate [] store.start (set_alone store parent keys) (late.Commits (commit_of s) aside)) is_set (alone (late.Commits (commit_of (prepared_of set)) aside) is)) refl
+          (subst (λ (s : sets.Prepared). IsLate (points_at mounts) [] store.start (set_alone store parent keys) (late.Commits (commit_of s) aside)) is_set (alone (late.Commits (commit_of (prepared_of set)) aside) is)) refl
 
     with_some : (run : Run) (texts : Texts) → texts ≢ [] → after_commit run (entry_of texts) ≡ run_with run texts
     with_some run [] none = absurd (none refl)
@@ -210,7 +211,7 @@ module _ {D : Type 0} (g : Ghosts D) (files : List MountedFile) (core : Core D) 
     still : (opened : D) (run : Run) → IsStore g opened core.journal run → IsUnwritten core after → IsStore g opened after.journal run
     still opened run on_disk kept = subst (λ (j : JournalValue D). IsStore g opened j run) (sym kept.journal) on_disk
 
-    pub committed_serves : (number aside : ℕ) → IsJudged mounts core.history.commits core.keys (prepared_of set) (Ok (done.Committed number aside)) → ForEachRun (Ok (done.Committed number aside)) → Serves g Answered (told out) core after
+    pub committed_serves : (number aside : ℕ) → IsJudged mounts risen core.history.commits core.keys (prepared_of set) (Ok (done.Committed number aside)) → ForEachRun (Ok (done.Committed number aside)) → Serves g Answered (told out) core after
     committed_serves number aside judged has = record {
       answer = answer.stores stored out;
       answers = answers aside judged.1;
@@ -220,12 +221,12 @@ module _ {D : Type 0} (g : Ghosts D) (files : List MountedFile) (core : Core D) 
       done = λ there. refl;
     }
       where
-        goes_on : (opened : D) (run : Run) → HasAnswered formats g mounts store opened core after records made run 0 rec new set (Ok (done.Committed number aside)) → IsStore g opened after.journal (run_with run stored)
+        goes_on : (opened : D) (run : Run) → HasAnswered formats g mounts store opened core after records made run 0 rec new set risen (Ok (done.Committed number aside)) → IsStore g opened after.journal (run_with run stored)
         goes_on opened run has =
             let later_is : has.later ≡ after_commit run (entry_of stored) = subst (λ (t : Told). RunsOn formats store core.keys run (made 0) t has.later) has.is_answer.1 has.committed.runs_on ∙ ap (after_commit run) (entry_is aside judged.1) in
             subst (λ (r : Run). IsStore g opened after.journal r) (later_is ∙ with_some run stored (some aside judged.1)) has.committed.on_disk
 
-    pub same_serves : (front aside : ℕ) → IsJudged mounts core.history.commits core.keys (prepared_of set) (Ok (done.Same front aside)) → IsUnwritten core after → Serves g Answered (told out) core after
+    pub same_serves : (front aside : ℕ) → IsJudged mounts risen core.history.commits core.keys (prepared_of set) (Ok (done.Same front aside)) → IsUnwritten core after → Serves g Answered (told out) core after
     same_serves front aside judged kept = record {
       answer = answer.done out;
       answers = Judged early (late.Same aside) (alone (late.Same aside) judged.1) refl;
@@ -235,11 +236,21 @@ module _ {D : Type 0} (g : Ghosts D) (files : List MountedFile) (core : Core D) 
       done = λ there. refl;
     }
 
-    pub done_serves : (d : Done) → IsJudged mounts core.history.commits core.keys (prepared_of set) (Ok d) → ForEachRun (Ok d) → (has_written (Ok d) ≡ false → IsUnwritten core after) → Serves g Answered (told out) core after
+    pub done_serves : (d : Done) → IsJudged mounts risen core.history.commits core.keys (prepared_of set) (Ok d) → ForEachRun (Ok d) → (has_written (Ok d) ≡ false → IsUnwritten core after) → Serves g Answered (told out) core after
     done_serves (done.Committed number aside) judged has kept = committed_serves number aside judged has
     done_serves (done.Same front aside) judged has kept = same_serves front aside judged (kept refl)
 
-    pub full_serves : (weight front : ℕ) (report : Report) → report ≡ warned 5 (database_full weight) → IsJudged mounts core.history.commits core.keys (prepared_of set) (Err (fault.DatabaseFull weight front)) → IsUnwritten core after → Serves g Answered report core after
+    pub rule_serves : (violation : Violation) (front : ℕ) (report : Report) → (T risen → MayRefuse) → report ≡ warned 5 (invalid violation) → IsJudged mounts risen core.history.commits core.keys (prepared_of set) (Err (fault.Invalid violation front)) → IsUnwritten core after → Serves g Answered report core after
+    rule_serves violation front report may told_is judged kept = record {
+      answer = answer.refused 5 (invalid violation);
+      answers = Judged early (late.Invalid violation risen) (alone (late.Invalid violation risen) judged.1) (may, refl);
+      told = sym told_is;
+      committed = λ opened run on_disk. still opened run on_disk kept;
+      kept = λ none. kept;
+      done = λ some. absurd (some refl);
+    }
+
+    pub full_serves : (weight front : ℕ) (report : Report) → report ≡ warned 5 (database_full weight) → IsJudged mounts risen core.history.commits core.keys (prepared_of set) (Err (fault.DatabaseFull weight front)) → IsUnwritten core after → Serves g Answered report core after
     full_serves weight front report told_is judged kept = record {
       answer = answer.refused 5 (database_full weight);
       answers = Judged early (late.DatabaseFull weight) (alone (late.DatabaseFull weight) judged.1) refl;
@@ -249,7 +260,7 @@ module _ {D : Type 0} (g : Ghosts D) (files : List MountedFile) (core : Core D) 
       done = λ some. absurd (some refl);
     }
 
-    pub history_serves : (weight front : ℕ) (report : Report) → report ≡ warned 5 (history_full weight) → IsJudged mounts core.history.commits core.keys (prepared_of set) (Err (fault.HistoryFull weight front)) → IsUnwritten core after → Serves g Answered report core after
+    pub history_serves : (weight front : ℕ) (report : Report) → report ≡ warned 5 (history_full weight) → IsJudged mounts risen core.history.commits core.keys (prepared_of set) (Err (fault.HistoryFull weight front)) → IsUnwritten core after → Serves g Answered report core after
     history_serves weight front report told_is judged kept = record {
       answer = answer.refused 5 (history_full weight);
       answers = Judged early (late.HistoryFull weight) (alone (late.HistoryFull weight) judged.1) refl;
@@ -259,7 +270,7 @@ module _ {D : Type 0} (g : Ghosts D) (files : List MountedFile) (core : Core D) 
       done = λ some. absurd (some refl);
     }
 
-    pub fault_fails : (front : ℕ) → IsJudged mounts core.history.commits core.keys (prepared_of set) (Err (fault.DiskFault front)) → ForEachRun (Err (fault.DiskFault front)) → FailsToStore g Answered core after
+    pub fault_fails : (front : ℕ) → IsJudged mounts risen core.history.commits core.keys (prepared_of set) (Err (fault.DiskFault front)) → ForEachRun (Err (fault.DiskFault front)) → FailsToStore g Answered core after
     fault_fails front judged has = record {
       answer = answer.stores stored out;
       answers = answers judged.0 judged.2;
@@ -267,7 +278,7 @@ module _ {D : Type 0} (g : Ghosts D) (files : List MountedFile) (core : Core D) 
       begun = λ opened run on_disk. begins opened run (has opened run on_disk);
     }
       where
-        begins : (opened : D) (run : Run) → HasAnswered formats g mounts store opened core after records made run 0 rec new set (Err (fault.DiskFault front)) → BeginsEntry g opened run (entry_of stored) after.journal
+        begins : (opened : D) (run : Run) → HasAnswered formats g mounts store opened core after records made run 0 rec new set risen (Err (fault.DiskFault front)) → BeginsEntry g opened run (entry_of stored) after.journal
         begins opened run has =
             let later = subst (λ (t : Told). RunsOn formats store core.keys run (made 0) t has.later) has.is_answer has.committed.runs_on in
             let same = entry_is judged.0 judged.2 in
@@ -278,19 +289,22 @@ module _ {D : Type 0} (g : Ghosts D) (files : List MountedFile) (core : Core D) 
             }
 
     -- what a set comes to that isn't committed
-    pub refused_serving : (why : CommitFault) (result : Result code.Report Stop) → IsRefusalOf why result → IsJudged mounts core.history.commits core.keys (prepared_of set) (Err why) → ForEachRun (Err why)
+    pub refused_serving : (why : CommitFault) (result : Result code.Report Stop) → (T risen → MayRefuse) → IsRefusalOf why result → IsJudged mounts risen core.history.commits core.keys (prepared_of set) (Err why) → ForEachRun (Err why)
         → (has_written (Err why) ≡ false → IsUnwritten core after) → Serving g Answered result core after
-    refused_serving (fault.Conflict mount by front) result refusal judged has kept = absurd refusal
-    refused_serving (fault.DatabaseFull weight front) (Ok report) refusal judged has kept = full_serves weight front (report_of report) refusal judged (kept refl)
-    refused_serving (fault.DatabaseFull weight front) (Err stop) refusal judged has kept = subst (λ (s : Stop). Serving g Answered (Err s) core after) (sym refusal) (kept refl)
-    refused_serving (fault.HistoryFull weight front) (Ok report) refusal judged has kept = history_serves weight front (report_of report) refusal judged (kept refl)
-    refused_serving (fault.HistoryFull weight front) (Err stop) refusal judged has kept = subst (λ (s : Stop). Serving g Answered (Err s) core after) (sym refusal) (kept refl)
-    refused_serving (fault.DiskFault front) result refusal judged has kept = subst (λ (r : Result code.Report Stop). Serving g Answered r core after) (sym refusal) (fault_fails front judged has)
-    refused_serving fault.Memory result refusal judged has kept = subst (λ (r : Result code.Report Stop). Serving g Answered r core after) (sym refusal) (kept refl)
+    refused_serving (fault.Conflict mount by front) result may refusal judged has kept = absurd refusal
+    refused_serving (fault.Invalid violation front) (Ok report) may refusal judged has kept = rule_serves violation front (report_of report) may refusal judged (kept refl)
+    refused_serving (fault.Invalid violation front) (Err stop) may refusal judged has kept = subst (λ (s : Stop). Serving g Answered (Err s) core after) (sym refusal) (kept refl)
+    refused_serving (fault.DatabaseFull weight front) (Ok report) may refusal judged has kept = full_serves weight front (report_of report) refusal judged (kept refl)
+    refused_serving (fault.DatabaseFull weight front) (Err stop) may refusal judged has kept = subst (λ (s : Stop). Serving g Answered (Err s) core after) (sym refusal) (kept refl)
+    refused_serving (fault.HistoryFull weight front) (Ok report) may refusal judged has kept = history_serves weight front (report_of report) refusal judged (kept refl)
+    refused_serving (fault.HistoryFull weight front) (Err stop) may refusal judged has kept = subst (λ (s : Stop). Serving g Answered (Err s) core after) (sym refusal) (kept refl)
+    refused_serving (fault.DiskFault front) result may refusal judged has kept = subst (λ (r : Result code.Report Stop). Serving g Answered r core after) (sym refusal) (fault_fails front judged has)
+    refused_serving fault.Memory result may refusal judged has kept = subst (λ (r : Result code.Report Stop). Serving g Answered r core after) (sym refusal) (kept refl)
 
 -- where memory was wanting the store is as it was
-pub refused_memory : {D : Type 0} (why : CommitFault) (result : Result code.Report Stop) (core after : Core D) → IsRefusalOf why result → (has_written (Err why) ≡ false → IsUnwritten core after) → result ≡ Err stops.Memory → IsUnwritten core after
+pub refused_memory : {D P : Type 0} (why : CommitFault) (result : Result code.Report Stop) (core after : Core D P) → IsRefusalOf why result → (has_written (Err why) ≡ false → IsUnwritten core after) → result ≡ Err stops.Memory → IsUnwritten core after
 refused_memory (fault.Conflict mount by front) result core after refusal kept is = kept refl
+refused_memory (fault.Invalid violation front) result core after refusal kept is = kept refl
 refused_memory (fault.DatabaseFull weight front) result core after refusal kept is = kept refl
 refused_memory (fault.HistoryFull weight front) result core after refusal kept is = kept refl
 refused_memory (fault.DiskFault front) result core after refusal kept is = absurd (let both : ◌≡◌ {A = Result code.Report Stop} (Err stops.DiskFault) (Err stops.Memory) = sym refusal ∙ is in cc)
@@ -304,6 +318,8 @@ stop_apart stops.ReadFault memory is = absurd cc
 -- a fault that ends the run so is one of the disk
 pub refused_disk : (why : CommitFault) (result : Result code.Report Stop) → IsRefusalOf why result → result ≡ Err stops.DiskFault → (front : ℕ) × (why ≡ fault.DiskFault front)
 refused_disk (fault.Conflict mount by front) result refusal is = absurd refusal
+refused_disk (fault.Invalid violation front) (Ok report) refusal is = absurd cc
+refused_disk (fault.Invalid violation front) (Err stop) refusal is = absurd (stop_apart stop refusal is)
 refused_disk (fault.DatabaseFull weight front) (Ok report) refusal is = absurd cc
 refused_disk (fault.DatabaseFull weight front) (Err stop) refusal is = absurd (stop_apart stop refusal is)
 refused_disk (fault.HistoryFull weight front) (Ok report) refusal is = absurd cc

@@ -149,11 +149,11 @@ without_out status out err (Whole gives) = inl gives.status_is
 without_out status out err (OutFails loses) = absurd (loses.some refl)
 without_out status out err (ErrFails loses) = inr (loses.status_is, loses.err_failed)
 
--- a fault of the input is told, or a sink failed
-pub fault_status : (status : ℕ) (out err : Change) → Delivers (warned 74 read_fault) status out err → status ≡ 74
-fault_status status out err (Whole gives) = gives.status_is
-fault_status status out err (OutFails loses) = loses.status_is
-fault_status status out err (ErrFails loses) = loses.status_is
+-- a fault is told, or a sink failed
+pub fault_status : (line : List ℕ) (status : ℕ) (out err : Change) → Delivers (warned 74 line) status out err → status ≡ 74
+fault_status line status out err (Whole gives) = gives.status_is
+fault_status line status out err (OutFails loses) = loses.status_is
+fault_status line status out err (ErrFails loses) = loses.status_is
 
 -- a run that ends in want of memory has no answer for that reason
 pub of_memory : (r : Result code.Report Stop) (status : ℕ) (out err : Change) → IfOk r (λ report. IsAnswered report.status) → Delivers (ending r) status out err → status ≡ 70 → r ≡ Err stops.Memory

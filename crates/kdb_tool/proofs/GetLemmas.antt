@@ -31,7 +31,7 @@ use Rattle.kdb_tool.specs.Sets.{formats, store_alone}
 
 -- ---- the answer to the get
 
-module _ {D : Type 0} (files : List MountedFile) (core : Core D) (parent : Name) (old new : Record) (here : StandsIn formats (store_alone files) core (λ r m. None) (λ p. None) first_world) (is_new : IsNew files old)
+module _ {D P : Type 0} (files : List MountedFile) (core : Core D P) (parent : Name) (old new : Record) (here : StandsIn formats (store_alone files) core (λ r m. None) (λ p. None) first_world) (is_new : IsNew files old)
     (handle : handle_of new ≡ handle_of old) (places : places_of new ≡ places_of old) where
   abbrev no_records : ℕ → model.Record
   no_records r m = None

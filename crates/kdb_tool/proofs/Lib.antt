@@ -1,7 +1,9 @@
 pub mod StatusLemmas
+pub mod RiseLemmas
 pub mod SetLemmas
 pub mod AnswersOnce
 pub mod AnswersExist
+pub mod AnswersMore
 pub mod AnswerLemmas
 pub mod CalmLemmas
 pub mod CrashLemmas

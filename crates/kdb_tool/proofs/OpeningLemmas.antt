@@ -9,6 +9,7 @@ use Rattle.intent_journal.specs.States.{IsCalm}
 use Rattle.journal_codec.specs.Entry.{journal_name}
 use Rattle.journal_codec.specs.declared.files.FileText.{FileText}
 use Rattle.kdb_outside.specs.Crashes.{EveryImage}
+use Rattle.kdb_outside.specs.Faults.{HasRisen}
 use Rattle.kdb_outside.specs.Frames.{OnlyReads}
 use Rattle.kdb_outside.specs.Images.{Image}
 use Rattle.kdb_outside.specs.declared.disks.Disk.{Ghosts}
@@ -28,11 +29,11 @@ use Rattle.tool_words.specs.Request.{Question}
 use Rattle.kdb_tool.specs.Answer.{refused, tells}
 use Rattle.kdb_tool.specs.Answers.{AnswersOver}
 use Rattle.kdb_tool.specs.Lines.{line_of_store}
-use Rattle.kdb_tool.specs.Serving.{Serve}
+use Rattle.kdb_tool.specs.Serving.{MayRefuse, Seeking, Serve}
 use Rattle.kdb_tool.specs.declared.answers.Stop.{Stop}
 use Rattle.kdb_tool.specs.declared.answers.Stop.TheVariants as stops
 use Rattle.kdb_tool.proofs.CalmLemmas.{calm_on, either-same}
-use Rattle.kdb_tool.proofs.ServeLemmas.{HasBegun, left_amid, refused_served}
+use Rattle.kdb_tool.proofs.ServeLemmas.{HasBegun, refused_served}
 
 -- ---- a store that isn't opened
 
@@ -46,28 +47,28 @@ read_fault (fault.BadFile line) disk memory journal = refl
 read_fault fault.Memory disk memory journal = absurd (memory refl)
 
 -- the answer of files that open no store
-pub over_refused : (question : Question) (bytes_of : Image) (why : OpenFault) → RefusesStore all.Reads all.IsBadAt (bytes_of own_mount.file) why → may_be_of_journal (Some why) ≡ false → AnswersOver question bytes_of (refused 5 (line_of_store why))
-over_refused question bytes_of fault.DiskFault refuses read = absurd cc
-over_refused question bytes_of (fault.BadJournal at) refuses read = absurd cc
-over_refused question bytes_of (fault.BadTable why) refuses read = record { opened = Err (refusal.BadTable why); opens = refuses; answers = (λ e. absurd cc, refl) }
-over_refused question bytes_of (fault.TooLong bytes) refuses read = record { opened = Err (refusal.TooLong bytes); opens = refuses; answers = (λ e. absurd cc, refl) }
-over_refused question bytes_of (fault.BadFile line) refuses read = record { opened = Err (refusal.BadFile line); opens = refuses; answers = (λ e. absurd cc, refl) }
-over_refused question bytes_of fault.Memory refuses read = absurd cc
+pub over_refused : (MayRefuse : Type 0) (question : Question) (bytes_of : Image) (why : OpenFault) → RefusesStore all.Reads all.IsBadAt (bytes_of own_mount.file) why → may_be_of_journal (Some why) ≡ false → AnswersOver MayRefuse question bytes_of (refused 5 (line_of_store why))
+over_refused MayRefuse question bytes_of fault.DiskFault refuses read = absurd cc
+over_refused MayRefuse question bytes_of (fault.BadJournal at) refuses read = absurd cc
+over_refused MayRefuse question bytes_of (fault.BadTable why) refuses read = record { opened = Err (refusal.BadTable why); opens = refuses; answers = (λ e. absurd cc, refl) }
+over_refused MayRefuse question bytes_of (fault.TooLong bytes) refuses read = record { opened = Err (refusal.TooLong bytes); opens = refuses; answers = (λ e. absurd cc, refl) }
+over_refused MayRefuse question bytes_of (fault.BadFile line) refuses read = record { opened = Err (refusal.BadFile line); opens = refuses; answers = (λ e. absurd cc, refl) }
+over_refused MayRefuse question bytes_of fault.Memory refuses read = absurd cc
 
 -- what is told of a store that isn't opened
-pub refused_serve : {D : Type 0} (g : Ghosts D) (disk end : D) (files : Image) (doubt : Option (List FileText)) (question : Question) (why : OpenFault) (result : Result code.Report Stop)
+pub refused_serve : {D : Type 0} (g : Ghosts D) (disk end : D) (files : Image) (doubt : Option (List FileText)) (before now : ℕ) (question : Question) (why : OpenFault) (result : Result code.Report Stop)
     → IfOk result (λ report. report_of report ≡ warned 5 (line_of_store why)) → OnOk result ((why ≢ fault.DiskFault) × (why ≢ fault.Memory)) → result ≢ Err stops.ReadFault
     → LeavesOnly g disk end (HasOnly (IsEither files doubt)) → EveryImage (g.may_leave end) (HasOnly (IsEither files doubt))
     → (may_be_of_journal (Some why) ≡ false → SameFiles (g.seen end) (opened_files (g.seen disk))) → (open_entry (g.seen disk journal_name) ≡ None → OnlyReads g disk end)
     → RefusesStore all.Reads all.IsBadAt (opened_files (g.seen disk) own_mount.file) why → ((at : ℕ) → why ≡ fault.BadJournal at → ⊥)
-    → Serve g files doubt (AnswersOver question (opened_files (g.seen disk))) result disk end
-refused_serve g disk end files doubt question why (Ok report) told own unread meanwhile now shown alone refuses journal =
+    → Serve g files doubt (AnswersOver (MayRefuse result before now) question (opened_files (g.seen disk))) result disk end
+refused_serve g disk end files doubt before now question why (Ok report) told own unread meanwhile rests shown alone refuses journal =
     let read = read_fault why own.0 own.1 journal in
-    refused_served g disk end files doubt (AnswersOver question (opened_files (g.seen disk))) (report_of report) meanwhile now (shown read)
-    (subst (λ (r : Report). AnswersOver question (opened_files (g.seen disk)) (tells r)) (sym told) (over_refused question (opened_files (g.seen disk)) why refuses read))
-refused_serve g disk end files doubt question why (Err stops.Memory) told own unread meanwhile now shown alone refuses journal = record { crash = meanwhile; untouched = alone }
-refused_serve g disk end files doubt question why (Err stops.DiskFault) told own unread meanwhile now shown alone refuses journal = λ answer answers. left_amid g disk end files doubt answer.stored meanwhile
-refused_serve g disk end files doubt question why (Err stops.ReadFault) told own unread meanwhile now shown alone refuses journal = absurd (unread refl)
+    refused_served g disk end files doubt (AnswersOver (HasRisen before now) question (opened_files (g.seen disk))) (report_of report) meanwhile rests (shown read)
+    (subst (λ (r : Report). AnswersOver (HasRisen before now) question (opened_files (g.seen disk)) (tells r)) (sym told) (over_refused (HasRisen before now) question (opened_files (g.seen disk)) why refuses read))
+refused_serve g disk end files doubt before now question why (Err stops.Memory) told own unread meanwhile rests shown alone refuses journal = record { crash = meanwhile; untouched = alone }
+refused_serve g disk end files doubt before now question why (Err stops.DiskFault) told own unread meanwhile rests shown alone refuses journal = Seeking meanwhile
+refused_serve g disk end files doubt before now question why (Err stops.ReadFault) told own unread meanwhile rests shown alone refuses journal = absurd (unread refl)
 
 -- ---- one that is
 

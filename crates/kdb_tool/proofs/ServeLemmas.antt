@@ -16,7 +16,7 @@ use Rattle.kdb_outside.specs.Images.{Image, IsImage}
 use Rattle.kdb_outside.specs.declared.disks.Disk.{Ghosts}
 use Rattle.kdb_outside.proofs.Rises.{risen_since}
 use Rattle.model_crashes.specs.Runs.{Run, IsOneOf, IsReached, after_begun, files_of, new_run}
-use Rattle.model_crashes.proofs.Moments.{only_both, only_follows, only_now}
+use Rattle.model_crashes.proofs.Moments.{only_both, only_now}
 use Rattle.model_crashes.proofs.Reached.{only_weaker}
 use Rattle.store_core.specs.Frames.{IsUnwritten}
 use Rattle.store_core.specs.declared.cores.Core.{Core}
@@ -26,7 +26,7 @@ use Rattle.tool_commands.specs.StepView.{report_of}
 use Rattle.tool_commands.specs.declared.reports.Report as code
 use Rattle.kdb_tool.specs.Answer.{Answer, Texts, entry_of, tells, with_stored}
 use Rattle.kdb_tool.specs.Crashing.{MayBeLeft, MayRemain, Shows, Alone, Stored}
-use Rattle.kdb_tool.specs.Serving.{Serves, BeginsEntry, FailsToStore, Serving, MayStore, Served, Unserved, Failing, Serve, run_with}
+use Rattle.kdb_tool.specs.Serving.{Serves, BeginsEntry, FailsToStore, Serving, MayStore, Served, StoresNothing, Unserved, Failing, Storing, Seeking, Serve, run_with}
 use Rattle.kdb_tool.specs.Stops.{or_memory}
 use Rattle.kdb_tool.specs.declared.answers.Stop.{Stop}
 use Rattle.kdb_tool.specs.declared.answers.Stop.TheVariants as stops
@@ -39,7 +39,7 @@ pub record HasBegun {D : Type 0} (g : Ghosts D) (disk : D) (files : Image) (doub
   pub within : (o : Image) → IsEither (opened_files (g.seen disk)) first o → IsEither files doubt o
 
 -- what an opening left of the disk
-pub record HasOpened {D : Type 0} (g : Ghosts D) (disk : D) (files : Image) (doubt : Option (List FileText)) (core : Core D) : Type 0 where
+pub record HasOpened {D P : Type 0} (g : Ghosts D) (disk : D) (files : Image) (doubt : Option (List FileText)) (core : Core D P) : Type 0 where
   pub begun : HasBegun g disk files doubt core.journal
   pub goes : GoesOn g disk core.journal.disk
   pub meanwhile : LeavesOnly g disk core.journal.disk (HasOnly (IsEither files doubt))
@@ -48,33 +48,33 @@ pub record HasOpened {D : Type 0} (g : Ghosts D) (disk : D) (files : Image) (dou
   pub state : core.journal.state ≡ IsDoubt
 
 -- what the close of a store left of it
-pub record HasClosed {D : Type 0} (g : Ghosts D) (core : Core D) (end : D) : Type 0 where
+pub record HasClosed {D P : Type 0} (g : Ghosts D) (core : Core D P) (end : D) : Type 0 where
   pub alone : core.wrote ≡ false → core.journal.state ≡ IsDoubt → end ≡ core.journal.disk
   pub shown : (opened : D) (run : Run) → IsStore g opened core.journal run → ¬ HasRisen (g.faults core.journal.disk) (g.faults end) → SameFiles (g.seen end) (files_of run)
   pub always : (opened : D) (run : Run) → IsStore g opened core.journal run → LeavesOnly g opened end (IsReached run.files run.commits run.begun)
   pub now : (opened : D) (run : Run) → IsStore g opened core.journal run → EveryImage (g.may_leave end) (HasOnly (IsEither (files_of run) run.doubt))
 
 -- an opening only read the disk, since no entry was open
-pub record WasRead {D : Type 0} (g : Ghosts D) (disk : D) (core : Core D) : Type 0 where
+pub record WasRead {D P : Type 0} (g : Ghosts D) (disk : D) (core : Core D P) : Type 0 where
   pub alone : OnlyReads g disk core.journal.disk
   pub wrote : core.wrote ≡ false
   pub state : core.journal.state ≡ IsDoubt
 
 -- ---- where no entry was open
 
-module _ {D : Type 0} (g : Ghosts D) (disk end : D) (old new : Core D) (read : WasRead g disk old) (closes : new.wrote ≡ false → new.journal.state ≡ IsDoubt → end ≡ new.journal.disk) where
+module _ {D P : Type 0} (g : Ghosts D) (disk end : D) (old new : Core D P) (read : WasRead g disk old) (closes : new.wrote ≡ false → new.journal.state ≡ IsDoubt → end ≡ new.journal.disk) where
   pub still_read : IsUnwritten old new → OnlyReads g disk end
   still_read kept =
       let wrote : new.wrote ≡ false = kept.wrote ∙ read.wrote in
       let state : new.journal.state ≡ IsDoubt = ap (λ (j : JournalValue D). j.state) kept.journal ∙ read.state in
       subst (OnlyReads g disk) (sym (closes wrote state ∙ ap (λ (j : JournalValue D). j.disk) kept.journal)) read.alone
 
-  -- nothing is written where the answer stores nothing
-  pub serving_untouched : (Answered : Answer → Type 0) → ((a b : Answer) → Answered a → Answered b → a ≡ b) → (result : Result code.Report Stop) → Serving g Answered result old new → (answer : Answer) → Answered answer → answer.stored ≡ [] → OnlyReads g disk end
-  serving_untouched Answered once (Ok report) serves answer answers nothing = still_read (serves.kept (ap (λ (a : Answer). a.stored) (once serves.answer answer serves.answers answers) ∙ nothing))
-  serving_untouched Answered once (Err stops.Memory) kept answer answers nothing = still_read kept
-  serving_untouched Answered once (Err stops.DiskFault) fails answer answers nothing = absurd (fails.some (ap (λ (a : Answer). a.stored) (once fails.answer answer fails.answers answers) ∙ nothing))
-  serving_untouched Answered once (Err stops.ReadFault) serving answer answers nothing = absurd serving
+  -- nothing is written where no answer stores anything
+  pub serving_untouched : (Answered : Answer → Type 0) (result : Result code.Report Stop) → Serving g Answered result old new → StoresNothing Answered → OnlyReads g disk end
+  serving_untouched Answered (Ok report) serves nothing = still_read (serves.kept (nothing serves.answer serves.answers))
+  serving_untouched Answered (Err stops.Memory) kept nothing = still_read kept
+  serving_untouched Answered (Err stops.DiskFault) fails nothing = absurd (fails.some (nothing fails.answer fails.answers))
+  serving_untouched Answered (Err stops.ReadFault) serving nothing = absurd serving
 
   -- nor where the command was not done and the disk didn't fail
   pub serving_unstored : (Answered : Answer → Type 0) (result : Result code.Report Stop) → Serving g Answered result old new → ¬ MayStore result → OnlyReads g disk end
@@ -89,7 +89,7 @@ module _ {D : Type 0} (g : Ghosts D) (disk end : D) (old new : Core D) (read : W
 
 -- ---- on a calm disk
 
-module _ {D : Type 0} (g : Ghosts D) (disk end : D) (files : Image) (doubt : Option (List FileText)) (old new : Core D) (has_opened : HasOpened g disk files doubt old) (has_closed : HasClosed g new end) where
+module _ {D P : Type 0} (g : Ghosts D) (disk end : D) (files : Image) (doubt : Option (List FileText)) (old new : Core D P) (has_opened : HasOpened g disk files doubt old) (has_closed : HasClosed g new end) where
   abbrev opened : Image
   opened = opened_files (g.seen disk)
 
@@ -150,9 +150,9 @@ module _ {D : Type 0} (g : Ghosts D) (disk end : D) (files : Image) (doubt : Opt
         untouched = λ none. still_read g disk end old new (record { alone = has_opened.alone none; wrote = has_opened.wrote ∙ ap is_some none; state = has_opened.state }) has_closed.alone kept;
       }
 
-  failing : (Answered : Answer → Type 0) → ((a b : Answer) → Answered a → Answered b → a ≡ b) → FailsToStore g Answered old new → (answer : Answer) → Answered answer → Failing g files doubt disk end answer.stored
-  failing Answered once fails answer answers =
-      subst (λ (a : Answer). Failing g files doubt disk end a.stored) (once fails.answer answer fails.answers answers)
+  failing : (Answered : Answer → Type 0) → FailsToStore g Answered old new → Failing g files doubt Answered disk end
+  failing Answered fails =
+      Storing fails.answer fails.answers
       (whole (MayBeLeft files doubt opened stored) (left_found files doubt opened has_opened.begun.first has_opened.begun.within stored)
       (IsReached opened [] (after_begun first (entry_of stored) begun.doubt).begun) (λ image reached. some stored fails.some image (reached_begun files doubt opened has_opened.begun.first has_opened.begun.within (entry_of stored) image reached))
       (has_closed.always mid (after_begun first (entry_of stored) begun.doubt) begun.store))
@@ -167,40 +167,45 @@ module _ {D : Type 0} (g : Ghosts D) (disk end : D) (files : Image) (doubt : Opt
       some [] none image left = absurd (none refl)
       some (text ∷ texts) none image left = left
 
-  pub serve : (Answered : Answer → Type 0) → ((a b : Answer) → Answered a → Answered b → a ≡ b) → (result : Result code.Report Stop) → Serving g Answered result old new → Serve g files doubt Answered result disk end
-  serve Answered once (Ok report) serving = served Answered (report_of report) serving
-  serve Answered once (Err stops.Memory) serving = unserved serving
-  serve Answered once (Err stops.DiskFault) serving = failing Answered once serving
-  serve Answered once (Err stops.ReadFault) serving = absurd serving
+  pub serve : (Answered : Answer → Type 0) (result : Result code.Report Stop) → Serving g Answered result old new → Serve g files doubt Answered result disk end
+  serve Answered (Ok report) serving = served Answered (report_of report) serving
+  serve Answered (Err stops.Memory) serving = unserved serving
+  serve Answered (Err stops.DiskFault) serving = failing Answered serving
+  serve Answered (Err stops.ReadFault) serving = absurd serving
 
 -- ---- what is told of an open store, which stays as it is
 
-pub unwritten_itself : {D : Type 0} (core : Core D) → IsUnwritten core core
+pub unwritten_itself : {D P : Type 0} (core : Core D P) → IsUnwritten core core
 unwritten_itself core = record { journal = refl; history = refl; keys = refl; wrote = refl }
 
-pub told_serves : {D : Type 0} (g : Ghosts D) (Answered : Answer → Type 0) (report : Report) (core : Core D) → Answered (tells report) → Serves g Answered report core core
-told_serves g Answered report core answers = record {
+-- what is told of one that wasn't written to, whatever its matcher did
+pub quiet_serves : {D P : Type 0} (g : Ghosts D) (Answered : Answer → Type 0) (report : Report) (before after : Core D P) → IsUnwritten before after → Answered (tells report) → Serves g Answered report before after
+quiet_serves {D} g Answered report before after kept answers = record {
   answer = tells report;
   answers = answers;
   told = refl;
-  committed = λ opened run store. store;
-  kept = λ nothing. unwritten_itself core;
+  committed = λ opened run store. subst (λ (j : JournalValue D). IsStore g opened j run) (sym kept.journal) store;
+  kept = λ nothing. kept;
   done = λ some. absurd (some refl);
 }
 
+pub told_serves : {D P : Type 0} (g : Ghosts D) (Answered : Answer → Type 0) (report : Report) (core : Core D P) → Answered (tells report) → Serves g Answered report core core
+told_serves g Answered report core answers = quiet_serves g Answered report core core (unwritten_itself core) answers
+
 -- ---- other answers
 
-pub serving_weaker : {D : Type 0} (g : Ghosts D) (P Q : Answer → Type 0) (result : Result code.Report Stop) (before after : Core D) → ((answer : Answer) → P answer → Q answer) → Serving g P result before after → Serving g Q result before after
+pub serving_weaker : {D C : Type 0} (g : Ghosts D) (P Q : Answer → Type 0) (result : Result code.Report Stop) (before after : Core D C) → ((answer : Answer) → P answer → Q answer) → Serving g P result before after → Serving g Q result before after
 serving_weaker g P Q (Ok report) before after follows s = record { answer = s.answer; answers = follows s.answer s.answers; told = s.told; committed = s.committed; kept = s.kept; done = s.done }
 serving_weaker g P Q (Err stops.Memory) before after follows s = s
 serving_weaker g P Q (Err stops.DiskFault) before after follows s = record { answer = s.answer; answers = follows s.answer s.answers; some = s.some; begun = s.begun }
 serving_weaker g P Q (Err stops.ReadFault) before after follows s = absurd s
 
-pub serve_alike : {D : Type 0} (g : Ghosts D) (files : Image) (doubt : Option (List FileText)) (P Q : Answer → Type 0) (result : Result code.Report Stop) (before after : D) → ((answer : Answer) → P answer → Q answer) → ((answer : Answer) → Q answer → P answer) → Serve g files doubt P result before after → Serve g files doubt Q result before after
-serve_alike g files doubt P Q (Ok report) before after to from s = record { answer = s.answer; answers = to s.answer s.answers; told = s.told; crash = s.crash; lasting = s.lasting; shown = s.shown }
-serve_alike g files doubt P Q (Err stops.Memory) before after to from s = s
-serve_alike g files doubt P Q (Err stops.DiskFault) before after to from s = λ answer answers. s answer (from answer answers)
-serve_alike g files doubt P Q (Err stops.ReadFault) before after to from s = s
+pub serve_weaker : {D : Type 0} (g : Ghosts D) (files : Image) (doubt : Option (List FileText)) (P Q : Answer → Type 0) (result : Result code.Report Stop) (before after : D) → ((answer : Answer) → P answer → Q answer) → Serve g files doubt P result before after → Serve g files doubt Q result before after
+serve_weaker g files doubt P Q (Ok report) before after follows s = record { answer = s.answer; answers = follows s.answer s.answers; told = s.told; crash = s.crash; lasting = s.lasting; shown = s.shown }
+serve_weaker g files doubt P Q (Err stops.Memory) before after follows s = s
+serve_weaker g files doubt P Q (Err stops.DiskFault) before after follows (Storing answer answers left) = Storing answer (follows answer answers) left
+serve_weaker g files doubt P Q (Err stops.DiskFault) before after follows (Seeking left) = Seeking left
+serve_weaker g files doubt P Q (Err stops.ReadFault) before after follows s = s
 
 -- a run without an answer whose disk didn't fail stored nothing
 pub serve_unserved : {D : Type 0} (g : Ghosts D) (files : Image) (doubt : Option (List FileText)) (P : Answer → Type 0) (result : Result code.Report Stop) (before after : D) → Serve g files doubt P result before after → (result ≡ Err stops.Memory) ⊎ (result ≡ Err stops.ReadFault) → Unserved g files doubt before after
@@ -239,14 +244,6 @@ refused_served g disk end files doubt Answered report meanwhile now shown answer
   lasting = now;
   shown = λ still. Stored (λ file not_own. shown file not_own);
 }
-
-pub left_amid : {D : Type 0} (g : Ghosts D) (disk end : D) (files : Image) (doubt : Option (List FileText)) (stored : Texts) → LeavesOnly g disk end (HasOnly (IsEither files doubt)) → Failing g files doubt disk end stored
-left_amid g disk end files doubt stored meanwhile =
-    only_follows g disk end (HasOnly (IsEither files doubt)) (MayBeLeft files doubt (opened_files (g.seen disk)) stored) (λ image only. by stored image only) meanwhile
-  where
-    by : (texts : Texts) (image : Image) → HasOnly (IsEither files doubt) image → MayBeLeft files doubt (opened_files (g.seen disk)) texts image
-    by [] image only = only
-    by (text ∷ texts) image only = inl only
 
 -- ---- what is told without the store
 

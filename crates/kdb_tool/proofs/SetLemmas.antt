@@ -1,5 +1,5 @@
 -- A set alone has one answer.
-use Rattle.std.specs.Prelude.{◌≡◌, ℕ, nat_lt, Bool, true, false, cond, List, [], ◌∷◌, length, Option, Some, None, IsSomeAnd, slice_get, option_and_then, Result, Ok, Err}
+use Rattle.std.specs.Prelude.{◌≡◌, ℕ, nat_lt, Bool, T, true, false, not, cond, List, [], ◌∷◌, length, Option, Some, None, IsSomeAnd, slice_get, option_and_then, Result, Ok, Err}
 use Rattle.std.specs.List.{AllByRecursion}
 use Rattle.std.specs.Option.{option_map, option_or}
 use Rattle.std.proofs.Common.{refl, sym, ap, ap₂, subst, ◌∙◌, inl, inr, ◌⊎◌}
@@ -16,7 +16,7 @@ use Rattle.model_store.specs.Store.{Store, contents, points_of}
 use Rattle.mounted_files.specs.Setting.{first_long_in}
 use Rattle.model_store.specs.Records as model
 use Rattle.model_store.specs.Sets.{Prepared, prepared}
-use Rattle.model_store.specs.Verdicts.{Late, Same, Conflict, DatabaseFull, HistoryFull, Commits, Follows, IsEarly, IsLate, BreaksFirst, before_formats, behind_formats, wanted_in, not_fetched, long_value, if_unseen}
+use Rattle.model_store.specs.Verdicts.{Late, Same, Conflict, Invalid, DatabaseFull, HistoryFull, Commits, Follows, IsEarly, IsLate, is_certain, BreaksFirst, before_formats, behind_formats, wanted_in, not_fetched, long_value, if_unseen}
 use Rattle.model_store.proofs.OneVerdict.{IsEarly-once, IsEarly-some, IsLate-once, IsLate-some}
 use Rattle.model_store.proofs.FirstSets.{never-unseen, never-blocked}
 use Rattle.mount_table.specs.Points.{own_point}
@@ -29,7 +29,7 @@ use Rattle.store_verdict.specs.RecordView.{handle_of, record_of}
 use Rattle.store_verdict.specs.declared.records.Record.{Record}
 use Rattle.store_verdict.specs.declared.faults.PrepareFault.{PrepareFault}
 use Rattle.store_verdict.specs.declared.faults.PrepareFault.TheVariants as fault
-use Rattle.tool_commands.specs.Lines.{bad_table as bad_table_line, value_too_long, file_too_large, not_storable, database_full, history_full}
+use Rattle.tool_commands.specs.Lines.{bad_table as bad_table_line, value_too_long, file_too_large, not_storable, invalid, database_full, history_full}
 use Rattle.kdb_tool.specs.Answer.{Answer, done, stores, refused}
 use Rattle.kdb_tool.specs.Serving.{HasFetched}
 use Rattle.kdb_tool.specs.Sets.{AnswersSet, Refused, Judged, IsRefusal, IsJudgement, formats, set_alone, store_alone, stored_by, the_handle}
@@ -48,15 +48,29 @@ told_once : (o : Option PrepareFault) (a b : Answer) → IsSomeAnd o (λ why. Is
 told_once None a b p q = absurd p
 told_once (Some why) a b p q = refusal_once why a b p q
 
-judgement_once : (store : Store) (keys : KeyMap) (out : List ℕ) (late : Late) (a b : Answer) → IsJudgement store keys out late a → IsJudgement store keys out late b → a ≡ b
-judgement_once store keys out (Same aside) a b p q = p ∙ sym q
-judgement_once store keys out (Conflict mount by) a b p q = absurd p
-judgement_once store keys out (DatabaseFull weight) a b p q = p ∙ sym q
-judgement_once store keys out (HistoryFull weight) a b p q = p ∙ sym q
-judgement_once store keys out (Commits commit aside) a b p q = p ∙ sym q
+judgement_once : (MayRefuse : Type 0) → ¬ MayRefuse → (store : Store) (keys : KeyMap) (out : List ℕ) (late : Late) (a b : Answer) → IsJudgement MayRefuse store keys out late a → IsJudgement MayRefuse store keys out late b → a ≡ b
+judgement_once MayRefuse none store keys out (Same aside) a b p q = p ∙ sym q
+judgement_once MayRefuse none store keys out (Conflict mount by) a b p q = absurd p
+judgement_once MayRefuse none store keys out (Invalid violation risen) a b p q = p.1 ∙ sym q.1
+judgement_once MayRefuse none store keys out (DatabaseFull weight) a b p q = p ∙ sym q
+judgement_once MayRefuse none store keys out (HistoryFull weight) a b p q = p ∙ sym q
+judgement_once MayRefuse none store keys out (Commits commit aside) a b p q = p ∙ sym q
 
-pub Set-once : (files : List MountedFile) (parent : Name) (keys : KeyMap) (out : List ℕ) (a b : Answer) → AnswersSet files parent keys out a → AnswersSet files parent keys out b → a ≡ b
-Set-once files parent keys out a b = by
+-- a verdict that was told where nothing may have been refused is certain
+certain : (MayRefuse : Type 0) → ¬ MayRefuse → (store : Store) (keys : KeyMap) (out : List ℕ) (late : Late) (a : Answer) → IsJudgement MayRefuse store keys out late a → is_certain late ≡ true
+certain MayRefuse none store keys out (Same aside) a p = refl
+certain MayRefuse none store keys out (Conflict mount by) a p = absurd p
+certain MayRefuse none store keys out (Invalid violation risen) a p = by risen p.0
+  where
+    by : (rose : Bool) → (T rose → MayRefuse) → not rose ≡ true
+    by true may = absurd (none (may tt))
+    by false may = refl
+certain MayRefuse none store keys out (DatabaseFull weight) a p = refl
+certain MayRefuse none store keys out (HistoryFull weight) a p = refl
+certain MayRefuse none store keys out (Commits commit aside) a p = refl
+
+pub Set-once : (MayRefuse : Type 0) → ¬ MayRefuse → (files : List MountedFile) (parent : Name) (keys : KeyMap) (out : List ℕ) (a b : Answer) → AnswersSet MayRefuse files parent keys out a → AnswersSet MayRefuse files parent keys out b → a ≡ b
+Set-once MayRefuse none files parent keys out a b = by
   where
     store : Store
     store = store_alone files
@@ -67,15 +81,29 @@ Set-once files parent keys out a b = by
     one : (early other : Option Early) → IsEarly formats store set early → IsEarly formats store set other → early ≡ other
     one early other p q = IsEarly-once formats laws.storable-breaks_nowhere laws.BreaksAt-once store set early other p q
 
-    by : AnswersSet files parent keys out a → AnswersSet files parent keys out b → a ≡ b
+    by : AnswersSet MayRefuse files parent keys out a → AnswersSet MayRefuse files parent keys out b → a ≡ b
     by (Refused why early p) (Refused other early' q) =
         let same : other ≡ why = same_Some other why (one (Some other) (Some why) early' early) in
         told_once (fault_of store.mounts why) a b p (subst (λ (w : Early). IsSomeAnd (fault_of store.mounts w) (λ f. IsRefusal f b)) same q)
     by (Refused why early p) (Judged early' late is q) = absurd (none-some why (one None (Some why) early' early))
     by (Judged early late is p) (Refused why early' q) = absurd (none-some why (one None (Some why) early early'))
     by (Judged early late is p) (Judged early' other is' q) =
-        let same : other ≡ late = IsLate-once [] store.start set other late is' is in
-        judgement_once store store.start out late a b p (subst (λ (l : Late). IsJudgement store store.start out l b) same q)
+        let same : other ≡ late = IsLate-once (points_of store) [] store.start set other late (certain MayRefuse none store store.start out other b q) (certain MayRefuse none store store.start out late a p) is' is in
+        judgement_once MayRefuse none store store.start out late a b p (subst (λ (l : Late). IsJudgement MayRefuse store store.start out l b) same q)
+
+-- ---- where more refusals are allowed
+
+judgement_more : (Fewer More : Type 0) → (Fewer → More) → (store : Store) (keys : KeyMap) (out : List ℕ) (late : Late) (a : Answer) → IsJudgement Fewer store keys out late a → IsJudgement More store keys out late a
+judgement_more Fewer More follows store keys out (Same aside) a p = p
+judgement_more Fewer More follows store keys out (Conflict mount by) a p = p
+judgement_more Fewer More follows store keys out (Invalid violation risen) a p = (λ rose. follows (p.0 rose), p.1)
+judgement_more Fewer More follows store keys out (DatabaseFull weight) a p = p
+judgement_more Fewer More follows store keys out (HistoryFull weight) a p = p
+judgement_more Fewer More follows store keys out (Commits commit aside) a p = p
+
+pub Set-more : (Fewer More : Type 0) → (Fewer → More) → (files : List MountedFile) (parent : Name) (keys : KeyMap) (out : List ℕ) (a : Answer) → AnswersSet Fewer files parent keys out a → AnswersSet More files parent keys out a
+Set-more Fewer More follows files parent keys out a (Refused why early p) = Refused why early p
+Set-more Fewer More follows files parent keys out a (Judged early late is p) = Judged early late is (judgement_more Fewer More follows (store_alone files) (store_alone files).start out late a p)
 
 -- ---- some answer
 
@@ -198,8 +226,9 @@ module _ (store : Store) (set : Prepared) (why : Early) (fetched : (m : ℕ) →
       by None is (inl b) = of_breaks b
       by None is (inr all) = of_behind (sym all.1)
 
-pub Set-some : (files : List MountedFile) (parent : Name) (keys : KeyMap) (out : List ℕ) → (answer : Answer) × AnswersSet files parent keys out answer
-Set-some files parent keys out = by (IsEarly-some formats laws.storable-or_breaks store set)
+-- it can't be that a set has no answer
+pub Set-some : (MayRefuse : Type 0) → MayRefuse → (files : List MountedFile) (parent : Name) (keys : KeyMap) (out : List ℕ) → ¬ ((answer : Answer) → ¬ AnswersSet MayRefuse files parent keys out answer)
+Set-some MayRefuse may files parent keys out none = by (IsEarly-some formats laws.storable-or_breaks store set)
   where
     store : Store
     store = store_alone files
@@ -207,21 +236,22 @@ Set-some files parent keys out = by (IsEarly-some formats laws.storable-or_break
     set : Prepared
     set = set_alone store parent keys
 
-    judged : (late : Late) → IsLate [] store.start set late → (answer : Answer) × IsJudgement store store.start out late answer
+    judged : (late : Late) → IsLate (points_of store) [] store.start set late → (answer : Answer) × IsJudgement MayRefuse store store.start out late answer
     judged (Same aside) is = (done out, refl)
     judged (Conflict mount by) is = absurd (never-blocked store the_handle parent keys (Conflict mount by) mount by is refl)
+    judged (Invalid violation risen) is = (refused 5 (invalid violation), ((λ rose. may), refl))
     judged (DatabaseFull weight) is = (refused 5 (database_full weight), refl)
     judged (HistoryFull weight) is = (refused 5 (history_full weight), refl)
     judged (Commits commit aside) is = (stores (stored_by store store.start commit) out, refl)
 
-    by : ((early : Option Early) × IsEarly formats store set early) → (answer : Answer) × AnswersSet files parent keys out answer
+    by : ((early : Option Early) × IsEarly formats store set early) → ⊥
     by (Some why, early) =
         let line = line_of store set why (λ m e. never-unseen formats store the_handle parent keys (Some why) m early (ap Some e)) early in
-        (line.answer, Refused why early (subst (λ (o : Option PrepareFault). IsSomeAnd o (λ f. IsRefusal f line.answer)) (sym line.is) line.line))
+        none line.answer (Refused why early (subst (λ (o : Option PrepareFault). IsSomeAnd o (λ f. IsRefusal f line.answer)) (sym line.is) line.line))
     by (None, early) =
-        let late = IsLate-some [] store.start set in
-        let answer = judged late.0 late.1 in
-        (answer.0, Judged early late.0 late.1 answer.1)
+        IsLate-some (points_of store) [] store.start set (λ late is.
+        let answer = judged late is in
+        none answer.0 (Judged early late is answer.1))
 
 -- ---- what the code refuses
 
@@ -260,7 +290,7 @@ module _ (files : List MountedFile) (parent : Name) (keys : KeyMap) (rec : Recor
       let unseen = unseen_early the_store.mounts refused_as.early at (refused_as.is ∙ ap Some is) in
       never-unseen formats the_store the_handle parent keys (Some refused_as.early) unseen.0 (subst (λ (s : Prepared). IsEarly formats the_store s (Some refused_as.early)) alone_is refused_as.refused) (ap Some unseen.1)
 
-  pub refused_answers : (out : List ℕ) (why : PrepareFault) (answer : Answer) → IsRefused formats the_store (handle_of rec) (record_of rec) parent keys why → IsRefusal why answer → AnswersSet files parent keys out answer
-  refused_answers out why answer refused_as refusal =
+  pub refused_answers : (MayRefuse : Type 0) (out : List ℕ) (why : PrepareFault) (answer : Answer) → IsRefused formats the_store (handle_of rec) (record_of rec) parent keys why → IsRefusal why answer → AnswersSet MayRefuse files parent keys out answer
+  refused_answers MayRefuse out why answer refused_as refusal =
       Refused refused_as.early (subst (λ (s : Prepared). IsEarly formats the_store s (Some refused_as.early)) alone_is refused_as.refused)
       (subst (λ (o : Option PrepareFault). IsSomeAnd o (λ f. IsRefusal f answer)) (sym refused_as.is) refusal)

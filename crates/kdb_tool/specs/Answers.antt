@@ -7,6 +7,8 @@ use Rattle.key_name.specs.Owner.{owner_of}
 use Rattle.kdb_outside.specs.declared.kinds.Kind.{Kind}
 use Rattle.model_names.specs.Name.{Name}
 use Rattle.model_maps.specs.KeyMap.{KeyMap}
+use Rattle.model_specified.specs.Violations.{AreViolations, is_within}
+use Rattle.model_specified.specs.declared.violations.Violation.{Violation}
 use Rattle.mount_table.specs.Points.{own_point}
 use Rattle.mounted_files.specs.Files.{points_of, Holds, IsCause}
 use Rattle.mounted_files.specs.Getting.{below, fault_of, got}
@@ -23,15 +25,16 @@ use Rattle.kdb_tool.specs.Answer.{Answer, tells, done, refused}
 use Rattle.kdb_tool.specs.Input.{taken}
 use Rattle.kdb_tool.specs.Sets.{AnswersSet}
 use Rattle.tool_words.specs.Uses.{barred}
-use Rattle.tool_words.specs.Request.{Action, Replace, Question, Mounts, FileOf, TextOf, On, Request, Refuses, Bars, Asks, Imports}
+use Rattle.tool_words.specs.Request.{Action, Replace, Question, Mounts, FileOf, TextOf, ViolationsOf, On, Request, Refuses, Bars, Asks, Imports}
 use Rattle.tool_words.specs.Rows.{request}
 use Rattle.tool_commands.specs.Step.{Step, Tells, Sets}
-use Rattle.tool_commands.specs.Commands.{parent_of, step_of}
+use Rattle.tool_commands.specs.Commands.{every_key, parent_of, step_of}
+use Rattle.tool_commands.specs.Report.{checked}
 
 -- the answer by what a command makes of the keys that it got
-abbrev pub AnswersStep : List MountedFile → Name → Step → Answer → Type 0
-AnswersStep files parent (Tells report) answer = answer ≡ tells report
-AnswersStep files parent (Sets keys out) answer = AnswersSet files parent keys out answer
+abbrev pub AnswersStep : Type 0 → List MountedFile → Name → Step → Answer → Type 0
+AnswersStep MayRefuse files parent (Tells report) answer = answer ≡ tells report
+AnswersStep MayRefuse files parent (Sets keys out) answer = AnswersSet MayRefuse files parent keys out answer
 
 -- the line of what refuses a get
 abbrev pub line_of_get : GetFault → List ℕ
@@ -41,9 +44,9 @@ line_of_get (faults.TooHeavy mount weight) = too_heavy mount weight
 line_of_get faults.Memory = out_of_memory
 
 -- the answer to an action, by what it got
-abbrev pub AnswersGot : List MountedFile → Name → Action → Result KeyMap GetFault → Answer → Type 0
-AnswersGot files name action (Ok keys) answer = AnswersStep files (parent_of name action) (step_of keys name action) answer
-AnswersGot files name action (Err fault) answer = answer ≡ refused 5 (line_of_get fault)
+abbrev pub AnswersGot : Type 0 → List MountedFile → Name → Action → Result KeyMap GetFault → Answer → Type 0
+AnswersGot MayRefuse files name action (Ok keys) answer = AnswersStep MayRefuse files (parent_of name action) (step_of keys name action) answer
+AnswersGot MayRefuse files name action (Err fault) answer = answer ≡ refused 5 (line_of_get fault)
 
 -- `export` of what a file at a name would hold: its text in a format, or the whole name of the first key that the format can't hold
 pub data AnswersText (name : Name) (kind : Kind) (keys : KeyMap) (answer : Answer) : Type 0 where
@@ -67,12 +70,18 @@ file_told file = done (file.mount.file ++ 10 ∷ [])
 abbrev pub mounts_told : List MountedFile → Answer
 mounts_told files = done (flat_map (λ file. line_of_mount file.mount) files)
 
+-- `validate`, by all keys: the lines of the violations at or below a name
+abbrev pub AnswersChecked : Type 0 → Name → Result KeyMap GetFault → Answer → Type 0
+AnswersChecked MayRefuse name (Ok keys) answer = (violations : List Violation) × AreViolations MayRefuse (is_within name) keys violations × (answer ≡ tells (checked violations))
+AnswersChecked MayRefuse name (Err fault) answer = answer ≡ refused 5 (line_of_get fault)
+
 -- the answer to a question over mounted files
-abbrev pub AnswersIn : List MountedFile → Question → Answer → Type 0
-AnswersIn files Mounts answer = answer ≡ mounts_told files
-AnswersIn files (FileOf name) answer = IsSomeAnd (owner_in files name) (λ file. answer ≡ file_told file)
-AnswersIn files (TextOf name kind) answer = AnswersBelow name kind (below files name) answer
-AnswersIn files (On name action) answer = AnswersGot files name action (got files (parent_of name action)) answer
+abbrev pub AnswersIn : Type 0 → List MountedFile → Question → Answer → Type 0
+AnswersIn MayRefuse files Mounts answer = answer ≡ mounts_told files
+AnswersIn MayRefuse files (FileOf name) answer = IsSomeAnd (owner_in files name) (λ file. answer ≡ file_told file)
+AnswersIn MayRefuse files (TextOf name kind) answer = AnswersBelow name kind (below files name) answer
+AnswersIn MayRefuse files (ViolationsOf name) answer = AnswersChecked MayRefuse name (got files every_key) answer
+AnswersIn MayRefuse files (On name action) answer = AnswersGot MayRefuse files name action (got files (parent_of name action)) answer
 
 -- the line of what refuses an opening
 abbrev pub line_of_opening : OpenRefusal → List ℕ
@@ -86,29 +95,30 @@ abbrev pub IsRefusedBy : OpenRefusal → Answer → Type 0
 IsRefusedBy refusal answer = (refusal ≢ refusals.Memory) × (answer ≡ refused 5 (line_of_opening refusal))
 
 -- the answer to a question by what came of the opening
-abbrev pub AnswersOpened : Result (List MountedFile) OpenRefusal → Question → Answer → Type 0
-AnswersOpened (Ok files) question answer = AnswersIn files question answer
-AnswersOpened (Err refusal) question answer = IsRefusedBy refusal answer
+abbrev pub AnswersOpened : Type 0 → Result (List MountedFile) OpenRefusal → Question → Answer → Type 0
+AnswersOpened MayRefuse (Ok files) question answer = AnswersIn MayRefuse files question answer
+AnswersOpened MayRefuse (Err refusal) question answer = IsRefusedBy refusal answer
 
 -- the answer to a question over what the files mean
-pub record AnswersOver (question : Question) (bytes_of : List ℕ → List ℕ) (answer : Answer) : Type 0 where
+pub record AnswersOver (MayRefuse : Type 0) (question : Question) (bytes_of : List ℕ → List ℕ) (answer : Answer) : Type 0 where
   pub opened : Result (List MountedFile) OpenRefusal
   pub opens : Opens all.Reads all.IsBadAt bytes_of opened
-  pub answers : AnswersOpened opened question answer
+  pub answers : AnswersOpened MayRefuse opened question answer
 
 -- `import`: the keys that some bytes hold as a file at a name would, take the place of all at or below it. Bytes that hold none are
 -- refused as such a file is, before the files are looked at
-pub data AnswersImport (name : Name) (kind : Kind) (bytes : List ℕ) (bytes_of : List ℕ → List ℕ) (answer : Answer) : Type 0 where
-  Held : (keys : KeyMap) → Holds all.Reads name kind bytes keys → AnswersOver (On name (Replace keys)) bytes_of answer → AnswersImport name kind bytes bytes_of answer
-  Bad : (cause : Cause) → IsCause all.Reads all.IsBadAt name kind bytes cause → answer ≡ refused 5 (line_of_get (fault_of name cause)) → AnswersImport name kind bytes bytes_of answer
+pub data AnswersImport (MayRefuse : Type 0) (name : Name) (kind : Kind) (bytes : List ℕ) (bytes_of : List ℕ → List ℕ) (answer : Answer) : Type 0 where
+  Held : (keys : KeyMap) → Holds all.Reads name kind bytes keys → AnswersOver MayRefuse (On name (Replace keys)) bytes_of answer → AnswersImport MayRefuse name kind bytes bytes_of answer
+  Bad : (cause : Cause) → IsCause all.Reads all.IsBadAt name kind bytes cause → answer ≡ refused 5 (line_of_get (fault_of name cause)) → AnswersImport MayRefuse name kind bytes bytes_of answer
 
 -- the answer to a request
-abbrev pub AnswersRequest : Request → List ℕ → (List ℕ → List ℕ) → Answer → Type 0
-AnswersRequest (Refuses status text) input bytes_of answer = answer ≡ refused status text
-AnswersRequest (Bars by name) input bytes_of answer = answer ≡ refused 2 (barred by name)
-AnswersRequest (Asks question) input bytes_of answer = AnswersOver question bytes_of answer
-AnswersRequest (Imports name kind) input bytes_of answer = AnswersImport name kind (taken input) bytes_of answer
+abbrev pub AnswersRequest : Type 0 → Request → List ℕ → (List ℕ → List ℕ) → Answer → Type 0
+AnswersRequest MayRefuse (Refuses status text) input bytes_of answer = answer ≡ refused status text
+AnswersRequest MayRefuse (Bars by name) input bytes_of answer = answer ≡ refused 2 (barred by name)
+AnswersRequest MayRefuse (Asks question) input bytes_of answer = AnswersOver MayRefuse question bytes_of answer
+AnswersRequest MayRefuse (Imports name kind) input bytes_of answer = AnswersImport MayRefuse name kind (taken input) bytes_of answer
 
--- the answer to a command line with some input, where files gives each file name its bytes
-abbrev pub Answers : List (List ℕ) → List ℕ → (List ℕ → List ℕ) → Answer → Type 0
-Answers words input files answer = AnswersRequest (request words) input files answer
+-- the answer to a command line with some input, where files gives each file name its bytes. It is one and the same but for patterns that the
+-- matcher may have refused (`MayRefuse`): a value that such a pattern is to check breaks the rule on patterns then
+abbrev pub Answers : Type 0 → List (List ℕ) → List ℕ → (List ℕ → List ℕ) → Answer → Type 0
+Answers MayRefuse words input files answer = AnswersRequest MayRefuse (request words) input files answer

@@ -3,22 +3,11 @@ use Rattle.std.specs.Prelude.{◌≡◌, ◌⊎◌, ℕ, List, []}
 use Rattle.tool_commands.specs.Lines.{disk_fault, line, read_fault, write_fault}
 use Rattle.tool_words.specs.Lines.{out_of_memory}
 use Rattle.tool_words.specs.Uses.{barred}
-use Rattle.kdb_tool.specs.Answer.{Answer, Texts}
 use Rattle.tool_commands.specs.Report.{IsAnswered, IsEnd, Report, warned}
 use Rattle.tool_words.specs.Request.{Request, Refuses, Bars, Asks, Imports}
-use Rattle.kdb_tool.specs.Answers.{Answers}
 use Rattle.kdb_tool.specs.Untold.{IsStatusOf}
 use Rattle.kdb_outside.specs.SinkChange.{SinkChange as Change}
 use Rattle.kdb_tool.specs.Outcome.{Failed, Gives, Gains}
-
--- an answer to a command line was given
-pub record GivesAnswer (words : List (List ℕ)) (input : List ℕ) (files : List ℕ → List ℕ) (status : ℕ) (out err : Change) : Type 0 where
-  pub answer : Answer
-  pub answers : Answers words input files answer
-  pub gives : Gives answer.report status out err
-
-abbrev pub EndsAsAnswered : List (List ℕ) → List ℕ → (List ℕ → List ℕ) → ℕ → Change → Change → Type 0
-EndsAsAnswered words input files status out err = IsAnswered status → GivesAnswer words input files status out err
 
 -- a sink failed, so that the status is that of a fault
 abbrev pub LosesSink : ℕ → Change → Change → Type 0
@@ -50,10 +39,3 @@ pub data FaultCause (disk_failed input_failed : Type 0) (status : ℕ) (out err 
 
 abbrev pub EndsInFault : Type 0 → Type 0 → ℕ → Change → Change → Type 0
 EndsInFault disk_failed input_failed status out err = status ≡ 74 → FaultCause disk_failed input_failed status out err
-
--- what a run leaves that had no fault of the disk, whatever becomes of out and err: in want of memory and at a fault of the input
--- nothing is stored, and else the files show what its answer stores, which outlasts a crash
-pub data LeftBy (words : List (List ℕ)) (input : List ℕ) (files : List ℕ → List ℕ) (Shown Lasting : Texts → Type 0) (unserved input_failed : Type 0) (status : ℕ) (out err : Change) : Type 0 where
-  Unserved : unserved → (status ≡ 70) ⊎ ((status ≡ 74) × Failed err) → LeftBy words input files Shown Lasting unserved input_failed status out err
-  Unread : unserved → input_failed → status ≡ 74 → LeftBy words input files Shown Lasting unserved input_failed status out err
-  Left : (answer : Answer) → Answers words input files answer → Shown answer.stored → Lasting answer.stored → (status ≡ answer.report.status) ⊎ LosesSink status out err → LeftBy words input files Shown Lasting unserved input_failed status out err

@@ -7,6 +7,7 @@ pub mod Untold
 pub mod Crashing
 pub mod Serving
 pub mod Outcome
+pub mod Ran
 pub mod Ends
 pub mod Ending
 pub mod Delivery

@@ -42,7 +42,7 @@ use Rattle.kdb_tool.specs.declared.answers.Stop.TheVariants as stops
 -- ---- on the open store
 
 -- a store was opened, and nothing committed
-pub record IsOpen {D F : Type 0} (plan : Plan F) (core : Core D) : Type 0 where
+pub record IsOpen {D F P : Type 0} (plan : Plan F) (core : Core D P) : Type 0 where
   pub fixed : (procs : ℕ → KeyMap) → IsPlan (store_of plan.mounted procs) plan.fixed
   pub short : AllByRecursion AreShort plan.fixed.shadows
   pub world : (procs : ℕ → KeyMap) → StandsIn formats (store_of plan.mounted procs) core (λ r m. None) (λ p. None) first_world
@@ -75,7 +75,7 @@ run_with run (text ∷ texts) = after_commit run (entry_of (text ∷ texts))
 
 -- an answer was given, and what it stores is committed, by a command that was done; where it stores nothing the store is as it was. Any run
 -- that the journal stood for goes on by it
-pub record Serves {D : Type 0} (g : Ghosts D) (Answered : Answer → Type 0) (report : Report) (before after : Core D) : Type 0 where
+pub record Serves {D P : Type 0} (g : Ghosts D) (Answered : Answer → Type 0) (report : Report) (before after : Core D P) : Type 0 where
   pub answer : Answer
   pub answers : Answered answer
   pub told : answer.report ≡ report
@@ -90,17 +90,27 @@ pub record BeginsEntry {D : Type 0} (g : Ghosts D) (opened : D) (run : Run) (ent
   pub store : IsStore g opened journal (after_begun run entry doubt)
 
 -- the disk failed to commit what an answer stores
-pub record FailsToStore {D : Type 0} (g : Ghosts D) (Answered : Answer → Type 0) (before after : Core D) : Type 0 where
+pub record FailsToStore {D P : Type 0} (g : Ghosts D) (Answered : Answer → Type 0) (before after : Core D P) : Type 0 where
   pub answer : Answer
   pub answers : Answered answer
   pub some : answer.stored ≢ []
   pub begun : (opened : D) (run : Run) → IsStore g opened before.journal run → BeginsEntry g opened run (entry_of answer.stored) after.journal
 
-abbrev pub Serving : {D : Type 0} → Ghosts D → (Answer → Type 0) → Result code.Report Stop → Core D → Core D → Type 0
+abbrev pub Serving : {D P : Type 0} → Ghosts D → (Answer → Type 0) → Result code.Report Stop → Core D P → Core D P → Type 0
 Serving g Answered (Ok report) before after = Serves g Answered (report_of report) before after
 Serving g Answered (Err stops.Memory) before after = IsUnwritten before after
 Serving g Answered (Err stops.DiskFault) before after = FailsToStore g Answered before after
 Serving g Answered (Err stops.ReadFault) before after = ⊥
+
+-- a pattern may have been refused, by the counts of the matcher's refusals: where an answer was given its count has risen, and where none was
+-- given any may have been
+abbrev pub MayRefuse : Result code.Report Stop → ℕ → ℕ → Type 0
+MayRefuse (Ok report) before now = HasRisen before now
+MayRefuse (Err stop) before now = Unit {0}
+
+-- none of some answers stores anything
+abbrev pub StoresNothing : (Answer → Type 0) → Type 0
+StoresNothing Answered = (answer : Answer) → Answered answer → answer.stored ≡ []
 
 -- something may be stored by how the work ended: a command was done, or the disk failed
 abbrev pub MayStore : Result code.Report Stop → Type 0
@@ -125,12 +135,13 @@ pub record Unserved {D : Type 0} (g : Ghosts D) (files : Image) (doubt : Option 
   pub crash : LeavesOnly g before after (HasOnly (IsEither files doubt))
   pub untouched : open_entry (g.seen before journal_name) ≡ None → OnlyReads g before after
 
--- the disk failed, while an answer was sought or stored
-abbrev pub Failing : {D : Type 0} → Ghosts D → Image → Option (List FileText) → D → D → Texts → Type 0
-Failing g files doubt before after stored = LeavesOnly g before after (MayBeLeft files doubt (opened_files (g.seen before)) stored)
+-- the disk failed, while an answer was stored, or before one was sought
+pub data Failing {D : Type 0} (g : Ghosts D) (files : Image) (doubt : Option (List FileText)) (Answered : Answer → Type 0) (before after : D) : Type 0 where
+  Storing : (answer : Answer) → Answered answer → LeavesOnly g before after (MayBeLeft files doubt (opened_files (g.seen before)) answer.stored) → Failing g files doubt Answered before after
+  Seeking : LeavesOnly g before after (HasOnly (IsEither files doubt)) → Failing g files doubt Answered before after
 
 abbrev pub Serve : {D : Type 0} → Ghosts D → Image → Option (List FileText) → (Answer → Type 0) → Result code.Report Stop → D → D → Type 0
 Serve g files doubt Answered (Ok report) before after = Served g files doubt Answered (report_of report) before after
 Serve g files doubt Answered (Err stops.Memory) before after = Unserved g files doubt before after
 Serve g files doubt Answered (Err stops.ReadFault) before after = Unserved g files doubt before after
-Serve g files doubt Answered (Err stops.DiskFault) before after = (answer : Answer) → Answered answer → Failing g files doubt before after answer.stored
+Serve g files doubt Answered (Err stops.DiskFault) before after = Failing g files doubt Answered before after

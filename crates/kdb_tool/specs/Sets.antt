@@ -1,6 +1,6 @@
 -- What becomes of the keys that a command sets: the verdict of a store on the one set of a handle that got its parent before anything
 -- was committed. (This project's own.)
-use Rattle.std.specs.Prelude.{◌≡◌, ℕ, List, [], Option, Some, None, IsSomeAnd}
+use Rattle.std.specs.Prelude.{◌≡◌, ℕ, T, List, [], Option, Some, None, IsSomeAnd}
 use Rattle.std.specs.FinMap as map
 use Rattle.all_formats.specs.Meanings as all
 use Rattle.model_files.specs.Texts.{texts_at}
@@ -11,14 +11,14 @@ use Rattle.model_names.specs.Name.{Name}
 use Rattle.model_store.specs.First.{first_set}
 use Rattle.model_store.specs.Fitting.{Early}
 use Rattle.model_store.specs.Sets.{Prepared}
-use Rattle.model_store.specs.Store.{Store, Formats}
-use Rattle.model_store.specs.Verdicts.{Late, Same, Conflict, DatabaseFull, HistoryFull, Commits, IsEarly, IsLate}
+use Rattle.model_store.specs.Store.{Store, Formats, points_of}
+use Rattle.model_store.specs.Verdicts.{Late, Same, Conflict, Invalid, DatabaseFull, HistoryFull, Commits, IsEarly, IsLate}
 use Rattle.mounted_files.specs.declared.files.MountedFile.{MountedFile}
 use Rattle.store_core.specs.Plans.{store_of}
 use Rattle.store_verdict.specs.Preparing.{fault_of}
 use Rattle.store_verdict.specs.declared.faults.PrepareFault.{PrepareFault}
 use Rattle.store_verdict.specs.declared.faults.PrepareFault.TheVariants as fault
-use Rattle.tool_commands.specs.Lines.{bad_table, value_too_long, file_too_large, not_storable, database_full, history_full}
+use Rattle.tool_commands.specs.Lines.{bad_table, value_too_long, file_too_large, not_storable, invalid, database_full, history_full}
 use Rattle.kdb_tool.specs.Answer.{Answer, Texts, done, stores, refused}
 
 -- the formats of all files
@@ -50,15 +50,17 @@ IsRefusal (fault.NotStorable mount key) answer = answer ≡ refused 5 (not_stora
 IsRefusal (fault.BadTable why) answer = answer ≡ refused 5 (bad_table why)
 IsRefusal fault.Memory answer = ⊥
 
--- what the history makes of a set, where nothing was committed before: nothing blocks it
-abbrev pub IsJudgement : Store → KeyMap → List ℕ → Late → Answer → Type 0
-IsJudgement store keys out (Same aside) answer = answer ≡ done out
-IsJudgement store keys out (Conflict mount by) answer = ⊥
-IsJudgement store keys out (DatabaseFull weight) answer = answer ≡ refused 5 (database_full weight)
-IsJudgement store keys out (HistoryFull weight) answer = answer ≡ refused 5 (history_full weight)
-IsJudgement store keys out (Commits commit aside) answer = answer ≡ stores (stored_by store keys commit) out
+-- what the history and the rules make of a set, where nothing was committed before: nothing blocks it. A violation may have been told of a pattern that
+-- the matcher refused, where it may have refused some
+abbrev pub IsJudgement : Type 0 → Store → KeyMap → List ℕ → Late → Answer → Type 0
+IsJudgement MayRefuse store keys out (Same aside) answer = answer ≡ done out
+IsJudgement MayRefuse store keys out (Conflict mount by) answer = ⊥
+IsJudgement MayRefuse store keys out (Invalid violation risen) answer = (T risen → MayRefuse) × (answer ≡ refused 5 (invalid violation))
+IsJudgement MayRefuse store keys out (DatabaseFull weight) answer = answer ≡ refused 5 (database_full weight)
+IsJudgement MayRefuse store keys out (HistoryFull weight) answer = answer ≡ refused 5 (history_full weight)
+IsJudgement MayRefuse store keys out (Commits commit aside) answer = answer ≡ stores (stored_by store keys commit) out
 
 -- the answer where keys are set at a parent whose keys were got
-pub data AnswersSet (files : List MountedFile) (parent : Name) (keys : KeyMap) (out : List ℕ) (answer : Answer) : Type 0 where
-  Refused : (why : Early) → IsEarly formats (store_alone files) (set_alone (store_alone files) parent keys) (Some why) → IsSomeAnd (fault_of (store_alone files).mounts why) (λ fault. IsRefusal fault answer) → AnswersSet files parent keys out answer
-  Judged : IsEarly formats (store_alone files) (set_alone (store_alone files) parent keys) None → (late : Late) → IsLate [] (store_alone files).start (set_alone (store_alone files) parent keys) late → IsJudgement (store_alone files) (store_alone files).start out late answer → AnswersSet files parent keys out answer
+pub data AnswersSet (MayRefuse : Type 0) (files : List MountedFile) (parent : Name) (keys : KeyMap) (out : List ℕ) (answer : Answer) : Type 0 where
+  Refused : (why : Early) → IsEarly formats (store_alone files) (set_alone (store_alone files) parent keys) (Some why) → IsSomeAnd (fault_of (store_alone files).mounts why) (λ fault. IsRefusal fault answer) → AnswersSet MayRefuse files parent keys out answer
+  Judged : IsEarly formats (store_alone files) (set_alone (store_alone files) parent keys) None → (late : Late) → IsLate (points_of (store_alone files)) [] (store_alone files).start (set_alone (store_alone files) parent keys) late → IsJudgement MayRefuse (store_alone files) (store_alone files).start out late answer → AnswersSet MayRefuse files parent keys out answer

@@ -1,6 +1,6 @@
 -- What is known of a report whatever a disk tells. (This project's own.)
-use Rattle.std.specs.Prelude.{◌≡◌, ℕ, List, []}
-use Rattle.tool_words.specs.Request.{Question, Mounts, FileOf, TextOf, On, Request, Refuses, Bars, Asks, Imports}
+use Rattle.std.specs.Prelude.{◌≡◌, ℕ, List, [], ◌∷◌}
+use Rattle.tool_words.specs.Request.{Question, Mounts, FileOf, TextOf, ViolationsOf, On, Request, Refuses, Bars, Asks, Imports}
 use Rattle.tool_words.specs.Uses.{barred}
 use Rattle.tool_commands.specs.Commands.{row_of}
 use Rattle.tool_commands.specs.Report.{IsEnd, Report, warned}
@@ -10,6 +10,7 @@ abbrev pub own_statuses : Question → List ℕ
 own_statuses Mounts = []
 own_statuses (FileOf name) = []
 own_statuses (TextOf name kind) = []
+own_statuses (ViolationsOf name) = 13 ∷ []
 own_statuses (On name action) = (row_of name action).statuses
 
 -- a question to the store ends so

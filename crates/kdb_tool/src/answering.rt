@@ -1,5 +1,5 @@
 //! The answer to a question to an open store.
-ghost use Rattle.std.specs.Prelude.{◌≡◌, ◌≢◌, ℕ, true, List, ◌++◌, ◌∷◌, [], Some, Ok, Err, IfOk, IfErr, OnOk, IsSomeAnd, string_bytes};
+ghost use Rattle.std.specs.Prelude.{◌≡◌, ◌≢◌, ◌≤◌, ℕ, true, List, ◌++◌, ◌∷◌, [], Some, Ok, Err, IfOk, IfErr, OnOk, IsSomeAnd, string_bytes};
 ghost use Rattle.std.specs.List.{flat_map};
 ghost use Rattle.std.specs.Option.{option_map};
 ghost use Rattle.all_formats.specs.Meanings.{Reads, IsBadAt};
@@ -16,7 +16,7 @@ ghost use Rattle.tool_commands.specs.Report.{IsEnd, warned};
 ghost use Rattle.tool_commands.specs.Step.{TellsEnd};
 ghost use Rattle.kdb_tool.specs.Untold.{IsStatusOf};
 ghost use Rattle.kdb_tool.specs.Answers.{AnswersBelow, AnswersIn, AnswersGot, AnswersText, AnswersStep, file_told, mounts_told, owner_in, line_of_get};
-ghost use Rattle.kdb_tool.specs.Serving.{HasFetched, IsNew, IsOpen, Serving};
+ghost use Rattle.kdb_tool.specs.Serving.{HasFetched, IsNew, IsOpen, MayRefuse, Serving};
 ghost use Rattle.tool_commands.specs.Commands.{parent_of, row_of};
 ghost use Rattle.key_name.specs.Joining.{joined};
 ghost use Rattle.model_names.specs.WellFormed.{IsName};
@@ -28,6 +28,7 @@ ghost use Rattle.tool_words.specs.RequestView.{action_of, question_of};
 ghost use Rattle.model_names.specs.Namespaces.{has_files};
 
 use crate::answers::Stop;
+use crate::checking::check_keys;
 use crate::setting::set_keys;
 use all_formats::AllFormats;
 use kdb_outside::{Disk, FileName, Kind};
@@ -37,6 +38,7 @@ use key_name::{KeyName, NameFault, owner};
 use key_set::KeySet;
 use mount_table::Mount;
 use mounted_files::{GetFault, Mounted};
+use regex_check::Patterns;
 use std::alloc::{AllocError, Global};
 use storage_api::{Formats, WriteRefusal};
 use store_core::{Core, Plan};
@@ -48,27 +50,29 @@ use tool_commands::{
 use tool_words::{Action, Question};
 
 /// The answer to a question to an open store. What it stores is committed by then.
-pub fn answer_in<D: Disk>(
+pub fn answer_in<D: Disk, P: Patterns + Drop>(
     alloc: Global,
     plan: &Plan<AllFormats>,
-    core: &mut Core<D>,
+    core: &mut Core<D, P>,
     question: Question<'_>,
 ) -> Result<Report, Stop>
     requires names { NamesFiles (question_of question) }
     requires open { IsOpen plan.now core.old }
     ensures serving { (bytes_of : List ℕ → List ℕ) → IsOpened Reads IsBadAt bytes_of plan.now.mounted
-        → Serving D.Disk (AnswersIn plan.now.mounted (question_of question.entry)) result core.old core.new }
+        → Serving D.Disk (AnswersIn (MayRefuse result (P.refusals core.old.patterns) (P.refusals core.new.patterns)) plan.now.mounted (question_of question.entry)) result core.old core.new }
     ensures memory { result ≡ Err Stop.Memory → IsUnwritten core.old core.new }
     ensures status { IfOk result (λ report. IsStatusOf (question_of question.entry) report.status) }
     ensures cause { result ≡ Err Stop.DiskFault → HasRisen (D.faults core.old.journal.disk) (D.faults core.new.journal.disk) }
     ensures input { result ≢ Err Stop.ReadFault }
     ensures goes { GoesOn D.Disk core.old.journal.disk core.new.journal.disk }
+    ensures later { P.refusals core.old.patterns ≤ P.refusals core.new.patterns }
 {
     let mounted = plan.mounted();
     match question {
         Question::Mounts => Ok(tell_mounts(alloc, mounted)?),
         Question::FileOf(name) => Ok(tell_file(alloc, mounted, &name)?),
         Question::TextOf { name, kind } => Ok(tell_text(alloc, mounted, &name, kind)?),
+        Question::ViolationsOf(name) => Ok(check_keys(alloc, plan, core, &name)?),
         Question::On { name, action } => act(alloc, plan, core, &name, action),
     }
 }
@@ -182,21 +186,22 @@ fn owner_in<'a>(mounted: &'a Mounted, name: &KeyName) -> &'a Mount
 }
 
 /// The answer to an action on a key.
-fn act<D: Disk>(
+fn act<D: Disk, P: Patterns + Drop>(
     alloc: Global,
     plan: &Plan<AllFormats>,
-    core: &mut Core<D>,
+    core: &mut Core<D, P>,
     name: &KeyName,
     action: Action<'_>,
 ) -> Result<Report, Stop>
     requires open { IsOpen plan.now core.old }
     ensures serving { (bytes_of : List ℕ → List ℕ) → IsOpened Reads IsBadAt bytes_of plan.now.mounted
-        → Serving D.Disk (AnswersGot plan.now.mounted name.now (action_of action.entry) (got plan.now.mounted (parent_of name.now (action_of action.entry)))) result core.old core.new }
+        → Serving D.Disk (AnswersGot (MayRefuse result (P.refusals core.old.patterns) (P.refusals core.new.patterns)) plan.now.mounted name.now (action_of action.entry) (got plan.now.mounted (parent_of name.now (action_of action.entry)))) result core.old core.new }
     ensures memory { result ≡ Err Stop.Memory → IsUnwritten core.old core.new }
     ensures status { IfOk result (λ report. IsEnd (row_of name.now (action_of action.entry)).statuses report.status) }
     ensures cause { result ≡ Err Stop.DiskFault → HasRisen (D.faults core.old.journal.disk) (D.faults core.new.journal.disk) }
     ensures input { result ≢ Err Stop.ReadFault }
     ensures goes { GoesOn D.Disk core.old.journal.disk core.new.journal.disk }
+    ensures later { P.refusals core.old.patterns ≤ P.refusals core.new.patterns }
 {
     let parent = parent_of(alloc, name, &action)?;
     let mut rec = new_record(alloc, plan)?;
@@ -210,17 +215,17 @@ fn act<D: Disk>(
 }
 
 /// The record of the command's handle, which has fetched nothing.
-fn new_record(alloc: Global, plan: &Plan<AllFormats>) -> Result<Record, Memory>
+pub fn new_record(alloc: Global, plan: &Plan<AllFormats>) -> Result<Record, Memory>
     ensures { IfOk result (IsNew plan.now.mounted) }
 {
     Record::new(alloc, 0, plan.table().len(), KeySet::new(alloc))
 }
 
 /// The keys of a parent, which the command's handle gets first of all.
-fn fetch<D: Disk>(
+pub fn fetch<D: Disk, P: Patterns + Drop>(
     alloc: Global,
     plan: &Plan<AllFormats>,
-    core: &Core<D>,
+    core: &Core<D, P>,
     rec: &mut Record,
     parent: &KeyName,
 ) -> Result<KeySet, GetFault>
@@ -259,22 +264,23 @@ fn line_of_get(alloc: Global, fault: &GetFault) -> Result<String, Memory>
 }
 
 /// The answer by what a command makes of the keys that it got.
-fn take_step<D: Disk>(
+fn take_step<D: Disk, P: Patterns + Drop>(
     alloc: Global,
     plan: &Plan<AllFormats>,
-    core: &mut Core<D>,
+    core: &mut Core<D, P>,
     rec: &mut Record,
     parent: &KeyName,
     step: Step,
 ) -> Result<Report, Stop>
     requires open { IsOpen plan.now core.old }
     requires fetched { HasFetched plan.now.mounted parent.now rec.old }
-    ensures serving { Serving D.Disk (AnswersStep plan.now.mounted parent.now (seen_step step)) result core.old core.new }
+    ensures serving { Serving D.Disk (AnswersStep (MayRefuse result (P.refusals core.old.patterns) (P.refusals core.new.patterns)) plan.now.mounted parent.now (seen_step step)) result core.old core.new }
     ensures memory { result ≡ Err Stop.Memory → IsUnwritten core.old core.new }
     ensures status { (own : List ℕ) → TellsEnd own (seen_step step) → IfOk result (λ report. IsEnd own report.status) }
     ensures cause { result ≡ Err Stop.DiskFault → HasRisen (D.faults core.old.journal.disk) (D.faults core.new.journal.disk) }
     ensures input { result ≢ Err Stop.ReadFault }
     ensures goes { GoesOn D.Disk core.old.journal.disk core.new.journal.disk }
+    ensures later { P.refusals core.old.patterns ≤ P.refusals core.new.patterns }
 {
     match step {
         Step::Tells(report) => Ok(report),

@@ -10,10 +10,9 @@ ghost use Rattle.kdb_outside.specs.Frames.{GoesOn, OnlyReads};
 ghost use Rattle.kdb_outside.specs.Images.{Image};
 ghost use Rattle.mounted_files.specs.Getting.{fault_of};
 ghost use Rattle.mounted_files.specs.Holding.{IsHolding, cause_of};
-ghost use Rattle.kdb_tool.specs.Answer.{Answer};
 ghost use Rattle.kdb_tool.specs.Answers.{AnswersImport, line_of_get};
 ghost use Rattle.kdb_tool.specs.Input.{taken, TakesAll, TakesFront};
-ghost use Rattle.kdb_tool.specs.Serving.{MayStore, Serve, Unserved};
+ghost use Rattle.kdb_tool.specs.Serving.{MayRefuse, MayStore, Serve, StoresNothing, Unserved};
 ghost use Rattle.tool_commands.specs.Report.{IsAnswered, IsEnd, warned};
 ghost use Rattle.tool_commands.specs.StepView.{report_of};
 
@@ -27,23 +26,25 @@ use kdb_outside::{Disk, Kind, Source};
 use key_meta::Memory;
 use key_name::KeyName;
 use mounted_files::{FileCause, GetFault, Holding, read_holding};
+use regex_check::Patterns;
 use std::alloc::Global;
 use tool_commands::Report;
 use tool_words::{Action, Question};
 
 /// The answer to an import. Its input is read before the store is opened.
-pub fn import<S: Source, D: Disk>(
+pub fn import<S: Source, D: Disk, P: Patterns + Drop>(
     alloc: Global,
     name: KeyName,
     kind: Kind,
     input: &mut S,
     disk: D,
-) -> Ended<D>
+    patterns: P,
+) -> Ended<D, P>
     ensures served { D.tells disk ≡ true → (files : Image) (doubt : Option (List Item)) → IsCalm (D.seen disk) (D.may_leave disk) files doubt
-        → (bytes : List ℕ) → S.left input.old ≡ Some bytes → Serve D.Disk files doubt (AnswersImport name kind (taken bytes) (opened_files (D.seen disk))) result.answer disk result.disk }
+        → (bytes : List ℕ) → S.left input.old ≡ Some bytes → Serve D.Disk files doubt (AnswersImport (MayRefuse result.answer (P.refusals patterns) (P.refusals result.patterns)) name kind (taken bytes) (opened_files (D.seen disk))) result.answer disk result.disk }
     ensures unserved { D.tells disk ≡ true → (files : Image) (doubt : Option (List Item)) → IsCalm (D.seen disk) (D.may_leave disk) files doubt → (result.answer ≡ Err Stop.Memory) ⊎ (result.answer ≡ Err Stop.ReadFault) → Unserved D.Disk files doubt disk result.disk }
     ensures untouched { D.tells disk ≡ true → open_entry (D.seen disk journal_name) ≡ None → (bytes : List ℕ) → S.left input.old ≡ Some bytes
-        → (answer : Answer) → AnswersImport name kind (taken bytes) (D.seen disk) answer → answer.stored ≡ [] → OnlyReads D.Disk disk result.disk }
+        → StoresNothing (AnswersImport (MayRefuse result.answer (P.refusals patterns) (P.refusals result.patterns)) name kind (taken bytes) (D.seen disk)) → OnlyReads D.Disk disk result.disk }
     ensures unstored { D.tells disk ≡ true → open_entry (D.seen disk journal_name) ≡ None → ¬ MayStore result.answer → OnlyReads D.Disk disk result.disk }
     ensures status { IfOk result.answer (λ report. IsEnd [] report.status) }
     ensures own { IfOk result.answer (λ report. IsAnswered report.status) }
@@ -53,16 +54,20 @@ pub fn import<S: Source, D: Disk>(
     ensures cause { result.answer ≡ Err Stop.DiskFault → HasRisen (D.faults disk) (D.faults result.disk) }
     ensures goes { GoesOn D.Disk disk result.disk }
     ensures later { S.faults input.old ≤ S.faults input.new }
+    ensures later_patterns { P.refusals patterns ≤ P.refusals result.patterns }
 {
     match take_keys(alloc, &name, kind, input) {
         Ok(Holding::Keys { keys }) => {
             let action = Action::Replace(keys);
-            answer_question(alloc, Question::On { name, action }, disk)
+            answer_question(alloc, Question::On { name, action }, disk, patterns)
         }
-        Ok(Holding::Bad { cause }) => without_store(refuse_input(alloc, name, cause), disk),
+        Ok(Holding::Bad { cause }) => {
+            without_store(refuse_input(alloc, name, cause), disk, patterns)
+        }
         Err(stop) => Ended {
             answer: Err(stop),
             disk,
+            patterns,
         },
     }
 }

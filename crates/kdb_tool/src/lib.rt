@@ -7,6 +7,7 @@ ghost use Rattle.kdb_tool.specs.Answers.{Answers};
 
 mod answering;
 mod answers;
+mod checking;
 mod delivery;
 mod importing;
 mod questions;
@@ -18,12 +19,12 @@ mod work;
 pub use tool::run;
 pub use tool_commands::Status;
 
-/// A command line has one answer over its input and the files of a store.
+/// A command line has one answer over its input and the files of a store, where no pattern was refused.
 pub fn words_have_one_answer()
-    ensures { (words : List (List ℕ)) (input : List ℕ) (files : List ℕ → List ℕ) (a b : Answer) → Answers words input files a → Answers words input files b → a ≡ b }
+    ensures { (words : List (List ℕ)) (input : List ℕ) (files : List ℕ → List ℕ) (a b : Answer) → Answers ⊥ words input files a → Answers ⊥ words input files b → a ≡ b }
 {}
 
-/// A command line has an answer over every input and all files, whatever its words and the bytes of the files.
+/// A command line is never without an answer over an input and files, whatever its words and the bytes of the files, where patterns may be refused.
 pub fn words_have_an_answer()
-    ensures { (words : List (List ℕ)) (input : List ℕ) (files : List ℕ → List ℕ) → (answer : Answer) × Answers words input files answer }
+    ensures { (words : List (List ℕ)) (input : List ℕ) (files : List ℕ → List ℕ) → ¬ ((answer : Answer) → ¬ Answers (Unit {0}) words input files answer) }
 {}

@@ -1,5 +1,5 @@
 //! A question to the store: it is opened, answers, and is closed.
-ghost use Rattle.std.specs.Prelude.{◌≡◌, ◌≢◌, ℕ, List, [], Option, Some, None, true, false, IfOk, OnOk, Err, is_some, string_bytes, length};
+ghost use Rattle.std.specs.Prelude.{◌≡◌, ◌≢◌, ◌≤◌, ℕ, List, [], Option, Some, None, true, false, IfOk, OnOk, Err, is_some, string_bytes, length};
 ghost use Rattle.intent_journal.specs.BadJournals.{open_entry, opened_files};
 ghost use Rattle.intent_journal.specs.States.{IsCalm};
 ghost use Rattle.journal_codec.specs.Entry.{journal_name};
@@ -7,10 +7,9 @@ ghost use Rattle.journal_codec.specs.declared.files.FileText.{FileText as Item};
 ghost use Rattle.kdb_outside.specs.Faults.{HasRisen};
 ghost use Rattle.kdb_outside.specs.Frames.{GoesOn, OnlyReads};
 ghost use Rattle.kdb_outside.specs.Images.{Image};
-ghost use Rattle.kdb_tool.specs.Answer.{Answer};
 ghost use Rattle.kdb_tool.specs.Answers.{AnswersOver};
 ghost use Rattle.kdb_tool.specs.Lines.{line_of_store};
-ghost use Rattle.kdb_tool.specs.Serving.{IsOpen, MayStore, Serve};
+ghost use Rattle.kdb_tool.specs.Serving.{IsOpen, MayRefuse, MayStore, Serve, StoresNothing};
 ghost use Rattle.kdb_tool.specs.Untold.{IsStatusOf};
 ghost use Rattle.store_core.specs.declared.faults.OpenFault.TheVariants.{DiskFault as OfDisk, Memory as OfMemory};
 ghost use Rattle.tool_commands.specs.Report.{IsAnswered, warned};
@@ -23,36 +22,54 @@ use crate::answers::{Ended, Stop};
 use all_formats::AllFormats;
 use kdb_outside::Disk;
 use key_meta::Memory;
+use regex_check::Patterns;
 use std::alloc::{AllocError, Global};
-use store_core::{OpenFault, OpenRefused, Opened, open_store};
+use store_core::{Closed, OpenFault, OpenRefused, Opened, open_store};
 use tool_commands::{REFUSED, Report, bad_file, bad_journal, bad_table, own_point, too_long, warn};
 use tool_words::Question;
 
 /// The answer to a question over the store of a disk. What it stores is stored by then.
-pub fn answer_question<D: Disk>(alloc: Global, question: Question<'_>, disk: D) -> Ended<D>
+pub fn answer_question<D: Disk, P: Patterns + Drop>(
+    alloc: Global,
+    question: Question<'_>,
+    disk: D,
+    patterns: P,
+) -> Ended<D, P>
     requires { NamesFiles (question_of question) }
-    ensures served { D.tells disk ≡ true → (files : Image) (doubt : Option (List Item)) → IsCalm (D.seen disk) (D.may_leave disk) files doubt → Serve D.Disk files doubt (AnswersOver (question_of question.entry) (opened_files (D.seen disk))) result.answer disk result.disk }
-    ensures untouched { D.tells disk ≡ true → open_entry (D.seen disk journal_name) ≡ None → (answer : Answer) → AnswersOver (question_of question.entry) (D.seen disk) answer → answer.stored ≡ [] → OnlyReads D.Disk disk result.disk }
+    ensures served { D.tells disk ≡ true → (files : Image) (doubt : Option (List Item)) → IsCalm (D.seen disk) (D.may_leave disk) files doubt
+        → Serve D.Disk files doubt (AnswersOver (MayRefuse result.answer (P.refusals patterns) (P.refusals result.patterns)) (question_of question.entry) (opened_files (D.seen disk))) result.answer disk result.disk }
+    ensures untouched { D.tells disk ≡ true → open_entry (D.seen disk journal_name) ≡ None
+        → StoresNothing (AnswersOver (MayRefuse result.answer (P.refusals patterns) (P.refusals result.patterns)) (question_of question.entry) (D.seen disk)) → OnlyReads D.Disk disk result.disk }
     ensures unstored { D.tells disk ≡ true → open_entry (D.seen disk journal_name) ≡ None → ¬ MayStore result.answer → OnlyReads D.Disk disk result.disk }
     ensures status { IfOk result.answer (λ report. IsStatusOf (question_of question.entry) report.status) }
     ensures own { IfOk result.answer (λ report. IsAnswered report.status) }
     ensures cause { result.answer ≡ Err Stop.DiskFault → HasRisen (D.faults disk) (D.faults result.disk) }
     ensures input { result.answer ≢ Err Stop.ReadFault }
     ensures goes { GoesOn D.Disk disk result.disk }
+    ensures later { P.refusals patterns ≤ P.refusals result.patterns }
 {
-    match open_store(alloc, disk, AllFormats) {
+    match open_store(alloc, disk, AllFormats, patterns) {
         Ok(opened) => {
             let Opened { plan, core } = opened;
             let mut core = core;
             let answer = answer_in(alloc, &plan, &mut core, question);
+            let Closed { disk, patterns, .. } = core.close();
             Ended {
                 answer,
-                disk: core.close().disk,
+                disk,
+                patterns,
             }
         }
-        Err(OpenRefused { fault, disk }) => Ended {
+        Err(
+            OpenRefused {
+                fault,
+                disk,
+                patterns,
+            },
+        ) => Ended {
             answer: refuse_opening(alloc, &fault),
             disk,
+            patterns,
         },
     }
 }

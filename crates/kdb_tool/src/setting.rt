@@ -1,9 +1,9 @@
 //! What becomes of the keys that a command sets: they are prepared against what its handle got, and committed.
-ghost use Rattle.std.specs.Prelude.{◌≡◌, ◌≢◌, ℕ, List, Err, IfOk, map as over, string_bytes};
+ghost use Rattle.std.specs.Prelude.{◌≡◌, ◌≢◌, ◌≤◌, ℕ, List, Err, IfOk, map as over, string_bytes};
 ghost use Rattle.kdb_outside.specs.Faults.{HasRisen};
 ghost use Rattle.kdb_outside.specs.Frames.{GoesOn};
 ghost use Rattle.kdb_tool.specs.Answer.{tells};
-ghost use Rattle.kdb_tool.specs.Serving.{HasFetched, IsAlone, IsOpen, Serving};
+ghost use Rattle.kdb_tool.specs.Serving.{HasFetched, IsAlone, IsOpen, MayRefuse, Serving};
 ghost use Rattle.kdb_tool.specs.Refusing.{IsRefusalOf};
 ghost use Rattle.kdb_tool.specs.Sets.{AnswersSet, IsRefusal, store_alone, the_handle, formats};
 ghost use Rattle.model_maps.specs.KeyMap.{KeyMap};
@@ -22,19 +22,20 @@ use kdb_outside::Disk;
 use key_meta::Memory;
 use key_name::KeyName;
 use key_set::KeySet;
+use regex_check::Patterns;
 use std::alloc::{AllocError, Global};
 use store_core::{CommitFault, Core, Plan};
 use store_verdict::{PrepareFault, Prepared, Record};
 use tool_commands::{
-    REFUSED, Report, bad_table, database_full, file_too_large, history_full, not_storable, tell,
-    value_too_long, warn,
+    REFUSED, Report, bad_table, database_full, file_too_large, history_full, invalid, not_storable,
+    tell, value_too_long, warn,
 };
 
 /// The answer where keys are set at a parent that the command's handle got.
-pub fn set_keys<D: Disk>(
+pub fn set_keys<D: Disk, P: Patterns + Drop>(
     alloc: Global,
     plan: &Plan<AllFormats>,
-    core: &mut Core<D>,
+    core: &mut Core<D, P>,
     rec: &mut Record,
     parent: &KeyName,
     keys: &KeySet,
@@ -42,12 +43,13 @@ pub fn set_keys<D: Disk>(
 ) -> Result<Report, Stop>
     requires open { IsOpen plan.now core.old }
     requires fetched { HasFetched plan.now.mounted parent.now rec.old }
-    ensures serving { Serving D.Disk (AnswersSet plan.now.mounted parent.now keys.now (string_bytes out)) result core.old core.new }
+    ensures serving { Serving D.Disk (AnswersSet (MayRefuse result (P.refusals core.old.patterns) (P.refusals core.new.patterns)) plan.now.mounted parent.now keys.now (string_bytes out)) result core.old core.new }
     ensures memory { result ≡ Err Stop.Memory → IsUnwritten core.old core.new }
     ensures status { (own : List ℕ) → IfOk result (λ report. IsEnd own report.status) }
     ensures cause { result ≡ Err Stop.DiskFault → HasRisen (D.faults core.old.journal.disk) (D.faults core.new.journal.disk) }
     ensures input { result ≢ Err Stop.ReadFault }
     ensures goes { GoesOn D.Disk core.old.journal.disk core.new.journal.disk }
+    ensures later { P.refusals core.old.patterns ≤ P.refusals core.new.patterns }
 {
     match plan.prepare(alloc, rec, parent, keys) {
         Ok(prepared) => commit_set(alloc, plan, core, rec, prepared, out),
@@ -78,10 +80,10 @@ fn refuse_set(alloc: Global, fault: &PrepareFault) -> Result<Report, Memory>
 }
 
 /// The answer where the set of a handle is committed that got its parent before any commit, so that none can block it.
-fn commit_set<D: Disk>(
+fn commit_set<D: Disk, P: Patterns + Drop>(
     alloc: Global,
     plan: &Plan<AllFormats>,
-    core: &mut Core<D>,
+    core: &mut Core<D, P>,
     rec: &mut Record,
     prepared: Prepared,
     out: String,
@@ -89,12 +91,13 @@ fn commit_set<D: Disk>(
     requires open { IsOpen plan.now core.old }
     requires alone { IsAlone plan.now.mounted rec.old prepared }
     ensures serving { (parent : Name) (keys : KeyMap) → HasFetched plan.now.mounted parent rec.old → IsMade formats (store_alone plan.now.mounted) the_handle (record_of rec.old) parent keys prepared
-        → Serving D.Disk (AnswersSet plan.now.mounted parent keys (string_bytes out)) result core.old core.new }
+        → Serving D.Disk (AnswersSet (MayRefuse result (P.refusals core.old.patterns) (P.refusals core.new.patterns)) plan.now.mounted parent keys (string_bytes out)) result core.old core.new }
     ensures memory { result ≡ Err Stop.Memory → IsUnwritten core.old core.new }
     ensures status { (own : List ℕ) → IfOk result (λ report. IsEnd own report.status) }
     ensures cause { result ≡ Err Stop.DiskFault → HasRisen (D.faults core.old.journal.disk) (D.faults core.new.journal.disk) }
     ensures input { result ≢ Err Stop.ReadFault }
     ensures goes { GoesOn D.Disk core.old.journal.disk core.new.journal.disk }
+    ensures later { P.refusals core.old.patterns ≤ P.refusals core.new.patterns }
 {
     let report = tell(alloc, out);
     match core.commit(alloc, plan, rec, prepared) {
@@ -111,6 +114,9 @@ fn refuse_commit(alloc: Global, fault: CommitFault) -> Result<Report, Stop>
     ensures input { result ≢ Err Stop.ReadFault }
 {
     match fault {
+        CommitFault::Invalid { violation, .. } => {
+            Ok(warn(alloc, REFUSED, &invalid(alloc, &violation)?)?)
+        }
         CommitFault::DatabaseFull { weight, .. } => {
             Ok(warn(alloc, REFUSED, &database_full(alloc, weight)?)?)
         }

@@ -4,3 +4,5 @@ pub mod DefaultLemmas
 pub mod SpecifiedLemmas
 pub mod ViolationLemmas
 pub mod ViolationsOnce
+pub mod Refusals
+pub mod FirstsOnce

@@ -1,5 +1,5 @@
 //! The laws of specified sets.
-ghost use Rattle.std.specs.Prelude.{◌≡◌, Bool, List, ◌∷◌, ◌++◌, ℕ};
+ghost use Rattle.std.specs.Prelude.{◌≡◌, ◌≤◌, Bool, List, [], ◌∷◌, ◌++◌, length, Option, Some, None, ℕ};
 ghost use Rattle.std.specs.Bool.{Decides};
 ghost use Rattle.std.specs.FinMap as map;
 ghost use Rattle.std.specs.Option.{option_map, option_or};
@@ -10,7 +10,8 @@ ghost use Rattle.model_names.specs.Glob.{HasGlob, MatchesGlob};
 ghost use Rattle.model_names.specs.Name.{Name, Part};
 ghost use Rattle.model_specified.specs.Globs.{has_glob, matches_glob};
 ghost use Rattle.model_specified.specs.SpecMeta.{laid_over, spec_keys, spec_meta, specs_of};
-ghost use Rattle.model_specified.specs.Violations.{AreOfKeys, AreViolations, BeginWith, checked_keys};
+ghost use Rattle.model_rules.specs.Rules.{longest_pattern};
+ghost use Rattle.model_specified.specs.Violations.{AreOfKeys, AreViolations, BeginWith, IsFirstViolation, checked_keys};
 ghost use Rattle.model_specified.specs.declared.violations.Violation.{Violation};
 ghost use Rattle.model_specified.specs.Specified.{default_at, specified, specified_entry, with_defaults};
 
@@ -43,4 +44,24 @@ pub fn without_refusals_a_set_has_one_list_of_violations()
 /// The first violation stands first in each list of all violations that goes on from those of the keys up to it.
 pub fn the_first_violation_begins_a_list()
     ensures { (before now : ℕ) (is_chosen : Name → Bool) (keys : KeyMap) (violation : Violation) (first : BeginWith (HasRisen before now) (checked_keys is_chosen keys) violation) (others : List Violation) → AreOfKeys (HasRisen before now) first.behind others → AreViolations (HasRisen before now) is_chosen keys (violation ∷ (first.more ++ others)) }
+{}
+
+/// Where no pattern may be refused, a set has one first violation at most, and none where it has no violations.
+pub fn without_refusals_a_set_has_one_first_violation()
+    ensures { (is_chosen : Name → Bool) (keys : KeyMap) (a b : Option Violation) → IsFirstViolation ⊥ is_chosen keys a → IsFirstViolation ⊥ is_chosen keys b → a ≡ b }
+{}
+
+/// To find no violations nothing has to be refused.
+pub fn to_find_no_violations_needs_no_refusals()
+    ensures { (before now : ℕ) (is_chosen : Name → Bool) (keys : KeyMap) → AreViolations (HasRisen before now) is_chosen keys [] → AreViolations ⊥ is_chosen keys [] }
+{}
+
+/// Rule 6 is the first violation, with a pattern of at most 1,024 bytes, only where the matcher's count of refusals rose.
+pub fn a_short_pattern_is_refused_by_the_matcher()
+    ensures { (before now : ℕ) (is_chosen : Name → Bool) (keys : KeyMap) (violation : Violation) → IsFirstViolation (HasRisen before now) is_chosen keys (Some violation) → violation.rule ≡ 6 → length violation.given ≤ longest_pattern → HasRisen before now }
+{}
+
+/// Where patterns may be refused, it is absurd that a set has neither a first violation nor none.
+pub fn a_set_has_a_first_violation_or_none()
+    ensures { (before now : ℕ) (is_chosen : Name → Bool) (keys : KeyMap) → HasRisen before now → ((answer : Option Violation) → IsFirstViolation (HasRisen before now) is_chosen keys answer → ⊥) → ⊥ }
 {}

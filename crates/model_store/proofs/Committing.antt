@@ -67,7 +67,7 @@ module _ (formats : Formats) (store : Store) (history : List Commit) (handle : �
         | false ↦ map.get-empty name_cmp q
       ]
 
-  module _ (rec : Record) (known : IsRecord store history fronts rec) (legal : AreLegal formats store store.start history) (passed : HasPassed formats store set) (commit : Commit) (done : IsCommitted history present set commit) where
+  module _ (rec : Record) (known : IsRecord store history fronts rec) (legal : AreLegal formats store store.start history) (passed : HasPassed formats store set) (commit : Commit) (done : IsCommitted points history present set commit) where
     -- the front of a touched mount
     pub record HasFront (m : ℕ) : Type 0 where
       pub front : ℕ
@@ -111,5 +111,6 @@ module _ (formats : Formats) (store : Store) (history : List Commit) (handle : �
       each = all_among (HasChange points (map.entries set.changes)) set.touched (λ m among. let at = has_front m among in has-change points before wanted owned set.touched m among at.differ);
       differs = λ q new found is. change-differs points before wanted owned present set.touched as_kept q new found is;
       fits = all_among (Fits formats store (λ m. owned_by points m (after present set.changes))) set.touched (λ m among. fits-alike formats store wanted (λ n. owned_by points n (after present set.changes)) m (sym (stored_at m among)) (passed.fits m among));
+      valid = done.valid;
       light = done.light;
     }

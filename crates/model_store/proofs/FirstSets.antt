@@ -18,12 +18,13 @@ use Rattle.mount_table.specs.Points.{own_point}
 use Rattle.mount_table.specs.Table.{table_of}
 use Rattle.mount_table.specs.declared.faults.TableFault.{TableFault}
 use Rattle.mount_table.specs.declared.mounts.Mount.{Mount}
+use Rattle.model_specified.specs.declared.violations.Violation.{Violation}
 use Rattle.model_store.specs.First.{first_record, first_set}
 use Rattle.model_store.specs.Fitting.{Early, NotFetched, ValueTooLong, TooHeavy, NotStorable, TooLong, BadTable, heavy_contents, too_heavy, long_text, too_long, fault_of_table, bad_table, IsStorableAt}
 use Rattle.model_store.specs.Records.{Fetched}
 use Rattle.model_store.specs.Sets.{Prepared, only, wants, kept, differs}
 use Rattle.model_store.specs.Store.{Store, Formats, contents, points_of}
-use Rattle.model_store.specs.Verdicts.{Late, Same, Conflict, DatabaseFull, HistoryFull, Commits, Follows, IsEarly, IsLate, BreaksFirst, wanted_in, if_unseen, not_fetched, long_value, before_formats, behind_formats, conflict_at, conflict, commit_of, if_untouched, if_heavy, if_full}
+use Rattle.model_store.specs.Verdicts.{Late, Same, Conflict, Invalid, DatabaseFull, HistoryFull, Commits, Follows, Checks, IsEarly, IsLate, BreaksFirst, wanted_in, if_unseen, not_fetched, long_value, before_formats, behind_formats, conflict_at, conflict, commit_of, if_untouched, if_heavy, if_full}
 use Rattle.model_store.proofs.Members.{among-first, among-rest, among-filter}
 use Rattle.model_store.proofs.Owners.{get-other}
 use Rattle.model_store.proofs.Touched.{AreOwned, change-differs}
@@ -130,6 +131,11 @@ told_off : (bad : Late → Bool) (o : Option Late) (late : Late) (P : Type 0) �
 told_off bad None late P off behind p = behind refl p
 told_off bad (Some told) late P off behind p = ap bad (some_is late told p) ∙ off told refl
 
+checked_off : (bad : Late → Bool) (points : List Name) (keys : KeyMap) (set : Prepared) (late : Late) (P : Type 0) → ((violation : Violation) (risen : Bool) → bad (Invalid violation risen) ≡ false) → (P → bad late ≡ false)
+    → Checks points keys set late P → bad late ≡ false
+checked_off bad points keys set late P off behind (inl breaks) = ap bad breaks.is ∙ off breaks.violation breaks.risen
+checked_off bad points keys set late P off behind (inr kept) = behind kept.1
+
 limited : (bad : Late → Bool) (b : Bool) (one told : Late) → bad one ≡ false → cond b (Some one) None ≡ Some told → bad told ≡ false
 limited bad true one told off is = ap bad (sym (some_is one told is)) ∙ off
 limited bad false one told off is = absurd cc
@@ -145,6 +151,7 @@ same_off bad (m ∷ touched) aside told off is = absurd cc
 abbrev is_conflict : Late → Bool
 is_conflict (Same aside) = false
 is_conflict (Conflict m by) = true
+is_conflict (Invalid violation risen) = false
 is_conflict (DatabaseFull n) = false
 is_conflict (HistoryFull n) = false
 is_conflict (Commits commit aside) = false
@@ -152,11 +159,12 @@ is_conflict (Commits commit aside) = false
 abbrev is_full : Late → Bool
 is_full (Same aside) = false
 is_full (Conflict m by) = false
+is_full (Invalid violation risen) = false
 is_full (DatabaseFull n) = false
 is_full (HistoryFull n) = true
 is_full (Commits commit aside) = false
 
-module _ (history : List Commit) (start : KeyMap) (set : Prepared) (free : conflict history set ≡ None) where
+module _ (points : List Name) (history : List Commit) (start : KeyMap) (set : Prepared) (free : conflict history set ≡ None) where
   abbrev w : ℕ
   w = weight (after start set.changes)
 
@@ -166,21 +174,23 @@ module _ (history : List Commit) (start : KeyMap) (set : Prepared) (free : confl
   no_conflict : (told : Late) (bad : Late → Bool) → conflict history set ≡ Some told → bad told ≡ false
   no_conflict told bad is = let both : None ≡ Some told = sym free ∙ is in absurd cc
 
-  never_blocked : (late : Late) → IsLate history start set late → is_conflict late ≡ false
+  never_blocked : (late : Late) → IsLate points history start set late → is_conflict late ≡ false
   never_blocked late is =
       told_off is_conflict (if_untouched set.touched set.aside) late _ (λ told e. same_off is_conflict set.touched set.aside told refl e)
       (λ _ p. told_off is_conflict (conflict history set) late _ (λ told e. no_conflict told is_conflict e)
-      (λ _ q. told_off is_conflict (if_heavy w) late _ (λ told e. limited is_conflict (nat_lt heaviest_map w) (DatabaseFull (saturated w)) told refl e)
+      (λ _ c. checked_off is_conflict points start set late _ (λ violation risen. refl)
+      (λ q. told_off is_conflict (if_heavy w) late _ (λ told e. limited is_conflict (nat_lt heaviest_map w) (DatabaseFull (saturated w)) told refl e)
       (λ _ r. told_off is_conflict (if_full h) late _ (λ told e. limited is_conflict (nat_lt heaviest_history h) (HistoryFull (saturated h)) told refl e)
-      (λ _ s. ap is_conflict s) r) q) p) is
+      (λ _ s. ap is_conflict s) r) q) c) p) is
 
-  never_full : (w ≤ heaviest_map → h ≤ heaviest_history) → (late : Late) → IsLate history start set late → is_full late ≡ false
+  never_full : (w ≤ heaviest_map → h ≤ heaviest_history) → (late : Late) → IsLate points history start set late → is_full late ≡ false
   never_full room late is =
       told_off is_full (if_untouched set.touched set.aside) late _ (λ told e. same_off is_full set.touched set.aside told refl e)
       (λ _ p. told_off is_full (conflict history set) late _ (λ told e. no_conflict told is_full e)
-      (λ _ q. told_off is_full (if_heavy w) late _ (λ told e. limited is_full (nat_lt heaviest_map w) (DatabaseFull (saturated w)) told refl e)
+      (λ _ c. checked_off is_full points start set late _ (λ violation risen. refl)
+      (λ q. told_off is_full (if_heavy w) late _ (λ told e. limited is_full (nat_lt heaviest_map w) (DatabaseFull (saturated w)) told refl e)
       (λ light r. told_off is_full (if_full h) late _ (λ told e. absurd (full_off told (room (ltb-false heaviest_map w (unheavy _ (DatabaseFull (saturated w)) light))) e))
-      (λ _ s. ap is_full s) r) q) p) is
+      (λ _ s. ap is_full s) r) q) c) p) is
     where
       full_off : (told : Late) → h ≤ heaviest_history → if_full h ≡ Some told → ⊥
       full_off told le e = by (nat_lt heaviest_history h) refl e
@@ -242,16 +252,16 @@ module _ (formats : Formats) (store : Store) (handle : ℕ) (parent : Name) (key
   never-unseen early m is unseen = never_unseen formats store (first_set store handle parent keys) (fetched-first store handle parent keys) early m is unseen
 
 module _ (store : Store) (handle : ℕ) (parent : Name) (keys : KeyMap) where
-  pub never-blocked : (late : Late) (m by : ℕ) → IsLate [] store.start (first_set store handle parent keys) late → late ≡ Conflict m by → ⊥
+  pub never-blocked : (late : Late) (m by : ℕ) → IsLate (points_of store) [] store.start (first_set store handle parent keys) late → late ≡ Conflict m by → ⊥
   never-blocked late m by is blocked =
       let set = first_set store handle parent keys in
-      let off : is_conflict late ≡ false = never_blocked [] store.start set (free-first set) late is in
+      let off : is_conflict late ≡ false = never_blocked (points_of store) [] store.start set (free-first set) late is in
       let on : is_conflict late ≡ true = ap is_conflict blocked in
       absurd cc
 
-  pub never-full : weight store.start ≤ heaviest_map → (late : Late) (n : ℕ) → IsLate [] store.start (first_set store handle parent keys) late → late ≡ HistoryFull n → ⊥
+  pub never-full : weight store.start ≤ heaviest_map → (late : Late) (n : ℕ) → IsLate (points_of store) [] store.start (first_set store handle parent keys) late → late ≡ HistoryFull n → ⊥
   never-full light late n is full =
       let set = first_set store handle parent keys in
-      let off : is_full late ≡ false = never_full [] store.start set (free-first set) (room-first store handle parent keys light) late is in
+      let off : is_full late ≡ false = never_full (points_of store) [] store.start set (free-first set) (room-first store handle parent keys light) late is in
       let on : is_full late ≡ true = ap is_full full in
       absurd cc

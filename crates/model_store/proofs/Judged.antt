@@ -1,19 +1,22 @@
 -- What follows from a verdict: a set that passed has fronts and fits its files; a set that commits is blocked by nothing and is light.
-use Rattle.std.proofs.Common.{◌≡◌, ◌⊎◌, ℕ, ◌≤◌, Bool, true, false, cond, nat_lt, List, [], ◌∷◌, ◌++◌, Option, Some, None, refl, sym, ap, ◌∙◌, inl, inr, ltb-false}
+use Rattle.std.proofs.Common.{◌≡◌, ◌⊎◌, ℕ, ◌≤◌, Bool, true, false, cond, nat_lt, List, [], ◌∷◌, ◌++◌, Option, Some, None, refl, sym, ap, subst, ◌∙◌, inl, inr, ltb-false}
 use Rattle.std.specs.List.{AllByRecursion}
 use Rattle.std.specs.Option.{option_map, option_or, option_and_then}
 use Rattle.general_words.specs.Saturated.{saturated}
 use Rattle.general_words.specs.Searches.{first_some}
 use Rattle.general_words.proofs.Searches.{none_before, none_behind}
 use Rattle.general_words.proofs.Lists.{some_is}
+use Rattle.model_names.specs.Name.{Name}
 use Rattle.model_maps.specs.KeyMap.{KeyMap, weight, heaviest_map}
 use Rattle.model_history.specs.Changes.{after}
 use Rattle.model_history.specs.History as past
 use Rattle.model_history.specs.History.{is_among, history_weight, heaviest_history, first_after}
+use Rattle.model_specified.specs.declared.violations.Violation.{Violation}
 use Rattle.model_store.specs.Store.{Store, Formats}
 use Rattle.model_store.specs.Fitting.{Fits, too_heavy, too_long, bad_table, IsStorableAt}
+use Rattle.model_store.specs.Rules.{FirstBreach, KeepRules}
 use Rattle.model_store.specs.Sets.{Prepared}
-use Rattle.model_store.specs.Verdicts.{Late, Same, Conflict, DatabaseFull, HistoryFull, Commits, Follows, IsEarly, IsLate, BreaksFirst, wanted_in, if_unseen, not_fetched, long_value, before_formats, behind_formats, blocking, conflict_at, conflict, commit_of, if_untouched, if_heavy, if_full}
+use Rattle.model_store.specs.Verdicts.{Late, Same, Conflict, Invalid, DatabaseFull, HistoryFull, Commits, Follows, Checks, IsEarly, IsLate, BreaksFirst, wanted_in, if_unseen, not_fetched, long_value, before_formats, behind_formats, blocking, conflict_at, conflict, commit_of, if_untouched, if_heavy, if_full}
 use Rattle.model_store.proofs.Members.{from_all, nothing_at}
 
 -- where an answer is nothing, no step tells anything
@@ -25,6 +28,12 @@ nothing-follows (Some told) P h = absurd cc
 rest-follows : {A : Type 0} (o : Option A) (answer : A) (P : Type 0) → (o ≡ Some answer → ⊥) → Follows o (Some answer) P → (o ≡ None) × P
 rest-follows None answer P off h = (refl, h)
 rest-follows (Some told) answer P off h = absurd (off (sym h))
+
+-- where the rules tell no answer, they are kept and the rest holds of it
+rest-checked : (points : List Name) (keys : KeyMap) (set : Prepared) (answer : Late) (P : Type 0) → ((violation : Violation) (risen : Bool) → answer ≡ Invalid violation risen → ⊥) → Checks points keys set answer P
+    → KeepRules points set.touched (after keys set.changes) × P
+rest-checked points keys set answer P off (inl breaks) = absurd (off breaks.violation breaks.risen breaks.is)
+rest-checked points keys set answer P off (inr kept) = (kept.0, kept.1)
 
 -- ---- before the history
 
@@ -58,8 +67,9 @@ has_passed formats store set early =
 
 -- ---- by the history
 
-pub record IsCommitted (history : List past.Commit) (keys : KeyMap) (set : Prepared) (commit : past.Commit) : Type 0 where
+pub record IsCommitted (points : List Name) (history : List past.Commit) (keys : KeyMap) (set : Prepared) (commit : past.Commit) : Type 0 where
   pub free : conflict history set ≡ None
+  pub valid : KeepRules points set.touched (after keys set.changes)
   pub light : weight (after keys set.changes) ≤ heaviest_map
   pub not_full : history_weight (history ++ commit_of set ∷ []) ≤ heaviest_history
   pub is : commit ≡ commit_of set
@@ -68,20 +78,22 @@ abbrev is_commit : Late → Bool
 is_commit (Commits commit aside) = true
 is_commit late = false
 
-no_same : (touched : List ℕ) (n : ℕ) (late : Late) → if_untouched touched n ≡ Some late → is_commit late ≡ false
-no_same [] n late e = ap is_commit (sym (some_is (Same n) late e))
-no_same (m ∷ touched) n late e = absurd cc
+-- an answer that a step tells is not of some other kind
+module _ (is_kind : Late → Bool) where
+  no_same : (touched : List ℕ) (n : ℕ) (late : Late) → is_kind (Same n) ≡ false → if_untouched touched n ≡ Some late → is_kind late ≡ false
+  no_same [] n late off e = ap is_kind (sym (some_is (Same n) late e)) ∙ off
+  no_same (m ∷ touched) n late off e = absurd cc
 
-no_conflict : (history : List past.Commit) (fronts : ℕ → Option ℕ) (ms : List ℕ) (late : Late) → first_some (conflict_at history fronts) ms ≡ Some late → is_commit late ≡ false
-no_conflict history fronts [] late e = absurd cc
-no_conflict history fronts (m ∷ ms) late e = elim (blocking history fronts m) as (λ (o : Option ℕ). option_or (option_map (Conflict m) o) (first_some (conflict_at history fronts) ms) ≡ Some late → is_commit late ≡ false) [
-  | None ↦ λ h. no_conflict history fronts ms late h
-  | Some by ↦ λ h. ap is_commit (sym (some_is (Conflict m by) late h))
-] e
+  no_conflict : (history : List past.Commit) (fronts : ℕ → Option ℕ) (ms : List ℕ) (late : Late) → ((m by : ℕ) → is_kind (Conflict m by) ≡ false) → first_some (conflict_at history fronts) ms ≡ Some late → is_kind late ≡ false
+  no_conflict history fronts [] late off e = absurd cc
+  no_conflict history fronts (m ∷ ms) late off e = elim (blocking history fronts m) as (λ (o : Option ℕ). option_or (option_map (Conflict m) o) (first_some (conflict_at history fronts) ms) ≡ Some late → is_kind late ≡ false) [
+    | None ↦ λ h. no_conflict history fronts ms late off h
+    | Some by ↦ λ h. ap is_kind (sym (some_is (Conflict m by) late h)) ∙ off m by
+  ] e
 
-no_limit : (b : Bool) (told late : Late) → is_commit told ≡ false → cond b (Some told) None ≡ Some late → is_commit late ≡ false
-no_limit true told late off e = ap is_commit (sym (some_is told late e)) ∙ off
-no_limit false told late off e = absurd cc
+  no_limit : (b : Bool) (told late : Late) → is_kind told ≡ false → cond b (Some told) None ≡ Some late → is_kind late ≡ false
+  no_limit true told late off e = ap is_kind (sym (some_is told late e)) ∙ off
+  no_limit false told late off e = absurd cc
 
 within : (n limit : ℕ) (told : Late) → cond (nat_lt limit n) (Some told) None ≡ None → n ≤ limit
 within n limit told e = elim (nat_lt limit n) as (λ b. nat_lt limit n ≡ b → cond b (Some told) None ≡ None → n ≤ limit) [
@@ -89,16 +101,19 @@ within n limit told e = elim (nat_lt limit n) as (λ b. nat_lt limit n ≡ b →
   | false ↦ λ is h. ltb-false limit n is
 ] refl e
 
-pub is_committed : (history : List past.Commit) (keys : KeyMap) (set : Prepared) (commit : past.Commit) (aside : ℕ) → IsLate history keys set (Commits commit aside) → IsCommitted history keys set commit
-is_committed history keys set commit aside late =
-    let touched = rest-follows (if_untouched set.touched set.aside) (Commits commit aside) _ (λ e. let off : is_commit (Commits commit aside) ≡ false = no_same set.touched set.aside (Commits commit aside) e in absurd cc) late in
-    let free = rest-follows (conflict history set) (Commits commit aside) _ (λ e. let off : is_commit (Commits commit aside) ≡ false = no_conflict history set.fronts set.touched (Commits commit aside) e in absurd cc) touched.1 in
+pub is_committed : (points : List Name) (history : List past.Commit) (keys : KeyMap) (set : Prepared) (commit : past.Commit) (aside : ℕ) → IsLate points history keys set (Commits commit aside) → IsCommitted points history keys set commit
+is_committed points history keys set commit aside late =
+    let is : Late = Commits commit aside in
+    let touched = rest-follows (if_untouched set.touched set.aside) is _ (λ e. let off : is_commit is ≡ false = no_same is_commit set.touched set.aside is refl e in absurd cc) late in
+    let free = rest-follows (conflict history set) is _ (λ e. let off : is_commit is ≡ false = no_conflict is_commit history set.fronts set.touched is (λ m by. refl) e in absurd cc) touched.1 in
+    let valid = rest-checked points keys set is _ (λ violation risen e. let off : is_commit is ≡ false = ap is_commit e in absurd cc) free.1 in
     let w : ℕ = weight (after keys set.changes) in
-    let light = rest-follows (if_heavy w) (Commits commit aside) _ (λ e. let off : is_commit (Commits commit aside) ≡ false = no_limit (nat_lt heaviest_map w) (DatabaseFull (saturated w)) (Commits commit aside) refl e in absurd cc) free.1 in
+    let light = rest-follows (if_heavy w) is _ (λ e. let off : is_commit is ≡ false = no_limit is_commit (nat_lt heaviest_map w) (DatabaseFull (saturated w)) is refl e in absurd cc) valid.1 in
     let h : ℕ = history_weight (history ++ commit_of set ∷ []) in
-    let full = rest-follows (if_full h) (Commits commit aside) _ (λ e. let off : is_commit (Commits commit aside) ≡ false = no_limit (nat_lt heaviest_history h) (HistoryFull (saturated h)) (Commits commit aside) refl e in absurd cc) light.1 in
+    let full = rest-follows (if_full h) is _ (λ e. let off : is_commit is ≡ false = no_limit is_commit (nat_lt heaviest_history h) (HistoryFull (saturated h)) is refl e in absurd cc) light.1 in
     record {
       free = free.0;
+      valid = valid.0;
       light = within w heaviest_map (DatabaseFull (saturated w)) light.0;
       not_full = within h heaviest_history (HistoryFull (saturated h)) full.0;
       is = same commit (commit_of set) aside set.aside full.1;
@@ -106,6 +121,39 @@ is_committed history keys set commit aside late =
   where
     same : (c d : past.Commit) (n k : ℕ) → Commits c n ≡ Commits d k → c ≡ d
     same c d n k e = cc
+
+abbrev is_invalid : Late → Bool
+is_invalid (Invalid violation risen) = true
+is_invalid late = false
+
+-- a set that is refused by the rules has this first violation
+pub is_breach : (points : List Name) (history : List past.Commit) (keys : KeyMap) (set : Prepared) (violation : Violation) (risen : Bool) → IsLate points history keys set (Invalid violation risen) → FirstBreach points set.touched (after keys set.changes) violation risen
+is_breach points history keys set violation risen late =
+    let is : Late = Invalid violation risen in
+    let touched = rest-follows (if_untouched set.touched set.aside) is _ (λ e. let off : is_invalid is ≡ false = no_same is_invalid set.touched set.aside is refl e in absurd cc) late in
+    let free = rest-follows (conflict history set) is _ (λ e. let off : is_invalid is ≡ false = no_conflict is_invalid history set.fronts set.touched is (λ m by. refl) e in absurd cc) touched.1 in
+    by free.1
+  where
+    is : Late
+    is = Invalid violation risen
+
+    w : ℕ
+    w = weight (after keys set.changes)
+
+    h : ℕ
+    h = history_weight (history ++ commit_of set ∷ [])
+
+    of : (other : Violation) (rose : Bool) → Invalid violation risen ≡ Invalid other rose → FirstBreach points set.touched (after keys set.changes) other rose → FirstBreach points set.touched (after keys set.changes) violation risen
+    of other rose e first = let same : other ≡ violation = cc in let so : rose ≡ risen = cc in
+        subst (λ r. FirstBreach points set.touched (after keys set.changes) violation r) so (subst (λ v. FirstBreach points set.touched (after keys set.changes) v rose) same first)
+
+    by : Checks points keys set (Invalid violation risen) (Follows (if_heavy w) (Some is) (Follows (if_full h) (Some is) (is ≡ Commits (commit_of set) set.aside))) → FirstBreach points set.touched (after keys set.changes) violation risen
+    by (inl breaks) = of breaks.violation breaks.risen breaks.is breaks.first
+    by (inr kept) =
+        let light = rest-follows (if_heavy w) is _ (λ e. let off : is_invalid is ≡ false = no_limit is_invalid (nat_lt heaviest_map w) (DatabaseFull (saturated w)) is refl e in absurd cc) kept.1 in
+        let full = rest-follows (if_full h) is _ (λ e. let off : is_invalid is ≡ false = no_limit is_invalid (nat_lt heaviest_history h) (HistoryFull (saturated h)) is refl e in absurd cc) light.1 in
+        let off : is_invalid is ≡ false = ap is_invalid full.1 in
+        absurd cc
 
 -- a mount of a set that commits is blocked by nothing
 pub not_blocked : (history : List past.Commit) (set : Prepared) (m front : ℕ) → conflict history set ≡ None → is_among set.touched m ≡ true → set.fronts m ≡ Some front → first_after history m front ≡ None

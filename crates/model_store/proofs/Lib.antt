@@ -8,5 +8,6 @@ mod Committing
 pub mod Owning
 mod Others
 pub mod OneVerdict
+pub mod Risen
 mod Weights
 pub mod FirstSets

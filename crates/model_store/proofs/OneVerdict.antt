@@ -1,18 +1,25 @@
 -- A set has one early and one late verdict, over formats that store a map or break at one key of it.
-use Rattle.std.proofs.Common.{◌≡◌, ◌⊎◌, ℕ, List, [], ◌∷◌, ◌++◌, slice_get, Option, Some, None, refl, sym, ap, ap₂, subst, ◌∙◌, inl, inr}
+use Rattle.std.proofs.Common.{◌≡◌, ◌⊎◌, ℕ, ◌≤◌, Bool, true, false, not, T, List, [], ◌∷◌, ◌++◌, length, slice_get, Option, Some, None, refl, sym, ap, ap₂, subst, ◌∙◌, inl, inr}
 use Rattle.std.specs.List.{AllByRecursion}
 use Rattle.general_words.proofs.Lists.{some_is}
 use Rattle.kdb_outside.specs.declared.kinds.Kind.{Kind}
 use Rattle.key_name.specs.Joining.{joined}
 use Rattle.model_names.specs.Name.{Name}
+use Rattle.model_maps.specs.Entry.{Entry}
 use Rattle.model_maps.specs.KeyMap.{KeyMap, weight}
 use Rattle.model_history.specs.Changes.{after}
 use Rattle.model_history.specs.History.{Commit, history_weight}
 use Rattle.mount_table.specs.declared.mounts.Mount.{Mount}
+use Rattle.model_rules.specs.Rules.{longest_pattern}
+use Rattle.model_specified.specs.Violations.{BeginWith, checked_keys, is_owned}
+use Rattle.model_specified.specs.declared.violations.Violation.{Violation}
+use Rattle.model_specified.proofs.FirstsOnce.{first-once, first-none}
+use Rattle.model_specified.proofs.Refusals.{AreOfKeys-none, first-caused, first_or_none}
 use Rattle.model_store.specs.Fitting.{Early, NotStorable, IsStorableAt, BreaksAtMount}
 use Rattle.model_store.specs.Sets.{Prepared}
 use Rattle.model_store.specs.Store.{Store, Formats, contents}
-use Rattle.model_store.specs.Verdicts.{Late, Commits, Follows, IsEarly, IsLate, BreaksFirst, wanted_in, before_formats, behind_formats, conflict, commit_of, if_untouched, if_heavy, if_full}
+use Rattle.model_store.specs.Verdicts.{Late, Invalid, Commits, Follows, Checks, BreaksRules, IsEarly, IsLate, BreaksFirst, wanted_in, before_formats, behind_formats, conflict, commit_of, if_untouched, if_heavy, if_full, is_certain}
+use Rattle.model_store.proofs.Judged.{is_breach}
 
 -- what follows a step is told once where it is told once without it
 follows-once : {A : Type 0} (o : Option A) (a b : Option A) (P Q : Type 0) → (P → Q → a ≡ b) → Follows o a P → Follows o b Q → a ≡ b
@@ -133,34 +140,87 @@ module _ (formats : Formats)
 
 -- ---- what the history decides
 
-module _ (history : List Commit) (keys : KeyMap) (set : Prepared) where
+module _ (points : List Name) (history : List Commit) (keys : KeyMap) (set : Prepared) where
+  abbrev later : KeyMap
+  later = after keys set.changes
+
+  abbrev chosen : List (Name × Entry)
+  chosen = checked_keys (is_owned points set.touched) later
+
   abbrev Full : Late → Type 0
   Full answer = Follows (if_full (history_weight (history ++ commit_of set ∷ []))) (Some answer) (answer ≡ Commits (commit_of set) set.aside)
 
   abbrev Heavy : Late → Type 0
-  Heavy answer = Follows (if_heavy (weight (after keys set.changes))) (Some answer) (Full answer)
+  Heavy answer = Follows (if_heavy (weight later)) (Some answer) (Full answer)
+
+  abbrev Checked : Late → Type 0
+  Checked answer = Checks points keys set answer (Heavy answer)
 
   abbrev Blocked : Late → Type 0
-  Blocked answer = Follows (conflict history set) (Some answer) (Heavy answer)
+  Blocked answer = Follows (conflict history set) (Some answer) (Checked answer)
 
-  pub IsLate-once : (late other : Late) → IsLate history keys set late → IsLate history keys set other → late ≡ other
-  IsLate-once late other p q =
+  -- a certain violation was found without a refusal
+  sure : (answer : Late) → is_certain answer ≡ true → (breaks : BreaksRules points keys set answer) → BeginWith ⊥ chosen breaks.violation
+  sure answer certain breaks = by breaks.risen (sym (ap is_certain breaks.is) ∙ certain) breaks.first
+    where
+      by : (risen : Bool) → not risen ≡ true → BeginWith (T risen) chosen breaks.violation → BeginWith ⊥ chosen breaks.violation
+      by true off first = absurd cc
+      by false off first = first
+
+  told : (answer : Late) → is_certain answer ≡ true → (breaks : BreaksRules points keys set answer) → answer ≡ Invalid breaks.violation false
+  told answer certain breaks = breaks.is ∙ by breaks.risen (sym (ap is_certain breaks.is) ∙ certain)
+    where
+      by : (risen : Bool) → not risen ≡ true → Invalid breaks.violation risen ≡ Invalid breaks.violation false
+      by true off = absurd cc
+      by false off = refl
+
+  checked_once : (late other : Late) → is_certain late ≡ true → is_certain other ≡ true → (Heavy late → Heavy other → late ≡ other) → Checked late → Checked other → late ≡ other
+  checked_once late other c d once (inl p) (inl q) =
+      told late c p ∙ ap (λ (v : Violation). Invalid v false) (first-once chosen p.violation q.violation (sure late c p) (sure other d q)) ∙ sym (told other d q)
+  checked_once late other c d once (inl p) (inr q) = absurd (first-none chosen p.violation q.0 (sure late c p))
+  checked_once late other c d once (inr p) (inl q) = absurd (first-none chosen q.violation p.0 (sure other d q))
+  checked_once late other c d once (inr p) (inr q) = once p.1 q.1
+
+  pub IsLate-once : (late other : Late) → is_certain late ≡ true → is_certain other ≡ true → IsLate points history keys set late → IsLate points history keys set other → late ≡ other
+  IsLate-once late other c d p q =
       some_is late other
       (follows-once (if_untouched set.touched set.aside) (Some late) (Some other) (Blocked late) (Blocked other)
-      (follows-once (conflict history set) (Some late) (Some other) (Heavy late) (Heavy other)
-      (follows-once (if_heavy (weight (after keys set.changes))) (Some late) (Some other) (Full late) (Full other)
+      (follows-once (conflict history set) (Some late) (Some other) (Checked late) (Checked other)
+      (λ a b. ap Some (checked_once late other c d
+      (λ x y. some_is late other
+      (follows-once (if_heavy (weight later)) (Some late) (Some other) (Full late) (Full other)
       (follows-once (if_full (history_weight (history ++ commit_of set ∷ []))) (Some late) (Some other) (late ≡ Commits (commit_of set) set.aside) (other ≡ Commits (commit_of set) set.aside)
-      (λ a b. ap Some (a ∙ sym b)))))
+      (λ a b. ap Some (a ∙ sym b)))
+      x y))
+      a b)))
       p q)
 
-  pub IsLate-some : (late : Late) × IsLate history keys set late
+  -- it is absurd that no verdict is one of a kind
+  abbrev Has : (Late → Type 0) → Type 0
+  Has P = ((late : Late) → P late → ⊥) → ⊥
+
+  pub IsLate-some : ((late : Late) → IsLate points history keys set late → ⊥) → ⊥
   IsLate-some =
       step (if_untouched set.touched set.aside) Blocked
-      (step (conflict history set) Heavy
-      (step (if_heavy (weight (after keys set.changes))) Full
+      (step (conflict history set) Checked
+      (checks
+      (step (if_heavy (weight later)) Full
       (step (if_full (history_weight (history ++ commit_of set ∷ []))) (λ late. late ≡ Commits (commit_of set) set.aside)
-      (Commits (commit_of set) set.aside, refl))))
+      (λ off. off (Commits (commit_of set) set.aside) refl)))))
     where
-      step : (o : Option Late) (P : Late → Type 0) → ((late : Late) × P late) → (late : Late) × Follows o (Some late) (P late)
-      step None P other = other
-      step (Some told) P other = (told, refl)
+      step : (o : Option Late) (P : Late → Type 0) → Has P → Has (λ late. Follows o (Some late) (P late))
+      step None P other off = other off
+      step (Some told) P other off = off told refl
+
+      checks : Has Heavy → Has Checked
+      checks other off = first_or_none (T true) tt chosen
+          (λ violation first. off (Invalid violation true) (inl (record { violation = violation; risen = true; first = first; is = refl })))
+          (λ none. other (λ late heavy. off late (inr (AreOfKeys-none (T true) ⊥ chosen none, heavy))))
+
+  -- a pattern that isn't too long is told by rule 6 only where the count of refusals rose
+  pub breach-caused : (violation : Violation) (risen : Bool) → IsLate points history keys set (Invalid violation risen) → violation.rule ≡ 6 → length violation.given ≤ longest_pattern → risen ≡ true
+  breach-caused violation risen late six short = by risen (is_breach points history keys set violation risen late)
+    where
+      by : (rose : Bool) → BeginWith (T rose) chosen violation → rose ≡ true
+      by true first = refl
+      by false first = absurd (first-caused ⊥ chosen violation first six short)

@@ -1,5 +1,5 @@
 -- The commit that blocks a mount is another handle's: an own commit moves the front.
-use Rattle.std.proofs.Common.{◌≡◌, ℕ, zero, suc, ◌+◌, ◌<◌, ◌≤◌, true, false, cond, nat_eq, nat_lt, List, [], ◌∷◌, ◌++◌, length, slice_get, Option, Some, None, refl, sym, ap, subst, ◌∙◌, arith, eqb-true, eq-eqb}
+use Rattle.std.proofs.Common.{◌≡◌, ℕ, ◌+◌, ◌≤◌, true, false, cond, nat_eq, nat_lt, List, [], ◌∷◌, ◌++◌, length, slice_get, Option, Some, None, refl, sym, ap, subst, ◌∙◌, arith, eqb-true, eq-eqb}
 use Rattle.std.specs.Option.{option_and_then}
 use Rattle.std.proofs.lemmas.Bool.{ltb-true, ltb-false}
 use Rattle.std.proofs.lemmas.Option.{slice_get_within}
@@ -12,7 +12,7 @@ use Rattle.model_store.specs.Events.{Event, Get, Prepare, Commit, Answer, Memory
 use Rattle.model_store.specs.Promise.{Runs}
 use Rattle.model_store.specs.Records.{Fronts, seen_at}
 use Rattle.model_store.specs.Store.{Store, Formats, points_of}
-use Rattle.model_store.specs.Verdicts.{Late, Same, Conflict, DatabaseFull, HistoryFull, Commits, blocking}
+use Rattle.model_store.specs.Verdicts.{Late, Same, Conflict, Invalid, DatabaseFull, HistoryFull, Commits, blocking}
 use Rattle.model_store.specs.Worlds.{World, first_world, Meant, Judges, set_now, world_after}
 use Rattle.model_store.proofs.Judged.{is_committed}
 use Rattle.set_split.specs.Involved.{involved_in}
@@ -65,10 +65,11 @@ module _ (formats : Formats) (store : Store) where
   judged : (world : World) (r p front : ℕ) (late : Late) → Judges formats store world r p front late → Sees world → Sees (world_after world r late)
   judged world r p front (Same aside) j h = h
   judged world r p front (Conflict m by) j h = h
+  judged world r p front (Invalid violation risen) j h = h
   judged world r p front (DatabaseFull n) j h = h
   judged world r p front (HistoryFull n) j h = h
   judged world r p front (Commits commit aside) j h =
-      let done = is_committed world.history (replay store.start world.history) (set_now store world r j.asked.parent j.asked.keys) commit aside j.late_is in
+      let done = is_committed (points_of store) world.history (replay store.start world.history) (set_now store world r j.asked.parent j.asked.keys) commit aside j.late_is in
       seen-own world.history world.fronts r commit (ap (λ (c : past.Commit). c.handle) done.is) h
 
   step : (world : World) (event : Event) (answer : Answer) (next : World) → Meant formats store world event answer next → Sees world → Sees next

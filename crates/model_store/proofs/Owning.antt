@@ -10,7 +10,7 @@ use Rattle.model_store.specs.Store.{Store, Formats, points_of}
 use Rattle.model_store.specs.Legal.{IsLegal, IsLegalCommit}
 use Rattle.model_store.specs.Records.{Fronts, Record, Fetched, IsRecord, record_of, seen_at}
 use Rattle.model_store.specs.Sets.{Prepared, only, wants, front_in, set_of}
-use Rattle.model_store.specs.Verdicts.{Late, Same, Conflict, DatabaseFull, HistoryFull, Commits, IsEarly, IsLate, commit_of}
+use Rattle.model_store.specs.Verdicts.{Late, Same, Conflict, Invalid, DatabaseFull, HistoryFull, Commits, IsEarly, IsLate, commit_of}
 use Rattle.model_store.specs.Events.{Event, Get, Prepare, Commit, Answer, Memory, Bad, Got, Refused, Ready, Judged, Failed, if_bad, put}
 use Rattle.model_store.specs.Worlds.{World, Asked, first_world, Judges, Meant, set_now, world_after}
 use Rattle.model_store.specs.Cores.{Core, first_core, accepts, GetMade, PreparationMade, JudgementMade, CommitMade, Made, core_after}
@@ -133,18 +133,18 @@ module _ (formats : Formats) (store : Store) where
     was_asked = at.was_asked;
     front_is = made.front_is;
     early = at.early;
-    late_is = subst (λ (s : Prepared). IsLate world.history (replay store.start world.history) s late) at.is made.late_is;
+    late_is = subst (λ (s : Prepared). IsLate (points_of store) world.history (replay store.start world.history) s late) at.is made.late_is;
   }
 
   -- the core after the commit of a set stands for the world after it
   commits : (world : World) (sets : ℕ → Option Prepared) (r : ℕ) (parent : Name) (keys : KeyMap) (commit : past.Commit) (aside : ℕ) → Known world sets
-      → IsEarly formats store (set_now store world r parent keys) None → IsLate world.history (replay store.start world.history) (set_now store world r parent keys) (Commits commit aside)
+      → IsEarly formats store (set_now store world r parent keys) None → IsLate (points_of store) world.history (replay store.start world.history) (set_now store world r parent keys) (Commits commit aside)
       → Stands formats store (world_after world r (Commits commit aside)) (core_after store (core_at world sets) r (set_now store world r parent keys) (Commits commit aside))
   commits world sets r parent keys commit aside k early late =
       let set : Prepared = set_now store world r parent keys in
       let rec : Record = record_of store world.history (world.fronts r) in
       let passed : HasPassed formats store (set_now store world r parent keys) = has_passed formats store (set_now store world r parent keys) early in
-      let done : IsCommitted world.history (replay store.start world.history) (set_now store world r parent keys) commit = is_committed world.history (replay store.start world.history) (set_now store world r parent keys) commit aside late in
+      let done : IsCommitted (points_of store) world.history (replay store.start world.history) (set_now store world r parent keys) commit = is_committed (points_of store) world.history (replay store.start world.history) (set_now store world r parent keys) commit aside late in
       let legal : IsLegalCommit formats store (replay store.start world.history) (commit_of (set_now store world r parent keys)) = legal_commit formats store world.history r (world.fronts r) parent keys rec (k.records r) k.legal.each passed commit done in
       let kept : (n : ℕ) → IsRecord store (world.history ++ commit_of (set_now store world r parent keys) ∷ []) (world.fronts n) (record_of store world.history (world.fronts n)) = λ n. record-stays store world.history (commit_of (set_now store world r parent keys) ∷ []) (world.fronts n) (record_of store world.history (world.fronts n)) (k.records n) in
       subst (λ (c : past.Commit). Stands formats store (world_after world r (Commits c aside)) (core_after store (core_at world sets) r set (Commits c aside))) (sym done.is) (record {
@@ -170,13 +170,14 @@ module _ (formats : Formats) (store : Store) where
   judged : (world : World) (sets : ℕ → Option Prepared) (r p front : ℕ) (late : Late) (next : Core) → Known world sets → CommitMade store (core_at world sets) r p front late next → Goes world (Commit r p) (Judged front late) next
   judged world sets r p front (Same aside) next k made = unchanged world sets r p front (Same aside) next k made.judged made.next_is refl
   judged world sets r p front (Conflict m by) next k made = unchanged world sets r p front (Conflict m by) next k made.judged made.next_is refl
+  judged world sets r p front (Invalid violation risen) next k made = unchanged world sets r p front (Invalid violation risen) next k made.judged made.next_is refl
   judged world sets r p front (DatabaseFull n) next k made = unchanged world sets r p front (DatabaseFull n) next k made.judged made.next_is refl
   judged world sets r p front (HistoryFull n) next k made = unchanged world sets r p front (HistoryFull n) next k made.judged made.next_is refl
   judged world sets r p front (Commits commit aside) next k made =
       let at = is_present world sets r p front (Commits commit aside) k made.judged in
       let meant = judges world sets r p front (Commits commit aside) made.judged at in
-      let late_is : IsLate world.history (replay store.start world.history) (set_now store world r at.asked.parent at.asked.keys) (Commits commit aside) =
-      subst (λ (s : Prepared). IsLate world.history (replay store.start world.history) s (Commits commit aside)) at.is made.judged.late_is in
+      let late_is : IsLate (points_of store) world.history (replay store.start world.history) (set_now store world r at.asked.parent at.asked.keys) (Commits commit aside) =
+      subst (λ (s : Prepared). IsLate (points_of store) world.history (replay store.start world.history) s (Commits commit aside)) at.is made.judged.late_is in
       record {
         after = world_after world r (Commits commit aside);
         meant = (meant, refl);

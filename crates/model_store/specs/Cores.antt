@@ -66,7 +66,7 @@ pub record JudgementMade (store : Store) (core : Core) (r p front : ℕ) (late :
   pub is_set : core.sets p ≡ Some set
   pub accepted : accepts (core.records r) r set ≡ true
   pub front_is : front ≡ length core.history
-  pub late_is : IsLate core.history core.keys set late
+  pub late_is : IsLate (points_of store) core.history core.keys set late
 
 pub record CommitMade (store : Store) (core : Core) (r p front : ℕ) (late : Late) (next : Core) : Type 0 where
   pub judged : JudgementMade store core r p front late

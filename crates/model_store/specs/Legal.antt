@@ -13,6 +13,7 @@ use Rattle.model_history.specs.Changes.{Change, changed_by}
 use Rattle.model_history.specs.History.{Commit, history_weight, heaviest_history}
 use Rattle.model_store.specs.Store.{Store, Formats, points_of, is_owned}
 use Rattle.model_store.specs.Fitting.{Fits}
+use Rattle.model_store.specs.Rules.{KeepRules}
 use Rattle.set_split.specs.Involved.{owns}
 use Rattle.set_split.specs.Parts.{owned_by}
 
@@ -24,7 +25,8 @@ pub record HasChange (points : List Name) (changes : List Change) (mount : ℕ) 
   pub owned : owns points mount name ≡ true
 
 -- a commit on a map: its mounts aren't bad and ascend; its names ascend, each is one that a touched mount owns, and each touched mount has
--- one; each change gives what the map has not; and the map after it fits the files of the touched mounts and isn't too heavy
+-- one; each change gives what the map has not; and the map after it fits the files of the touched mounts, keeps the rules in them and isn't too
+-- heavy
 pub record IsLegalCommit (formats : Formats) (store : Store) (before : KeyMap) (commit : Commit) : Type 0 where
   pub good : AllByRecursion (λ m. store.is_bad m ≡ false) commit.touched
   pub ascending : IsStrictlySortedBy nat_cmp commit.touched
@@ -33,6 +35,7 @@ pub record IsLegalCommit (formats : Formats) (store : Store) (before : KeyMap) (
   pub each : AllByRecursion (HasChange (points_of store) commit.changes) commit.touched
   pub differs : (name : Name) (new : Option Entry) → find name_cmp name commit.changes ≡ Some new → new ≢ map.get before name
   pub fits : AllByRecursion (Fits formats store (λ m. owned_by (points_of store) m (changed_by commit.changes before))) commit.touched
+  pub valid : KeepRules (points_of store) commit.touched (changed_by commit.changes before)
   pub light : weight (changed_by commit.changes before) ≤ heaviest_map
 
 -- each commit is legal on the map that those before it make

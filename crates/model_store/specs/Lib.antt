@@ -2,6 +2,7 @@ pub mod Store
 pub mod Fitting
 pub mod Records
 pub mod Sets
+pub mod Rules
 pub mod Verdicts
 pub mod Legal
 pub mod Events

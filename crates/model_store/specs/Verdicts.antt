@@ -1,6 +1,6 @@
 -- What comes of a set: the first of its refusals, nothing to do, or a commit. A relation, since which keys a format can hold is one. (After
 -- Elektra's kdbSet, whose conflict is another's change since the own get; the order and the limits are this project's own.)
-use Rattle.std.specs.Prelude.{◌≡◌, ◌⊎◌, ℕ, nat_lt, if◌then◌else◌, List, [], ◌∷◌, ◌++◌, Option, Some, None, option_and_then}
+use Rattle.std.specs.Prelude.{◌≡◌, ◌⊎◌, ℕ, nat_lt, Bool, true, not, if◌then◌else◌, List, [], ◌∷◌, ◌++◌, Option, Some, None, option_and_then}
 use Rattle.std.specs.FinMap as map
 use Rattle.std.specs.List.{AllByRecursion}
 use Rattle.std.specs.Option.{option_map, option_or}
@@ -10,10 +10,12 @@ use Rattle.model_names.specs.Name.{Name}
 use Rattle.model_maps.specs.KeyMap.{KeyMap, weight, heaviest_map}
 use Rattle.model_history.specs.Changes.{after}
 use Rattle.model_history.specs.History.{Commit, first_after, history_weight, heaviest_history}
+use Rattle.model_specified.specs.declared.violations.Violation.{Violation}
 use Rattle.mounted_files.specs.Setting.{first_long_in}
 use Rattle.model_store.specs.Store.{Store, Formats, points_of}
 use Rattle.model_store.specs.Fitting.{Early, NotFetched, ValueTooLong, NotStorable, too_heavy, too_long, bad_table, IsStorableAt, BreaksAtMount}
 use Rattle.model_store.specs.Records.{Fronts}
+use Rattle.model_store.specs.Rules.{FirstBreach, KeepRules}
 use Rattle.model_store.specs.Sets.{Prepared, wants}
 
 -- an answer is what a step tells, and where it tells nothing something else holds of it
@@ -72,11 +74,13 @@ blocking history fronts m = option_and_then (first_after history m) (fronts m)
 
 -- ---- what the history decides
 
--- no mount is touched, with the number of keys left aside; a commit blocks a mount; the map after the set, or the history with it, weighs too
--- much; or the set is a commit, with the number of keys left aside
+-- no mount is touched, with the number of keys left aside; a commit blocks a mount; a key of a touched mount breaks a rule after the set, with
+-- whether the matcher's count of refusals rose; the map after the set, or the history with it, weighs too much; or the set is a commit, with the
+-- number of keys left aside
 pub data Late : Type 0 where
   Same : ℕ → Late
   Conflict : ℕ → ℕ → Late
+  Invalid : Violation → Bool → Late
   DatabaseFull : ℕ → Late
   HistoryFull : ℕ → Late
   Commits : Commit → ℕ → Late
@@ -96,17 +100,38 @@ conflict_at history fronts m = option_map (Conflict m) (blocking history fronts 
 abbrev pub conflict : List Commit → Prepared → Option Late
 conflict history set = first_some (conflict_at history set.fronts) set.touched
 
+-- a key that a touched mount owns breaks a rule in the map after the set: the first violation
+pub record BreaksRules (points : List Name) (keys : KeyMap) (set : Prepared) (answer : Late) : Type 0 where
+  pub violation : Violation
+  pub risen : Bool
+  pub first : FirstBreach points set.touched (after keys set.changes) violation risen
+  pub is : answer ≡ Invalid violation risen
+
+-- the rules: a violation is the answer, and where there is none something else holds of it
+abbrev pub Checks : List Name → KeyMap → Prepared → Late → Type 0 → Type 0
+Checks points keys set answer Otherwise = BreaksRules points keys set answer ⊎ (KeepRules points set.touched (after keys set.changes) × Otherwise)
+
 abbrev pub if_heavy : ℕ → Option Late
 if_heavy n = if nat_lt heaviest_map n then Some (DatabaseFull (saturated n)) else None
 
 abbrev pub if_full : ℕ → Option Late
 if_full n = if nat_lt heaviest_history n then Some (HistoryFull (saturated n)) else None
 
--- what becomes of a set that passed, by the history and the present map. The check rules will stand between the conflict and the weights
-abbrev pub IsLate : List Commit → KeyMap → Prepared → Late → Type 0
-IsLate history keys set answer =
+-- what becomes of a set that passed, by the mountpoints, the history and the present map
+abbrev pub IsLate : List Name → List Commit → KeyMap → Prepared → Late → Type 0
+IsLate points history keys set answer =
     Follows (if_untouched set.touched set.aside) (Some answer)
     (Follows (conflict history set) (Some answer)
+    (Checks points keys set answer
     (Follows (if_heavy (weight (after keys set.changes))) (Some answer)
     (Follows (if_full (history_weight (history ++ commit_of set ∷ []))) (Some answer)
-    (answer ≡ Commits (commit_of set) set.aside))))
+    (answer ≡ Commits (commit_of set) set.aside)))))
+
+-- a verdict that no refusal of a pattern can have changed: it is no violation that was found while the matcher's count of refusals rose
+abbrev pub is_certain : Late → Bool
+is_certain (Same aside) = true
+is_certain (Conflict m by) = true
+is_certain (Invalid violation risen) = not risen
+is_certain (DatabaseFull n) = true
+is_certain (HistoryFull n) = true
+is_certain (Commits commit aside) = true

@@ -4,18 +4,23 @@
 
 mod examples;
 
-ghost use Rattle.std.specs.Prelude.{◌≡◌, ◌≢◌, ℕ, ◌+◌, ◌≤◌, List, [], slice_get, Option, Some};
+ghost use Rattle.std.specs.Prelude.{◌≡◌, ◌≢◌, ℕ, ◌+◌, ◌≤◌, Bool, true, List, [], length, slice_get, Option, Some};
+ghost use Rattle.std.specs.Bool.{Decides};
+ghost use Rattle.kdb_outside.specs.Faults.{HasRisen};
 ghost use Rattle.model_history.specs.History as past;
 ghost use Rattle.model_maps.specs.KeyMap.{KeyMap, weight, heaviest_map};
 ghost use Rattle.model_names.specs.Name.{Name};
-ghost use Rattle.model_store.specs.Store.{Store};
+ghost use Rattle.model_rules.specs.Rules.{longest_pattern};
+ghost use Rattle.model_specified.specs.declared.violations.Violation.{Violation};
+ghost use Rattle.model_store.specs.Store.{Store, points_of};
 ghost use Rattle.model_store.specs.Events.{Event, Answer};
 ghost use Rattle.model_store.specs.Cores.{Core, first_core, Made};
 ghost use Rattle.model_store.specs.First.{first_set};
 ghost use Rattle.model_store.specs.Fitting.{Early, NotFetched};
 ghost use Rattle.model_store.specs.Promise.{Runs, IsOneOwner};
+ghost use Rattle.model_store.specs.Rules.{has_risen};
 ghost use Rattle.model_store.specs.Sets.{Prepared};
-ghost use Rattle.model_store.specs.Verdicts.{Conflict, HistoryFull, IsEarly, IsLate, Late, blocking};
+ghost use Rattle.model_store.specs.Verdicts.{Conflict, HistoryFull, Invalid, IsEarly, IsLate, Late, blocking, is_certain};
 ghost use Rattle.model_store.specs.Worlds.{World, first_world, Meant};
 
 pub use examples::{
@@ -35,21 +40,30 @@ pub fn only_others_block<F: Formats>(_formats: &F)
     ensures { (store : Store) (calls : List (Event × Answer)) (world : World) → Runs (Meant (record { text = F.text; IsStorable = F.is_storable; BreaksAt = F.breaks_at }) store) first_world calls world → (r m number : ℕ) (commit : past.Commit) → blocking world.history (world.fronts r) m ≡ Some (number + 1) → slice_get world.history number ≡ Some commit → commit.handle ≢ r }
 {}
 
-/// A set has one verdict before the history is asked, and one by the history.
+/// A set has one verdict before the history is asked. By the history it is absurd that it has none, and it has one at most of those that no
+/// refusal of a pattern can have changed. Rule 6 with a pattern of at most 1,024 bytes is never one of these.
 pub fn a_set_has_one_verdict<F: Formats>(_formats: &F)
     ensures some_early { (store : Store) (set : Prepared) → (early : Option Early) × IsEarly (record { text = F.text; IsStorable = F.is_storable; BreaksAt = F.breaks_at }) store set early }
     ensures one_early { (store : Store) (set : Prepared) (early other : Option Early) →
         IsEarly (record { text = F.text; IsStorable = F.is_storable; BreaksAt = F.breaks_at }) store set early → IsEarly (record { text = F.text; IsStorable = F.is_storable; BreaksAt = F.breaks_at }) store set other → early ≡ other }
-    ensures some_late { (history : List past.Commit) (keys : KeyMap) (set : Prepared) → (late : Late) × IsLate history keys set late }
-    ensures one_late { (history : List past.Commit) (keys : KeyMap) (set : Prepared) (late other : Late) → IsLate history keys set late → IsLate history keys set other → late ≡ other }
+    ensures some_late { (points : List Name) (history : List past.Commit) (keys : KeyMap) (set : Prepared) → ((late : Late) → IsLate points history keys set late → ⊥) → ⊥ }
+    ensures one_late { (points : List Name) (history : List past.Commit) (keys : KeyMap) (set : Prepared) (late other : Late) → is_certain late ≡ true → is_certain other ≡ true
+        → IsLate points history keys set late → IsLate points history keys set other → late ≡ other }
+    ensures refused { (points : List Name) (history : List past.Commit) (keys : KeyMap) (set : Prepared) (violation : Violation) (risen : Bool) → IsLate points history keys set (Invalid violation risen)
+        → violation.rule ≡ 6 → length violation.given ≤ longest_pattern → risen ≡ true }
 {}
 
 /// The set of a handle that got its parent before any commit is judged by itself: it has seen the mounts that it involves, no commit blocks it, and
-/// where the first map isn't too heavy the history has room for it.
+/// where the first map isn't too heavy the history has room for it. So it is refused by the history for a rule or the weight of the map alone.
 pub fn a_first_set_is_judged_alone<F: Formats>(_formats: &F)
     ensures fetched { (store : Store) (handle : ℕ) (parent : Name) (keys : KeyMap) (early : Option Early) (m : ℕ) →
         IsEarly (record { text = F.text; IsStorable = F.is_storable; BreaksAt = F.breaks_at }) store (first_set store handle parent keys) early → early ≢ Some (NotFetched m) }
-    ensures free { (store : Store) (handle : ℕ) (parent : Name) (keys : KeyMap) (late : Late) (m by : ℕ) → IsLate [] store.start (first_set store handle parent keys) late → late ≢ Conflict m by }
+    ensures free { (store : Store) (handle : ℕ) (parent : Name) (keys : KeyMap) (late : Late) (m by : ℕ) → IsLate (points_of store) [] store.start (first_set store handle parent keys) late → late ≢ Conflict m by }
     ensures room { (store : Store) (handle : ℕ) (parent : Name) (keys : KeyMap) (late : Late) (n : ℕ) →
-        weight store.start ≤ heaviest_map → IsLate [] store.start (first_set store handle parent keys) late → late ≢ HistoryFull n }
+        weight store.start ≤ heaviest_map → IsLate (points_of store) [] store.start (first_set store handle parent keys) late → late ≢ HistoryFull n }
+{}
+
+/// The test of a count tells just whether it rose.
+pub fn the_test_of_a_count_decides()
+    ensures { (before now : ℕ) → Decides (has_risen before now) (HasRisen before now) }
 {}

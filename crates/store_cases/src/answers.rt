@@ -4,6 +4,7 @@ use kdb_text::shown;
 use key_meta::{List, Memory};
 use key_name::KeyName;
 use key_set::KeySet;
+use model_specified::Violation;
 use mounted_files::GetFault;
 use std::alloc::Global;
 use store_core::{CommitFault, Done, Got, OpenFault};
@@ -141,6 +142,7 @@ fn commit_line(alloc: Global, fault: &CommitFault) -> Result<String, Memory> {
             let mount = shown(alloc, mount)?;
             format!(in alloc; "conflict {mount} by {by} front {front}")
         }
+        CommitFault::Invalid { violation, front } => invalid_line(alloc, violation, *front),
         CommitFault::DatabaseFull { weight, front } => {
             format!(in alloc; "database-full {weight} front {front}")
         }
@@ -150,6 +152,16 @@ fn commit_line(alloc: Global, fault: &CommitFault) -> Result<String, Memory> {
         CommitFault::DiskFault { front } => format!(in alloc; "disk-fault front {front}"),
         CommitFault::Memory => String::from_str(alloc, "memory"),
     }
+}
+
+/// The key, the rule that it breaks, and the text that is given.
+fn invalid_line(alloc: Global, violation: &Violation, front: u64) -> Result<String, Memory> {
+    let key = shown(alloc, &violation.key)?;
+    let rule = violation.rule;
+    let mut line = format!(in alloc; "invalid {key} rule {rule} given ")?;
+    push_value(alloc, &mut line, violation.given.as_str())?;
+    line.push_str(format!(in alloc; " front {front}")?.as_str())?;
+    Ok(line)
 }
 
 fn skip_line(why: Skip) -> &'static str {

@@ -44,7 +44,8 @@ impl Cases {
             "" | "#" => {}
             "disk" => *self = Cases::new(self.alloc),
             "file" => self.add_file(rest)?,
-            "fail" => self.fail(rest)?,
+            "fail" => self.start.failing = self.numbers(rest)?,
+            "refuse" => self.start.refusing = self.numbers(rest)?,
             "stop" => self.start.stop_after = rest.parse().ok(),
             "keys" => self.keys = KeySet::new(self.alloc),
             "put" | "many" | "meta" => return self.put(word, rest),
@@ -83,15 +84,15 @@ impl Cases {
         Ok(())
     }
 
-    fn fail(&mut self, rest: &str) -> Result<(), Memory> {
+    /// The numbers of some calls.
+    fn numbers(&self, rest: &str) -> Result<Vec<u64>, Memory> {
         let mut calls = Vec::new(self.alloc);
         for call in rest.split(' ') {
             if let Ok(call) = call.parse() {
                 calls.push(call)?;
             }
         }
-        self.start.failing = calls;
-        Ok(())
+        Ok(calls)
     }
 
     fn put(&mut self, word: &str, rest: &str) -> Result<String, Memory> {
@@ -127,7 +128,11 @@ impl Cases {
         let Some(quiet) = quiet else {
             return String::from_str(self.alloc, "  no disk\n");
         };
-        let Played { left, answers } = quiet.play(self.alloc, &events)?;
+        let Played { left, answers } = quiet.play(
+            self.alloc,
+            &events,
+            self.start.refusing.clone()?,
+        )?;
         self.left = Some(left);
         lines_of(self.alloc, &answers)
     }

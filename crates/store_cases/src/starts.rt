@@ -7,7 +7,7 @@ use kdb_outside::FileName;
 use key_meta::Memory;
 use std::alloc::Global;
 
-/// Two files at most, the calls that fail, and how many go through.
+/// Two files at most, the calls of the disk that fail, how many go through, and the calls of the matcher that are refused.
 #[derive(Drop)]
 pub struct Start {
     alloc: Global,
@@ -15,6 +15,7 @@ pub struct Start {
     second: Option<(FileName, Vec<u8>)>,
     pub failing: Vec<u64>,
     pub stop_after: Option<u64>,
+    pub refusing: Vec<u64>,
 }
 
 impl Start {
@@ -25,6 +26,7 @@ impl Start {
             second: None,
             failing: Vec::new(alloc),
             stop_after: None,
+            refusing: Vec::new(alloc),
         }
     }
 

@@ -92,7 +92,7 @@ fn end_of(alloc: Global, start: &Start, events: &[Event]) -> Result<&'static str
     let Some(quiet) = Quiet::of(alloc, start, start.stop_after)? else {
         return Ok(" no disk");
     };
-    let Played { answers, .. } = quiet.play(alloc, events)?;
+    let Played { answers, .. } = quiet.play(alloc, events, start.refusing.clone()?)?;
     Ok(match answers {
         Ok(answers) => match answers.as_slice().last() {
             Some(Answer::Committed(Ok(_))) => " done",
@@ -113,8 +113,8 @@ fn files_behind(
     let Some(quiet) = Quiet::of(alloc, start, start.stop_after)? else {
         return Ok(bytes);
     };
-    let left = quiet.play(alloc, events)?.left;
-    let left = left.crash(choice)?.play(alloc, &[])?.left;
+    let left = quiet.play(alloc, events, start.refusing.clone()?)?.left;
+    let left = left.crash(choice)?.play(alloc, &[], Vec::new(alloc))?.left;
     for file in ["user.ecf", "system.ecf"] {
         if let Some(name) = FileName::new(alloc, file)? {
             bytes.extend_from_slice(left.bytes(&name))?;
@@ -141,8 +141,11 @@ pub fn recovered(
         let Some(quiet) = Quiet::of(alloc, start, start.stop_after)? else {
             return Ok(lines);
         };
-        let left = quiet.play(alloc, events)?.left;
-        let answers = left.crash(choice)?.play(alloc, &gets)?.answers;
+        let left = quiet.play(alloc, events, start.refusing.clone()?)?.left;
+        let answers = left
+            .crash(choice)?
+            .play(alloc, &gets, Vec::new(alloc))?
+            .answers;
         lines.push_str(lines_of(alloc, &answers)?.as_str())?;
     }
     Ok(lines)

@@ -14,6 +14,7 @@ use disk_memory::MemDisk;
 use kdb_outside::FileName;
 use key_meta::{List, Memory};
 use key_set::KeySet;
+use regex_check::ListedPatterns;
 use std::alloc::Global;
 use store_core::{OpenFault, OpenRefused};
 use store_play::{Answer, Event, Ran, run};
@@ -56,16 +57,24 @@ impl Quiet {
         }
     }
 
-    /// Opens the store, plays the events, and closes it.
-    pub fn play(self, alloc: Global, events: &[Event]) -> Result<Played, Memory> {
+    /// Opens the store, plays the events, and closes it. The listed calls of the matcher are refused, counted from 1.
+    pub fn play(
+        self,
+        alloc: Global,
+        events: &[Event],
+        refusing: Vec<u64>,
+    ) -> Result<Played, Memory> {
         let procs = no_procs(alloc)?;
         let disk = self.disk;
-        Ok(played_of(run(alloc, disk, AllFormats, &procs, PLACES, events)))
+        let patterns = ListedPatterns::new(refusing);
+        Ok(played_of(run(alloc, disk, AllFormats, patterns, &procs, PLACES, events)))
     }
 }
 
 /// The disk and the answers of a run, or why the store wasn't opened.
-fn played_of(ended: Result<Ran<MemDisk>, OpenRefused<MemDisk>>) -> Played
+fn played_of(
+    ended: Result<Ran<MemDisk, ListedPatterns>, OpenRefused<MemDisk, ListedPatterns>>,
+) -> Played
     requires { IsNeverBroken (disk_of ended) }
 {
     match ended {
@@ -73,7 +82,7 @@ fn played_of(ended: Result<Ran<MemDisk>, OpenRefused<MemDisk>>) -> Played
             left: Left { disk },
             answers: Ok(answers),
         },
-        Err(OpenRefused { disk, fault }) => Played {
+        Err(OpenRefused { disk, fault, .. }) => Played {
             left: Left { disk },
             answers: Err(fault),
         },

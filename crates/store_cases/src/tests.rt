@@ -160,7 +160,7 @@ fn run_of(
     let start = start_of(alloc, failing)?;
     let events = events_of(alloc, asks, length)?;
     match Quiet::of(alloc, &start, None)? {
-        Some(quiet) => Ok(Some(quiet.play(alloc, &events)?)),
+        Some(quiet) => Ok(Some(quiet.play(alloc, &events, Vec::new(alloc))?)),
         None => Ok(None),
     }
 }
@@ -168,7 +168,7 @@ fn run_of(
 /// What a crash of a disk leaves, once the store was opened again.
 fn left_by_crash(alloc: Global, left: Left, choice: u64) -> Result<Left, Memory> {
     let quiet = left.crash(choice)?;
-    Ok(quiet.play(alloc, &[])?.left)
+    Ok(quiet.play(alloc, &[], Vec::new(alloc))?.left)
 }
 
 /// The files of a disk are what they are to be: behind a run without a failing call, and behind a crash.

@@ -17,7 +17,7 @@ use Rattle.model_store.specs.Events.{Answer, Commit, Memory, Bad, Got, Refused, 
 use Rattle.model_store.specs.Records.{Record}
 use Rattle.model_store.specs.Sets.{Prepared}
 use Rattle.model_store.specs.Store.{Store, Formats}
-use Rattle.model_store.specs.Verdicts.{Late, Same, Conflict, DatabaseFull, HistoryFull, Commits}
+use Rattle.model_store.specs.Verdicts.{Late, Same, Conflict, Invalid, DatabaseFull, HistoryFull, Commits}
 use Rattle.model_store.specs.Worlds.{World, Meant}
 use Rattle.model_store.proofs.Owning.{follows}
 use Rattle.store_core.specs.Committing.{BeginsSet, RunsOn, IsCommitted}
@@ -32,7 +32,7 @@ module _ (formats : Formats) (store : Store) where
   entries-next start [] commit = refl
   entries-next start (first ∷ history) commit = ap (λ es. entry_of formats store start first ∷ es) (entries-next (changed_by first.changes start) history commit)
 
-  module _ {D : Type 0} (g : Ghosts D) (opened : D) (before after : Core D) (records next : ℕ → Record) (sets : ℕ → Option Prepared) (world : World) (run later : Run) (r p : ℕ) (st : StandsFor formats g store opened before records sets world run) where
+  module _ {D P : Type 0} (g : Ghosts D) (opened : D) (before after : Core D P) (records next : ℕ → Record) (sets : ℕ → Option Prepared) (world : World) (run later : Run) (r p : ℕ) (st : StandsFor formats g store opened before records sets world run) where
     abbrev old : cores.Core
     old = core_with before records sets
 
@@ -58,6 +58,7 @@ module _ (formats : Formats) (store : Store) where
     entries-judged : (front : ℕ) (late : Late) → CommitMade store old r p front late new → RunsOn formats store before.keys run (sets p) (Judged front late) later → later.commits ≡ entries_of formats store after.history.commits
     entries-judged front (Same aside) made on = entries-stay made.next_is (ap (λ (x : Run). x.commits) on)
     entries-judged front (Conflict mount by) made on = entries-stay made.next_is (ap (λ (x : Run). x.commits) on)
+    entries-judged front (Invalid violation risen) made on = entries-stay made.next_is (ap (λ (x : Run). x.commits) on)
     entries-judged front (DatabaseFull weight) made on = entries-stay made.next_is (ap (λ (x : Run). x.commits) on)
     entries-judged front (HistoryFull weight) made on = entries-stay made.next_is (ap (λ (x : Run). x.commits) on)
     entries-judged front (Commits commit aside) made on = entries-joined commit (ap (λ (c : cores.Core). c.history) made.next_is) on

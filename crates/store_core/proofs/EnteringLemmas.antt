@@ -72,19 +72,19 @@ set-within formats store history (Some asked) set is =
     subst (λ (s : Prepared). AllByRecursion (λ m. m < k) s.touched) (sym is.is)
     (filter-within k _ (involved_in points asked.parent) (involved-within points asked.parent k (omega (arith, count))))
 
-module _ (formats : Formats) {D : Type 0} (store : Store) (core : Core D) (records : ℕ → Record) (sets : ℕ → Option Prepared) (world : World) (st : StandsIn formats store core records sets world)
+module _ (formats : Formats) {D P : Type 0} (store : Store) (core : Core D P) (records : ℕ → Record) (sets : ℕ → Option Prepared) (world : World) (st : StandsIn formats store core records sets world)
     (r p : ℕ) (set : Prepared) (is_set : sets p ≡ Some set) (accepted : accepts (records r) r set ≡ true) where
   abbrev old : cores.Core
   old = core_with core records sets
 
   -- a verdict of the history is one of the definitions
-  abbrev pub judgement : (late : Late) → IsLate core.history.commits core.keys set late → JudgementMade store old r p (length core.history.commits) late
+  abbrev pub judgement : (late : Late) → IsLate (points_of store) core.history.commits core.keys set late → JudgementMade store old r p (length core.history.commits) late
   judgement late is = record { set = set; is_set = is_set; accepted = accepted; front_is = refl; late_is = is }
 
   pub present : replay store.start core.history.commits ≡ core.keys
   present = ap (replay store.start) st.stands.history ∙ sym st.stands.keys
 
-  module _ (commit : past.Commit) (aside : ℕ) (late : IsLate core.history.commits core.keys set (Commits commit aside)) where
+  module _ (commit : past.Commit) (aside : ℕ) (late : IsLate (points_of store) core.history.commits core.keys set (Commits commit aside)) where
     abbrev next : cores.Core
     next = core_after store old r set (Commits commit aside)
 
@@ -128,7 +128,7 @@ module _ (formats : Formats) {D : Type 0} (store : Store) (core : Core D) (recor
             ∙ sym (ap (λ (x : Fetched). x.kept) is)
 
     pub commit_is_set : commit ≡ commit_of set
-    commit_is_set = (commit_is commit aside core.history.commits core.keys set late).0
+    commit_is_set = (commit_is commit aside (points_of store) core.history.commits core.keys set late).0
 
     pub entry_is : as_entry (texts_at formats store set.keys set.touched) ≡ entry_of formats store core.keys (commit_of set)
     entry_is = ap as_entry (texts-alike formats store set.keys (after core.keys set.changes) set.touched (λ m among. sym (stored m among)))

@@ -33,7 +33,7 @@ bad_is store m (n ∷ ms) e = by (store.is_bad n) refl e (bad_is store m ms)
     by true is h rest = ap store.is_bad (sym (some_is n m h)) ∙ is
     by false is h rest = rest h
 
-module _ (formats : Formats) (store : Store) (files : List MountedFile) {D : Type 0} (core : Core D) (records : ℕ → model.Record) (prepared : ℕ → Option sets.Prepared) (parent : Name) (old new : Record) (is : records (handle_of old) ≡ record_of old) where
+module _ (formats : Formats) (store : Store) (files : List MountedFile) {D P : Type 0} (core : Core D P) (records : ℕ → model.Record) (prepared : ℕ → Option sets.Prepared) (parent : Name) (old new : Record) (is : records (handle_of old) ≡ record_of old) where
   kept : record_of new ≡ record_of old → core_with core (put (handle_of old) (record_of new) records) prepared ≡ core_with core records prepared
   kept same =
       let each : (n : ℕ) → put (handle_of old) (record_of new) records n ≡ records n = put-same (handle_of old) (record_of new) records (is ∙ sym same) in

@@ -1,5 +1,5 @@
 -- What the files of a store mean at its opening, and what the reading of them leaves.
-use Rattle.std.proofs.Common.{◌≡◌, ℕ, true, false, true≢false, List, [], map as over, Option, Some, None, Result, Ok, Err, IfOk, IfErr, MatchResult, codes, nat_eq, refl, sym, ap, ap₂, subst, ◌∙◌}
+use Rattle.std.proofs.Common.{◌≡◌, ℕ, true, false, true≢false, List, [], map as over, Some, None, Result, Ok, Err, IfOk, IfErr, MatchResult, codes, nat_eq, refl, sym, ap, ap₂, subst, ◌∙◌}
 use Rattle.std.specs.List.{starts_with}
 use Rattle.std.specs.Option.{option_map}
 use Rattle.std.proofs.lemmas.Option.{slice_get-map}
@@ -74,7 +74,7 @@ module _ (Reads : Reading) (IsBad : Badness) (bytes_of others : Image) (same : S
   pub refused_alike : (fault : OpenFault) → RefusesStore Reads IsBad (bytes_of own_mount.file) fault → RefusesStore Reads IsBad (others own_mount.file) fault
   refused_alike fault = subst (λ (bytes : List ℕ). RefusesStore Reads IsBad bytes fault) (same own_mount.file own_free)
 
-  pub told_alike : {D F : Type 0} (result : Result (Opened D F) (OpenRefused D)) → MatchResult result (λ o. IsOpened Reads IsBad bytes_of o.plan.mounted) (λ r. RefusesStore Reads IsBad (bytes_of own_mount.file) r.fault)
+  pub told_alike : {D F P : Type 0} (result : Result (Opened D F P) (OpenRefused D P)) → MatchResult result (λ o. IsOpened Reads IsBad bytes_of o.plan.mounted) (λ r. RefusesStore Reads IsBad (bytes_of own_mount.file) r.fault)
       → IfOk result (λ o. IsOpened Reads IsBad others o.plan.mounted) × IfErr result (λ r. RefusesStore Reads IsBad (others own_mount.file) r.fault)
   told_alike (Ok o) told = (opened_alike o.plan.mounted told, tt)
   told_alike (Err r) told = (tt, refused_alike r.fault told)
@@ -102,7 +102,7 @@ pub rests_read : {D : Type 0} (g : Ghosts D) (old new : D) (P : Image → Type 0
 rests_read g old new P tells reads every image is = every image (λ file. (reads.images tells file).no_more (image file) (is file))
 
 -- the gate stays in doubt
-pub in_doubt : {D F : Type 0} (g : Ghosts D) (journal : JournalValue D) (result : Result (Opened D F) (OpenRefused D)) → journal.state ≡ IsDoubt → IfOk result (λ o. OnlyReadsFiles g journal o.core.journal) → IfOk result (λ o. o.core.journal.state ≡ IsDoubt)
+pub in_doubt : {D F P : Type 0} (g : Ghosts D) (journal : JournalValue D) (result : Result (Opened D F P) (OpenRefused D P)) → journal.state ≡ IsDoubt → IfOk result (λ o. OnlyReadsFiles g journal o.core.journal) → IfOk result (λ o. o.core.journal.state ≡ IsDoubt)
 in_doubt g journal (Ok o) doubt reads = reads.state ∙ doubt
 in_doubt g journal (Err r) doubt reads = tt
 
@@ -122,14 +122,14 @@ journal_refuses Reads IsBad bytes journal_fault.Memory = tt
 -- ---- the first core
 
 -- the first core stands for the first world, whatever the disk tells
-pub first_core_in : (formats : Formats) {D : Type 0} (store : Store) (core : Core D) → HaveFiles store.mounts → core.history.commits ≡ [] → core.keys ≡ store.start → StandsIn formats store core (λ r m. None) (λ p. None) first_world
+pub first_core_in : (formats : Formats) {D P : Type 0} (store : Store) (core : Core D P) → HaveFiles store.mounts → core.history.commits ≡ [] → core.keys ≡ store.start → StandsIn formats store core (λ r m. None) (λ p. None) first_world
 first_core_in formats store core files none keys = record {
   files = files;
   stands = subst (λ c. Stands formats store first_world c) (sym (ap₂ (λ (h : List Commit) (k : KeyMap). record { history = h; keys = k; records = λ r m. None; sets = λ p. None }) none keys)) (first_stands formats store);
 }
 
 -- and, with its journal, for a run without a commit
-pub first_core_stands : (formats : Formats) {D : Type 0} (g : Ghosts D) (store : Store) (core : Core D) (run : Run) → HaveFiles store.mounts → core.history.commits ≡ [] → core.keys ≡ store.start → IsStore g core.journal.disk core.journal run → run.commits ≡ []
+pub first_core_stands : (formats : Formats) {D P : Type 0} (g : Ghosts D) (store : Store) (core : Core D P) (run : Run) → HaveFiles store.mounts → core.history.commits ≡ [] → core.keys ≡ store.start → IsStore g core.journal.disk core.journal run → run.commits ≡ []
     → StandsFor formats g store core.journal.disk core (λ r m. None) (λ p. None) first_world run
 first_core_stands formats g store core run files none keys on_disk empty = record {
   here = first_core_in formats store core files none keys;
@@ -138,7 +138,7 @@ first_core_stands formats g store core run files none keys on_disk empty = recor
 }
 
 -- and so does that of an opening
-pub stands_opened : (formats : Formats) {D F : Type 0} (g : Ghosts D) (Reads : Reading) (IsBad : Badness) (journal : JournalValue D) (run : Run) (result : Result (Opened D F) (OpenRefused D)) → run.commits ≡ [] → IsStore g journal.disk journal run
+pub stands_opened : (formats : Formats) {D F P : Type 0} (g : Ghosts D) (Reads : Reading) (IsBad : Badness) (journal : JournalValue D) (run : Run) (result : Result (Opened D F P) (OpenRefused D P)) → run.commits ≡ [] → IsStore g journal.disk journal run
     → MatchResult result (λ o. IsOpened Reads IsBad (g.seen journal.disk) o.plan.mounted) (λ r. RefusesStore Reads IsBad (g.seen journal.disk own_mount.file) r.fault)
     → IfOk result (λ o. o.core.keys ≡ visible_keys o.plan.mounted) → IfOk result (λ o. o.core.history.commits ≡ []) → IfOk result (λ o. OnlyReadsFiles g journal o.core.journal)
     → IfOk result (λ o. (procs : ℕ → KeyMap) → StandsFor formats g (store_of o.plan.mounted procs) o.core.journal.disk o.core (λ r m. None) (λ p. None) first_world run)

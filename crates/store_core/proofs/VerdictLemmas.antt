@@ -1,5 +1,5 @@
 -- What a verdict tells of its set: a conflict is of a touched mount, and a commit is that of the set.
-use Rattle.std.proofs.Common.{◌≡◌, ℕ, nat_lt, Bool, true, false, cond, List, [], ◌∷◌, ◌++◌, Option, Some, None, sym, subst}
+use Rattle.std.proofs.Common.{◌≡◌, ℕ, nat_lt, Bool, true, false, cond, List, [], ◌∷◌, ◌++◌, Option, Some, None, inl, inr, sym, subst}
 use Rattle.std.specs.Option.{option_map, option_or}
 use Rattle.general_words.specs.Saturated.{saturated}
 use Rattle.general_words.specs.Searches.{first_some}
@@ -7,8 +7,10 @@ use Rattle.model_maps.specs.KeyMap.{KeyMap, weight, heaviest_map}
 use Rattle.model_history.specs.Changes.{after}
 use Rattle.model_history.specs.History as past
 use Rattle.model_history.specs.History.{is_among, history_weight, heaviest_history}
+use Rattle.model_names.specs.Name.{Name}
+use Rattle.model_specified.specs.declared.violations.Violation.{Violation}
 use Rattle.model_store.specs.Sets.{Prepared}
-use Rattle.model_store.specs.Verdicts.{Late, Conflict, DatabaseFull, HistoryFull, Commits, Follows, IsLate, blocking, conflict_at, conflict, commit_of, if_untouched, if_heavy, if_full}
+use Rattle.model_store.specs.Verdicts.{Late, Conflict, Invalid, DatabaseFull, HistoryFull, Commits, Follows, Checks, IsLate, blocking, conflict_at, conflict, commit_of, if_untouched, if_heavy, if_full}
 use Rattle.model_store.proofs.Members.{among-first, among-rest}
 
 -- an answer that no step tells is what the rest tells
@@ -20,6 +22,11 @@ skipped (Some told) answer P off h = absurd (off (sym h))
 told : (o : Option Late) (answer : Late) (P : Type 0) → (P → ⊥) → Follows o (Some answer) P → o ≡ Some answer
 told None answer P off h = absurd (off h)
 told (Some late) answer P off h = sym h
+
+-- an answer that is no violation is what the rest tells
+unruled : (points : List Name) (keys : KeyMap) (set : Prepared) (answer : Late) (P : Type 0) → ((violation : Violation) (risen : Bool) → answer ≡ Invalid violation risen → ⊥) → Checks points keys set answer P → P
+unruled points keys set answer P off (inl breaks) = absurd (off breaks.violation breaks.risen breaks.is)
+unruled points keys set answer P off (inr kept) = kept.1
 
 module _ (commit : past.Commit) (aside : ℕ) where
   no_same : (touched : List ℕ) (n : ℕ) → if_untouched touched n ≡ Some (Commits commit aside) → ⊥
@@ -42,14 +49,15 @@ module _ (commit : past.Commit) (aside : ℕ) where
   no_full false n e = absurd cc
 
   -- a commit is that of the set
-  pub commit_is : (history : List past.Commit) (keys : KeyMap) (set : Prepared) → IsLate history keys set (Commits commit aside) → (commit ≡ commit_of set) × (aside ≡ set.aside)
-  commit_is history keys set late =
+  pub commit_is : (points : List Name) (history : List past.Commit) (keys : KeyMap) (set : Prepared) → IsLate points history keys set (Commits commit aside) → (commit ≡ commit_of set) × (aside ≡ set.aside)
+  commit_is points history keys set late =
       let w : ℕ = weight (after keys set.changes) in
       let h : ℕ = history_weight (history ++ commit_of set ∷ []) in
       parts commit (commit_of set) aside set.aside (skipped (if_full h) (Commits commit aside) _ (no_full (nat_lt heaviest_history h) (saturated h))
       (skipped (if_heavy w) (Commits commit aside) _ (no_heavy (nat_lt heaviest_map w) (saturated w))
+      (unruled points keys set (Commits commit aside) _ (λ violation risen e. absurd cc)
       (skipped (conflict history set) (Commits commit aside) _ (no_conflict history set.fronts set.touched)
-      (skipped (if_untouched set.touched set.aside) (Commits commit aside) _ (no_same set.touched set.aside) late))))
+      (skipped (if_untouched set.touched set.aside) (Commits commit aside) _ (no_same set.touched set.aside) late)))))
     where
       parts : (c d : past.Commit) (n k : ℕ) → Commits c n ≡ Commits d k → (c ≡ d) × (n ≡ k)
       parts c d n k e = (cc, cc)
@@ -78,11 +86,11 @@ module _ (m by : ℕ) where
       same n k h = cc
 
   -- the mount of a conflict is touched
-  pub conflict_touched : (history : List past.Commit) (keys : KeyMap) (set : Prepared) → IsLate history keys set (Conflict m by) → is_among set.touched m ≡ true
-  conflict_touched history keys set late =
+  pub conflict_touched : (points : List Name) (history : List past.Commit) (keys : KeyMap) (set : Prepared) → IsLate points history keys set (Conflict m by) → is_among set.touched m ≡ true
+  conflict_touched points history keys set late =
       let w : ℕ = weight (after keys set.changes) in
       let h : ℕ = history_weight (history ++ commit_of set ∷ []) in
       told_among history set.fronts set.touched
       (told (conflict history set) (Conflict m by) _
-      (λ rest. let is : Conflict m by ≡ Commits (commit_of set) set.aside = skipped (if_full h) (Conflict m by) _ (not_full (nat_lt heaviest_history h) (saturated h)) (skipped (if_heavy w) (Conflict m by) _ (not_heavy (nat_lt heaviest_map w) (saturated w)) rest) in absurd cc)
+      (λ rest. let is : Conflict m by ≡ Commits (commit_of set) set.aside = skipped (if_full h) (Conflict m by) _ (not_full (nat_lt heaviest_history h) (saturated h)) (skipped (if_heavy w) (Conflict m by) _ (not_heavy (nat_lt heaviest_map w) (saturated w)) (unruled points keys set (Conflict m by) _ (λ violation risen e. absurd cc) rest)) in absurd cc)
       (skipped (if_untouched set.touched set.aside) (Conflict m by) _ (not_same set.touched set.aside) late))

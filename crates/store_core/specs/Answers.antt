@@ -6,10 +6,11 @@ use Rattle.model_maps.specs.KeyMap.{KeyMap}
 use Rattle.model_names.specs.Name.{Name}
 use Rattle.model_store.specs.Events as event
 use Rattle.model_store.specs.Sets.{Prepared}
+use Rattle.model_store.specs.Store.{points_at}
 use Rattle.model_store.specs.Verdicts as late
 use Rattle.mount_table.specs.declared.mounts.Mount.{Mount}
 use Rattle.store_core.specs.declared.committing.CommitFault.{CommitFault}
-use Rattle.store_core.specs.declared.committing.CommitFault.TheVariants.{Conflict, DatabaseFull, HistoryFull, DiskFault, Memory}
+use Rattle.store_core.specs.declared.committing.CommitFault.TheVariants.{Conflict, Invalid, DatabaseFull, HistoryFull, DiskFault, Memory}
 use Rattle.store_core.specs.declared.committing.Done.{Done}
 use Rattle.store_core.specs.declared.committing.Done.TheVariants.{Committed, Same}
 
@@ -17,31 +18,34 @@ use Rattle.store_core.specs.declared.committing.Done.TheVariants.{Committed, Sam
 abbrev pub point_at : List Mount → ℕ → Option Name
 point_at mounts m = option_map (λ mount. mount.at) (slice_get mounts m)
 
--- the answer to a commit of a set that found so many commits; a mount is told by its mountpoint
-abbrev pub IsAnswer : List Mount → ℕ → Prepared → Result Done CommitFault → event.Answer → Type 0
-IsAnswer mounts found set (Ok (Committed number aside)) answer = (number ≡ found + 1) × (answer ≡ event.Judged found (late.Commits (late.commit_of set) aside))
-IsAnswer mounts found set (Ok (Same front aside)) answer = answer ≡ event.Judged front (late.Same aside)
-IsAnswer mounts found set (Err (Conflict mount by front)) answer = (m : ℕ) × (point_at mounts m ≡ Some mount) × (answer ≡ event.Judged front (late.Conflict m by))
-IsAnswer mounts found set (Err (DatabaseFull weight front)) answer = answer ≡ event.Judged front (late.DatabaseFull weight)
-IsAnswer mounts found set (Err (HistoryFull weight front)) answer = answer ≡ event.Judged front (late.HistoryFull weight)
-IsAnswer mounts found set (Err (DiskFault front)) answer = answer ≡ event.Failed front
-IsAnswer mounts found set (Err Memory) answer = answer ≡ event.Memory
+-- the answer to a commit of a set that found so many commits, by whether the matcher's count of refusals rose; a mount is told by its mountpoint
+abbrev pub IsAnswer : List Mount → Bool → ℕ → Prepared → Result Done CommitFault → event.Answer → Type 0
+IsAnswer mounts risen found set (Ok (Committed number aside)) answer = (number ≡ found + 1) × (answer ≡ event.Judged found (late.Commits (late.commit_of set) aside))
+IsAnswer mounts risen found set (Ok (Same front aside)) answer = answer ≡ event.Judged front (late.Same aside)
+IsAnswer mounts risen found set (Err (Conflict mount by front)) answer = (m : ℕ) × (point_at mounts m ≡ Some mount) × (answer ≡ event.Judged front (late.Conflict m by))
+IsAnswer mounts risen found set (Err (Invalid violation front)) answer = answer ≡ event.Judged front (late.Invalid violation risen)
+IsAnswer mounts risen found set (Err (DatabaseFull weight front)) answer = answer ≡ event.Judged front (late.DatabaseFull weight)
+IsAnswer mounts risen found set (Err (HistoryFull weight front)) answer = answer ≡ event.Judged front (late.HistoryFull weight)
+IsAnswer mounts risen found set (Err (DiskFault front)) answer = answer ≡ event.Failed front
+IsAnswer mounts risen found set (Err Memory) answer = answer ≡ event.Memory
 
 -- what the history decides of a set, by the answer to its commit, whatever the disk tells: it decides before the disk is touched
-abbrev pub IsJudged : List Mount → List Commit → KeyMap → Prepared → Result Done CommitFault → Type 0
-IsJudged mounts history keys set (Ok (Committed number aside)) = (number ≡ length history + 1) × late.IsLate history keys set (late.Commits (late.commit_of set) aside)
-IsJudged mounts history keys set (Ok (Same front aside)) = (front ≡ length history) × late.IsLate history keys set (late.Same aside)
-IsJudged mounts history keys set (Err (Conflict mount by front)) = (m : ℕ) × (point_at mounts m ≡ Some mount) × (front ≡ length history) × late.IsLate history keys set (late.Conflict m by)
-IsJudged mounts history keys set (Err (DatabaseFull weight front)) = (front ≡ length history) × late.IsLate history keys set (late.DatabaseFull weight)
-IsJudged mounts history keys set (Err (HistoryFull weight front)) = (front ≡ length history) × late.IsLate history keys set (late.HistoryFull weight)
-IsJudged mounts history keys set (Err (DiskFault front)) = (aside : ℕ) × (front ≡ length history) × late.IsLate history keys set (late.Commits (late.commit_of set) aside)
-IsJudged mounts history keys set (Err Memory) = Unit {0}
+abbrev pub IsJudged : List Mount → Bool → List Commit → KeyMap → Prepared → Result Done CommitFault → Type 0
+IsJudged mounts risen history keys set (Ok (Committed number aside)) = (number ≡ length history + 1) × late.IsLate (points_at mounts) history keys set (late.Commits (late.commit_of set) aside)
+IsJudged mounts risen history keys set (Ok (Same front aside)) = (front ≡ length history) × late.IsLate (points_at mounts) history keys set (late.Same aside)
+IsJudged mounts risen history keys set (Err (Conflict mount by front)) = (m : ℕ) × (point_at mounts m ≡ Some mount) × (front ≡ length history) × late.IsLate (points_at mounts) history keys set (late.Conflict m by)
+IsJudged mounts risen history keys set (Err (Invalid violation front)) = (front ≡ length history) × late.IsLate (points_at mounts) history keys set (late.Invalid violation risen)
+IsJudged mounts risen history keys set (Err (DatabaseFull weight front)) = (front ≡ length history) × late.IsLate (points_at mounts) history keys set (late.DatabaseFull weight)
+IsJudged mounts risen history keys set (Err (HistoryFull weight front)) = (front ≡ length history) × late.IsLate (points_at mounts) history keys set (late.HistoryFull weight)
+IsJudged mounts risen history keys set (Err (DiskFault front)) = (aside : ℕ) × (front ≡ length history) × late.IsLate (points_at mounts) history keys set (late.Commits (late.commit_of set) aside)
+IsJudged mounts risen history keys set (Err Memory) = Unit {0}
 
 -- an answer before which the disk was written: the commit is stored, or a fault came amid it
 abbrev pub has_written : Result Done CommitFault → Bool
 has_written (Ok (Committed number aside)) = true
 has_written (Ok (Same front aside)) = false
 has_written (Err (Conflict mount by front)) = false
+has_written (Err (Invalid violation front)) = false
 has_written (Err (DatabaseFull weight front)) = false
 has_written (Err (HistoryFull weight front)) = false
 has_written (Err (DiskFault front)) = true

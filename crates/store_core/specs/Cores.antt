@@ -14,16 +14,16 @@ use Rattle.store_core.specs.declared.cores.Core.{Core}
 use Rattle.store_phases.specs.Stores.{IsStore}
 
 -- a core with the records of its handles and their prepared sets, as the definitions of a store have it
-abbrev pub core_with : {D : Type 0} → Core D → (ℕ → Record) → (ℕ → Option Prepared) → cores.Core
+abbrev pub core_with : {D P : Type 0} → Core D P → (ℕ → Record) → (ℕ → Option Prepared) → cores.Core
 core_with core records sets = record { history = core.history.commits; keys = core.keys; records = records; sets = sets }
 
 -- a core, with these records and sets, stands for a world, and the mounts have files that the journal can hold, whatever the disk tells
-pub record StandsIn (formats : Formats) (store : Store) {D : Type 0} (core : Core D) (records : ℕ → Record) (sets : ℕ → Option Prepared) (world : World) : Type 0 where
+pub record StandsIn (formats : Formats) (store : Store) {D P : Type 0} (core : Core D P) (records : ℕ → Record) (sets : ℕ → Option Prepared) (world : World) : Type 0 where
   pub files : HaveFiles store.mounts
   pub stands : Stands formats store world (core_with core records sets)
 
 -- it does, its journal stands for a run since the disk was opened, and the run's entries are those of the world's history
-pub record StandsFor (formats : Formats) {D : Type 0} (g : Ghosts D) (store : Store) (opened : D) (core : Core D) (records : ℕ → Record) (sets : ℕ → Option Prepared) (world : World) (run : Run) : Type 0 where
+pub record StandsFor (formats : Formats) {D P : Type 0} (g : Ghosts D) (store : Store) (opened : D) (core : Core D P) (records : ℕ → Record) (sets : ℕ → Option Prepared) (world : World) (run : Run) : Type 0 where
   pub here : StandsIn formats store core records sets world
   pub on_disk : IsStore g opened core.journal run
   pub entries : run.commits ≡ entries_of formats store core.history.commits

@@ -12,7 +12,7 @@ pub record OnlyReadsFiles {D : Type 0} (g : Ghosts D) (old new : JournalValue D)
   pub entry : new.entry ≡ old.entry
 
 -- nothing is written, and nothing of what is kept moves; the history may have got room for further commits
-pub record IsUnwritten {D : Type 0} (old new : Core D) : Type 0 where
+pub record IsUnwritten {D P : Type 0} (old new : Core D P) : Type 0 where
   pub journal : new.journal ≡ old.journal
   pub history : new.history.commits ≡ old.history.commits
   pub keys : new.keys ≡ old.keys

@@ -32,7 +32,7 @@ IsGot files (Ok got) answer = answer ≡ event.Got got.front got.keys
 IsGot files (Err why) answer = ((why ≡ fault.Memory) × (answer ≡ event.Memory)) ⊎ ((m : ℕ) × (fault_at files m ≡ Some why) × (answer ≡ event.Bad m))
 
 -- a handle got a parent as the definitions say, with this answer
-pub record HasGot (formats : Formats) (store : Store) (files : List MountedFile) {D : Type 0} (core : Core D) (records : ℕ → model.Record) (prepared : ℕ → Option sets.Prepared) (parent : Name) (old new : Record) (result : Result Got GetFault) : Type 0 where
+pub record HasGot (formats : Formats) (store : Store) (files : List MountedFile) {D P : Type 0} (core : Core D P) (records : ℕ → model.Record) (prepared : ℕ → Option sets.Prepared) (parent : Name) (old new : Record) (result : Result Got GetFault) : Type 0 where
   pub answer : Answer
   pub is_answer : IsGot files result answer
   pub made : Made formats store (core_with core records prepared) (Get (handle_of old) parent) answer (core_with core (put (handle_of old) (record_of new) records) prepared)

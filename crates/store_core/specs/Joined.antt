@@ -1,5 +1,5 @@
 -- What a commit needs of its caller, and what it does then. (This project's own.)
-use Rattle.std.specs.Prelude.{◌≡◌, ℕ, ◌≤◌, true, List, length, map as over, Option, Some, Result}
+use Rattle.std.specs.Prelude.{◌≡◌, ℕ, ◌≤◌, Bool, true, List, length, map as over, Option, Some, Result}
 use Rattle.kdb_outside.specs.declared.disks.Disk.{Ghosts}
 use Rattle.model_crashes.specs.Runs.{Run}
 use Rattle.model_files.specs.Texts.{as_entry, texts_at}
@@ -26,7 +26,7 @@ use Rattle.store_verdict.specs.declared.records.Record.{Record}
 
 -- the core stands for a world, with this record as that of its handle and with this set as that of a number; the record accepts
 -- the set, which holds what is wanted for each touched mount, and the texts that the formats give of it. The disk has no part in it
-pub record BelongsIn (formats : Formats) {D : Type 0} (mounts : List Mount) (store : Store) (core : Core D) (records : ℕ → model.Record) (made : ℕ → Option sets.Prepared) (world : World) (p : ℕ) (rec : Record) (set : Prepared) : Type 0 where
+pub record BelongsIn (formats : Formats) {D P : Type 0} (mounts : List Mount) (store : Store) (core : Core D P) (records : ℕ → model.Record) (made : ℕ → Option sets.Prepared) (world : World) (p : ℕ) (rec : Record) (set : Prepared) : Type 0 where
   pub mounts_are : store.mounts ≡ mounts
   pub stands : StandsIn formats store core records made world
   pub record_is : records (handle_of rec) ≡ record_of rec
@@ -37,12 +37,12 @@ pub record BelongsIn (formats : Formats) {D : Type 0} (mounts : List Mount) (sto
   pub texts : set.texts ≡ as_entry (texts_at formats store set.keys set.touched)
 
 -- and its journal stands for a run since the disk was opened
-pub record Belongs (formats : Formats) {D : Type 0} (g : Ghosts D) (mounts : List Mount) (store : Store) (opened : D) (core : Core D) (records : ℕ → model.Record) (made : ℕ → Option sets.Prepared) (world : World) (run : Run) (p : ℕ) (rec : Record) (set : Prepared) : Type 0 where
+pub record Belongs (formats : Formats) {D P : Type 0} (g : Ghosts D) (mounts : List Mount) (store : Store) (opened : D) (core : Core D P) (records : ℕ → model.Record) (made : ℕ → Option sets.Prepared) (world : World) (run : Run) (p : ℕ) (rec : Record) (set : Prepared) : Type 0 where
   pub here : BelongsIn formats mounts store core records made world p rec set
   pub on_disk : IsStore g opened core.journal run
 
 -- there is such a store and such a world, whatever the disk tells
-pub record IsReady (formats : Formats) {D : Type 0} (mounts : List Mount) (core : Core D) (rec : Record) (set : Prepared) : Type 0 where
+pub record IsReady (formats : Formats) {D P : Type 0} (mounts : List Mount) (core : Core D P) (rec : Record) (set : Prepared) : Type 0 where
   pub store : Store
   pub records : ℕ → model.Record
   pub made : ℕ → Option sets.Prepared
@@ -50,15 +50,15 @@ pub record IsReady (formats : Formats) {D : Type 0} (mounts : List Mount) (core 
   pub number : ℕ
   pub belongs : BelongsIn formats mounts store core records made world number rec set
 
--- the set was committed as the definitions say, with this answer. The disk has no part in it
-pub record HasMade (formats : Formats) {D : Type 0} (mounts : List Mount) (store : Store) (before after : Core D) (records : ℕ → model.Record) (made : ℕ → Option sets.Prepared) (p : ℕ) (old new : Record) (set : Prepared) (result : Result Done CommitFault) : Type 0 where
+-- the set was committed as the definitions say, with this answer, where the matcher's count of refusals rose or not. The disk has no part in it
+pub record HasMade (formats : Formats) {D P : Type 0} (mounts : List Mount) (store : Store) (before after : Core D P) (records : ℕ → model.Record) (made : ℕ → Option sets.Prepared) (p : ℕ) (old new : Record) (set : Prepared) (risen : Bool) (result : Result Done CommitFault) : Type 0 where
   pub answer : Answer
-  pub is_answer : IsAnswer mounts (length before.history.commits) (prepared_of set) result answer
+  pub is_answer : IsAnswer mounts risen (length before.history.commits) (prepared_of set) result answer
   pub is_made : Made formats store (core_with before records made) (Commit (handle_of old) p) answer (core_with after (put (handle_of old) (record_of new) records) made)
 
 -- and the run on the disk went on by it
-pub record HasAnswered (formats : Formats) {D : Type 0} (g : Ghosts D) (mounts : List Mount) (store : Store) (opened : D) (before after : Core D) (records : ℕ → model.Record) (made : ℕ → Option sets.Prepared) (run : Run) (p : ℕ) (old new : Record) (set : Prepared) (result : Result Done CommitFault) : Type 0 where
+pub record HasAnswered (formats : Formats) {D P : Type 0} (g : Ghosts D) (mounts : List Mount) (store : Store) (opened : D) (before after : Core D P) (records : ℕ → model.Record) (made : ℕ → Option sets.Prepared) (run : Run) (p : ℕ) (old new : Record) (set : Prepared) (risen : Bool) (result : Result Done CommitFault) : Type 0 where
   pub later : Run
   pub answer : Answer
-  pub is_answer : IsAnswer mounts (length before.history.commits) (prepared_of set) result answer
+  pub is_answer : IsAnswer mounts risen (length before.history.commits) (prepared_of set) result answer
   pub committed : IsCommitted formats g store opened before after records (put (handle_of old) (record_of new) records) made run later (handle_of old) p answer

@@ -1,4 +1,4 @@
--- What an opening answers: the disk and, where it was refused, why. (This project's own.)
+-- What an opening answers: the disk, the matcher and, where it was refused, why. (This project's own.)
 use Rattle.std.specs.Prelude.{Bool, true, false, Option, Some, None, Result, Ok, Err}
 use Rattle.store_core.specs.declared.faults.OpenFault.{OpenFault}
 use Rattle.store_core.specs.declared.faults.OpenFault.TheVariants.{DiskFault, BadJournal, BadTable, TooLong, BadFile, Memory}
@@ -6,12 +6,17 @@ use Rattle.store_core.specs.declared.faults.OpenRefused.{OpenRefused}
 use Rattle.store_core.specs.declared.opening.Opened.{Opened}
 
 -- the disk, under the core or handed back
-abbrev pub disk_of : {D F : Type 0} → Result (Opened D F) (OpenRefused D) → D
+abbrev pub disk_of : {D F P : Type 0} → Result (Opened D F P) (OpenRefused D P) → D
 disk_of (Ok opened) = opened.core.journal.disk
 disk_of (Err refused) = refused.disk
 
+-- the matcher, in the core or handed back
+abbrev pub patterns_of : {D F P : Type 0} → Result (Opened D F P) (OpenRefused D P) → P
+patterns_of (Ok opened) = opened.core.patterns
+patterns_of (Err refused) = refused.patterns
+
 -- why it wasn't opened
-abbrev pub fault_of : {D F : Type 0} → Result (Opened D F) (OpenRefused D) → Option OpenFault
+abbrev pub fault_of : {D F P : Type 0} → Result (Opened D F P) (OpenRefused D P) → Option OpenFault
 fault_of (Ok opened) = None
 fault_of (Err refused) = Some refused.fault
 

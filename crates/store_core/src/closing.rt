@@ -14,20 +14,23 @@ use crate::Core;
 use commit_log::History;
 use intent_journal::{Journal, State};
 use kdb_outside::Disk;
+use regex_check::Patterns;
 use store_phases::close;
 
-/// A store that was closed: its disk, and the commits since its opening.
+/// A store that was closed: its disk, its matcher, and the commits since its opening.
 #[derive(Drop)]
-pub struct Closed<D: Disk> {
+pub struct Closed<D: Disk, P: Patterns + Drop> {
     pub disk: D,
+    pub patterns: P,
     pub history: History,
 }
 
-impl<D: Disk> Core<D> {
-    /// Ends the store, and gives its disk and its history back. What a commit left to be done is tried once more, and a failure of it is no
+impl<D: Disk, P: Patterns + Drop> Core<D, P> {
+    /// Ends the store, and gives its disk, its matcher and its history back. What a commit left to be done is tried once more, and a failure of it is no
     /// refusal. Where nothing was written since the opening began, nothing is written now.
-    pub fn close(self) -> Closed<D>
+    pub fn close(self) -> Closed<D, P>
         ensures history { result.history ≡ self.history }
+        ensures patterns { result.patterns ≡ self.patterns }
         ensures left_alone { self.wrote ≡ false → self.journal.state ≡ IsDoubt → result.disk ≡ self.journal.disk }
         ensures shown { (opened : D) (run : Run) → IsStore D.Disk opened self.journal run → ¬ HasRisen (D.faults self.journal.disk) (D.faults result.disk)
             → SameFiles (D.seen result.disk) (files_of run) }
@@ -43,16 +46,19 @@ impl<D: Disk> Core<D> {
             journal,
             history,
             wrote,
+            patterns,
             ..
         } = self;
         if !wrote && journal.state() == State::Doubt {
             return Closed {
                 disk: journal.into_disk(),
+                patterns,
                 history,
             };
         }
         Closed {
             disk: close(journal),
+            patterns,
             history,
         }
     }

@@ -1,4 +1,4 @@
-//! A commit of a handle's prepared set: the history decides, then memory is taken, then the disk is written, and then the record moves.
+//! A commit of a handle's prepared set: the history and the rules decide, then memory is taken, then the disk is written, and then the record moves.
 ghost use Rattle.std.specs.Prelude.{◌≡◌, ◌≢◌, ◌≤◌, ◌<◌, ◌+◌, ◌++◌, ◌∷◌, ℕ, [], true, false, All, List, Option, Some, Err, IfOk, IfErr, OnOk, OnErr, ◌⊎◌, length, map as over};
 ghost use Rattle.kdb_outside.specs.Faults.{HasRisen};
 ghost use Rattle.kdb_outside.specs.Frames.{GoesOn};
@@ -11,9 +11,12 @@ ghost use Rattle.model_history.specs.Changes.{after};
 ghost use Rattle.model_history.specs.History.{history_weight, heaviest_history};
 ghost use Rattle.model_maps.specs.KeyMap.{KeyMap};
 ghost use Rattle.model_store.specs.Cores.{keeping};
+ghost use Rattle.model_rules.specs.Rules.{longest_pattern};
+ghost use Rattle.model_specified.specs.declared.violations.Violation.{Violation as Broken};
 ghost use Rattle.model_store.specs.Records as model;
+ghost use Rattle.model_store.specs.Rules.{has_risen};
 ghost use Rattle.model_store.specs.Sets as sets;
-ghost use Rattle.model_store.specs.Store.{Store};
+ghost use Rattle.model_store.specs.Store.{Store, points_at};
 ghost use Rattle.model_store.specs.Verdicts.{IsLate};
 ghost use Rattle.model_store.specs.Worlds.{World};
 ghost use Rattle.set_split.specs.Seen.{numbered};
@@ -29,12 +32,14 @@ ghost use Rattle.store_verdict.specs.RecordView.{handle_of, places_of, proc_of, 
 
 use crate::storing::{Entering, StoreFault};
 use crate::{Core, Plan};
-use commit_log::Commit;
+use commit_log::{Commit, History};
 use kdb_outside::Disk;
 use key_meta::Memory;
 use key_name::KeyName;
 use key_set::KeySet;
 use mount_table::MountTable;
+use plugin_chain::Violation;
+use regex_check::Patterns;
 use std::alloc::{AllocError, Global};
 use storage_api::Formats;
 use store_verdict::{Late, Prepared, Record, judge};
@@ -53,6 +58,9 @@ pub enum Done {
 pub enum CommitFault {
     /// A later commit touches a mount: the lowest such mount, and the number of its first such commit.
     Conflict { mount: KeyName, by: u64, front: u64 },
+    /// A key that a touched mount owns breaks a rule after the set: the first violation. Rule 6 tells a pattern of at most 1,024 bytes only where
+    /// the matcher's count of refusals rose in this call.
+    Invalid { violation: Violation, front: u64 },
     /// The map after the set would weigh more than 16,777,216: so much.
     DatabaseFull { weight: u64, front: u64 },
     /// The history with the set would weigh more than 67,108,864: so much.
@@ -69,15 +77,15 @@ impl From<AllocError> for CommitFault {
     }
 }
 
-/// What the history decides of a set, and the keys after it.
+/// What the history and the rules decide of a set, and the keys after it.
 #[derive(Drop)]
 struct Judged {
     late: Late,
     keys: KeySet,
 }
 
-impl<D: Disk> Core<D> {
-    /// Commits a set that the record of its handle accepts. Nothing to do, a conflict and want of room are found before the disk is touched, and
+impl<D: Disk, P: Patterns + Drop> Core<D, P> {
+    /// Commits a set that the record of its handle accepts. Nothing to do, a conflict, a broken rule and want of room are found before the disk is touched, and
     /// so is want of memory. From `Committed` on every crash leaves the commit; and the record has then the commit's number and what was wanted for each touched
     /// mount. After every other answer the keys, the history and the record are as before.
     pub fn commit<F: Formats + Drop>(
@@ -88,17 +96,19 @@ impl<D: Disk> Core<D> {
         prepared: Prepared,
     ) -> Result<Done, CommitFault>
         requires ready { IsReady (record { text = F.text; IsStorable = F.is_storable; BreaksAt = F.breaks_at }) (over (λ file. file.mount) plan.now.mounted) self.old rec.old prepared }
-        ensures judged { IsJudged (over (λ file. file.mount) plan.now.mounted) self.old.history.commits self.old.keys (prepared_of prepared) result }
+        ensures judged { IsJudged (over (λ file. file.mount) plan.now.mounted) (has_risen (P.refusals self.old.patterns) (P.refusals self.new.patterns)) self.old.history.commits self.old.keys (prepared_of prepared) result }
         ensures made { (store : Store) (records : ℕ → model.Record) (made : ℕ → Option sets.Prepared) (world : World) (p : ℕ)
             → BelongsIn (record { text = F.text; IsStorable = F.is_storable; BreaksAt = F.breaks_at }) (over (λ file. file.mount) plan.now.mounted) store self.old records made world p rec.old prepared
-            → HasMade (record { text = F.text; IsStorable = F.is_storable; BreaksAt = F.breaks_at }) (over (λ file. file.mount) plan.now.mounted) store self.old self.new records made p rec.old rec.new prepared result }
+            → HasMade (record { text = F.text; IsStorable = F.is_storable; BreaksAt = F.breaks_at }) (over (λ file. file.mount) plan.now.mounted) store self.old self.new records made p rec.old rec.new prepared (has_risen (P.refusals self.old.patterns) (P.refusals self.new.patterns)) result }
         ensures committed { (store : Store) (opened : D) (records : ℕ → model.Record) (made : ℕ → Option sets.Prepared) (world : World) (run : Run) (p : ℕ)
             → Belongs (record { text = F.text; IsStorable = F.is_storable; BreaksAt = F.breaks_at }) D.Disk (over (λ file. file.mount) plan.now.mounted) store opened self.old records made world run p rec.old prepared
-            → HasAnswered (record { text = F.text; IsStorable = F.is_storable; BreaksAt = F.breaks_at }) D.Disk (over (λ file. file.mount) plan.now.mounted) store opened self.old self.new records made run p rec.old rec.new prepared result }
+            → HasAnswered (record { text = F.text; IsStorable = F.is_storable; BreaksAt = F.breaks_at }) D.Disk (over (λ file. file.mount) plan.now.mounted) store opened self.old self.new records made run p rec.old rec.new prepared (has_risen (P.refusals self.old.patterns) (P.refusals self.new.patterns)) result }
         ensures any_moment { (opened : D) (run : Run) → IsStore D.Disk opened self.old.journal run
             → LeavesOnly D.Disk self.old.journal.disk self.new.journal.disk (IsAmid (files_of run) run.doubt prepared.texts) }
         ensures goes { GoesOn D.Disk self.old.journal.disk self.new.journal.disk }
         ensures cause { (front : ℕ) → result ≡ Err (fault.DiskFault front) → HasRisen (D.faults self.old.journal.disk) (D.faults self.new.journal.disk) }
+        ensures refused { (violation : Broken) (front : ℕ) → result ≡ Err (fault.Invalid violation front) → violation.rule ≡ 6 → length violation.given ≤ longest_pattern → HasRisen (P.refusals self.old.patterns) (P.refusals self.new.patterns) }
+        ensures later { P.refusals self.old.patterns ≤ P.refusals self.new.patterns }
         ensures unwritten { has_written result ≡ false → IsUnwritten self.old self.new }
         ensures wrote { has_written result ≡ true → self.new.wrote ≡ true }
         ensures handle { handle_of rec.new ≡ handle_of rec.old }
@@ -106,30 +116,29 @@ impl<D: Disk> Core<D> {
         ensures proc { proc_of rec.new ≡ proc_of rec.old }
     {
         let front = self.history.len();
-        let judged = match self.judged(alloc, &prepared) {
+        let table = plan.table();
+        let judged = match judge_set(
+            alloc,
+            &mut self.patterns,
+            table,
+            &self.history,
+            &self.keys,
+            &prepared,
+        ) {
             Ok(judged) => judged,
             Err(_) => return Err(CommitFault::Memory),
         };
         let Judged { late, keys } = judged;
         match late {
             Late::Same { left_aside } => Ok(Done::Same { front, left_aside }),
-            Late::Conflict { mount, by } => Err(conflict(plan.table(), mount, by, front)),
+            Late::Conflict { mount, by } => Err(conflict(table, mount, by, front)),
+            Late::Invalid { violation } => Err(CommitFault::Invalid { violation, front }),
             Late::DatabaseFull { weight } => Err(CommitFault::DatabaseFull { weight, front }),
             Late::HistoryFull { weight } => Err(CommitFault::HistoryFull { weight, front }),
             Late::Commits { commit, left_aside } => {
                 self.enter(alloc, rec, prepared, commit, keys, left_aside)
             }
         }
-    }
-
-    /// What the history decides of a set, and the keys after it.
-    fn judged(&self, alloc: Global, prepared: &Prepared) -> Result<Judged, Memory>
-        ensures late { IfOk result (λ made. IsLate self.now.history.commits self.now.keys (prepared_of prepared.now) (late_of made.late)) }
-        ensures keys { IfOk result (λ made. made.keys ≡ after self.now.keys prepared.now.changes) }
-    {
-        let keys = prepared.changes.applied(&self.keys)?;
-        let late = judge(alloc, &self.history, keys.weight(), prepared)?;
-        Ok(Judged { late, keys })
     }
 
     /// Stores a set that is a commit, and has its record keep what was wanted.
@@ -152,6 +161,7 @@ impl<D: Disk> Core<D> {
         ensures kept { OnOk result ((mounts : List ℕ) (kept : ℕ → KeyMap) → numbered prepared.wanted ≡ over (λ m. (m, kept m)) mounts → record_of rec.new ≡ keeping mounts (length self.old.history.commits + 1) kept (record_of rec.old)) }
         ensures same { OnErr result ((self.new.history.commits ≡ self.old.history.commits) × (self.new.keys ≡ self.old.keys)) }
         ensures fetched { OnErr result (record_of rec.new ≡ record_of rec.old) }
+        ensures patterns { self.new.patterns ≡ self.old.patterns }
         ensures unwritten { has_written result ≡ false → IsUnwritten self.old self.new }
         ensures wrote { has_written result ≡ true → self.new.wrote ≡ true }
         ensures committed { (opened : D) (run : Run) → IsStore D.Disk opened self.old.journal run
@@ -183,6 +193,24 @@ impl<D: Disk> Core<D> {
             Err(StoreFault::Memory) => Err(CommitFault::Memory),
         }
     }
+}
+
+/// What the history and the rules decide of a set, and the keys after it.
+fn judge_set<P: Patterns>(
+    alloc: Global,
+    patterns: &mut P,
+    table: &MountTable,
+    history: &History,
+    keys: &KeySet,
+    prepared: &Prepared,
+) -> Result<Judged, Memory>
+    ensures late { IfOk result (λ made. IsLate (points_at table.now) history.now.commits keys.now (prepared_of prepared.now) (late_of (has_risen (P.refusals patterns.old) (P.refusals patterns.new)) made.late)) }
+    ensures keys { IfOk result (λ made. made.keys ≡ after keys.now prepared.now.changes) }
+    ensures later { P.refusals patterns.old ≤ P.refusals patterns.new }
+{
+    let keys = prepared.changes.applied(keys)?;
+    let late = judge(alloc, patterns, table.points(), history, &keys, prepared)?;
+    Ok(Judged { late, keys })
 }
 
 /// A later commit touches a mount, which is told by its mountpoint.

@@ -7,6 +7,7 @@ use kdb_outside::Disk;
 use key_set::KeySet;
 use mount_table::MountTable;
 use mounted_files::Mounted;
+use regex_check::Patterns;
 use storage_api::Formats;
 
 /// What an opening fixes: the formats, and the mounts with what their files held; and of these, for the verdict, which are bad and the keys
@@ -34,17 +35,18 @@ impl<F: Formats + Drop> Plan<F> {
     }
 }
 
-/// What changes: the journal over the disk, the commits since the opening, the keys of all mounts after them, and whether anything
-/// was written to the disk since the opening began.
+/// What changes: the journal over the disk, the commits since the opening, the keys of all mounts after them, whether anything was written to the
+/// disk since the opening began, and what matches the patterns of the rules.
 #[derive(Drop)]
-pub struct Core<D: Disk> {
+pub struct Core<D: Disk, P: Patterns + Drop> {
     pub(crate) journal: Journal<D>,
     pub(crate) history: History,
     pub(crate) keys: KeySet,
     pub(crate) wrote: bool,
+    pub(crate) patterns: P,
 }
 
-impl<D: Disk> Core<D> {
+impl<D: Disk, P: Patterns + Drop> Core<D, P> {
     /// The commits since the opening.
     pub fn history(&self) -> &History
         ensures { result.now ≡ self.now.history }

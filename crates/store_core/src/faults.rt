@@ -68,9 +68,10 @@ impl From<OpenRefusal> for OpenFault {
     }
 }
 
-/// A store that wasn't opened: why, and the disk that was handed in.
+/// A store that wasn't opened: why, and the disk and the matcher that were handed in.
 #[derive(Debug, Drop)]
-pub struct OpenRefused<D> {
+pub struct OpenRefused<D, P> {
     pub fault: OpenFault,
     pub disk: D,
+    pub patterns: P,
 }

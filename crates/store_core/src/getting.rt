@@ -16,6 +16,7 @@ use key_meta::Memory;
 use key_name::KeyName;
 use key_set::KeySet;
 use mounted_files::{Cause, FileState, GetFault, MountedFile};
+use regex_check::Patterns;
 use std::alloc::Global;
 use storage_api::Formats;
 use store_verdict::{Getting, Record, get};
@@ -27,7 +28,7 @@ pub struct Got {
     pub keys: KeySet,
 }
 
-impl<D: Disk> Core<D> {
+impl<D: Disk, P: Patterns + Drop> Core<D, P> {
     /// The keys that a parent involves, and with them the handle's own where the parent is cascading or in `proc`. The record keeps the number of
     /// commits and a copy for each involved mount. It is refused exactly where such a mount is bad, with the lowest one and why; the record then stays.
     pub fn get<F: Formats + Drop>(

@@ -25,14 +25,15 @@ ghost use Rattle.store_verdict.specs.RecordView.{handle_of, places_of, record_of
 
 use crate::Core;
 use kdb_outside::Disk;
+use regex_check::Patterns;
 use storage_api::Formats;
 use store_verdict as verdict;
 
 /// A core that stands for a world and a run stands, behind a commit with any answer, for what that answer means: for the next world of the handles,
 /// and for the run that goes on by it.
-pub fn a_core_stands_after_each_commit<D: Disk, F: Formats>(
-    before: &Core<D>,
-    after: &Core<D>,
+pub fn a_core_stands_after_each_commit<D: Disk, F: Formats, P: Patterns + Drop>(
+    before: &Core<D, P>,
+    after: &Core<D, P>,
     _formats: &F,
 )
     ensures { (store : Store) (opened : D) (records next : ℕ → Record) (sets : ℕ → Option Prepared) (world : World) (run later : Run) (r p : ℕ) (answer : Answer)
@@ -43,8 +44,8 @@ pub fn a_core_stands_after_each_commit<D: Disk, F: Formats>(
 {}
 
 /// A set that was prepared for a store, and that its record accepts now, may be committed, where the core stands with that record and that set.
-pub fn a_prepared_set_may_be_committed<D: Disk, F: Formats>(
-    core: &Core<D>,
+pub fn a_prepared_set_may_be_committed<D: Disk, F: Formats, P: Patterns + Drop>(
+    core: &Core<D, P>,
     rec: &verdict::Record,
     prepared: &verdict::Prepared,
     _formats: &F,

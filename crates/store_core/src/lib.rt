@@ -12,6 +12,7 @@ mod opening;
 mod plans;
 mod preparing;
 mod storing;
+mod validating;
 mod visible;
 
 pub use closing::Closed;

@@ -25,7 +25,7 @@ ghost use Rattle.mounted_files.specs.Short.{AreShort};
 ghost use Rattle.store_core.specs.Cores.{StandsFor, StandsIn};
 ghost use Rattle.store_core.specs.Faults.{RefusesStore};
 ghost use Rattle.store_core.specs.Frames.{OnlyReadsFiles};
-ghost use Rattle.store_core.specs.Opened.{disk_of, fault_of, may_be_of_journal};
+ghost use Rattle.store_core.specs.Opened.{disk_of, fault_of, may_be_of_journal, patterns_of};
 ghost use Rattle.store_core.specs.Plans.{store_of};
 ghost use Rattle.store_verdict.specs.Preparing.{IsPlan};
 
@@ -38,24 +38,27 @@ use intent_journal::{Journal, JournalRefused};
 use kdb_outside::Disk;
 use key_set::KeySet;
 use mounted_files::Mounted;
+use regex_check::Patterns;
 use std::alloc::Global;
 use storage_api::Formats;
 use store_phases::open;
 
 /// An opened store: what the opening fixes, and what changes.
 #[derive(Drop)]
-pub struct Opened<D: Disk, F: Formats + Drop> {
+pub struct Opened<D: Disk, F: Formats + Drop, P: Patterns + Drop> {
     pub plan: Plan<F>,
-    pub core: Core<D>,
+    pub core: Core<D, P>,
 }
 
 /// Opens the journal of a disk, reads `elektra.ecf` and then the file of each other mount of the table, each once and in the table's order. Then
-/// nothing has been committed. A refusal is the first one met, and hands the disk back.
-pub fn open_store<D: Disk, F: Formats + Drop>(
+/// nothing has been committed. A refusal is the first one met, and hands the disk and the matcher back.
+pub fn open_store<D: Disk, F: Formats + Drop, P: Patterns + Drop>(
     alloc: Global,
     disk: D,
     formats: F,
-) -> Result<Opened<D, F>, OpenRefused<D>>
+    patterns: P,
+) -> Result<Opened<D, F, P>, OpenRefused<D, P>>
+    ensures patterns { patterns_of result ≡ patterns }
     ensures opened { D.tells disk ≡ true → (files : Image) (doubt : Option (List Item)) → IsCalm (D.seen disk) (D.may_leave disk) files doubt
         → IfOk result (λ opened. IsOpened F.reads F.is_bad_at (opened_files (D.seen disk)) opened.plan.mounted) }
     ensures stands { D.tells disk ≡ true → (files : Image) (doubt : Option (List Item)) → IsCalm (D.seen disk) (D.may_leave disk) files doubt
@@ -93,20 +96,23 @@ pub fn open_store<D: Disk, F: Formats + Drop>(
     ensures cause { fault_of result ≡ Some OpenFault.DiskFault → HasRisen (D.faults disk) (D.faults (disk_of result)) }
 {
     match open(alloc, disk) {
-        Ok(journal) => open_files(alloc, journal, formats),
+        Ok(journal) => open_files(alloc, journal, formats, patterns),
         Err(JournalRefused { fault, disk }) => Err(OpenRefused {
             fault: fault.into(),
             disk,
+            patterns,
         }),
     }
 }
 
 /// Mounts the files of an opened journal.
-fn open_files<D: Disk, F: Formats + Drop>(
+fn open_files<D: Disk, F: Formats + Drop, P: Patterns + Drop>(
     alloc: Global,
     journal: Journal<D>,
     formats: F,
-) -> Result<Opened<D, F>, OpenRefused<D>>
+    patterns: P,
+) -> Result<Opened<D, F, P>, OpenRefused<D, P>>
+    ensures patterns { patterns_of result ≡ patterns }
     ensures told { D.tells journal.disk ≡ true →
         MatchResult result (λ opened. IsOpened F.reads F.is_bad_at (D.seen journal.disk) opened.plan.mounted)
         (λ refused. RefusesStore F.reads F.is_bad_at (D.seen journal.disk own_mount.file) refused.fault) }
@@ -142,11 +148,13 @@ fn open_files<D: Disk, F: Formats + Drop>(
                 history,
                 keys,
                 wrote,
+                patterns,
             },
         }),
         Err(fault) => Err(OpenRefused {
             fault,
             disk: journal.into_disk(),
+            patterns,
         }),
     }
 }

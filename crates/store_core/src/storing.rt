@@ -18,6 +18,7 @@ use journal_codec::{FileText, encode};
 use kdb_outside::{Disk, Failed};
 use key_meta::List;
 use key_set::KeySet;
+use regex_check::Patterns;
 use std::alloc::{AllocError, Global};
 use store_phases::commit;
 
@@ -52,7 +53,7 @@ impl From<Failed> for StoreFault {
     }
 }
 
-impl<D: Disk> Core<D> {
+impl<D: Disk, P: Patterns + Drop> Core<D, P> {
     /// Stores a commit. All memory is taken before the disk is touched. From `Ok` on every crash leaves the commit, and it is kept; else what is kept is
     /// as it was, and after `DiskFault` at most one entry may still come into the files.
     pub(crate) fn store(&mut self, alloc: Global, entering: Entering) -> Result<(), StoreFault>
@@ -69,6 +70,7 @@ impl<D: Disk> Core<D> {
             → (later : Option (List Item)) × IsOneOf later run.doubt entering.texts × IsStore D.Disk opened self.new.journal (after_begun run entering.texts later) }
         ensures any_moment { (opened : D) (run : Run) → IsStore D.Disk opened self.old.journal run
             → LeavesOnly D.Disk self.old.journal.disk self.new.journal.disk (IsAmid (files_of run) run.doubt entering.texts) }
+        ensures patterns { self.new.patterns ≡ self.old.patterns }
         ensures goes { GoesOn D.Disk self.old.journal.disk self.new.journal.disk }
         ensures cause { result ≡ Err StoreFault.DiskFault → HasRisen (D.faults self.old.journal.disk) (D.faults self.new.journal.disk) }
     {

@@ -1,7 +1,7 @@
 -- Handles that have fetched nothing yet.
-use Rattle.std.proofs.Common.{◌≡◌, ◌⊎◌, inl, inr, ℕ, zero, suc, ◌<◌, List, [], ◌∷◌, ◌++◌, length, get_or, slice_get, Option, Some, None, refl, sym, ap, subst}
+use Rattle.std.proofs.Common.{◌≡◌, inl, inr, ℕ, zero, suc, ◌<◌, List, [], ◌∷◌, ◌++◌, length, get_or, slice_get, Option, Some, None, refl, sym, ap, subst}
 use Rattle.std.specs.Option.{option_map, option_map_or, unwrap_or}
-use Rattle.general_words.proofs.Lists.{at_place, some_is}
+use Rattle.general_words.proofs.Lists.{at_place}
 use Rattle.general_words.proofs.Places.{last_or_before}
 use Rattle.model_maps.specs.KeyMap.{KeyMap, no_keys}
 use Rattle.store_play.specs.Handles.{AreNew, HoldNothing, held_in, nothing, procs_at, records_of}

@@ -59,9 +59,9 @@ module _ (formats : Formats) (store : Store) (files : List MountedFile) where
 
 -- ---- step by step
 
-module _ (formats : Formats) {D : Type 0} (g : Ghosts D) (files : List MountedFile) (procs : ℕ → KeyMap) (opened : D) (first : Stage) (events : List Event) where
+module _ (formats : Formats) {D P : Type 0} (g : Ghosts D) (files : List MountedFile) (procs : ℕ → KeyMap) (opened : D) (first : Stage) (events : List Event) where
   -- where nothing was played yet
-  pub stood_first : (answers : List Answer) (core : Core D) (records : List Record) (places : List (Option Prepared)) (known : ℕ → Option sets.Prepared) (world : World) (run : Run) → answers ≡ [] → first ≡ stage_of core records places known run
+  pub stood_first : (answers : List Answer) (core : Core D P) (records : List Record) (places : List (Option Prepared)) (known : ℕ → Option sets.Prepared) (world : World) (run : Run) → answers ≡ [] → first ≡ stage_of core records places known run
       → Holds formats g files procs opened core records places known world run → Stood formats g files procs opened first [] answers core records places
   stood_first answers core records places known world run none same holds = record {
     known = known;
@@ -72,7 +72,7 @@ module _ (formats : Formats) {D : Type 0} (g : Ghosts D) (files : List MountedFi
   }
 
   -- one event more
-  pub stood_next : (i : ℕ) (event : Event) (answer : Answer) (answers more : List Answer) (core next : Core D) (records later : List Record) (places left : List (Option Prepared)) → Some event ≡ slice_get events i → more ≡ answers ++ answer ∷ []
+  pub stood_next : (i : ℕ) (event : Event) (answer : Answer) (answers more : List Answer) (core next : Core D P) (records later : List Record) (places left : List (Option Prepared)) → Some event ≡ slice_get events i → more ≡ answers ++ answer ∷ []
       → ((known : ℕ → Option sets.Prepared) (world : World) (run : Run) → Holds formats g files procs opened core records places known world run → Stepped formats g files procs opened (stage_of core records places known run) event answer next later left)
       → Stood formats g files procs opened first (take i events) answers core records places → Stood formats g files procs opened first (take (i + 1) events) more next later left
   stood_next i event answer answers more core next records later places left there is steps stood =
@@ -88,7 +88,7 @@ module _ (formats : Formats) {D : Type 0} (g : Ghosts D) (files : List MountedFi
       }
 
   -- all events
-  pub has_played : (i : ℕ) (answers all : List Answer) (core : Core D) (records : List Record) (places : List (Option Prepared)) → length events ≤ i → all ≡ answers → Stood formats g files procs opened first (take i events) answers core records places
+  pub has_played : (i : ℕ) (answers all : List Answer) (core : Core D P) (records : List Record) (places : List (Option Prepared)) → length events ≤ i → all ≡ answers → Stood formats g files procs opened first (take i events) answers core records places
       → HasPlayed formats g files procs opened first events all core records places
   has_played i answers all core records places ends is stood =
       let last = stage_of core records places stood.known stood.run in

@@ -18,7 +18,7 @@ use Rattle.model_store.specs.Events as event
 use Rattle.model_store.specs.Records as model
 use Rattle.model_store.specs.Sets as sets
 use Rattle.model_store.specs.Store.{Store, Formats}
-use Rattle.model_store.specs.Verdicts.{Late, Same, Conflict, DatabaseFull, HistoryFull, Commits}
+use Rattle.model_store.specs.Verdicts.{Late, Same, Conflict, Invalid, DatabaseFull, HistoryFull, Commits}
 use Rattle.model_store.specs.Worlds.{first_world}
 use Rattle.model_store.proofs.Owning.{one_owner}
 use Rattle.mounted_files.specs.declared.files.MountedFile.{MountedFile}
@@ -49,6 +49,7 @@ module _ (formats : Formats) (store : Store) (keys : KeyMap) (run later : Run) w
   files_judged : (set : Option sets.Prepared) (front : ℕ) (late : Late) → RunsOn formats store keys run set (event.Judged front late) later → later.files ≡ run.files
   files_judged set front (Same aside) on = ap (λ (x : Run). x.files) on
   files_judged set front (Conflict m by) on = ap (λ (x : Run). x.files) on
+  files_judged set front (Invalid violation risen) on = ap (λ (x : Run). x.files) on
   files_judged set front (DatabaseFull n) on = ap (λ (x : Run). x.files) on
   files_judged set front (HistoryFull n) on = ap (λ (x : Run). x.files) on
   files_judged set front (Commits commit aside) on = ap (λ (x : Run). x.files) on
@@ -77,7 +78,7 @@ module _ (formats : Formats) (store : Store) (files : List MountedFile) where
 
 -- ---- new handles
 
-module _ (formats : Formats) {D : Type 0} (g : Ghosts D) (mounted : List MountedFile) (procs : List KeyMap) (opened : D) (core : Core D) (run : Run) (stands : StandsFor formats g (store_with mounted procs) opened core (λ r m. None) (λ p. None) first_world run)
+module _ (formats : Formats) {D P : Type 0} (g : Ghosts D) (mounted : List MountedFile) (procs : List KeyMap) (opened : D) (core : Core D P) (run : Run) (stands : StandsFor formats g (store_with mounted procs) opened core (λ r m. None) (λ p. None) first_world run)
     (records : List Record) (places : List (Option Prepared)) (handles : AreHandles mounted (procs_at procs) records) (new : AreNew records) (empty : HoldNothing places) where
   -- new handles hold on a store that was just opened
   pub holds_first : Holds formats g mounted (procs_at procs) opened core records places (λ p. None) first_world run
@@ -98,7 +99,7 @@ module _ (formats : Formats) {D : Type 0} (g : Ghosts D) (mounted : List Mounted
     places = rooms i;
   }
 
-  pub played_new : (events : List Event) (answers : List Answer) (after : Core D) (later_records : List Record) (later_places : List (Option Prepared)) (room : ℕ) → length records ≡ length procs → length places ≡ room
+  pub played_new : (events : List Event) (answers : List Answer) (after : Core D P) (later_records : List Record) (later_places : List (Option Prepared)) (room : ℕ) → length records ≡ length procs → length places ≡ room
       → HasPlayed formats g mounted (procs_at procs) opened (stage_of core records places (λ p. None) run) events answers after later_records later_places
       → HasPlayedNew formats g mounted procs room opened run events answers after
   played_new events answers after later_records later_places room counts rooms played =
@@ -116,7 +117,7 @@ module _ (formats : Formats) {D : Type 0} (g : Ghosts D) (mounted : List Mounted
 
 -- ---- from the opening to the close
 
-module _ (formats : Formats) {D : Type 0} (g : Ghosts D) (mounted : List MountedFile) (procs : List KeyMap) (places : ℕ) (disk opened : D) (files : Image) (doubt : Option (List FileText)) (events : List Event) (ran : Ran D)
+module _ (formats : Formats) {D P : Type 0} (g : Ghosts D) (mounted : List MountedFile) (procs : List KeyMap) (places : ℕ) (disk opened : D) (files : Image) (doubt : Option (List FileText)) (events : List Event) (ran : Ran D P)
     (has : HasRunOpened formats g mounted procs places opened (new_run (opened_files (g.seen disk)) (g.faults disk) (opened_doubt (g.seen disk))) events ran) where
   abbrev store : Store
   store = store_with mounted procs

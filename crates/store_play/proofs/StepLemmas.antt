@@ -1,5 +1,5 @@
 -- What each event leaves, from the clause of its call.
-use Rattle.std.proofs.Common.{◌≡◌, ◌≢◌, inl, inr, ℕ, ◌<◌, ◌≤◌, true, false, cond, nat_eq, List, length, slice_get, Option, Some, None, option_and_then, Result, Ok, Err, IfOk, IfErr, OnErr, get_or, refl, sym, ap, ap₂, subst, ◌∙◌, eqb-true, eq-eqb, arith}
+use Rattle.std.proofs.Common.{◌≡◌, ◌≢◌, inl, inr, ℕ, ◌<◌, ◌≤◌, Bool, true, false, cond, nat_eq, List, length, slice_get, Option, Some, None, option_and_then, Result, Ok, Err, IfOk, IfErr, OnErr, get_or, refl, sym, ap, ap₂, subst, ◌∙◌, eqb-true, eq-eqb, arith}
 use Rattle.std.proofs.lemmas.Bool.{cond-true}
 use Rattle.std.proofs.lemmas.List.{length-map, length-set, set-get_or}
 use Rattle.std.proofs.lemmas.Option.{slice_get-get_or}
@@ -78,7 +78,7 @@ put-other n m o f ne = elim (nat_eq m n) as (λ b. nat_eq m n ≡ b → cond b o
   | false ↦ λ e. refl
 ] refl
 
-module _ (formats : Formats) {D : Type 0} (g : Ghosts D) (files : List MountedFile) (procs : ℕ → KeyMap) (opened : D) (core : Core D) (records : List Record) (places : List (Option Prepared)) (known : ℕ → Option sets.Prepared) (world : World) (run : Run)
+module _ (formats : Formats) {D P : Type 0} (g : Ghosts D) (files : List MountedFile) (procs : ℕ → KeyMap) (opened : D) (core : Core D P) (records : List Record) (places : List (Option Prepared)) (known : ℕ → Option sets.Prepared) (world : World) (run : Run)
     (h : Holds formats g files procs opened core records places known world run) where
   abbrev store : Store
   store = store_of files procs
@@ -270,10 +270,10 @@ module _ (formats : Formats) {D : Type 0} (g : Ghosts D) (files : List MountedFi
     pub belongs : Belongs formats g (mounts_of files) store opened core (records_of records) known world run p old prepared
     belongs = record { here = belongs_here; on_disk = h.stands.on_disk }
 
-    committed : (after : Core D) (new : Record) (result : Result Done CommitFault) → r < length records → p < length places → Moves old new
-        → HasAnswered formats g (mounts_of files) store opened core after (records_of records) known run p old new prepared result
+    committed : (after : Core D P) (new : Record) (risen : Bool) (result : Result Done CommitFault) → r < length records → p < length places → Moves old new
+        → HasAnswered formats g (mounts_of files) store opened core after (records_of records) known run p old new prepared risen result
         → Stepped formats g files procs opened first (asked.Commit r p) (told.Committed result) after (set records r new) (set places p None)
-    committed after new result lt free moves has =
+    committed after new risen result lt free moves has =
         let next : ℕ → model.Record = records_of (set records r new) in
         let done : IsCommitted formats g store opened core after (records_of records) next known run has.later r p has.answer =
         subst (λ (rs : ℕ → model.Record). IsCommitted formats g store opened core after (records_of records) rs known run has.later r p has.answer) (records_of-set records r new lt)
@@ -285,7 +285,7 @@ module _ (formats : Formats) {D : Type 0} (g : Ghosts D) (files : List MountedFi
           run = has.later;
           does = record {
             answer = has.answer;
-            tells = record { found = length core.history.commits; set = prepared_of prepared; is = has.is_answer };
+            tells = record { found = length core.history.commits; set = prepared_of prepared; risen = risen; is = has.is_answer };
             made = done.made;
             runs_on = done.runs_on;
             held = sym (held_in-set places p None free);
@@ -301,8 +301,8 @@ module _ (formats : Formats) {D : Type 0} (g : Ghosts D) (files : List MountedFi
             (λ same e. absurd cc)
             (λ other e. h.held n one e)
 
-    pub committed_so : (after : Core D) (new : Record) (result : Result Done CommitFault) (place : Option Prepared) → place ≡ None → r < length records → p < length places → Moves old new
-        → HasAnswered formats g (mounts_of files) store opened core after (records_of records) known run p old new prepared result
+    pub committed_so : (after : Core D P) (new : Record) (risen : Bool) (result : Result Done CommitFault) (place : Option Prepared) → place ≡ None → r < length records → p < length places → Moves old new
+        → HasAnswered formats g (mounts_of files) store opened core after (records_of records) known run p old new prepared risen result
         → Stepped formats g files procs opened first (asked.Commit r p) (told.Committed result) after (set records r new) (set places p place)
-    committed_so after new result place free lt there_is moves has =
-        subst (λ (o : Option Prepared). Stepped formats g files procs opened first (asked.Commit r p) (told.Committed result) after (set records r new) (set places p o)) (sym free) (committed after new result lt there_is moves has)
+    committed_so after new risen result place free lt there_is moves has =
+        subst (λ (o : Option Prepared). Stepped formats g files procs opened first (asked.Commit r p) (told.Committed result) after (set records r new) (set places p o)) (sym free) (committed after new risen result lt there_is moves has)

@@ -84,13 +84,13 @@ abbrev pub AreHeld : Formats → Store → (ℕ → Option sets.Prepared) → Li
 AreHeld formats store known places = (p : ℕ) (set : Prepared) → held_at places p ≡ Some set → IsHeld formats store (known p) set
 
 -- a core with the records of some handles, and the sets that were prepared, stands for a world and for a run on the disk
-pub record Holds (formats : Formats) {D : Type 0} (g : Ghosts D) (files : List MountedFile) (procs : ℕ → KeyMap) (opened : D) (core : Core D) (records : List Record) (places : List (Option Prepared)) (known : ℕ → Option sets.Prepared) (world : World) (run : Run) : Type 0 where
+pub record Holds (formats : Formats) {D P : Type 0} (g : Ghosts D) (files : List MountedFile) (procs : ℕ → KeyMap) (opened : D) (core : Core D P) (records : List Record) (places : List (Option Prepared)) (known : ℕ → Option sets.Prepared) (world : World) (run : Run) : Type 0 where
   pub stands : StandsFor formats g (store_of files procs) opened core (records_of records) known world run
   pub handles : AreHandles files procs records
   pub held : AreHeld formats (store_of files procs) known places
 
 -- there are such sets, such a world and such a run
-pub record IsHolding (formats : Formats) {D : Type 0} (g : Ghosts D) (files : List MountedFile) (core : Core D) (records : List Record) (places : List (Option Prepared)) : Type 0 where
+pub record IsHolding (formats : Formats) {D P : Type 0} (g : Ghosts D) (files : List MountedFile) (core : Core D P) (records : List Record) (places : List (Option Prepared)) : Type 0 where
   pub procs : ℕ → KeyMap
   pub opened : D
   pub known : ℕ → Option sets.Prepared

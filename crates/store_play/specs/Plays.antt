@@ -79,7 +79,7 @@ AreCalls files (event ∷ events) (told ∷ answers) (call ∷ calls) = (call.0 
 AreCalls files events answers calls = ⊥
 
 -- what a step leaves: an event was played, and the core stands again
-pub record Stepped (formats : Formats) {D : Type 0} (g : Ghosts D) (files : List MountedFile) (procs : ℕ → KeyMap) (opened : D) (first : Stage) (event : Event) (told : Answer) (core : Core D) (records : List Record) (places : List (Option Prepared)) : Type 0 where
+pub record Stepped (formats : Formats) {D P : Type 0} (g : Ghosts D) (files : List MountedFile) (procs : ℕ → KeyMap) (opened : D) (first : Stage) (event : Event) (told : Answer) (core : Core D P) (records : List Record) (places : List (Option Prepared)) : Type 0 where
   pub known : ℕ → Option sets.Prepared
   pub world : World
   pub run : Run
@@ -87,7 +87,7 @@ pub record Stepped (formats : Formats) {D : Type 0} (g : Ghosts D) (files : List
   pub holds : Holds formats g files procs opened core records places known world run
 
 -- the core stands again behind some events with their answers
-pub record Stood (formats : Formats) {D : Type 0} (g : Ghosts D) (files : List MountedFile) (procs : ℕ → KeyMap) (opened : D) (first : Stage) (events : List Event) (answers : List Answer) (core : Core D) (records : List Record) (places : List (Option Prepared)) : Type 0 where
+pub record Stood (formats : Formats) {D P : Type 0} (g : Ghosts D) (files : List MountedFile) (procs : ℕ → KeyMap) (opened : D) (first : Stage) (events : List Event) (answers : List Answer) (core : Core D P) (records : List Record) (places : List (Option Prepared)) : Type 0 where
   pub known : ℕ → Option sets.Prepared
   pub world : World
   pub run : Run
@@ -95,7 +95,7 @@ pub record Stood (formats : Formats) {D : Type 0} (g : Ghosts D) (files : List M
   pub holds : Holds formats g files procs opened core records places known world run
 
 -- some events were played: the calls that they made are one owner's, behind those by which the first stage came to be
-pub record HasPlayed (formats : Formats) {D : Type 0} (g : Ghosts D) (files : List MountedFile) (procs : ℕ → KeyMap) (opened : D) (first : Stage) (events : List Event) (answers : List Answer) (core : Core D) (records : List Record) (places : List (Option Prepared)) : Type 0 where
+pub record HasPlayed (formats : Formats) {D P : Type 0} (g : Ghosts D) (files : List MountedFile) (procs : ℕ → KeyMap) (opened : D) (first : Stage) (events : List Event) (answers : List Answer) (core : Core D P) (records : List Record) (places : List (Option Prepared)) : Type 0 where
   pub stood : Stood formats g files procs opened first events answers core records places
   pub calls : List (event.Event × event.Answer)
   pub are_calls : AreCalls files events answers calls

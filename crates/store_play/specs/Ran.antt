@@ -40,7 +40,7 @@ abbrev pub store_with : List MountedFile → List KeyMap → Store
 store_with files procs = store_of files (procs_at procs)
 
 -- events were played by new handles on a store that was just opened, and the core stands again
-pub record HasPlayedNew (formats : Formats) {D : Type 0} (g : Ghosts D) (mounted : List MountedFile) (procs : List KeyMap) (places : ℕ) (opened : D) (first : Run) (events : List Event) (answers : List Answer) (core : Core D) : Type 0 where
+pub record HasPlayedNew (formats : Formats) {D P : Type 0} (g : Ghosts D) (mounted : List MountedFile) (procs : List KeyMap) (places : ℕ) (opened : D) (first : Run) (events : List Event) (answers : List Answer) (core : Core D P) : Type 0 where
   pub last : Stage
   pub plays : Plays formats (store_with mounted procs) mounted (first_stage (store_with mounted procs) first (length procs) places) events answers last
   pub records : ℕ → Record
@@ -50,15 +50,15 @@ pub record HasPlayedNew (formats : Formats) {D : Type 0} (g : Ghosts D) (mounted
   pub stands : StandsFor formats g (store_with mounted procs) opened core records known world last.run
 
 -- and the store was closed: a crash since the opening leaves what the run reached, and now its files or these with its doubt
-pub record HasRunOpened (formats : Formats) {D : Type 0} (g : Ghosts D) (mounted : List MountedFile) (procs : List KeyMap) (places : ℕ) (opened : D) (first : Run) (events : List Event) (ran : Ran D) : Type 0 where
-  pub core : Core D
+pub record HasRunOpened (formats : Formats) {D P : Type 0} (g : Ghosts D) (mounted : List MountedFile) (procs : List KeyMap) (places : ℕ) (opened : D) (first : Run) (events : List Event) (ran : Ran D P) : Type 0 where
+  pub core : Core D P
   pub played : HasPlayedNew formats g mounted procs places opened first events ran.answers core
   pub history : ran.history.commits ≡ core.history.commits
   pub reached : LeavesOnly g opened ran.disk (IsReached played.last.run.files played.last.run.commits played.last.run.begun)
   pub now : EveryImage (g.may_leave ran.disk) (HasOnly (IsEither (files_of played.last.run) played.last.run.doubt))
 
 -- the disk of a run, or the one that was handed back
-abbrev pub disk_of : {D : Type 0} → Result (Ran D) (OpenRefused D) → D
+abbrev pub disk_of : {D P : Type 0} → Result (Ran D P) (OpenRefused D P) → D
 disk_of (Ok ran) = ran.disk
 disk_of (Err refused) = refused.disk
 
@@ -73,7 +73,7 @@ WasOrReached files doubt run image = HasOnly (IsEither files doubt) image ⊎ Is
 -- the events were played from the opening to the close. The calls that they made are those of one owner. A crash at any moment since the disk was
 -- handed in leaves what it stood for then, or the files of a prefix of the commits, or these with one set that was begun on just that prefix; and
 -- now the files of all commits, or these with the set in doubt
-pub record HasRun (formats : Formats) {D : Type 0} (g : Ghosts D) (mounted : List MountedFile) (procs : List KeyMap) (places : ℕ) (disk : D) (files : Image) (doubt : Option (List FileText)) (events : List Event) (ran : Ran D) : Type 0 where
+pub record HasRun (formats : Formats) {D P : Type 0} (g : Ghosts D) (mounted : List MountedFile) (procs : List KeyMap) (places : ℕ) (disk : D) (files : Image) (doubt : Option (List FileText)) (events : List Event) (ran : Ran D P) : Type 0 where
   pub last : Stage
   pub plays : Plays formats (store_with mounted procs) mounted (first_stage (store_with mounted procs) (new_run (opened_files (g.seen disk)) (g.faults disk) (opened_doubt (g.seen disk))) (length procs) places) events ran.answers last
   pub calls : List (event.Event × event.Answer)

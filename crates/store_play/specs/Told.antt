@@ -1,5 +1,5 @@
 -- What an event and its answer are in the words of the definitions. (This project's own.)
-use Rattle.std.specs.Prelude.{◌≡◌, ◌⊎◌, ℕ, List, map as over, Some, Result, Ok, Err}
+use Rattle.std.specs.Prelude.{◌≡◌, ◌⊎◌, ℕ, Bool, List, map as over, Some, Result, Ok, Err}
 use Rattle.model_store.specs.Events as event
 use Rattle.model_store.specs.Fitting.{Early}
 use Rattle.model_store.specs.Sets.{Prepared}
@@ -32,11 +32,12 @@ abbrev pub IsReady : List Mount → Result (Unit {0}) PrepareFault → event.Ans
 IsReady mounts (Ok done) answer = answer ≡ event.Ready
 IsReady mounts (Err why) answer = ((why ≡ fault.Memory) × (answer ≡ event.Memory)) ⊎ ((early : Early) × (fault_of mounts early ≡ Some why) × (answer ≡ event.Refused early))
 
--- the answer to a commit of some set, where so many commits were found
+-- the answer to a commit of some set, where so many commits were found, and the matcher's count of refusals rose or not
 pub record IsDone (mounts : List Mount) (result : Result Done CommitFault) (answer : event.Answer) : Type 0 where
   pub found : ℕ
   pub set : Prepared
-  pub is : IsAnswer mounts found set result answer
+  pub risen : Bool
+  pub is : IsAnswer mounts risen found set result answer
 
 -- an answer tells one of the definitions
 abbrev pub Tells : List MountedFile → Event → Answer → event.Answer → Type 0

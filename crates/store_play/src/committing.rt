@@ -15,16 +15,17 @@ ghost use Rattle.store_verdict.specs.RecordView.{handle_of, record_of};
 
 use crate::{Answer, Skip};
 use kdb_outside::Disk;
+use regex_check::Patterns;
 use std::alloc::Global;
 use storage_api::Formats;
 use store_core::{Core, Plan};
 use store_verdict::{Prepared, Record};
 
 /// A handle commits the set of a number. The set is then no longer held, whatever the answer.
-pub(crate) fn play_commit<D: Disk, F: Formats + Drop>(
+pub(crate) fn play_commit<D: Disk, F: Formats + Drop, P: Patterns + Drop>(
     alloc: Global,
     plan: &Plan<F>,
-    core: &mut Core<D>,
+    core: &mut Core<D, P>,
     records: &mut [Record],
     places: &mut [Option<Prepared>],
     handle: usize,

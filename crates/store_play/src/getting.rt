@@ -15,16 +15,17 @@ ghost use Rattle.store_verdict.specs.declared.prepared.Prepared.{Prepared};
 use crate::{Answer, Skip};
 use kdb_outside::Disk;
 use key_name::KeyName;
+use regex_check::Patterns;
 use std::alloc::Global;
 use storage_api::Formats;
 use store_core::{Core, Plan};
 use store_verdict::Record;
 
 /// A handle gets a parent.
-pub(crate) fn play_get<D: Disk, F: Formats + Drop>(
+pub(crate) fn play_get<D: Disk, F: Formats + Drop, P: Patterns + Drop>(
     alloc: Global,
     plan: &Plan<F>,
-    core: &Core<D>,
+    core: &Core<D, P>,
     records: &mut [Record],
     handle: usize,
     parent: &KeyName,

@@ -18,6 +18,7 @@ use crate::preparing::play_prepare;
 use crate::{Answer, Event, Handles};
 use kdb_outside::Disk;
 use key_meta::{List, Memory};
+use regex_check::Patterns;
 use std::alloc::Global;
 use storage_api::Formats;
 use store_core::{Core, Plan};
@@ -27,10 +28,10 @@ use store_core::{Core, Plan};
 /// Each call that an event makes is judged as the definitions of a store say, and the store has one owner: each answer is the one that is meant by
 /// the history, the handle's fronts and what was asked. The core stands again, with a run that went on by these answers, so that a crash at any moment
 /// since the opening leaves what the run says.
-pub fn play<D: Disk, F: Formats + Drop>(
+pub fn play<D: Disk, F: Formats + Drop, P: Patterns + Drop>(
     alloc: Global,
     plan: &Plan<F>,
-    core: &mut Core<D>,
+    core: &mut Core<D, P>,
     handles: &mut Handles,
     events: &[Event],
 ) -> Result<List<Answer>, Memory>
@@ -51,10 +52,10 @@ pub fn play<D: Disk, F: Formats + Drop>(
 }
 
 /// Plays one event.
-fn step<D: Disk, F: Formats + Drop>(
+fn step<D: Disk, F: Formats + Drop, P: Patterns + Drop>(
     alloc: Global,
     plan: &Plan<F>,
-    core: &mut Core<D>,
+    core: &mut Core<D, P>,
     handles: &mut Handles,
     event: &Event,
 ) -> Answer

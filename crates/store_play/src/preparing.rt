@@ -23,16 +23,17 @@ use crate::{Answer, Skip};
 use kdb_outside::Disk;
 use key_name::KeyName;
 use key_set::KeySet;
+use regex_check::Patterns;
 use std::alloc::Global;
 use storage_api::Formats;
 use store_core::{Core, Plan};
 use store_verdict::{PrepareFault, Prepared, Record};
 
 /// A handle prepares a set, which is held under a number. The core isn't asked.
-pub(crate) fn play_prepare<D: Disk, F: Formats + Drop>(
+pub(crate) fn play_prepare<D: Disk, F: Formats + Drop, P: Patterns + Drop>(
     alloc: Global,
     plan: &Plan<F>,
-    _core: &Core<D>,
+    _core: &Core<D, P>,
     records: &[Record],
     places: &mut [Option<Prepared>],
     handle: usize,

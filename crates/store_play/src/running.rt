@@ -24,29 +24,32 @@ use commit_log::History;
 use kdb_outside::Disk;
 use key_meta::{List, Memory};
 use key_set::KeySet;
+use regex_check::Patterns;
 use std::alloc::Global;
 use storage_api::Formats;
 use store_core::{Closed, Core, OpenFault, OpenRefused, Opened, Plan, open_store};
 
-/// A store that was opened, played and closed: its disk, the commits since its opening, and the answers.
+/// A store that was opened, played and closed: its disk, its matcher, the commits since its opening, and the answers.
 #[derive(Drop)]
-pub struct Ran<D: Disk> {
+pub struct Ran<D: Disk, P: Patterns + Drop> {
     pub disk: D,
+    pub patterns: P,
     pub history: History,
     pub answers: List<Answer>,
 }
 
 /// Opens the store of a calm disk, plays events by new handles, and closes it. No crash then leaves a broken journal, so
 /// that the disk that a crash leaves is calm again. It is refused where the store isn't opened, and where memory is wanting
-/// before the first event; the disk is then handed back.
-pub fn run<D: Disk, F: Formats + Drop>(
+/// before the first event; the disk and the matcher are then handed back.
+pub fn run<D: Disk, F: Formats + Drop, P: Patterns + Drop>(
     alloc: Global,
     disk: D,
     formats: F,
+    patterns: P,
     procs: &[KeySet],
     places: usize,
     events: &[Event],
-) -> Result<Ran<D>, OpenRefused<D>>
+) -> Result<Ran<D, P>, OpenRefused<D, P>>
     requires tells { D.tells disk ≡ true }
     requires calm { (files : Image) × (doubt : Option (List Item)) × IsCalm (D.seen disk) (D.may_leave disk) files doubt }
     requires few { length procs.now < 2 ^ 32 }
@@ -56,20 +59,20 @@ pub fn run<D: Disk, F: Formats + Drop>(
         → IfOk result (λ ran. (mounted : List MountedFile) × IsOpened F.reads F.is_bad_at (opened_files (D.seen disk)) mounted
         × HasRun (record { text = F.text; IsStorable = F.is_storable; BreaksAt = F.breaks_at }) D.Disk mounted procs.now places disk files doubt events.now ran) }
 {
-    match open_store(alloc, disk, formats) {
+    match open_store(alloc, disk, formats, patterns) {
         Ok(opened) => run_opened(alloc, opened, procs, places, events),
         Err(refused) => Err(refused),
     }
 }
 
 /// Plays events by new handles on a store that was just opened, and closes it.
-fn run_opened<D: Disk, F: Formats + Drop>(
+fn run_opened<D: Disk, F: Formats + Drop, P: Patterns + Drop>(
     alloc: Global,
-    opened: Opened<D, F>,
+    opened: Opened<D, F, P>,
     procs: &[KeySet],
     places: usize,
     events: &[Event],
-) -> Result<Ran<D>, OpenRefused<D>>
+) -> Result<Ran<D, P>, OpenRefused<D, P>>
     requires fixed { (procs : ℕ → KeyMap) → IsPlan (store_of opened.plan.mounted procs) opened.plan.fixed }
     requires short { AllByRecursion AreShort opened.plan.fixed.shadows }
     requires stands { (start : D) × (run : Run) × StandsFor (record { text = F.text; IsStorable = F.is_storable; BreaksAt = F.breaks_at }) D.Disk (store_of opened.plan.mounted (procs_at procs.now)) start opened.core (λ r m. None) (λ p. None) first_world run }
@@ -82,25 +85,31 @@ fn run_opened<D: Disk, F: Formats + Drop>(
     let plan = opened.plan;
     let mut core = opened.core;
     let played = play_new(alloc, &plan, &mut core, procs, places, events);
-    let Closed { disk, history } = core.close();
+    let Closed {
+        disk,
+        patterns,
+        history,
+    } = core.close();
     match played {
         Ok(answers) => Ok(Ran {
             disk,
+            patterns,
             history,
             answers,
         }),
         Err(_) => Err(OpenRefused {
             fault: OpenFault::Memory,
             disk,
+            patterns,
         }),
     }
 }
 
 /// Plays events by new handles, on a store that was just opened.
-fn play_new<D: Disk, F: Formats + Drop>(
+fn play_new<D: Disk, F: Formats + Drop, P: Patterns + Drop>(
     alloc: Global,
     plan: &Plan<F>,
-    core: &mut Core<D>,
+    core: &mut Core<D, P>,
     procs: &[KeySet],
     places: usize,
     events: &[Event],

@@ -5,4 +5,5 @@ pub mod WalkingLemmas
 pub mod FileLemmas
 pub mod TextLemmas
 pub mod SetLemmas
+pub mod LateLemmas
 pub mod PrepareLemmas

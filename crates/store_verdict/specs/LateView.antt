@@ -1,5 +1,5 @@
 -- Verdicts as the code has them, seen as the definitions have them.
-use Rattle.std.specs.Prelude.{ℕ, nat_lt, if◌then◌else◌, Option}
+use Rattle.std.specs.Prelude.{ℕ, nat_lt, Bool, if◌then◌else◌, Option}
 use Rattle.std.specs.Option.{option_map}
 use Rattle.general_words.specs.Saturated.{saturated}
 use Rattle.commit_log.specs.CommitView.{commit_of}
@@ -8,14 +8,16 @@ use Rattle.model_history.specs.History.{heaviest_history}
 use Rattle.model_store.specs.Verdicts as model
 use Rattle.store_verdict.specs.declared.judging.Block.{Block}
 use Rattle.store_verdict.specs.declared.judging.Late.{Late}
-use Rattle.store_verdict.specs.declared.judging.Late.TheVariants.{Same, Conflict, DatabaseFull, HistoryFull, Commits}
+use Rattle.store_verdict.specs.declared.judging.Late.TheVariants.{Same, Conflict, Invalid, DatabaseFull, HistoryFull, Commits}
 
-abbrev pub late_of : Late → model.Late
-late_of (Same aside) = model.Same aside
-late_of (Conflict mount by) = model.Conflict mount by
-late_of (DatabaseFull weight) = model.DatabaseFull weight
-late_of (HistoryFull weight) = model.HistoryFull weight
-late_of (Commits commit aside) = model.Commits (commit_of commit) aside
+-- with whether the matcher's count of refusals rose
+abbrev pub late_of : Bool → Late → model.Late
+late_of risen (Same aside) = model.Same aside
+late_of risen (Conflict mount by) = model.Conflict mount by
+late_of risen (Invalid violation) = model.Invalid violation risen
+late_of risen (DatabaseFull weight) = model.DatabaseFull weight
+late_of risen (HistoryFull weight) = model.HistoryFull weight
+late_of risen (Commits commit aside) = model.Commits (commit_of commit) aside
 
 -- a blocked mount is a conflict
 abbrev pub conflict_of : Option Block → Option model.Late

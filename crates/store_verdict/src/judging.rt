@@ -1,10 +1,12 @@
 //! What the history decides of a prepared set.
-ghost use Rattle.std.specs.Prelude.{◌≡◌, ◌++◌, ◌∷◌, [], IfOk};
+ghost use Rattle.std.specs.Prelude.{◌≡◌, ◌≤◌, ◌++◌, ◌∷◌, [], IfOk};
+ghost use Rattle.std.specs.List.Sorted.{IsStrictlySortedBy};
 ghost use Rattle.std.specs.Option.{option_map};
-ghost use Rattle.general_words.specs.Saturated.{saturated};
 ghost use Rattle.model_history.specs.Changes.{after};
 ghost use Rattle.model_history.specs.History.{history_weight};
 ghost use Rattle.model_maps.specs.KeyMap as maps;
+ghost use Rattle.model_names.specs.Order.{name_cmp};
+ghost use Rattle.model_store.specs.Rules.{has_risen};
 ghost use Rattle.model_store.specs.Verdicts.{IsLate, Conflict, commit_of, conflict, conflict_at};
 ghost use Rattle.commit_log.specs.CommitView as log;
 ghost use Rattle.store_verdict.specs.LateView.{late_of, conflict_of, unless_full};
@@ -13,7 +15,10 @@ ghost use Rattle.store_verdict.specs.PreparedView.{prepared_of};
 use crate::prepared::{Prepared, front_of};
 use commit_log::{Commit, HEAVIEST_HISTORY, History};
 use key_meta::{List, Memory};
-use key_set::HEAVIEST_MAP;
+use key_name::KeyName;
+use key_set::{HEAVIEST_MAP, KeySet};
+use plugin_chain::{Violation, first_violation};
+use regex_check::Patterns;
 use std::alloc::Global;
 
 /// What becomes of a prepared set. Weights are at most `u64::MAX`.
@@ -23,6 +28,8 @@ pub enum Late {
     Same { left_aside: u64 },
     /// Of a mount there is a later commit: the number of the first one behind the front of the set.
     Conflict { mount: usize, by: u64 },
+    /// A key that a touched mount owns breaks a rule after the set: the first violation.
+    Invalid { violation: Violation },
     /// The map after the set would weigh more than 16,777,216: so much.
     DatabaseFull { weight: u64 },
     /// The history with the set would weigh more than 67,108,864: so much.
@@ -38,13 +45,22 @@ pub struct Block {
     pub by: u64,
 }
 
-/// What becomes of a prepared set by the commits so far and what the map after it weighs, which may be given as `u64::MAX` where it
-/// is more.
+/// What becomes of a prepared set by the commits so far and the keys of all mounts after it. The points of all mounts stand in name order, and
+/// the mounts are numbered by them from 0.
 ///
 /// The first of these applies: `Same`, where no mount is touched; `Conflict`, for the lowest touched mount that a commit behind the set's
-/// front touches, with the first such commit; `DatabaseFull`; `HistoryFull`; `Commits`.
-pub fn judge(alloc: Global, history: &History, weight: u64, set: &Prepared) -> Result<Late, Memory>
-    ensures { IfOk result (λ made. (keys : maps.KeyMap) → weight ≡ saturated (maps.weight (after keys set.now.changes)) → IsLate history.now.commits keys (prepared_of set.now) (late_of made)) }
+/// front touches, with the first such commit; `Invalid`, with the first violation in the touched mounts; `DatabaseFull`; `HistoryFull`; `Commits`.
+pub fn judge<P: Patterns>(
+    alloc: Global,
+    patterns: &mut P,
+    points: &[KeyName],
+    history: &History,
+    keys: &KeySet,
+    set: &Prepared,
+) -> Result<Late, Memory>
+    requires { IsStrictlySortedBy name_cmp points.now }
+    ensures late { IfOk result (λ made. (before : maps.KeyMap) → keys.now ≡ after before set.now.changes → IsLate points.now history.now.commits before (prepared_of set.now) (late_of (has_risen (P.refusals patterns.old) (P.refusals patterns.new)) made)) }
+    ensures later { P.refusals patterns.old ≤ P.refusals patterns.new }
 {
     if set.touched.as_slice().is_empty() {
         return Ok(Late::Same {
@@ -57,6 +73,10 @@ pub fn judge(alloc: Global, history: &History, weight: u64, set: &Prepared) -> R
             by: block.by,
         });
     }
+    if let Some(violation) = first_violation(patterns, keys, points, set.touched.as_slice())? {
+        return Ok(Late::Invalid { violation });
+    }
+    let weight = keys.weight();
     if weight > HEAVIEST_MAP {
         return Ok(Late::DatabaseFull { weight });
     }

@@ -7,6 +7,7 @@ use Rattle.model_quoting.specs.Quoted.{quoted, shown}
 use Rattle.kdb_outside.specs.Kind.{kind_word}
 use Rattle.mount_table.specs.declared.faults.TableFault.{TableFault}
 use Rattle.mount_table.specs.declared.faults.TableFault.TheVariants.{BadMountpoint, NoPath, BadPath, UnknownPlugin, FileTwice, TooMany, AlreadyMounted, NotMounted, Memory}
+use Rattle.model_specified.specs.declared.violations.Violation.{Violation}
 use Rattle.mount_table.specs.declared.mounts.Mount.{Mount}
 use Rattle.tool_words.specs.Lines.{out_of_memory}
 
@@ -80,6 +81,18 @@ bad_table (TooMany count) = codes "C03200 bad-table too-many " ++ decimal count
 bad_table (AlreadyMounted entry) = bad_entry (codes "already-mounted") entry
 bad_table (NotMounted entry) = bad_entry (codes "not-mounted") entry
 bad_table Memory = out_of_memory
+
+-- a key, the rule that it breaks by its number, and the text that is given of it
+abbrev pub broken_rule : Violation → List ℕ
+broken_rule violation = shown violation.key ++ (codes " rule " ++ (decimal violation.rule ++ (codes " given " ++ quoted violation.given)))
+
+-- a set would break a rule
+abbrev pub invalid : Violation → List ℕ
+invalid violation = codes "C03200 invalid " ++ broken_rule violation
+
+-- what `validate` prints of a key that breaks a rule
+abbrev pub line_of_violation : Violation → List ℕ
+line_of_violation violation = broken_rule violation ++ 10 ∷ []
 
 -- what `set` prints of a key that wasn't there
 abbrev pub created : Name → List ℕ → List ℕ

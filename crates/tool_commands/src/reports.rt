@@ -1,10 +1,10 @@
 //! What a run tells, made whole before anything is put out or stored.
 ghost use Rattle.std.specs.Prelude.{◌≡◌, IfOk, string_bytes};
 ghost use Rattle.tool_commands.specs.Lines.{not_found, no_metadata};
-ghost use Rattle.tool_commands.specs.Report.{met, told, warned};
+ghost use Rattle.tool_commands.specs.Report.{found, met, told, warned};
 ghost use Rattle.tool_commands.specs.StepView.{report_of};
 
-use crate::status::{CONFLICTS, DONE, NOT_FOUND, Status};
+use crate::status::{CONFLICTS, DONE, NOT_FOUND, Status, VIOLATIONS};
 use kdb_text::{quoted, shown};
 use key_meta::Memory;
 use key_name::KeyName;
@@ -49,6 +49,18 @@ pub fn tell_conflicts(alloc: Global, out: String) -> Report
 {
     Report {
         status: Status::new(CONFLICTS),
+        out: out.into_bytes(),
+        err: String::new(alloc),
+    }
+}
+
+/// `validate` found violations, and puts their lines on out.
+pub fn tell_violations(alloc: Global, out: String) -> Report
+    ensures found { report_of result ≡ found (string_bytes out) }
+    ensures status { result.status ≡ 13 }
+{
+    Report {
+        status: Status::new(VIOLATIONS),
         out: out.into_bytes(),
         err: String::new(alloc),
     }

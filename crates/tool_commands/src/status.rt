@@ -17,6 +17,8 @@ pub const REFUSED: u8 = 5;
 pub const NOT_FOUND: u8 = 11;
 /// Both sides of a merge changed a key, and not alike.
 pub const CONFLICTS: u8 = 12;
+/// `validate` found keys that break a rule.
+pub const VIOLATIONS: u8 = 13;
 /// Want of memory.
 pub const OUT_OF_MEMORY: u8 = 70;
 /// A fault of the disk, of out or of err.

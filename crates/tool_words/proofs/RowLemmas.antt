@@ -19,7 +19,7 @@ use Rattle.tool_words.specs.declared.uses.Use.{Use}
 use Rattle.tool_words.specs.declared.uses.Use.TheVariants.{Looks, Writes}
 use Rattle.tool_words.specs.declared.ways.Way.{Way}
 use Rattle.tool_words.specs.declared.ways.Way.TheVariants.{Copies, Moves}
-use Rattle.tool_words.specs.Request.{Action, Get, Set, Remove, Names, GetMeta, SetMeta, MetaNames, Bring, MountFile, Unmount, Merge, Question, Mounts, FileOf, On, NamesFiles, Request, Refuses, Bars, Asks, Imports, read_by, extent_in, on_none, on_one, on_two, on_three, on_two_or_three, on_one_extended, on_two_extended, on_four_by_strategy, on_strategy, on_name, on_name_for, on_meta, on_kind, is_meta, unnamed, asks, asks_to_bring, asks_to_merge, asks_to_mount, asks_to_pass, passing}
+use Rattle.tool_words.specs.Request.{Action, Get, Set, Remove, Names, GetMeta, SetMeta, MetaNames, Bring, MountFile, Unmount, Merge, Question, Mounts, FileOf, ViolationsOf, On, NamesFiles, Request, Refuses, Bars, Asks, Imports, read_by, extent_in, on_none, on_one, on_two, on_three, on_two_or_three, on_one_extended, on_two_extended, on_four_by_strategy, on_strategy, on_name, on_name_for, on_meta, on_kind, is_meta, unnamed, asks, asks_to_bring, asks_to_merge, asks_to_mount, asks_to_pass, passing}
 use Rattle.clap.specs.Words.{App, Row as Values}
 use Rattle.tool_words.specs.CommandLines.{no_arguments, one_argument, two_arguments, three_arguments, two_or_three_arguments, one_extended, two_extended, four_by_strategy, given_value, refuses, value, values}
 use Rattle.tool_words.specs.Lines.{argument, no_name, options_refused}
@@ -183,6 +183,12 @@ file_asked word = on_name_for Writes word (λ name. Asks (FileOf name))
 file : (words : List (List ℕ)) → NamesAny (on_one file_asked words)
 file = one-names file_asked (λ word. name_for-names Writes word (λ name. Asks (FileOf name)) (λ name is. writable-in_files name.namespace is))
 
+abbrev violations_asked : List ℕ → Request
+violations_asked word = on_name word (λ name. Asks (ViolationsOf name))
+
+validating : (words : List (List ℕ)) → NamesAny (on_one violations_asked words)
+validating = one-names violations_asked (λ word. name-names word (λ name. Asks (ViolationsOf name)) (λ name. tt))
+
 passed-names : (flow : Flow) (name : Name) (kind : Kind) → NamesAny (passing flow name kind)
 passed-names Out name kind = tt
 passed-names In name kind = tt
@@ -193,7 +199,7 @@ passing-names flow = two-names (asks_to_pass flow) (λ word format.
 
 -- a line for each row, in their order
 rows-name : AllByRecursion (λ (row : Row). (words : List (List ℕ)) → NamesAny (row.asks_for words)) rows
-rows-name = (key_alone Looks Get, (setting, (removing, (listing, (meta_getting, (meta_setting, (key_alone Looks MetaNames, (bringing Copies, (bringing Moves, (mounting, (key_alone Writes Unmount, (mounts, (file, (passing-names Out, (passing-names In, (merging-names, tt))))))))))))))))
+rows-name = (key_alone Looks Get, (setting, (removing, (listing, (meta_getting, (meta_setting, (key_alone Looks MetaNames, (bringing Copies, (bringing Moves, (mounting, (key_alone Writes Unmount, (mounts, (file, (passing-names Out, (passing-names In, (validating, (merging-names, tt)))))))))))))))))
 
 asked_by-names : (some : List Row) → AllByRecursion (λ (row : Row). (words : List (List ℕ)) → NamesAny (row.asks_for words)) some → (word : List ℕ) (words : List (List ℕ)) → NamesAny (asked_by some word words)
 asked_by-names [] each word words = tt

@@ -42,11 +42,13 @@ pub data Action : Type 0 where
   Replace : KeyMap → Action
   Merge : Strategy → Name → Name → Name → Action
 
--- what is asked of a store: its mounts, the file of a key, the text of the keys at or below a name, or an action on a key
+-- what is asked of a store: its mounts, the file of a key, the text of the keys at or below a name, the rules that these break, or an action
+-- on a key
 pub data Question : Type 0 where
   Mounts : Question
   FileOf : Name → Question
   TextOf : Name → Kind → Question
+  ViolationsOf : Name → Question
   On : Name → Action → Question
 
 -- where the file of a key is asked for, keys of its namespace are in files
@@ -54,6 +56,7 @@ abbrev pub NamesFiles : Question → Type 0
 NamesFiles Mounts = Unit {0}
 NamesFiles (FileOf name) = has_files name.namespace ≡ true
 NamesFiles (TextOf name kind) = Unit {0}
+NamesFiles (ViolationsOf name) = Unit {0}
 NamesFiles (On name action) = Unit {0}
 
 -- a question, keys that the input holds in a format and that are to replace those at or below a name, a name that can't be used

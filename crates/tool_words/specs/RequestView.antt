@@ -16,7 +16,7 @@ use Rattle.tool_words.specs.declared.requests.Named.TheVariants as code_names
 use Rattle.tool_words.specs.declared.requests.Refusal.{Refusal}
 use Rattle.tool_words.specs.declared.requests.Refusal.TheVariants as refusals
 use Rattle.tool_words.specs.Lines.{argument, no_command, unknown_command, options_refused, no_name, out_of_memory}
-use Rattle.tool_words.specs.Request.{Action, Get, Set, Remove, Names, GetMeta, SetMeta, MetaNames, Bring, MountFile, Unmount, Replace, Merge, Question, Mounts, FileOf, TextOf, On, Request, Refuses, Bars, Asks, Imports}
+use Rattle.tool_words.specs.Request.{Action, Get, Set, Remove, Names, GetMeta, SetMeta, MetaNames, Bring, MountFile, Unmount, Replace, Merge, Question, Mounts, FileOf, TextOf, ViolationsOf, On, Request, Refuses, Bars, Asks, Imports}
 
 -- the status of a refusal
 abbrev pub status_of : Refusal → ℕ
@@ -63,6 +63,7 @@ abbrev pub question_of : code_question.Question → Question
 question_of code_questions.Mounts = Mounts
 question_of (code_questions.FileOf name) = FileOf name
 question_of (code_questions.TextOf name kind) = TextOf name kind
+question_of (code_questions.ViolationsOf name) = ViolationsOf name
 question_of (code_questions.On name action) = On name (action_of action)
 
 -- words that are lent

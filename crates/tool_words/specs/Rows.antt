@@ -6,7 +6,7 @@ use Rattle.tool_words.specs.declared.uses.Use.TheVariants.{Looks, Writes}
 use Rattle.tool_words.specs.declared.flows.Flow.TheVariants.{Out, In}
 use Rattle.tool_words.specs.declared.ways.Way.TheVariants.{Copies, Moves}
 use Rattle.tool_words.specs.Lines.{no_command, unknown_command}
-use Rattle.tool_words.specs.Request.{Get, Set, Remove, Names, GetMeta, SetMeta, MetaNames, Unmount, Mounts, FileOf, On, Request, Refuses, Asks, on_none, on_one, on_two, on_three, on_two_or_three, on_one_extended, on_two_extended, on_four_by_strategy, on_name, on_name_for, on_meta, asks, asks_to_bring, asks_to_merge, asks_to_mount, asks_to_pass}
+use Rattle.tool_words.specs.Request.{Get, Set, Remove, Names, GetMeta, SetMeta, MetaNames, Unmount, Mounts, FileOf, ViolationsOf, On, Request, Refuses, Asks, on_none, on_one, on_two, on_three, on_two_or_three, on_one_extended, on_two_extended, on_four_by_strategy, on_name, on_name_for, on_meta, asks, asks_to_bring, asks_to_merge, asks_to_mount, asks_to_pass}
 
 -- a command's word, and what the words behind it ask for
 pub record Row : Type 0 where
@@ -33,6 +33,7 @@ rows =
     ∷ row (codes "file") (on_one (λ word. on_name_for Writes word (λ name. Asks (FileOf name))))
     ∷ row (codes "export") (on_two (asks_to_pass Out))
     ∷ row (codes "import") (on_two (asks_to_pass In))
+    ∷ row (codes "validate") (on_one (λ word. on_name word (λ name. Asks (ViolationsOf name))))
     ∷ row (codes "merge") (on_four_by_strategy asks_to_merge)
     ∷ []
 

@@ -83,6 +83,16 @@ pub fn ask_for_file<'a>(alloc: Global, word: &'a str) -> Result<Request<'a>, Mem
     }
 }
 
+/// The rules that the keys at or below the name break which a word is to spell, whatever its namespace.
+pub fn ask_for_violations<'a>(alloc: Global, word: &'a str) -> Result<Request<'a>, Memory>
+    ensures { IfOk result (λ read. IsSeenAs read (on_name word.now (λ name. asked.Asks (asked.ViolationsOf name)))) }
+{
+    match read_any_name(alloc, word)? {
+        Named::Is(name) => Ok(Request::Asks(Question::ViolationsOf(name))),
+        Named::IsNone(request) => Ok(request),
+    }
+}
+
 /// A file is mounted at the name that a word is to spell, in the format of another word.
 pub fn ask_to_mount<'a>(
     alloc: Global,

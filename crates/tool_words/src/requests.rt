@@ -60,6 +60,8 @@ pub enum Question<'a> {
     FileOf(KeyName),
     /// The text of the keys at or below a name, in a format.
     TextOf { name: KeyName, kind: Kind },
+    /// The rules that the keys at or below a name break.
+    ViolationsOf(KeyName),
     /// What is done with a key.
     On { name: KeyName, action: Action<'a> },
 }

@@ -10,8 +10,8 @@ use crate::arguments::{
     four_and_strategy, none, one, one_and_extent, three, two, two_and_extent, two_or_three,
 };
 use crate::asking::{
-    ask, ask_any, ask_for_file, ask_to_bring, ask_to_merge, ask_to_mount, ask_to_pass,
-    refuse_argument,
+    ask, ask_any, ask_for_file, ask_for_violations, ask_to_bring, ask_to_merge, ask_to_mount,
+    ask_to_pass, refuse_argument,
 };
 use crate::extents::Extent;
 use crate::flows::Flow;
@@ -67,6 +67,7 @@ fn read_behind<'a>(
         "file" => read_file_name(alloc, words),
         "export" => read_passing(alloc, words, Flow::Out),
         "import" => read_passing(alloc, words, Flow::In),
+        "validate" => read_validation(alloc, words),
         "merge" => read_merging(alloc, words),
         _ => Ok(Request::Refuses(Refusal::UnknownCommand(command))),
     }
@@ -192,6 +193,16 @@ fn read_file_name<'a>(alloc: Global, words: &'a [&'a str]) -> Result<Request<'a>
         return Ok(Request::Refuses(Refusal::OptionsRefused));
     };
     ask_for_file(alloc, name)
+}
+
+/// The words behind `validate`.
+fn read_validation<'a>(alloc: Global, words: &'a [&'a str]) -> Result<Request<'a>, Memory>
+    ensures { IfOk result (λ read. IsSeenAs read (on_one (λ word. on_name word (λ name. asked.Asks (asked.ViolationsOf name))) (texts_of words.now))) }
+{
+    let Some(name) = one(alloc, words)? else {
+        return Ok(Request::Refuses(Refusal::OptionsRefused));
+    };
+    ask_for_violations(alloc, name)
 }
 
 /// The words behind `merge`.

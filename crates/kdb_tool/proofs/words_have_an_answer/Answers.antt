@@ -2,4 +2,4 @@ use Rattle.kdb_tool.proofs.AnswersExist.{Answers-exists}
 use Rattle.kdb_tool.proofs.words_have_an_answer.Goals as goal
 
 pub returns : goal.returns
-returns c = Answers-exists
+returns c = Answers-exists (Unit {0}) tt

@@ -1,5 +1,5 @@
 -- By the laws of the formats.
-use Rattle.model_store.proofs.OneVerdict.{IsEarly-once, IsEarly-some, IsLate-once, IsLate-some}
+use Rattle.model_store.proofs.OneVerdict.{IsEarly-once, IsEarly-some, IsLate-once, IsLate-some, breach-caused}
 use Rattle.model_store.proofs.a_set_has_one_verdict.Goals as goal
 
 pub returns-clause-some_early : goal.returns-clause-some_early
@@ -17,3 +17,6 @@ returns-clause-some_late g c = IsLate-some
 
 pub returns-clause-one_late : goal.returns-clause-one_late
 returns-clause-one_late g c = IsLate-once
+
+pub returns-clause-refused : goal.returns-clause-refused
+returns-clause-refused g c = breach-caused

@@ -11,7 +11,8 @@ use Rattle.tool_commands.specs.StepView.{report_of, seen_step}
 use Rattle.tool_words.specs.RequestView.{action_of}
 use Rattle.kdb_tool.specs.Answer.{tells}
 use Rattle.kdb_tool.specs.Answers.{AnswersGot, AnswersStep}
-use Rattle.kdb_tool.specs.Serving.{Serving}
+use Rattle.kdb_outside.specs.Faults.{HasRisen}
+use Rattle.kdb_tool.specs.Serving.{MayRefuse, Serving}
 use Rattle.kdb_tool.proofs.AnswerLemmas.{got-fault}
 use Rattle.kdb_tool.proofs.ServeLemmas.{told_serves}
 use Rattle.kdb_tool.proofs.answering.act.Goals as goal
@@ -24,10 +25,11 @@ returns-in_ok-step-in-Ok-clause-serving g c = λ bytes_of is_opened.
     let core = c.args.core.now in
     let result = c.take_step.result in
     let after = c.take_step.new.core in
-    let by_step = subst (λ (s : Step). Serving g.D.Disk (AnswersStep files c.in_ok-parent.parent s) result core after) c.in_ok-step-in-Ok.ensures.step c.take_step.ensures.serving in
-    let by_parent = subst (λ (p : Name). Serving g.D.Disk (AnswersStep files p (step_of c.in-Ok.keys name action)) result core after) c.in_ok-parent.ensures by_step in
+    let Refusing = MayRefuse result (g.P.Patterns.refusals core.patterns) (g.P.Patterns.refusals after.patterns) in
+    let by_step = subst (λ (s : Step). Serving g.D.Disk (AnswersStep Refusing files c.in_ok-parent.parent s) result core after) c.in_ok-step-in-Ok.ensures.step c.take_step.ensures.serving in
+    let by_parent = subst (λ (p : Name). Serving g.D.Disk (AnswersStep Refusing files p (step_of c.in-Ok.keys name action)) result core after) c.in_ok-parent.ensures by_step in
     let found : got files (parent_of name action) ≡ Ok c.in-Ok.keys = ap (λ p. got files p) (sym c.in_ok-parent.ensures) ∙ c.in-Ok.ensures.keys bytes_of is_opened in
-    subst (λ (r : Result KeyMap GetFault). Serving g.D.Disk (AnswersGot files name action r) result core after) (sym found) by_parent
+    subst (λ (r : Result KeyMap GetFault). Serving g.D.Disk (AnswersGot Refusing files name action r) result core after) (sym found) by_parent
 
 pub returns-in_ok-step-in-Ok-clause-status : goal.returns-in_ok-step-in-Ok-clause-status
 returns-in_ok-step-in-Ok-clause-status g c = c.take_step.ensures.status (row_of c.args.name.now (action_of c.args.action)).statuses c.in_ok-step-in-Ok.ensures.status
@@ -39,5 +41,5 @@ returns-in_ok-refuse_get-in-Err-clause-serving g c = λ bytes_of is_opened.
     let action = action_of c.args.action in
     let report = report_of c.in_ok-refuse_get-in-Err.field-0 in
     let told = c.in_ok-refuse_get-in-Err.ensures.refused in
-    told_serves g.D.Disk (AnswersGot files name action (got files (parent_of name action))) report c.args.core.now
-    (got-fault files name c.in_ok-parent.parent action c.in-Err.fault (tells report) c.in_ok-parent.ensures c.in-Err.ensures.fault told.0 (ap tells told.1))
+    told_serves g.D.Disk (AnswersGot (HasRisen (g.P.Patterns.refusals c.args.core.now.patterns) (g.P.Patterns.refusals c.args.core.now.patterns)) files name action (got files (parent_of name action))) report c.args.core.now
+    (got-fault (HasRisen (g.P.Patterns.refusals c.args.core.now.patterns) (g.P.Patterns.refusals c.args.core.now.patterns)) files name c.in_ok-parent.parent action c.in-Err.fault (tells report) c.in_ok-parent.ensures c.in-Err.ensures.fault told.0 (ap tells told.1))

@@ -13,9 +13,8 @@ use Rattle.tool_words.specs.Request.{On, Replace}
 use Rattle.kdb_tool.specs.Answer.{tells}
 use Rattle.kdb_tool.specs.Answers.{AnswersImport, AnswersOver, Held, Bad}
 use Rattle.kdb_tool.specs.Input.{taken}
-use Rattle.kdb_tool.specs.Serving.{Unserved}
-use Rattle.kdb_tool.proofs.AnswersOnce.{import-over}
-use Rattle.kdb_tool.proofs.ServeLemmas.{alone_stopped, alone_unserved, handed_on, serve_alike, serve_unserved}
+use Rattle.kdb_tool.specs.Serving.{MayRefuse, Unserved}
+use Rattle.kdb_tool.proofs.ServeLemmas.{alone_stopped, alone_unserved, handed_on, serve_unserved, serve_weaker}
 use Rattle.kdb_tool.proofs.importing.import.Goals as goal
 
 pub returns-in-Ok-Keys-clause-served : goal.returns-in-Ok-Keys-clause-served
@@ -24,12 +23,13 @@ returns-in-Ok-Keys-clause-served g c = λ tells files doubt calm bytes is.
     let kind = c.args.kind in
     let seen = opened_files (g.D.Disk.seen c.args.disk) in
     let holds : Holds all.Reads name kind (taken bytes) c.in-Ok-Keys.keys = subst (λ (h : Holding). IsHolding all.Reads all.IsBadAt name kind (taken bytes) h) c.in-Ok-Keys.field-0-is (c.in-Ok-Keys.ensures.told bytes is) in
-    serve_alike g.D.Disk files doubt (AnswersOver (On name (Replace c.in-Ok-Keys.keys)) seen) (AnswersImport name kind (taken bytes) seen) c.answer_question.result.answer c.args.disk c.answer_question.result.disk
-    (λ answer over. Held c.in-Ok-Keys.keys holds over) (λ answer imports. import-over name kind (taken bytes) seen c.in-Ok-Keys.keys answer holds imports) (c.answer_question.ensures.served tells files doubt calm)
+    let Refusing = MayRefuse c.answer_question.result.answer (g.P.Patterns.refusals c.args.patterns) (g.P.Patterns.refusals c.answer_question.result.patterns) in
+    serve_weaker g.D.Disk files doubt (AnswersOver Refusing (On name (Replace c.in-Ok-Keys.keys)) seen) (AnswersImport Refusing name kind (taken bytes) seen) c.answer_question.result.answer c.args.disk c.answer_question.result.disk
+    (λ answer over. Held c.in-Ok-Keys.keys holds over) (c.answer_question.ensures.served tells files doubt calm)
 
 pub returns-in-Ok-Keys-clause-unserved : goal.returns-in-Ok-Keys-clause-unserved
 returns-in-Ok-Keys-clause-unserved g c = λ tells files doubt calm.
-    serve_unserved g.D.Disk files doubt (AnswersOver (On c.args.name (Replace c.in-Ok-Keys.keys)) (opened_files (g.D.Disk.seen c.args.disk))) c.answer_question.result.answer c.args.disk c.answer_question.result.disk (c.answer_question.ensures.served tells files doubt calm)
+    serve_unserved g.D.Disk files doubt (AnswersOver (MayRefuse c.answer_question.result.answer (g.P.Patterns.refusals c.args.patterns) (g.P.Patterns.refusals c.answer_question.result.patterns)) (On c.args.name (Replace c.in-Ok-Keys.keys)) (opened_files (g.D.Disk.seen c.args.disk))) c.answer_question.result.answer c.args.disk c.answer_question.result.disk (c.answer_question.ensures.served tells files doubt calm)
 
 pub returns-in-Ok-Bad-clause-served : goal.returns-in-Ok-Bad-clause-served
 returns-in-Ok-Bad-clause-served g c = λ tells_disk files doubt calm bytes is.
@@ -37,7 +37,7 @@ returns-in-Ok-Bad-clause-served g c = λ tells_disk files doubt calm bytes is.
     let kind = c.args.kind in
     let seen = opened_files (g.D.Disk.seen c.args.disk) in
     let cause : IsCause all.Reads all.IsBadAt name kind (taken bytes) (cause_of c.in-Ok-Bad.cause) = subst (λ (h : Holding). IsHolding all.Reads all.IsBadAt name kind (taken bytes) h) c.in-Ok-Bad.field-0-is (c.in-Ok-Bad.ensures.told bytes is) in
-    handed_on g.D.Disk c.args.disk c.without_store.result.disk files doubt (AnswersImport name kind (taken bytes) seen) c.refuse_input.result c.without_store.result.answer c.without_store.ensures.answer c.without_store.ensures.disk tells_disk calm
+    handed_on g.D.Disk c.args.disk c.without_store.result.disk files doubt (AnswersImport (MayRefuse c.without_store.result.answer (g.P.Patterns.refusals c.args.patterns) (g.P.Patterns.refusals c.without_store.result.patterns)) name kind (taken bytes) seen) c.refuse_input.result c.without_store.result.answer c.without_store.ensures.answer c.without_store.ensures.disk tells_disk calm
     (IfOk-weaker c.refuse_input.result _ _ (λ report told. Bad (cause_of c.in-Ok-Bad.cause) cause (ap tells told)) c.refuse_input.ensures.told)
 
 pub returns-in-Ok-Bad-clause-unserved : goal.returns-in-Ok-Bad-clause-unserved
@@ -46,26 +46,26 @@ returns-in-Ok-Bad-clause-unserved g c = λ tells_disk files doubt calm stops.
 
 pub returns-in-Err-clause-served : goal.returns-in-Err-clause-served
 returns-in-Err-clause-served g c = λ tells_disk files doubt calm bytes is.
-    alone_stopped g.D.Disk c.args.disk files doubt (AnswersImport c.args.name c.args.kind (taken bytes) (opened_files (g.D.Disk.seen c.args.disk))) c.in-Err.stop tells_disk calm (λ e. c.in-Err.ensures.own (ap Err e))
+    alone_stopped g.D.Disk c.args.disk files doubt (AnswersImport (MayRefuse (Err c.in-Err.stop) (g.P.Patterns.refusals c.args.patterns) (g.P.Patterns.refusals c.args.patterns)) c.args.name c.args.kind (taken bytes) (opened_files (g.D.Disk.seen c.args.disk))) c.in-Err.stop tells_disk calm (λ e. c.in-Err.ensures.own (ap Err e))
 
 pub returns-in-Err-clause-unserved : goal.returns-in-Err-clause-unserved
 returns-in-Err-clause-unserved g c = λ tells_disk files doubt calm stops. alone_unserved g.D.Disk c.args.disk files doubt tells_disk calm
 
 pub returns-in-Ok-Keys-clause-untouched : goal.returns-in-Ok-Keys-clause-untouched
-returns-in-Ok-Keys-clause-untouched g c = λ tells none bytes is answer imports.
+returns-in-Ok-Keys-clause-untouched g c = λ tells none bytes is nothing.
     let name = c.args.name in
     let kind = c.args.kind in
     let holds : Holds all.Reads name kind (taken bytes) c.in-Ok-Keys.keys = subst (λ (h : Holding). IsHolding all.Reads all.IsBadAt name kind (taken bytes) h) c.in-Ok-Keys.field-0-is (c.in-Ok-Keys.ensures.told bytes is) in
-    c.answer_question.ensures.untouched tells none answer (import-over name kind (taken bytes) (g.D.Disk.seen c.args.disk) c.in-Ok-Keys.keys answer holds imports)
+    c.answer_question.ensures.untouched tells none (λ answer over. nothing answer (Held c.in-Ok-Keys.keys holds over))
 
 pub returns-in-Ok-Bad-clause-untouched : goal.returns-in-Ok-Bad-clause-untouched
-returns-in-Ok-Bad-clause-untouched g c = λ tells none bytes is answer imports nothing. subst (OnlyReads g.D.Disk c.args.disk) (sym c.without_store.ensures.disk) (OnlyReads-none g.D.Disk c.args.disk)
+returns-in-Ok-Bad-clause-untouched g c = λ tells none bytes is nothing. subst (OnlyReads g.D.Disk c.args.disk) (sym c.without_store.ensures.disk) (OnlyReads-none g.D.Disk c.args.disk)
 
 pub returns-in-Ok-Bad-clause-unstored : goal.returns-in-Ok-Bad-clause-unstored
 returns-in-Ok-Bad-clause-unstored g c = λ tells none not_done. subst (OnlyReads g.D.Disk c.args.disk) (sym c.without_store.ensures.disk) (OnlyReads-none g.D.Disk c.args.disk)
 
 pub returns-in-Err-clause-untouched : goal.returns-in-Err-clause-untouched
-returns-in-Err-clause-untouched g c = λ tells none bytes is answer imports nothing. OnlyReads-none g.D.Disk c.args.disk
+returns-in-Err-clause-untouched g c = λ tells none bytes is nothing. OnlyReads-none g.D.Disk c.args.disk
 
 pub returns-in-Err-clause-unstored : goal.returns-in-Err-clause-unstored
 returns-in-Err-clause-unstored g c = λ tells none not_done. OnlyReads-none g.D.Disk c.args.disk

@@ -2,9 +2,12 @@
 use Rattle.std.proofs.Common.{Err, sym, ap, subst}
 use Rattle.model_maps.specs.KeyMap.{no_keys}
 use Rattle.tool_commands.specs.Report.{Report}
-use Rattle.kdb_tool.specs.Serving.{Serves}
+use Rattle.kdb_outside.specs.Faults.{HasRisen}
+use Rattle.kdb_tool.specs.Serving.{MayRefuse, Serves}
 use Rattle.kdb_tool.specs.Sets.{AnswersSet, store_alone}
 use Rattle.std.specs.Prelude.{string_bytes}
+use Rattle.model_store.specs.Rules.{has_risen}
+use Rattle.kdb_tool.proofs.RiseLemmas.{rose_may}
 use Rattle.kdb_tool.proofs.CommitLemmas.{done_serves, joined, blocks_not, made, ready, records, refused_disk, refused_memory, refused_serving, world}
 use Rattle.kdb_tool.proofs.setting.commit_set.Goals as goal
 
@@ -16,7 +19,7 @@ commit-requires g c = record {
 
 pub refuse_commit-requires : goal.refuse_commit-requires
 refuse_commit-requires g c = λ mount by front is.
-    blocks_not g.D.Disk c.args.plan.now.mounted c.args.core.now c.args.rec.now c.args.prepared (c.requires.open.world (λ h. no_keys)) c.requires.alone.parent c.requires.alone.keys c.requires.alone.fetched c.requires.alone.made c.in-Err.fault c.in-Err.ensures.judged mount by front is
+    blocks_not g.D.Disk c.args.plan.now.mounted c.args.core.now c.args.rec.now c.args.prepared (c.requires.open.world (λ h. no_keys)) c.requires.alone.parent c.requires.alone.keys c.requires.alone.fetched c.requires.alone.made (has_risen (g.P.Patterns.refusals c.args.core.now.patterns) (g.P.Patterns.refusals c.commit.new.self.patterns)) c.in-Err.fault c.in-Err.ensures.judged mount by front is
 
 pub returns-in-Ok-clause-serving : goal.returns-in-Ok-clause-serving
 returns-in-Ok-clause-serving g c = λ parent keys fetched is_made.
@@ -25,8 +28,8 @@ returns-in-Ok-clause-serving g c = λ parent keys fetched is_made.
     let here = c.requires.open.world (λ h. no_keys) in
     let after = c.commit.new.self in
     let out = string_bytes c.args.out in
-    subst (λ (r : Report). Serves g.D.Disk (AnswersSet files parent keys out) r core after) (sym c.tell-report.ensures.told)
-    (done_serves g.D.Disk files core c.args.rec.now c.args.prepared here parent keys fetched is_made out after c.commit.new.rec c.in-Ok.field-0 c.in-Ok.ensures.judged
+    subst (λ (r : Report). Serves g.D.Disk (AnswersSet (HasRisen (g.P.Patterns.refusals c.args.core.now.patterns) (g.P.Patterns.refusals c.commit.new.self.patterns)) files parent keys out) r core after) (sym c.tell-report.ensures.told)
+    (done_serves g.D.Disk files core c.args.rec.now c.args.prepared here parent keys fetched is_made (HasRisen (g.P.Patterns.refusals c.args.core.now.patterns) (g.P.Patterns.refusals c.commit.new.self.patterns)) (has_risen (g.P.Patterns.refusals c.args.core.now.patterns) (g.P.Patterns.refusals c.commit.new.self.patterns)) out after c.commit.new.rec c.in-Ok.field-0 c.in-Ok.ensures.judged
     (λ opened run on_disk. c.in-Ok.ensures.committed (store_alone files) opened (records g.D.Disk files core c.args.rec.now c.args.prepared here parent keys fetched is_made) (made g.D.Disk files core c.args.rec.now c.args.prepared here parent keys fetched is_made)
     (world g.D.Disk files core c.args.rec.now c.args.prepared here parent keys fetched is_made) run 0 (joined g.D.Disk files core c.args.rec.now c.args.prepared here parent keys fetched is_made opened run on_disk))
     c.in-Ok.ensures.unwritten)
@@ -38,7 +41,7 @@ returns-in-Err-clause-serving g c = λ parent keys fetched is_made.
     let here = c.requires.open.world (λ h. no_keys) in
     let after = c.commit.new.self in
     let out = string_bytes c.args.out in
-    refused_serving g.D.Disk files core c.args.rec.now c.args.prepared here parent keys fetched is_made out after c.commit.new.rec c.in-Err.fault c.refuse_commit.result c.refuse_commit.ensures.refused c.in-Err.ensures.judged
+    refused_serving g.D.Disk files core c.args.rec.now c.args.prepared here parent keys fetched is_made (MayRefuse c.refuse_commit.result (g.P.Patterns.refusals c.args.core.now.patterns) (g.P.Patterns.refusals c.commit.new.self.patterns)) (has_risen (g.P.Patterns.refusals c.args.core.now.patterns) (g.P.Patterns.refusals c.commit.new.self.patterns)) out after c.commit.new.rec c.in-Err.fault c.refuse_commit.result (rose_may c.refuse_commit.result (g.P.Patterns.refusals c.args.core.now.patterns) (g.P.Patterns.refusals c.commit.new.self.patterns)) c.refuse_commit.ensures.refused c.in-Err.ensures.judged
     (λ opened run on_disk. c.in-Err.ensures.committed (store_alone files) opened (records g.D.Disk files core c.args.rec.now c.args.prepared here parent keys fetched is_made) (made g.D.Disk files core c.args.rec.now c.args.prepared here parent keys fetched is_made)
     (world g.D.Disk files core c.args.rec.now c.args.prepared here parent keys fetched is_made) run 0 (joined g.D.Disk files core c.args.rec.now c.args.prepared here parent keys fetched is_made opened run on_disk))
     c.in-Err.ensures.unwritten

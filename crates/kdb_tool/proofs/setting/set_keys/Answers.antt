@@ -5,6 +5,7 @@ use Rattle.model_maps.specs.KeyMap.{no_keys}
 use Rattle.store_verdict.specs.Preparing.{IsMade}
 use Rattle.store_verdict.specs.RecordView.{record_of}
 use Rattle.tool_commands.specs.StepView.{report_of}
+use Rattle.kdb_outside.specs.Faults.{HasRisen}
 use Rattle.kdb_tool.specs.Answer.{tells}
 use Rattle.kdb_tool.specs.Sets.{AnswersSet, formats, store_alone}
 use Rattle.kdb_tool.proofs.ServeLemmas.{told_serves}
@@ -33,6 +34,6 @@ refuse_set-requires g c = λ mount is.
 
 pub returns-in_ok-refuse_set-in-Err-clause-serving : goal.returns-in_ok-refuse_set-in-Err-clause-serving
 returns-in_ok-refuse_set-in-Err-clause-serving g c =
-    told_serves g.D.Disk (AnswersSet c.args.plan.now.mounted c.args.parent.now c.args.keys.now (string_bytes c.args.out)) (report_of c.in_ok-refuse_set-in-Err.field-0) c.args.core.now
-    (refused_answers c.args.plan.now.mounted c.args.parent.now c.args.keys.now c.args.rec.now c.requires.fetched (string_bytes c.args.out) c.in-Err.fault (tells (report_of c.in_ok-refuse_set-in-Err.field-0))
+    told_serves g.D.Disk (AnswersSet (HasRisen (g.P.Patterns.refusals c.args.core.now.patterns) (g.P.Patterns.refusals c.args.core.now.patterns)) c.args.plan.now.mounted c.args.parent.now c.args.keys.now (string_bytes c.args.out)) (report_of c.in_ok-refuse_set-in-Err.field-0) c.args.core.now
+    (refused_answers c.args.plan.now.mounted c.args.parent.now c.args.keys.now c.args.rec.now c.requires.fetched (HasRisen (g.P.Patterns.refusals c.args.core.now.patterns) (g.P.Patterns.refusals c.args.core.now.patterns)) (string_bytes c.args.out) c.in-Err.fault (tells (report_of c.in_ok-refuse_set-in-Err.field-0))
     (c.in-Err.ensures.refused (not_memory c.in-Err.fault _ c.in_ok-refuse_set-in-Err.ensures.refused) (store_alone c.args.plan.now.mounted) (c.requires.open.fixed (λ h. no_keys))) c.in_ok-refuse_set-in-Err.ensures.refused)

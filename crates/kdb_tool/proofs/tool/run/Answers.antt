@@ -5,20 +5,17 @@ use Rattle.tool_commands.specs.Report.{IsAnswered}
 use Rattle.std.proofs.Common.{inl}
 use Rattle.kdb_tool.proofs.EndLemmas.{by_words, without_memory, in_fault, complete, made_of, not_stored, of_memory}
 use Rattle.kdb_tool.proofs.InputLemmas.{leaves_input}
-use Rattle.kdb_tool.proofs.RunLemmas.{answered, prefix, crash, lasting, left}
+use Rattle.kdb_tool.proofs.RunLemmas.{allowed, ran}
 use Rattle.kdb_tool.proofs.tool.run.Goals as goal
 
-pub returns-clause-answered : goal.returns-clause-answered
-returns-clause-answered g c = λ tells files doubt calm given fed.
-    answered g.D.Disk c.args.disk c.carry_out-answer.result.disk files doubt c.args.words.now given c.carry_out-answer.result.answer c.finish-status.result _ _ (c.carry_out-answer.ensures.served tells files doubt calm given fed) c.finish-status.ensures.finished
+pub returns-clause-ran : goal.returns-clause-ran
+returns-clause-ran g c = λ tells files doubt calm given fed.
+    ran g.D.Disk c.args.disk c.carry_out-answer.result.disk files doubt c.args.words.now given (g.P.Patterns.refusals c.args.patterns) (g.P.Patterns.refusals c.carry_out-answer.result.patterns) (FailsToRead (request c.args.words.now) (g.S.Source.faults c.args.input.now) (g.S.Source.faults c.carry_out-answer.new.input)) c.finish-status.result _ _
+    c.carry_out-answer.result.answer (c.carry_out-answer.ensures.served tells files doubt calm given fed) c.carry_out-answer.ensures.read c.carry_out-answer.ensures.cause c.finish-status.ensures.finished
 
 pub returns-clause-words : goal.returns-clause-words
 returns-clause-words g c =
     by_words c.carry_out-answer.result.answer (request c.args.words.now) (g.S.Source.faults c.args.input.now) (g.S.Source.faults c.carry_out-answer.new.input) c.finish-status.result _ _ c.carry_out-answer.ensures.untold c.carry_out-answer.ensures.asked c.carry_out-answer.ensures.read c.finish-status.ensures.finished
-
-pub returns-clause-prefix : goal.returns-clause-prefix
-returns-clause-prefix g c = λ tells files doubt calm given fed.
-    prefix g.D.Disk c.args.disk c.carry_out-answer.result.disk files doubt c.args.words.now given c.carry_out-answer.result.answer c.finish-status.result _ _ (c.carry_out-answer.ensures.served tells files doubt calm given fed) c.finish-status.ensures.finished
 
 pub returns-clause-memory : goal.returns-clause-memory
 returns-clause-memory g c =
@@ -33,25 +30,14 @@ pub returns-clause-complete : goal.returns-clause-complete
 returns-clause-complete g c =
     complete (HasRisen (g.D.Disk.faults c.args.disk) (g.D.Disk.faults c.carry_out-answer.result.disk)) (FailsToRead (request c.args.words.now) (g.S.Source.faults c.args.input.now) (g.S.Source.faults c.carry_out-answer.new.input)) c.finish-status.result _ _ (returns-clause-fault g c)
 
-pub returns-clause-crash : goal.returns-clause-crash
-returns-clause-crash g c = λ tells files doubt calm given fed.
-    crash g.D.Disk c.args.disk c.carry_out-answer.result.disk files doubt c.args.words.now given c.carry_out-answer.result.answer (c.carry_out-answer.ensures.served tells files doubt calm given fed)
-
-pub returns-clause-lasting : goal.returns-clause-lasting
-returns-clause-lasting g c = λ tells files doubt calm is given fed.
-    lasting g.D.Disk c.args.disk c.carry_out-answer.result.disk files doubt c.args.words.now given c.carry_out-answer.result.answer (c.carry_out-answer.ensures.served tells files doubt calm given fed) (made_of c.carry_out-answer.result.answer c.finish-status.result _ _ c.finish-status.ensures.finished is)
-
-pub returns-clause-files : goal.returns-clause-files
-returns-clause-files g c = λ tells files doubt calm still given fed.
-    left g.D.Disk c.args.disk c.carry_out-answer.result.disk files doubt c.args.words.now given (HasRisen (g.D.Disk.faults c.args.disk) (g.D.Disk.faults c.carry_out-answer.result.disk)) (FailsToRead (request c.args.words.now) (g.S.Source.faults c.args.input.now) (g.S.Source.faults c.carry_out-answer.new.input))
-    c.carry_out-answer.result.answer c.finish-status.result _ _ (c.carry_out-answer.ensures.served tells files doubt calm given fed) c.carry_out-answer.ensures.read c.carry_out-answer.ensures.cause still still c.finish-status.ensures.finished
-
 pub returns-clause-unwritten : goal.returns-clause-unwritten
 returns-clause-unwritten g c = λ tells files doubt calm is.
     c.carry_out-answer.ensures.unserved tells files doubt calm (inl (of_memory c.carry_out-answer.result.answer c.finish-status.result _ _ c.carry_out-answer.ensures.own c.finish-status.ensures.finished is))
 
 pub returns-clause-untouched : goal.returns-clause-untouched
-returns-clause-untouched g c = c.carry_out-answer.ensures.untouched
+returns-clause-untouched g c = λ tells none given fed nothing.
+    c.carry_out-answer.ensures.untouched tells none given fed
+    (λ answer answers. nothing answer (allowed (g.P.Patterns.refusals c.args.patterns) (g.P.Patterns.refusals c.carry_out-answer.result.patterns) c.args.words.now given (g.D.Disk.seen c.args.disk) c.finish-status.result _ _ c.carry_out-answer.result.answer c.finish-status.ensures.finished answer answers))
 
 pub returns-clause-unstored : goal.returns-clause-unstored
 returns-clause-unstored g c = λ tells none not_done no_fault.

@@ -13,7 +13,7 @@ use Rattle.tool_words.proofs.RowLemmas.{request-names_files}
 use Rattle.kdb_tool.specs.Answer.{tells}
 use Rattle.kdb_tool.specs.Answers.{AnswersOver, AnswersRequest}
 use Rattle.kdb_tool.specs.Input.{IsInput}
-use Rattle.kdb_tool.specs.Serving.{Serve, Unserved}
+use Rattle.kdb_tool.specs.Serving.{MayRefuse, Serve, StoresNothing, Unserved}
 use Rattle.kdb_tool.proofs.InputLemmas.{takes_none}
 use Rattle.kdb_tool.proofs.ServeLemmas.{alone_unserved, handed_on, serve_unserved}
 use Rattle.kdb_tool.proofs.work.carry_out.Goals as goal
@@ -25,23 +25,23 @@ answer_question-requires g c =
 pub returns-in-Ok-Asks-clause-served : goal.returns-in-Ok-Asks-clause-served
 returns-in-Ok-Asks-clause-served g c = λ tells_disk files doubt calm given fed.
     let asked : request c.args.words.now ≡ Asks (question_of c.in-Ok-Asks.question) = ap request (sym (ap texts_of c.deref.ensures.value ∙ c.in-Ok.ensures)) ∙ subst (λ (r : code.Request). IsSeenAs r (request (texts_of c.deref.result.now))) c.in-Ok-Asks.field-0-is c.in-Ok-Asks.ensures in
-    subst (λ (r : Request). Serve g.D.Disk files doubt (AnswersRequest r given (opened_files (g.D.Disk.seen c.args.disk))) c.answer_question.result.answer c.args.disk c.answer_question.result.disk) (sym asked) (c.answer_question.ensures.served tells_disk files doubt calm)
+    subst (λ (r : Request). Serve g.D.Disk files doubt (AnswersRequest (MayRefuse c.answer_question.result.answer (g.P.Patterns.refusals c.args.patterns) (g.P.Patterns.refusals c.answer_question.result.patterns)) r given (opened_files (g.D.Disk.seen c.args.disk))) c.answer_question.result.answer c.args.disk c.answer_question.result.disk) (sym asked) (c.answer_question.ensures.served tells_disk files doubt calm)
 
 pub returns-in-Ok-Asks-clause-unserved : goal.returns-in-Ok-Asks-clause-unserved
 returns-in-Ok-Asks-clause-unserved g c = λ tells_disk files doubt calm.
-    serve_unserved g.D.Disk files doubt (AnswersOver (question_of c.in-Ok-Asks.question) (opened_files (g.D.Disk.seen c.args.disk))) c.answer_question.result.answer c.args.disk c.answer_question.result.disk (c.answer_question.ensures.served tells_disk files doubt calm)
+    serve_unserved g.D.Disk files doubt (AnswersOver (MayRefuse c.answer_question.result.answer (g.P.Patterns.refusals c.args.patterns) (g.P.Patterns.refusals c.answer_question.result.patterns)) (question_of c.in-Ok-Asks.question) (opened_files (g.D.Disk.seen c.args.disk))) c.answer_question.result.answer c.args.disk c.answer_question.result.disk (c.answer_question.ensures.served tells_disk files doubt calm)
 
 pub returns-in-Ok-Imports-clause-served : goal.returns-in-Ok-Imports-clause-served
 returns-in-Ok-Imports-clause-served g c = λ tells_disk files doubt calm given fed.
     let asked : request c.args.words.now ≡ Imports c.in-Ok-Imports.name c.in-Ok-Imports.kind = ap request (sym (ap texts_of c.deref.ensures.value ∙ c.in-Ok.ensures)) ∙ subst (λ (r : code.Request). IsSeenAs r (request (texts_of c.deref.result.now))) c.in-Ok-Imports.field-0-is c.in-Ok-Imports.ensures in
     let told = subst (λ (r : Request). IsInput r (g.S.Source.left c.args.input.now) given) asked fed in
-    subst (λ (r : Request). Serve g.D.Disk files doubt (AnswersRequest r given (opened_files (g.D.Disk.seen c.args.disk))) c.import.result.answer c.args.disk c.import.result.disk) (sym asked) (c.import.ensures.served tells_disk files doubt calm given told)
+    subst (λ (r : Request). Serve g.D.Disk files doubt (AnswersRequest (MayRefuse c.import.result.answer (g.P.Patterns.refusals c.args.patterns) (g.P.Patterns.refusals c.import.result.patterns)) r given (opened_files (g.D.Disk.seen c.args.disk))) c.import.result.answer c.args.disk c.import.result.disk) (sym asked) (c.import.ensures.served tells_disk files doubt calm given told)
 
 pub returns-in-Ok-Refuses-clause-served : goal.returns-in-Ok-Refuses-clause-served
 returns-in-Ok-Refuses-clause-served g c = λ tells_disk files doubt calm given fed.
     let asked : request c.args.words.now ≡ Refuses (status_of c.in-Ok-Refuses.refusal) (text_of c.in-Ok-Refuses.refusal) = ap request (sym (ap texts_of c.deref.ensures.value ∙ c.in-Ok.ensures)) ∙ subst (λ (r : code.Request). IsSeenAs r (request (texts_of c.deref.result.now))) c.in-Ok-Refuses.field-0-is c.in-Ok-Refuses.ensures in
-    handed_on g.D.Disk c.args.disk c.without_store.result.disk files doubt (AnswersRequest (request c.args.words.now) given (opened_files (g.D.Disk.seen c.args.disk))) c.warn_of_words.result c.without_store.result.answer c.without_store.ensures.answer c.without_store.ensures.disk tells_disk calm
-    (IfOk-weaker c.warn_of_words.result _ _ (λ report told. subst (λ (r : Request). AnswersRequest r given (opened_files (g.D.Disk.seen c.args.disk)) (tells (report_of report))) (sym asked) (ap tells told)) c.warn_of_words.ensures.warned)
+    handed_on g.D.Disk c.args.disk c.without_store.result.disk files doubt (AnswersRequest (MayRefuse c.without_store.result.answer (g.P.Patterns.refusals c.args.patterns) (g.P.Patterns.refusals c.without_store.result.patterns)) (request c.args.words.now) given (opened_files (g.D.Disk.seen c.args.disk))) c.warn_of_words.result c.without_store.result.answer c.without_store.ensures.answer c.without_store.ensures.disk tells_disk calm
+    (IfOk-weaker c.warn_of_words.result _ _ (λ report told. subst (λ (r : Request). AnswersRequest (MayRefuse c.without_store.result.answer (g.P.Patterns.refusals c.args.patterns) (g.P.Patterns.refusals c.without_store.result.patterns)) r given (opened_files (g.D.Disk.seen c.args.disk)) (tells (report_of report))) (sym asked) (ap tells told)) c.warn_of_words.ensures.warned)
 
 pub returns-in-Ok-Refuses-clause-unserved : goal.returns-in-Ok-Refuses-clause-unserved
 returns-in-Ok-Refuses-clause-unserved g c = λ tells_disk files doubt calm stops.
@@ -50,8 +50,8 @@ returns-in-Ok-Refuses-clause-unserved g c = λ tells_disk files doubt calm stops
 pub returns-in-Ok-Bars-clause-served : goal.returns-in-Ok-Bars-clause-served
 returns-in-Ok-Bars-clause-served g c = λ tells_disk files doubt calm given fed.
     let asked : request c.args.words.now ≡ Bars c.in-Ok-Bars.by c.in-Ok-Bars.name = ap request (sym (ap texts_of c.deref.ensures.value ∙ c.in-Ok.ensures)) ∙ subst (λ (r : code.Request). IsSeenAs r (request (texts_of c.deref.result.now))) c.in-Ok-Bars.field-0-is c.in-Ok-Bars.ensures in
-    handed_on g.D.Disk c.args.disk c.without_store-in-Ok-Bars.result.disk files doubt (AnswersRequest (request c.args.words.now) given (opened_files (g.D.Disk.seen c.args.disk))) c.warn_of_name.result c.without_store-in-Ok-Bars.result.answer c.without_store-in-Ok-Bars.ensures.answer c.without_store-in-Ok-Bars.ensures.disk tells_disk calm
-    (IfOk-weaker c.warn_of_name.result _ _ (λ report told. subst (λ (r : Request). AnswersRequest r given (opened_files (g.D.Disk.seen c.args.disk)) (tells (report_of report))) (sym asked) (ap tells told)) c.warn_of_name.ensures)
+    handed_on g.D.Disk c.args.disk c.without_store-in-Ok-Bars.result.disk files doubt (AnswersRequest (MayRefuse c.without_store-in-Ok-Bars.result.answer (g.P.Patterns.refusals c.args.patterns) (g.P.Patterns.refusals c.without_store-in-Ok-Bars.result.patterns)) (request c.args.words.now) given (opened_files (g.D.Disk.seen c.args.disk))) c.warn_of_name.result c.without_store-in-Ok-Bars.result.answer c.without_store-in-Ok-Bars.ensures.answer c.without_store-in-Ok-Bars.ensures.disk tells_disk calm
+    (IfOk-weaker c.warn_of_name.result _ _ (λ report told. subst (λ (r : Request). AnswersRequest (MayRefuse c.without_store-in-Ok-Bars.result.answer (g.P.Patterns.refusals c.args.patterns) (g.P.Patterns.refusals c.without_store-in-Ok-Bars.result.patterns)) r given (opened_files (g.D.Disk.seen c.args.disk)) (tells (report_of report))) (sym asked) (ap tells told)) c.warn_of_name.ensures)
 
 pub returns-in-Ok-Bars-clause-unserved : goal.returns-in-Ok-Bars-clause-unserved
 returns-in-Ok-Bars-clause-unserved g c = λ tells_disk files doubt calm stops.
@@ -73,30 +73,30 @@ pub returns-clause-unserved : goal.returns-clause-unserved
 returns-clause-unserved g c = λ tells_disk files doubt calm stops. alone_unserved g.D.Disk c.args.disk files doubt tells_disk calm
 
 pub returns-in-Ok-Asks-clause-untouched : goal.returns-in-Ok-Asks-clause-untouched
-returns-in-Ok-Asks-clause-untouched g c = λ tells_disk none given fed answer answers.
+returns-in-Ok-Asks-clause-untouched g c = λ tells_disk none given fed nothing.
     let asked : request c.args.words.now ≡ Asks (question_of c.in-Ok-Asks.question) = ap request (sym (ap texts_of c.deref.ensures.value ∙ c.in-Ok.ensures)) ∙ subst (λ (r : code.Request). IsSeenAs r (request (texts_of c.deref.result.now))) c.in-Ok-Asks.field-0-is c.in-Ok-Asks.ensures in
-    c.answer_question.ensures.untouched tells_disk none answer (subst (λ (r : Request). AnswersRequest r given (g.D.Disk.seen c.args.disk) answer) asked answers)
+    c.answer_question.ensures.untouched tells_disk none (subst (λ (r : Request). StoresNothing (AnswersRequest (MayRefuse c.answer_question.result.answer (g.P.Patterns.refusals c.args.patterns) (g.P.Patterns.refusals c.answer_question.result.patterns)) r given (g.D.Disk.seen c.args.disk))) asked nothing)
 
 pub returns-in-Ok-Imports-clause-untouched : goal.returns-in-Ok-Imports-clause-untouched
-returns-in-Ok-Imports-clause-untouched g c = λ tells_disk none given fed answer answers.
+returns-in-Ok-Imports-clause-untouched g c = λ tells_disk none given fed nothing.
     let asked : request c.args.words.now ≡ Imports c.in-Ok-Imports.name c.in-Ok-Imports.kind = ap request (sym (ap texts_of c.deref.ensures.value ∙ c.in-Ok.ensures)) ∙ subst (λ (r : code.Request). IsSeenAs r (request (texts_of c.deref.result.now))) c.in-Ok-Imports.field-0-is c.in-Ok-Imports.ensures in
     let told = subst (λ (r : Request). IsInput r (g.S.Source.left c.args.input.now) given) asked fed in
-    c.import.ensures.untouched tells_disk none given told answer (subst (λ (r : Request). AnswersRequest r given (g.D.Disk.seen c.args.disk) answer) asked answers)
+    c.import.ensures.untouched tells_disk none given told (subst (λ (r : Request). StoresNothing (AnswersRequest (MayRefuse c.import.result.answer (g.P.Patterns.refusals c.args.patterns) (g.P.Patterns.refusals c.import.result.patterns)) r given (g.D.Disk.seen c.args.disk))) asked nothing)
 
 pub returns-in-Ok-Refuses-clause-untouched : goal.returns-in-Ok-Refuses-clause-untouched
-returns-in-Ok-Refuses-clause-untouched g c = λ tells_disk none given fed answer answers nothing. subst (OnlyReads g.D.Disk c.args.disk) (sym c.without_store.ensures.disk) (OnlyReads-none g.D.Disk c.args.disk)
+returns-in-Ok-Refuses-clause-untouched g c = λ tells_disk none given fed nothing. subst (OnlyReads g.D.Disk c.args.disk) (sym c.without_store.ensures.disk) (OnlyReads-none g.D.Disk c.args.disk)
 
 pub returns-in-Ok-Refuses-clause-unstored : goal.returns-in-Ok-Refuses-clause-unstored
 returns-in-Ok-Refuses-clause-unstored g c = λ tells_disk none not_done. subst (OnlyReads g.D.Disk c.args.disk) (sym c.without_store.ensures.disk) (OnlyReads-none g.D.Disk c.args.disk)
 
 pub returns-in-Ok-Bars-clause-untouched : goal.returns-in-Ok-Bars-clause-untouched
-returns-in-Ok-Bars-clause-untouched g c = λ tells_disk none given fed answer answers nothing. subst (OnlyReads g.D.Disk c.args.disk) (sym c.without_store-in-Ok-Bars.ensures.disk) (OnlyReads-none g.D.Disk c.args.disk)
+returns-in-Ok-Bars-clause-untouched g c = λ tells_disk none given fed nothing. subst (OnlyReads g.D.Disk c.args.disk) (sym c.without_store-in-Ok-Bars.ensures.disk) (OnlyReads-none g.D.Disk c.args.disk)
 
 pub returns-in-Ok-Bars-clause-unstored : goal.returns-in-Ok-Bars-clause-unstored
 returns-in-Ok-Bars-clause-unstored g c = λ tells_disk none not_done. subst (OnlyReads g.D.Disk c.args.disk) (sym c.without_store-in-Ok-Bars.ensures.disk) (OnlyReads-none g.D.Disk c.args.disk)
 
 pub returns-clause-untouched : goal.returns-clause-untouched
-returns-clause-untouched g c = λ tells_disk none given fed answer answers nothing. OnlyReads-none g.D.Disk c.args.disk
+returns-clause-untouched g c = λ tells_disk none given fed nothing. OnlyReads-none g.D.Disk c.args.disk
 
 pub returns-clause-unstored : goal.returns-clause-unstored
 returns-clause-unstored g c = λ tells_disk none not_done. OnlyReads-none g.D.Disk c.args.disk

@@ -40,7 +40,7 @@ returns-in-Ok g c procs opened known world run h =
     let there = slice_get-get_or c.args.records.now c.args.handle d c.if-handle-records.false in
     let is_held = held_by (record { text = g.F.Formats.text; IsStorable = g.F.Formats.is_storable; BreaksAt = g.F.Formats.breaks_at }) g.D.Disk c.args.plan.now.mounted procs opened c.args.core.now c.args.records.now c.args.places.now known world run h c.args.number c.index-places-number.result c.in-Ok.set c.if-number-places.false c.in-Ok.ensures.ok in
     committed_so (record { text = g.F.Formats.text; IsStorable = g.F.Formats.is_storable; BreaksAt = g.F.Formats.breaks_at }) g.D.Disk c.args.plan.now.mounted procs opened c.args.core.now c.args.records.now c.args.places.now known world run h c.args.handle c.args.number rec c.in-Ok.set there is_held accepted
-    c.commit.new.self c.commit.new.rec c.commit.result c.take.new.place c.in-Ok.ensures.free c.if-handle-records.false c.if-number-places.false
+    c.commit.new.self c.commit.new.rec _ c.commit.result c.take.new.place c.in-Ok.ensures.free c.if-handle-records.false c.if-number-places.false
     (record { handle = c.commit.ensures.handle; places = c.commit.ensures.places; proc = c.commit.ensures.proc })
     (c.commit.ensures.committed (store_of c.args.plan.now.mounted procs) opened (records_of c.args.records.now) known world run c.args.number
     (belongs (record { text = g.F.Formats.text; IsStorable = g.F.Formats.is_storable; BreaksAt = g.F.Formats.breaks_at }) g.D.Disk c.args.plan.now.mounted procs opened c.args.core.now c.args.records.now c.args.places.now known world run h c.args.handle c.args.number rec c.in-Ok.set there is_held accepted))

@@ -21,8 +21,8 @@ returns-in-Ok-clause-ran g c files doubt calm =
     let start = c.in-Ok.opened.core.journal.disk in
     let mounted : List MountedFile = c.in-Ok.opened.plan.mounted in
     let first : Run = new_run (opened_files (g.D.Disk.seen c.args.disk)) (g.D.Disk.faults c.args.disk) (opened_doubt (g.D.Disk.seen c.args.disk)) in
-    if_ok (λ (ran : Ran g.row.D.Denot). HasRunOpened (record { text = g.F.Formats.text; IsStorable = g.F.Formats.is_storable; BreaksAt = g.F.Formats.breaks_at }) g.D.Disk mounted c.args.procs.now c.args.places start first c.args.events.now ran)
-    (λ (ran : Ran g.row.D.Denot). (files_of_mounts : List MountedFile) × IsOpened g.F.Formats.reads g.F.Formats.is_bad_at (opened_files (g.D.Disk.seen c.args.disk)) files_of_mounts
+    if_ok (λ (ran : Ran g.row.D.Denot g.row.P.Denot). HasRunOpened (record { text = g.F.Formats.text; IsStorable = g.F.Formats.is_storable; BreaksAt = g.F.Formats.breaks_at }) g.D.Disk mounted c.args.procs.now c.args.places start first c.args.events.now ran)
+    (λ (ran : Ran g.row.D.Denot g.row.P.Denot). (files_of_mounts : List MountedFile) × IsOpened g.F.Formats.reads g.F.Formats.is_bad_at (opened_files (g.D.Disk.seen c.args.disk)) files_of_mounts
     × HasRun (record { text = g.F.Formats.text; IsStorable = g.F.Formats.is_storable; BreaksAt = g.F.Formats.breaks_at }) g.D.Disk files_of_mounts c.args.procs.now c.args.places c.args.disk files doubt c.args.events.now ran) c.run_opened.result
     (λ ran has. (
       mounted,

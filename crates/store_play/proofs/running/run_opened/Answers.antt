@@ -29,4 +29,4 @@ pub returns-clause-sound : goal.returns-clause-sound
 returns-clause-sound g c =
     let is = c.requires.stands in
     sound_now g.D.Disk c.close-disk.result.disk (IsEither (files_of is.1) is.1.doubt)
-    (c.close-disk.ensures.now is.0 is.1 (subst (λ (core : Core g.row.D.Denot). IsStore g.D.Disk is.0 core.journal is.1) (sym c.in-Err.ensures.none) is.2.on_disk))
+    (c.close-disk.ensures.now is.0 is.1 (subst (λ (core : Core g.row.D.Denot g.row.P.Denot). IsStore g.D.Disk is.0 core.journal is.1) (sym c.in-Err.ensures.none) is.2.on_disk))

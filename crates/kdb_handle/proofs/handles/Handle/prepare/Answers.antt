@@ -1,5 +1,5 @@
 -- What the plan makes is for the handle's own number and record.
-use Rattle.std.proofs.Common.{sym, ap, ◌∙◌}
+use Rattle.std.proofs.Common.{ap, ◌∙◌}
 use Rattle.kdb_handle.specs.Handles.{HandleValue}
 use Rattle.kdb_handle.proofs.HandleLemmas.{made_for, refused_for}
 use Rattle.model_maps.specs.KeyMap.{no_keys}

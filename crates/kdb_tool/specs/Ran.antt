@@ -1,0 +1,48 @@
+-- What a run did on a calm disk: all of it by the one answer that it worked out, if it worked one out. (This project's own.)
+use Rattle.std.specs.Prelude.{◌≡◌, ◌⊎◌, ℕ, List, [], Option}
+use Rattle.intent_journal.specs.BadJournals.{opened_files}
+use Rattle.intent_journal.specs.Moments.{LeavesOnly}
+use Rattle.intent_journal.specs.Outcomes.{HasOnly, IsEither}
+use Rattle.journal_codec.specs.declared.files.FileText.{FileText}
+use Rattle.kdb_outside.specs.Crashes.{EveryImage}
+use Rattle.kdb_outside.specs.Faults.{HasRisen}
+use Rattle.kdb_outside.specs.Images.{Image}
+use Rattle.kdb_outside.specs.SinkChange.{SinkChange as Change}
+use Rattle.kdb_outside.specs.declared.disks.Disk.{Ghosts}
+use Rattle.tool_commands.specs.Report.{IsAnswered}
+use Rattle.kdb_tool.specs.Answer.{Answer}
+use Rattle.kdb_tool.specs.Crashing.{MayBeLeft, MayRemain, Shows}
+use Rattle.kdb_tool.specs.Ends.{LosesSink}
+use Rattle.kdb_tool.specs.Outcome.{Failed, Gives, GainsFront}
+use Rattle.kdb_tool.specs.Serving as serving
+
+-- an answer was worked out, of those that the words, the input and the files allow
+pub record Follows {D : Type 0} (g : Ghosts D) (files : Image) (doubt : Option (List FileText)) (Answered : Answer → Type 0) (disk end : D) (status : ℕ) (out err : Change) : Type 0 where
+  pub answer : Answer
+  pub answers : Answered answer
+  -- the status, out and err are those of the answer, but for a fault
+  pub answered : IsAnswered status → Gives answer.report status out err
+  -- however the run ends, out has gained a front of what the answer puts there
+  pub prefix : GainsFront out.held_before out.held_now answer.report.out
+  -- at every moment since the call began a crash leaves the files as they were found, or these with all that the answer stores
+  pub crash : LeavesOnly g disk end (MayBeLeft files doubt (opened_files (g.seen disk)) answer.stored)
+  -- what the answer stored outlasts every crash behind the call, whatever failed but the disk
+  pub lasting : IsAnswered status → EveryImage (g.may_leave end) (MayRemain files doubt (opened_files (g.seen disk)) answer.stored)
+  -- without a fault of the disk the files show what the answer stores, which outlasts every crash, and no others change, whatever becomes of out
+  -- and err
+  pub shown : ¬ HasRisen (g.faults disk) (g.faults end) → Shows answer.stored (opened_files (g.seen disk)) (g.seen disk) (g.seen end)
+  pub rests : ¬ HasRisen (g.faults disk) (g.faults end) → EveryImage (g.may_leave end) (MayRemain files doubt (opened_files (g.seen disk)) answer.stored)
+  pub ended : ¬ HasRisen (g.faults disk) (g.faults end) → (status ≡ answer.report.status) ⊎ LosesSink status out err
+
+-- none was, for want of memory or a fault: out has gained nothing, a crash leaves the files as they were found, and where no entry was open and the disk
+-- didn't fail it was only read
+pub record EndsWithout {D : Type 0} (g : Ghosts D) (files : Image) (doubt : Option (List FileText)) (input_failed : Type 0) (disk end : D) (status : ℕ) (out err : Change) : Type 0 where
+  pub cause : (status ≡ 70) ⊎ (status ≡ 74)
+  pub prefix : GainsFront out.held_before out.held_now []
+  pub crash : LeavesOnly g disk end (HasOnly (IsEither files doubt))
+  pub unserved : ¬ HasRisen (g.faults disk) (g.faults end) → serving.Unserved g files doubt disk end
+  pub why : ¬ HasRisen (g.faults disk) (g.faults end) → (status ≡ 70) ⊎ (((status ≡ 74) × Failed err) ⊎ ((status ≡ 74) × input_failed))
+
+pub data Ran {D : Type 0} (g : Ghosts D) (files : Image) (doubt : Option (List FileText)) (Answered : Answer → Type 0) (input_failed : Type 0) (disk end : D) (status : ℕ) (out err : Change) : Type 0 where
+  ByAnswer : Follows g files doubt Answered disk end status out err → Ran g files doubt Answered input_failed disk end status out err
+  Without : EndsWithout g files doubt input_failed disk end status out err → Ran g files doubt Answered input_failed disk end status out err

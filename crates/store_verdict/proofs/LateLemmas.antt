@@ -1,0 +1,83 @@
+-- What the history decides, step by step.
+use Rattle.std.proofs.Common.{◌≡◌, ℕ, ◌<◌, ◌≤◌, nat_lt, Bool, true, false, cond, List, [], ◌∷◌, ◌++◌, length, Option, Some, None, inl, inr, refl, sym, ap, subst, ◌∙◌, arith}
+use Rattle.std.proofs.lemmas.Bool.{cond-true, cond-false, lt-ltb, le-ltb}
+use Rattle.general_words.specs.Saturated.{saturated}
+use Rattle.commit_log.specs.CommitView as log
+use Rattle.commit_log.specs.declared.commits.Commit as code
+use Rattle.kdb_outside.specs.Faults.{HasRisen}
+use Rattle.model_names.specs.Name.{Name}
+use Rattle.model_maps.specs.KeyMap.{KeyMap, weight, heaviest_map}
+use Rattle.model_specified.specs.Violations.{IsFirstViolation, checked_keys, is_owned}
+use Rattle.model_specified.specs.declared.violations.Violation.{Violation}
+use Rattle.model_specified.proofs.Refusals.{AreOfKeys-none}
+use Rattle.model_history.specs.Changes.{after}
+use Rattle.model_history.specs.History.{Commit, history_weight, heaviest_history}
+use Rattle.model_store.specs.Sets.{Prepared}
+use Rattle.model_store.specs.Rules.{FirstBreach, KeepRules, has_risen}
+use Rattle.model_store.specs.Verdicts.{Late, Invalid, DatabaseFull, HistoryFull, Commits, Follows, Checks, IsLate, commit_of, conflict, if_untouched, if_heavy, if_full}
+use Rattle.model_store.proofs.Risen.{first-tested}
+use Rattle.store_verdict.specs.declared.judging.Late.TheVariants as verdict
+use Rattle.store_verdict.specs.LateView.{late_of, unless_full}
+
+-- a step that tells something is the answer, and one that tells nothing leaves it to the others
+told : {A : Type 0} (o : Option A) (x : A) (P : Type 0) → o ≡ Some x → Follows o (Some x) P
+told None x P e = absurd cc
+told (Some y) x P e = sym e
+
+behind : {A : Type 0} (o answer : Option A) (P : Type 0) → o ≡ None → P → Follows o answer P
+behind None answer P e p = p
+behind (Some y) answer P e p = absurd cc
+
+touched-none : (touched : List ℕ) (aside : ℕ) → 0 < length touched → if_untouched touched aside ≡ None
+touched-none [] aside lt = absurd (omega arith)
+touched-none (m ∷ touched) aside lt = refl
+
+full-step : (risen : Bool) (h full : ℕ) → full ≡ h → (commit : code.Commit) (made : Commit) → log.commit_of commit ≡ made → (aside : ℕ)
+    → Follows (if_full full) (Some (late_of risen (unless_full h commit aside))) (late_of risen (unless_full h commit aside) ≡ Commits made aside)
+full-step risen h full e commit made same aside = subst (λ n. Follows (if_full n) (Some (late_of risen (unless_full h commit aside))) (late_of risen (unless_full h commit aside) ≡ Commits made aside)) (sym e) (at (nat_lt heaviest_history h))
+  where
+    at : (b : Bool) → Follows (cond b (Some (HistoryFull (saturated h))) None) (Some (late_of risen (cond b (verdict.HistoryFull (saturated h)) (verdict.Commits commit aside)))) (late_of risen (cond b (verdict.HistoryFull (saturated h)) (verdict.Commits commit aside)) ≡ Commits made aside)
+    at true = refl
+    at false = ap (λ c. Commits c aside) same
+
+module _ (points : List Name) (history : List Commit) (keys : KeyMap) (set : Prepared) (some : 0 < length set.touched) (free : conflict history set ≡ None) where
+  -- a set that nothing blocks is judged by the rules
+  late-free : (answer : Late) → Checks points keys set answer (Follows (if_heavy (weight (after keys set.changes))) (Some answer) (Follows (if_full (history_weight (history ++ commit_of set ∷ []))) (Some answer) (answer ≡ Commits (commit_of set) set.aside))) → IsLate points history keys set answer
+  late-free answer checks =
+      behind (if_untouched set.touched set.aside) (Some answer) _ (touched-none set.touched set.aside some)
+      (behind (conflict history set) (Some answer) _ free checks)
+
+  module _ (later : KeyMap) (later_is : later ≡ after keys set.changes) where
+    pub late-invalid : (before now : ℕ) (violation : Violation) → IsFirstViolation (HasRisen before now) (is_owned points set.touched) later (Some violation) → IsLate points history keys set (Invalid violation (has_risen before now))
+    late-invalid before now violation first = late-free (Invalid violation (has_risen before now)) (inl (record {
+      violation = violation;
+      risen = has_risen before now;
+      first = subst (λ k. FirstBreach points set.touched k violation (has_risen before now)) later_is (first-tested before now (is_owned points set.touched) later violation first);
+      is = refl;
+    }))
+
+    module _ (before now : ℕ) (none : IsFirstViolation (HasRisen before now) (is_owned points set.touched) later None) where
+      kept : KeepRules points set.touched (after keys set.changes)
+      kept = subst (KeepRules points set.touched) later_is (AreOfKeys-none (HasRisen before now) ⊥ (checked_keys (is_owned points set.touched) later) none)
+
+      pub late-heavy : (w : ℕ) → w ≡ saturated (weight later) → heaviest_map < w → IsLate points history keys set (DatabaseFull w)
+      late-heavy w is lt =
+          let n : ℕ = weight (after keys set.changes) in
+          let same : w ≡ saturated n = is ∙ ap (λ k. saturated (weight k)) later_is in
+          let heavy : heaviest_map < n = omega (arith, same, lt) in
+          late-free (DatabaseFull w)
+          (inr (kept, told (if_heavy n) (DatabaseFull w) _ (cond-true (nat_lt heaviest_map n) (Some (DatabaseFull (saturated n))) None (lt-ltb heaviest_map n heavy) ∙ ap (λ k. Some (DatabaseFull k)) (sym same))))
+
+      pub late-light : (w : ℕ) → w ≡ saturated (weight later) → w ≤ heaviest_map → (commit : code.Commit) → log.commit_of commit ≡ commit_of set → (risen : Bool)
+          → IsLate points history keys set (late_of risen (unless_full (history_weight (history ++ log.commit_of commit ∷ [])) commit set.aside))
+      late-light w is le commit same risen =
+          let n : ℕ = weight (after keys set.changes) in
+          let w_is : w ≡ saturated n = is ∙ ap (λ k. saturated (weight k)) later_is in
+          let light : n ≤ heaviest_map = omega (arith, w_is, le) in
+          let h : ℕ = history_weight (history ++ log.commit_of commit ∷ []) in
+          let answer : Late = late_of risen (unless_full h commit set.aside) in
+          late-free answer (inr (
+            kept,
+            behind (if_heavy n) (Some answer) _ (cond-false (nat_lt heaviest_map n) (Some (DatabaseFull (saturated n))) None (le-ltb heaviest_map n light))
+                (full-step risen h (history_weight (history ++ commit_of set ∷ [])) (ap (λ c. history_weight (history ++ c ∷ [])) (sym same)) commit (commit_of set) same set.aside),
+          ))
