@@ -11,7 +11,7 @@ use Rattle.mounted_files.specs.declared.refusals.GetFault.{GetFault}
 use Rattle.mounted_files.specs.declared.refusals.OpenRefusal.{OpenRefusal}
 use Rattle.tool_words.specs.Request.{Action, Replace, Question, Mounts, FileOf, TextOf, ViolationsOf, On, NamesFiles, Request, Refuses, Bars, Asks, Imports}
 use Rattle.tool_words.specs.Rows.{request}
-use Rattle.tool_words.specs.Uses.{barred}
+use Rattle.tool_words.specs.Lines.{not_writable}
 use Rattle.tool_commands.specs.Commands.{every_key, parent_of, step_of}
 use Rattle.tool_commands.specs.Report.{checked}
 use Rattle.model_specified.specs.Violations.{checked_keys, is_within}
@@ -93,7 +93,7 @@ import_exists MayRefuse may name kind bytes bytes_of = by (Holds-or_bad all.Read
 
 request_exists : (MayRefuse : Type 0) → MayRefuse → (asked : Request) (input : List ℕ) (bytes_of : List ℕ → List ℕ) → ((question : Question) → asked ≡ Asks question → NamesFiles question) → Some (AnswersRequest MayRefuse asked input bytes_of)
 request_exists MayRefuse may (Refuses status text) input bytes_of names = this (AnswersRequest MayRefuse (Refuses status text) input bytes_of) (refused status text) refl
-request_exists MayRefuse may (Bars by name) input bytes_of names = this (AnswersRequest MayRefuse (Bars by name) input bytes_of) (refused 2 (barred by name)) refl
+request_exists MayRefuse may (Bars name) input bytes_of names = this (AnswersRequest MayRefuse (Bars name) input bytes_of) (refused 2 (not_writable name)) refl
 request_exists MayRefuse may (Asks question) input bytes_of names = over_exists MayRefuse may question bytes_of (names question refl)
 request_exists MayRefuse may (Imports name kind) input bytes_of names = import_exists MayRefuse may name kind (taken input) bytes_of
 

@@ -51,7 +51,7 @@ module _ (Fewer More : Type 0) (follows : Fewer → More) where
 
   request_more : (asked : Request) (input : List ℕ) (bytes_of : List ℕ → List ℕ) (a : Answer) → AnswersRequest Fewer asked input bytes_of a → AnswersRequest More asked input bytes_of a
   request_more (Refuses status text) input bytes_of a p = p
-  request_more (Bars by name) input bytes_of a p = p
+  request_more (Bars name) input bytes_of a p = p
   request_more (Asks question) input bytes_of a p = over_more question bytes_of a p
   request_more (Imports name kind) input bytes_of a p = import_more name kind (taken input) bytes_of a p
 

@@ -90,7 +90,7 @@ import_once MayRefuse none name kind bytes bytes_of a b (Bad cause bad p) (Bad o
 
 request_once : (MayRefuse : Type 0) → ¬ MayRefuse → (asked : Request) (input : List ℕ) (bytes_of : List ℕ → List ℕ) (a b : Answer) → AnswersRequest MayRefuse asked input bytes_of a → AnswersRequest MayRefuse asked input bytes_of b → a ≡ b
 request_once MayRefuse none (Refuses status text) input bytes_of a b p q = p ∙ sym q
-request_once MayRefuse none (Bars by name) input bytes_of a b p q = p ∙ sym q
+request_once MayRefuse none (Bars name) input bytes_of a b p q = p ∙ sym q
 request_once MayRefuse none (Asks question) input bytes_of a b p q = over_once MayRefuse none question bytes_of a b p q
 request_once MayRefuse none (Imports name kind) input bytes_of a b p q = import_once MayRefuse none name kind (taken input) bytes_of a b p q
 

@@ -5,8 +5,7 @@ use Rattle.std.proofs.Math.Seq.{take-length}
 use Rattle.kdb_tool.specs.declared.answers.Stop.{Stop}
 use Rattle.kdb_tool.specs.declared.answers.Stop.TheVariants as stops
 use Rattle.tool_commands.specs.Lines.{disk_fault, read_fault}
-use Rattle.tool_words.specs.Lines.{out_of_memory}
-use Rattle.tool_words.specs.Uses.{barred}
+use Rattle.tool_words.specs.Lines.{not_writable, out_of_memory}
 use Rattle.tool_commands.specs.Report.{Report, warned}
 use Rattle.tool_words.specs.Request.{Request, Refuses, Bars, Asks, Imports}
 use Rattle.tool_commands.specs.StepView.{report_of}
@@ -46,25 +45,25 @@ without_answer report status out err (ErrFails loses) = SinkFails (loses.status_
 
 by_request : (asked : Request) (report : Report) (status : ℕ) (out err : Change) → ReportsUntold asked report → Delivers report status out err → EndsByWords asked status out err
 by_request (Refuses code text) report status out err is delivers = refused (warned code text) status out err (subst (λ (r : Report). Delivers r status out err) is delivers)
-by_request (Bars by name) report status out err is delivers = refused (warned 2 (barred by name)) status out err (subst (λ (r : Report). Delivers r status out err) is delivers)
+by_request (Bars name) report status out err is delivers = refused (warned 2 (not_writable name)) status out err (subst (λ (r : Report). Delivers r status out err) is delivers)
 by_request (Asks question) report status out err is delivers = λ answered. subst (IsStatusOf question) (sym (whole report status out err delivers answered.1).status_is) is
 by_request (Imports name kind) report status out err is delivers = λ answered. subst (IsEnd []) (sym (whole report status out err delivers answered.1).status_is) is
 
 stopped_by : (asked : Request) (status : ℕ) (out err : Change) → Delivers (warned 70 out_of_memory) status out err → EndsByWords asked status out err
 stopped_by (Refuses code text) status out err delivers = without_answer (warned code text) status out err delivers
-stopped_by (Bars by name) status out err delivers = without_answer (warned 2 (barred by name)) status out err delivers
+stopped_by (Bars name) status out err delivers = without_answer (warned 2 (not_writable name)) status out err delivers
 stopped_by (Asks question) status out err delivers = λ answered. absurd (answered.0 (whole (warned 70 out_of_memory) status out err delivers answered.1).status_is)
 stopped_by (Imports name kind) status out err delivers = λ answered. absurd (answered.0 (whole (warned 70 out_of_memory) status out err delivers answered.1).status_is)
 
 failed_by : (asked : Request) (status : ℕ) (out err : Change) → AsksStore asked → Delivers (warned 74 disk_fault) status out err → EndsByWords asked status out err
 failed_by (Refuses code text) status out err asks delivers = absurd asks
-failed_by (Bars by name) status out err asks delivers = absurd asks
+failed_by (Bars name) status out err asks delivers = absurd asks
 failed_by (Asks question) status out err asks delivers = λ answered. absurd (answered.1 (whole (warned 74 disk_fault) status out err delivers answered.1).status_is)
 failed_by (Imports name kind) status out err asks delivers = λ answered. absurd (answered.1 (whole (warned 74 disk_fault) status out err delivers answered.1).status_is)
 
 unread_by : (asked : Request) (before now : ℕ) (status : ℕ) (out err : Change) → FailsToRead asked before now → Delivers (warned 74 read_fault) status out err → EndsByWords asked status out err
 unread_by (Refuses code text) before now status out err fails delivers = absurd fails
-unread_by (Bars by name) before now status out err fails delivers = absurd fails
+unread_by (Bars name) before now status out err fails delivers = absurd fails
 unread_by (Asks question) before now status out err fails delivers = absurd fails
 unread_by (Imports name kind) before now status out err fails delivers = λ answered. absurd (answered.1 (whole (warned 74 read_fault) status out err delivers answered.1).status_is)
 

@@ -20,11 +20,10 @@ use Rattle.mounted_files.specs.declared.refusals.GetFault.TheVariants as faults
 use Rattle.mounted_files.specs.declared.refusals.OpenRefusal.{OpenRefusal}
 use Rattle.mounted_files.specs.declared.refusals.OpenRefusal.TheVariants as refusals
 use Rattle.tool_commands.specs.Lines.{too_long, bad_file, too_heavy, bad_table, not_storable, line_of_mount}
-use Rattle.tool_words.specs.Lines.{out_of_memory}
+use Rattle.tool_words.specs.Lines.{not_writable, out_of_memory}
 use Rattle.kdb_tool.specs.Answer.{Answer, tells, done, refused}
 use Rattle.kdb_tool.specs.Input.{taken}
 use Rattle.kdb_tool.specs.Sets.{AnswersSet}
-use Rattle.tool_words.specs.Uses.{barred}
 use Rattle.tool_words.specs.Request.{Action, Replace, Question, Mounts, FileOf, TextOf, ViolationsOf, On, Request, Refuses, Bars, Asks, Imports}
 use Rattle.tool_words.specs.Rows.{request}
 use Rattle.tool_commands.specs.Step.{Step, Tells, Sets}
@@ -114,7 +113,7 @@ pub data AnswersImport (MayRefuse : Type 0) (name : Name) (kind : Kind) (bytes :
 -- the answer to a request
 abbrev pub AnswersRequest : Type 0 → Request → List ℕ → (List ℕ → List ℕ) → Answer → Type 0
 AnswersRequest MayRefuse (Refuses status text) input bytes_of answer = answer ≡ refused status text
-AnswersRequest MayRefuse (Bars by name) input bytes_of answer = answer ≡ refused 2 (barred by name)
+AnswersRequest MayRefuse (Bars name) input bytes_of answer = answer ≡ refused 2 (not_writable name)
 AnswersRequest MayRefuse (Asks question) input bytes_of answer = AnswersOver MayRefuse question bytes_of answer
 AnswersRequest MayRefuse (Imports name kind) input bytes_of answer = AnswersImport MayRefuse name kind (taken input) bytes_of answer
 

@@ -1,8 +1,7 @@
 -- How a run ends, as the top call says it. (This project's own.)
 use Rattle.std.specs.Prelude.{◌≡◌, ◌⊎◌, ℕ, List, []}
 use Rattle.tool_commands.specs.Lines.{disk_fault, line, read_fault, write_fault}
-use Rattle.tool_words.specs.Lines.{out_of_memory}
-use Rattle.tool_words.specs.Uses.{barred}
+use Rattle.tool_words.specs.Lines.{not_writable, out_of_memory}
 use Rattle.tool_commands.specs.Report.{IsAnswered, IsEnd, Report, warned}
 use Rattle.tool_words.specs.Request.{Request, Refuses, Bars, Asks, Imports}
 use Rattle.kdb_tool.specs.Untold.{IsStatusOf}
@@ -23,7 +22,7 @@ pub data EndsRefused (report : Report) (status : ℕ) (out err : Change) : Type 
 -- import with 0 or 5
 abbrev pub EndsByWords : Request → ℕ → Change → Change → Type 0
 EndsByWords (Refuses code text) status out err = EndsRefused (warned code text) status out err
-EndsByWords (Bars by name) status out err = EndsRefused (warned 2 (barred by name)) status out err
+EndsByWords (Bars name) status out err = EndsRefused (warned 2 (not_writable name)) status out err
 EndsByWords (Asks question) status out err = IsAnswered status → IsStatusOf question status
 EndsByWords (Imports name kind) status out err = IsAnswered status → IsEnd [] status
 

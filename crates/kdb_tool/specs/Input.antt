@@ -16,14 +16,14 @@ taken input = take most_taken input
 -- a command line is given this input: an import the bytes that its source tells. Of one that takes none it is any
 abbrev pub IsInput : Request → Option (List ℕ) → List ℕ → Type 0
 IsInput (Refuses status text) left input = Unit {0}
-IsInput (Bars by name) left input = Unit {0}
+IsInput (Bars name) left input = Unit {0}
 IsInput (Asks question) left input = Unit {0}
 IsInput (Imports name kind) left input = left ≡ Some input
 
 -- a count of faults of the input rose while an import took it
 abbrev pub FailsToRead : Request → ℕ → ℕ → Type 0
 FailsToRead (Refuses status text) before now = ⊥
-FailsToRead (Bars by name) before now = ⊥
+FailsToRead (Bars name) before now = ⊥
 FailsToRead (Asks question) before now = ⊥
 FailsToRead (Imports name kind) before now = HasRisen before now
 
@@ -57,6 +57,6 @@ pub record TakesInput {S : Type 0} (g : Ghosts S) (answered : Type 0) (before no
 -- how a run leaves its input
 abbrev pub LeavesInput : {S : Type 0} → Ghosts S → Request → Type 0 → S → S → Type 0
 LeavesInput g (Refuses status text) answered before now = now ≡ before
-LeavesInput g (Bars by name) answered before now = now ≡ before
+LeavesInput g (Bars name) answered before now = now ≡ before
 LeavesInput g (Asks question) answered before now = now ≡ before
 LeavesInput g (Imports name kind) answered before now = TakesInput g answered before now

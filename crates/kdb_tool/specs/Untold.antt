@@ -1,7 +1,7 @@
 -- What is known of a report whatever a disk tells. (This project's own.)
 use Rattle.std.specs.Prelude.{◌≡◌, ℕ, List, [], ◌∷◌}
 use Rattle.tool_words.specs.Request.{Question, Mounts, FileOf, TextOf, ViolationsOf, On, Request, Refuses, Bars, Asks, Imports}
-use Rattle.tool_words.specs.Uses.{barred}
+use Rattle.tool_words.specs.Lines.{not_writable}
 use Rattle.tool_commands.specs.Commands.{row_of}
 use Rattle.tool_commands.specs.Report.{IsEnd, Report, warned}
 
@@ -20,13 +20,13 @@ IsStatusOf question status = IsEnd (own_statuses question) status
 -- words may ask the store for something
 abbrev pub AsksStore : Request → Type 0
 AsksStore (Refuses status text) = ⊥
-AsksStore (Bars by name) = ⊥
+AsksStore (Bars name) = ⊥
 AsksStore (Asks question) = Unit {0}
 AsksStore (Imports name kind) = Unit {0}
 
 -- of a request: all that is told where it asks the store for nothing, and else a status
 abbrev pub ReportsUntold : Request → Report → Type 0
 ReportsUntold (Refuses status text) report = report ≡ warned status text
-ReportsUntold (Bars by name) report = report ≡ warned 2 (barred by name)
+ReportsUntold (Bars name) report = report ≡ warned 2 (not_writable name)
 ReportsUntold (Asks question) report = IsStatusOf question report.status
 ReportsUntold (Imports name kind) report = IsEnd [] report.status

@@ -64,9 +64,7 @@ pub fn carry_out<S: Source, D: Disk, P: Patterns + Drop>(
         Ok(Request::Refuses(refusal)) => {
             without_store(warn_of_words(alloc, refusal), disk, patterns)
         }
-        Ok(Request::Bars { by, name }) => {
-            without_store(warn_of_name(alloc, by, &name), disk, patterns)
-        }
+        Ok(Request::Bars(name)) => { without_store(warn_of_name(alloc, &name), disk, patterns) }
         Err(_) => Ended {
             answer: Err(Stop::Memory),
             disk,

@@ -1,21 +1,17 @@
 -- Lists of candidates, one piece behind the other.
-use Rattle.std.proofs.Common.{◌≡◌, ℕ, Bool, true, false, List, [], ◌∷◌, ◌++◌, Option, sym, ap, ap₂, subst, ◌∙◌, append_assoc}
+use Rattle.std.proofs.Common.{◌≡◌, ℕ, suc, zero, ◌+◌, ◌<◌, ◌≤◌, List, [], ◌∷◌, ◌++◌, length, Option, None, Some, arith, refl, sym, ap, ap₂, ◌∙◌, append_assoc}
 use Rattle.std.specs.List.{flat_map}
-use Rattle.std.specs.Prelude.{◌==◌, Result, Ok, Err, IfOk, codes}
-use Rattle.std.specs.Bool.{MatchBool}
+use Rattle.std.specs.Prelude.{◌^◌, slice_get, codes, Result, Ok, Err, IfOk}
 use Rattle.std.specs.FinMap as finite
-use Rattle.std.specs.Option.{option_map}
-use Rattle.general_words.specs.Searches.{first_some}
-use Rattle.model_names.specs.declared.namespaces.Namespace.TheVariants.{Cascading}
-use Rattle.model_names.specs.Name.{Name, Part, rank}
-use Rattle.model_maps.specs.Entry.{Meta, IsArray}
+use Rattle.model_names.specs.Name.{Name, Part}
+use Rattle.model_maps.specs.Entry.{Meta, IsArray, item_name}
 use Rattle.model_maps.specs.KeyMap.{KeyMap}
-use Rattle.model_rules.proofs.RulesOnce.{IsArray-once}
 use Rattle.model_specified.specs.SpecMeta.{spec_meta}
 use Rattle.model_specified.specs.Specified.{default_name}
-use Rattle.spec_cascade.specs.Candidates.{AreCandidates, names_of, paths_by}
-use Rattle.spec_cascade.specs.Found.{IsFirstPresent, IsFound, found_at, present}
+use Rattle.spec_cascade.specs.Candidates.{candidates, names_of, paths_by, texts_from, texts_of}
+use Rattle.spec_cascade.specs.Found.{first_present, present}
 use Rattle.spec_cascade.specs.declared.founds.Found.{Found}
+use Rattle.general_words.specs.Searches.{first_some}
 
 -- four pieces
 pub four_pieces : {A : Type 0} (l0 l1 l2 l3 l4 a b c d : List A) → l1 ≡ l0 ++ a → l2 ≡ l1 ++ b → l3 ≡ l2 ++ c → l4 ≡ l3 ++ d → l4 ≡ l0 ++ (a ++ (b ++ (c ++ d)))
@@ -25,42 +21,45 @@ four_pieces l0 l1 l2 l3 l4 a b c d e1 e2 e3 e4 =
     ∙ append_assoc (l0 ++ a) b (c ++ d)
     ∙ append_assoc l0 a (b ++ (c ++ d))
 
+-- the texts of an array are those that are read from its first item on
+array-from : (more : ℕ) (meta : Meta) (prefix : List ℕ) (index : ℕ) (texts : List (List ℕ)) → ((i : ℕ) → i < length texts → finite.get meta (item_name prefix (index + i)) ≡ slice_get texts i) → finite.get meta (item_name prefix (index + length texts)) ≡ None
+    → length texts ≤ more → texts ≡ texts_from more meta prefix index
+array-from zero meta prefix index [] items ends few = refl
+array-from (suc more) meta prefix index [] items ends few =
+    let here : index ≡ index + 0 = omega arith in
+    let none : finite.get meta (item_name prefix index) ≡ None = ap (λ n. finite.get meta (item_name prefix n)) here ∙ ends in
+    ap (λ (found : Option (List ℕ)). elim found [ None ↦ [] | Some text ↦ text ∷ texts_from more meta prefix (index + 1) ]) (sym none)
+array-from zero meta prefix index (text ∷ texts) items ends few = absurd (omega (arith, few))
+array-from (suc more) meta prefix index (text ∷ texts) items ends few =
+    let here : index ≡ index + 0 = omega arith in
+    let this : finite.get meta (item_name prefix index) ≡ Some text = ap (λ n. finite.get meta (item_name prefix n)) here ∙ items 0 (omega arith) in
+    let moved : (i : ℕ) → index + suc i ≡ index + 1 + i = λ i. omega arith in
+    ap (λ ts. text ∷ ts) (array-from more meta prefix (index + 1) texts
+    (λ i within. ap (λ n. finite.get meta (item_name prefix n)) (sym (moved i)) ∙ items (suc i) (omega (arith, within)))
+    (ap (λ n. finite.get meta (item_name prefix n)) (sym (moved (length texts))) ∙ ends)
+    (omega (arith, few)))
+    ∙ ap (λ (found : Option (List ℕ)). elim found [ None ↦ [] | Some text ↦ text ∷ texts_from more meta prefix (index + 1) ]) (sym this)
+
+pub array-texts : (meta : Meta) (prefix : List ℕ) (texts : List (List ℕ)) → IsArray meta prefix texts → length texts ≤ 2 ^ 64 → texts ≡ texts_of meta prefix
+unfolding texts_of
+array-texts meta prefix texts array few =
+    let moved : (i : ℕ) → 0 + i ≡ i = λ i. omega arith in
+    array-from (2 ^ 64) meta prefix 0 texts
+    (λ i within. ap (λ n. finite.get meta (item_name prefix n)) (moved i) ∙ array.items i within)
+    (ap (λ n. finite.get meta (item_name prefix n)) (moved (length texts)) ∙ array.ends)
+    few
+
 -- the candidates of a path: four pieces from nothing on
 pub four_kinds : (path : List Part) (said : Meta) (overrides words fallbacks : List (List ℕ)) (l0 l1 l2 l3 l4 : List Name)
-    → IsArray said (codes "override") overrides → IsArray said (codes "namespace") words → IsArray said (codes "fallback") fallbacks → l0 ≡ []
-    → l1 ≡ l0 ++ flat_map names_of overrides → l2 ≡ l1 ++ paths_by path words → l3 ≡ l2 ++ flat_map names_of fallbacks → l4 ≡ l3 ++ default_name path ∷ [] → AreCandidates path said l4
-four_kinds path said overrides words fallbacks l0 l1 l2 l3 l4 os ws fs none e1 e2 e3 e4 = record {
-  overrides = overrides;
-  words = words;
-  fallbacks = fallbacks;
-  of_overrides = os;
-  of_words = ws;
-  of_fallbacks = fs;
-  all = four_pieces l0 l1 l2 l3 l4 (flat_map names_of overrides) (paths_by path words) (flat_map names_of fallbacks) (default_name path ∷ []) e1 e2 e3 e4
-      ∙ ap (λ l. l ++ (flat_map names_of overrides ++ (paths_by path words ++ (flat_map names_of fallbacks ++ default_name path ∷ [])))) none;
-}
+    → overrides ≡ texts_of said (codes "override") → words ≡ texts_of said (codes "namespace") → fallbacks ≡ texts_of said (codes "fallback") → l0 ≡ []
+    → l1 ≡ l0 ++ flat_map names_of overrides → l2 ≡ l1 ++ paths_by path words → l3 ≡ l2 ++ flat_map names_of fallbacks → l4 ≡ l3 ++ default_name path ∷ [] → l4 ≡ candidates path said
+four_kinds path said overrides words fallbacks l0 l1 l2 l3 l4 os ws fs none e1 e2 e3 e4 =
+    four_pieces l0 l1 l2 l3 l4 (flat_map names_of overrides) (paths_by path words) (flat_map names_of fallbacks) (default_name path ∷ []) e1 e2 e3 e4
+    ∙ (λ i. none i ++ (flat_map names_of (os i) ++ (paths_by path (ws i) ++ (flat_map names_of (fs i) ++ default_name path ∷ []))))
 
 -- the first that is present of a path's candidates
-pub first_found : {E : Type 0} (keys : KeyMap) (path : List Part) (said : Meta) (default : Name) (names : List Name) (r : Result (Option Found) E) → said ≡ spec_meta keys path → default ≡ default_name path → AreCandidates path said names
-    → IfOk r (λ found. found ≡ first_some (present keys said default) names) → IfOk r (IsFirstPresent keys path)
-first_found keys path said default names (Ok found) is_said is_default are is = record {
-  names = names;
-  candidates = subst (λ meta. AreCandidates path meta names) is_said are;
-  is = is ∙ ap₂ (λ (meta : Meta) (name : Name). first_some (present keys meta name) names) is_said is_default;
-}
+pub first_found : {E : Type 0} (keys : KeyMap) (path : List Part) (said : Meta) (default : Name) (names : List Name) (r : Result (Option Found) E) → said ≡ spec_meta keys path → default ≡ default_name path → names ≡ candidates path said
+    → IfOk r (λ found. found ≡ first_some (present keys said default) names) → IfOk r (λ found. found ≡ first_present keys path (spec_meta keys path))
+first_found keys path said default names (Ok found) is_said is_default are is =
+    is ∙ ap₂ (λ (name : Name) (all : List Name). first_some (present keys said name) all) is_default are ∙ ap (first_present keys path) is_said
 first_found keys path said default names (Err error) is_said is_default are is = is
-
--- a path has its candidates in one way
-candidates-once : (path : List Part) (said : Meta) (a b : List Name) → AreCandidates path said a → AreCandidates path said b → a ≡ b
-candidates-once path said a b p q =
-    let overrides = IsArray-once said (codes "override") p.overrides q.overrides p.of_overrides q.of_overrides in
-    let words = IsArray-once said (codes "namespace") p.words q.words p.of_words q.of_words in
-    let fallbacks = IsArray-once said (codes "fallback") p.fallbacks q.fallbacks p.of_fallbacks q.of_fallbacks in
-    p.all ∙ (λ i. flat_map names_of (overrides i) ++ (paths_by path (words i) ++ (flat_map names_of (fallbacks i) ++ default_name path ∷ []))) ∙ sym q.all
-
-pub found-once : (keys : KeyMap) (name : Name) (a b : Option Found) → IsFound keys name a → IsFound keys name b → a ≡ b
-found-once keys name a b = by (rank name.namespace == rank Cascading)
-  where
-    by : (t : Bool) → MatchBool t (IsFirstPresent keys name.parts a) (a ≡ option_map (found_at name) (finite.get keys name)) → MatchBool t (IsFirstPresent keys name.parts b) (b ≡ option_map (found_at name) (finite.get keys name)) → a ≡ b
-    by true p q = p.is ∙ ap (first_some (present keys (spec_meta keys name.parts) (default_name name.parts))) (candidates-once name.parts (spec_meta keys name.parts) p.names q.names p.candidates q.candidates) ∙ sym q.is
-    by false p q = p ∙ sym q

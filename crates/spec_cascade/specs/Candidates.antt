@@ -1,6 +1,7 @@
 -- The names that a cascading name stands for, in the order in which they are searched. (After Elektra's page on cascading; the search of cascading
 -- names in `override` and `fallback` is this project's own.)
-use Rattle.std.specs.Prelude.{◌≡◌, ℕ, ◌==◌, if◌then◌else◌, List, [], ◌∷◌, ◌++◌, map, length, Option, Some, None, codes}
+use Rattle.std.specs.Prelude.{ℕ, suc, zero, ◌+◌, ◌^◌, ◌==◌, if◌then◌else◌, List, [], ◌∷◌, ◌++◌, map, length, Option, Some, None, codes}
+use Rattle.std.specs.FinMap as finite
 use Rattle.std.specs.List.{flat_map}
 use Rattle.std.specs.Option.{option_to_list}
 use Rattle.general_words.specs.Texts.{is_text}
@@ -8,7 +9,7 @@ use Rattle.model_names.specs.declared.namespaces.Namespace.{Namespace}
 use Rattle.model_names.specs.declared.namespaces.Namespace.TheVariants.{Cascading, Proc, Dir, User, System, Default}
 use Rattle.model_names.specs.Name.{Name, Part, rank}
 use Rattle.model_names.specs.NameOf.{name_of}
-use Rattle.model_maps.specs.Entry.{Meta, IsArray}
+use Rattle.model_maps.specs.Entry.{Meta, item_name}
 use Rattle.model_specified.specs.Specified.{default_name}
 
 -- a path in some namespaces
@@ -42,12 +43,17 @@ abbrev pub paths_by : List Part → List (List ℕ) → List Name
 paths_by path words =
     if length words == 0 then paths_in path usual else flat_map (λ word. paths_in path (option_to_list (searched word))) words
 
+-- the texts of an array of metadata from a place on, at most so many: it ends at the first item that is missing
+abbrev pub texts_from : ℕ → Meta → List ℕ → ℕ → List (List ℕ)
+texts_from zero meta prefix index = []
+texts_from (suc more) meta prefix index =
+    elim (finite.get meta (item_name prefix index)) [ None ↦ [] | Some text ↦ text ∷ texts_from more meta prefix (index + 1) ]
+
+-- all texts of an array. No list in memory is longer than this count
+unfoldable pub texts_of : Meta → List ℕ → List (List ℕ)
+texts_of meta prefix = texts_from (2 ^ 64) meta prefix 0
+
 -- all names that a path stands for, by what its specification metadata says
-pub record AreCandidates (path : List Part) (said : Meta) (names : List Name) : Type 0 where
-  pub overrides : List (List ℕ)
-  pub words : List (List ℕ)
-  pub fallbacks : List (List ℕ)
-  pub of_overrides : IsArray said (codes "override") overrides
-  pub of_words : IsArray said (codes "namespace") words
-  pub of_fallbacks : IsArray said (codes "fallback") fallbacks
-  pub all : names ≡ flat_map names_of overrides ++ (paths_by path words ++ (flat_map names_of fallbacks ++ default_name path ∷ []))
+abbrev pub candidates : List Part → Meta → List Name
+candidates path said =
+    flat_map names_of (texts_of said (codes "override")) ++ (paths_by path (texts_of said (codes "namespace")) ++ (flat_map names_of (texts_of said (codes "fallback")) ++ default_name path ∷ []))

@@ -1,6 +1,5 @@
 -- The key that is found for a name. (After Elektra's page on cascading.)
-use Rattle.std.specs.Prelude.{◌≡◌, ◌==◌, if◌then◌else◌, List, Option, None, codes}
-use Rattle.std.specs.Bool.{MatchBool}
+use Rattle.std.specs.Prelude.{◌==◌, if◌then◌else◌, List, Option, None, codes}
 use Rattle.std.specs.FinMap as finite
 use Rattle.std.specs.Option.{option_map, option_or}
 use Rattle.general_words.specs.Searches.{first_some}
@@ -11,7 +10,7 @@ use Rattle.model_maps.specs.Entry.{Entry, Meta}
 use Rattle.model_maps.specs.KeyMap.{KeyMap}
 use Rattle.model_specified.specs.SpecMeta.{spec_meta}
 use Rattle.model_specified.specs.Specified.{default_name}
-use Rattle.spec_cascade.specs.Candidates.{AreCandidates}
+use Rattle.spec_cascade.specs.Candidates.{candidates}
 use Rattle.spec_cascade.specs.declared.founds.Found.{Found}
 
 -- a name with its entry
@@ -28,12 +27,10 @@ present keys said default name =
     option_map (found_at name) (option_or (finite.get keys name) (if name_eq name default then default_said said else None))
 
 -- a cascading name finds the first of its candidates that is present
-pub record IsFirstPresent (keys : KeyMap) (path : List Part) (answer : Option Found) : Type 0 where
-  pub names : List Name
-  pub candidates : AreCandidates path (spec_meta keys path) names
-  pub is : answer ≡ first_some (present keys (spec_meta keys path) (default_name path)) names
+abbrev pub first_present : KeyMap → List Part → Meta → Option Found
+first_present keys path said = first_some (present keys said (default_name path)) (candidates path said)
 
--- a name with a namespace finds its own key
-abbrev pub IsFound : KeyMap → Name → Option Found → Type 0
-IsFound keys name answer =
-    MatchBool (rank name.namespace == rank Cascading) (IsFirstPresent keys name.parts answer) (answer ≡ option_map (found_at name) (finite.get keys name))
+-- and a name with a namespace its own key
+abbrev pub found : KeyMap → Name → Option Found
+found keys name =
+    if rank name.namespace == rank Cascading then first_present keys name.parts (spec_meta keys name.parts) else option_map (found_at name) (finite.get keys name)

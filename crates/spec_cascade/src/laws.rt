@@ -1,15 +1,12 @@
-//! Laws of lookups, and a few candidates, worked.
-ghost use Rattle.std.specs.Prelude.{◌≡◌, [], ◌∷◌, Option, codes};
+//! A law of lookups, and a few candidates, worked.
+ghost use Rattle.std.specs.Prelude.{◌≡◌, ◌≤◌, ◌^◌, ℕ, List, [], ◌∷◌, length, codes};
 ghost use Rattle.model_names.specs.declared.namespaces.Namespace.TheVariants.{Dir, Proc, System, User};
-ghost use Rattle.model_names.specs.Name.{Name};
-ghost use Rattle.model_maps.specs.KeyMap.{KeyMap};
-ghost use Rattle.spec_cascade.specs.Candidates.{paths_by};
-ghost use Rattle.spec_cascade.specs.Found.{IsFound};
-ghost use Rattle.spec_cascade.specs.declared.founds.Found.{Found};
+ghost use Rattle.model_maps.specs.Entry.{IsArray, Meta};
+ghost use Rattle.spec_cascade.specs.Candidates.{paths_by, texts_of};
 
-/// A name finds one key in a set, or none.
-pub fn a_name_finds_one_key()
-    ensures { (keys : KeyMap) (name : Name) (a b : Option Found) → IsFound keys name a → IsFound keys name b → a ≡ b }
+/// The texts of `override`, `namespace` and `fallback` are those of an array of metadata, up to the first item that is missing.
+pub fn texts_are_those_of_an_array()
+    ensures { (meta : Meta) (prefix : List ℕ) (texts : List (List ℕ)) → IsArray meta prefix texts → length texts ≤ 2 ^ 64 → texts_of meta prefix ≡ texts }
 {}
 
 /// The words that are no namespace to be searched are skipped; without a word the usual four are searched.

@@ -4,7 +4,8 @@ ghost use Rattle.std.specs.FinMap as finite;
 ghost use Rattle.std.specs.Option.{option_map};
 ghost use Rattle.general_words.specs.Searches.{first_some};
 ghost use Rattle.model_names.specs.Order.{name_eq};
-ghost use Rattle.spec_cascade.specs.Found.{IsFirstPresent, IsFound, default_said, found_at, present};
+ghost use Rattle.model_specified.specs.SpecMeta.{spec_meta};
+ghost use Rattle.spec_cascade.specs.Found.{default_said, first_present, found, found_at, present};
 
 use crate::candidates::{candidates, is_cascading};
 use crate::founds::Found;
@@ -16,7 +17,7 @@ use plugin_chain::spec_meta;
 /// What is found for a name: with a namespace, the key itself; for a cascading one the first of its candidates that is present, which are the names in
 /// `override`, its path in the namespaces that are searched, the names in `fallback`, and its default.
 pub fn lookup(keys: &KeySet, path: &KeyName) -> Result<Option<Found>, Memory>
-    ensures { IfOk result (IsFound keys.now path.now) }
+    ensures { IfOk result (λ answer. answer ≡ found keys.now path.now) }
 {
     if is_cascading(path.namespace()) {
         return search(keys, path);
@@ -29,7 +30,7 @@ pub fn lookup(keys: &KeySet, path: &KeyName) -> Result<Option<Found>, Memory>
 
 /// What is found for a path in any namespace.
 fn search(keys: &KeySet, path: &KeyName) -> Result<Option<Found>, Memory>
-    ensures { IfOk result (IsFirstPresent keys.now path.now.parts) }
+    ensures { IfOk result (λ found. found ≡ first_present keys.now path.now.parts (spec_meta keys.now path.now.parts)) }
 {
     let said = spec_meta(keys, path)?;
     let default = path.with_namespace(Namespace::Default)?;

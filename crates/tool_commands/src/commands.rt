@@ -5,12 +5,14 @@ ghost use Rattle.tool_commands.specs.StepView.{seen_step};
 ghost use Rattle.tool_commands.specs.Commands.{parent_of, row_of, step_of};
 ghost use Rattle.tool_words.specs.RequestView.{action_of};
 
+mod looking;
 mod merging;
 mod metadata;
 mod mounting;
 mod trees;
 mod values;
 
+use crate::commands::looking::look_up;
 use crate::commands::merging::merge;
 use crate::commands::metadata::{get_meta, list_meta, set_meta};
 use crate::commands::mounting::{mount, unmount};
@@ -49,13 +51,13 @@ pub fn step(alloc: Global, name: &KeyName, action: Action<'_>, keys: KeySet) -> 
     ensures status { IfOk result (λ step. TellsEnd (row_of name.now (action_of action.entry)).statuses (seen_step step)) }
 {
     match action {
-        Action::Get => get(alloc, name, &keys),
+        Action::Get => get(alloc, name, look_up(name, &keys)?),
         Action::Set(value) => set(alloc, name, value, keys),
         Action::Remove(extent) => remove(alloc, name, extent, keys),
         Action::Names => list(alloc, name, &keys),
-        Action::GetMeta(meta) => get_meta(alloc, name, meta.as_str(), &keys),
+        Action::GetMeta(meta) => get_meta(alloc, name, meta.as_str(), look_up(name, &keys)?),
         Action::SetMeta(meta, text) => set_meta(alloc, name, &meta, text, keys),
-        Action::MetaNames => list_meta(alloc, name, &keys),
+        Action::MetaNames => list_meta(alloc, name, look_up(name, &keys)?),
         Action::Bring { way, extent, to } => bring(alloc, name, way, extent, &to, keys),
         Action::MountFile { file, kind } => mount(alloc, name, file, kind, keys),
         Action::Unmount => unmount(alloc, name, keys),

@@ -3,7 +3,7 @@ ghost use Rattle.std.specs.Prelude.{◌≡◌, IfOk, string_bytes};
 ghost use Rattle.tool_commands.specs.Report.{IsAnswered, warned};
 ghost use Rattle.tool_commands.specs.StepView.{report_of};
 ghost use Rattle.tool_words.specs.RequestView.{status_of, text_of, text_of_fault};
-ghost use Rattle.tool_words.specs.Uses.{barred};
+ghost use Rattle.tool_words.specs.Lines.{not_writable};
 
 use crate::reports::{Report, warn};
 use crate::status::{ARGUMENT_REFUSED, NO_COMMAND, OPTIONS_REFUSED};
@@ -11,17 +11,14 @@ use kdb_text::{quoted, shown, shown_text};
 use key_meta::Memory;
 use key_name::{KeyName, NameFault};
 use std::alloc::Global;
-use tool_words::{Refusal, Use};
+use tool_words::Refusal;
 
-/// What is told of a name that can't be used so.
-pub fn warn_of_name(alloc: Global, by: Use, name: &KeyName) -> Result<Report, Memory>
-    ensures { IfOk result (λ report. report_of report ≡ warned 2 (barred by name.now)) }
+/// What is told of a name that no file holds.
+pub fn warn_of_name(alloc: Global, name: &KeyName) -> Result<Report, Memory>
+    ensures { IfOk result (λ report. report_of report ≡ warned 2 (not_writable name.now)) }
 {
     let name = shown(alloc, name)?;
-    let text = match by {
-        Use::Looks => format!(in alloc; "not built: {name}")?,
-        Use::Writes => format!(in alloc; "C01320 not writable: {name}")?,
-    };
+    let text = format!(in alloc; "C01320 not writable: {name}")?;
     warn(alloc, ARGUMENT_REFUSED, text.as_str())
 }
 

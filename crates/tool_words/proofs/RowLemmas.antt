@@ -31,7 +31,7 @@ use Rattle.tool_words.specs.Uses.{bars}
 -- what is asked for names files
 abbrev NamesAny : Request → Type 0
 NamesAny (Refuses status text) = Unit {0}
-NamesAny (Bars by name) = Unit {0}
+NamesAny (Bars name) = Unit {0}
 NamesAny (Asks question) = NamesFiles question
 NamesAny (Imports name kind) = Unit {0}
 
@@ -88,9 +88,9 @@ name-names word asked each = by (name_of word)
     by (Some name) = each name
 
 name_for-names : (purpose : Use) (word : List ℕ) (asked : Name → Request) → ((name : Name) → bars purpose name.namespace ≡ false → NamesAny (asked name)) → NamesAny (on_name_for purpose word asked)
-name_for-names purpose word asked each = name-names word (λ name. cond (bars purpose name.namespace) (Bars purpose name) (asked name)) (λ name. by name (bars purpose name.namespace) refl)
+name_for-names purpose word asked each = name-names word (λ name. cond (bars purpose name.namespace) (Bars name) (asked name)) (λ name. by name (bars purpose name.namespace) refl)
   where
-    by : (name : Name) (b : Bool) → bars purpose name.namespace ≡ b → NamesAny (cond b (Bars purpose name) (asked name))
+    by : (name : Name) (b : Bool) → bars purpose name.namespace ≡ b → NamesAny (cond b (Bars name) (asked name))
     by name true is = tt
     by name false is = each name is
 
@@ -139,12 +139,6 @@ setting = two-names (λ word value. asks Writes (Set value) word) (λ word value
 
 removing : (words : List (List ℕ)) → NamesAny (on_one_extended (λ extent. asks Writes (Remove extent)) words)
 removing = one_extended-names (λ extent. asks Writes (Remove extent)) (λ extent. on_key Writes (Remove extent))
-
-abbrev listing_of : List ℕ → Request
-listing_of word = on_name word (λ name. Asks (On name Names))
-
-listing : (words : List (List ℕ)) → NamesAny (on_one listing_of words)
-listing = one-names listing_of (λ word. name-names word (λ name. Asks (On name Names)) (λ name. tt))
 
 abbrev meta_of : List ℕ → List ℕ → Request
 meta_of word meta = on_name_for Looks word (λ name. on_meta meta (Asks (On name (GetMeta meta))))
@@ -199,7 +193,7 @@ passing-names flow = two-names (asks_to_pass flow) (λ word format.
 
 -- a line for each row, in their order
 rows-name : AllByRecursion (λ (row : Row). (words : List (List ℕ)) → NamesAny (row.asks_for words)) rows
-rows-name = (key_alone Looks Get, (setting, (removing, (listing, (meta_getting, (meta_setting, (key_alone Looks MetaNames, (bringing Copies, (bringing Moves, (mounting, (key_alone Writes Unmount, (mounts, (file, (passing-names Out, (passing-names In, (validating, (merging-names, tt)))))))))))))))))
+rows-name = (key_alone Looks Get, (setting, (removing, (key_alone Looks Names, (meta_getting, (meta_setting, (key_alone Looks MetaNames, (bringing Copies, (bringing Moves, (mounting, (key_alone Writes Unmount, (mounts, (file, (passing-names Out, (passing-names In, (validating, (merging-names, tt)))))))))))))))))
 
 asked_by-names : (some : List Row) → AllByRecursion (λ (row : Row). (words : List (List ℕ)) → NamesAny (row.asks_for words)) some → (word : List ℕ) (words : List (List ℕ)) → NamesAny (asked_by some word words)
 asked_by-names [] each word words = tt

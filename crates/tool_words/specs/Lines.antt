@@ -31,9 +31,6 @@ no_name refusal = codes "C01320 name: " ++ fault_of_name refusal
 abbrev pub argument : List ℕ → List ℕ
 argument word = codes "C01320 argument: " ++ quoted word
 
-abbrev pub not_built : Name → List ℕ
-not_built name = codes "not built: " ++ shown name
-
 -- a key can't be written, or a name that can't be a mountpoint or have a file
 abbrev pub not_writable : Name → List ℕ
 not_writable name = codes "C01320 not writable: " ++ shown name

@@ -63,7 +63,7 @@ NamesFiles (On name action) = Unit {0}
 -- so, or a status with the text of its line
 pub data Request : Type 0 where
   Refuses : ℕ → List ℕ → Request
-  Bars : Use → Name → Request
+  Bars : Name → Request
   Asks : Question → Request
   Imports : Name → Kind → Request
 
@@ -114,7 +114,7 @@ on_name word asked = elim (name_of word) [ Some name ↦ asked name | None ↦ u
 
 -- a word that is to be a name which can be used so
 abbrev pub on_name_for : Use → List ℕ → (Name → Request) → Request
-on_name_for by word asked = on_name word (λ name. if bars by name.namespace then Bars by name else asked name)
+on_name_for by word asked = on_name word (λ name. if bars by name.namespace then Bars name else asked name)
 
 -- a text may be a metadata name: it is neither empty nor too long
 abbrev pub is_meta : List ℕ → Bool

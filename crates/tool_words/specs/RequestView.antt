@@ -73,7 +73,7 @@ texts_of words = map (λ word. word.now) words
 -- a request as the code has it is this one
 abbrev pub IsSeenAs : code.Request → Request → Type 0
 IsSeenAs (code_requests.Refuses refusal) asked = asked ≡ Refuses (status_of refusal) (text_of refusal)
-IsSeenAs (code_requests.Bars by name) asked = asked ≡ Bars by name
+IsSeenAs (code_requests.Bars name) asked = asked ≡ Bars name
 IsSeenAs (code_requests.Asks question) asked = asked ≡ Asks (question_of question)
 IsSeenAs (code_requests.Imports name kind) asked = asked ≡ Imports name kind
 

@@ -21,7 +21,7 @@ rows =
     row (codes "get") (on_one (asks Looks Get))
     ∷ row (codes "set") (on_two (λ word value. asks Writes (Set value) word))
     ∷ row (codes "rm") (on_one_extended (λ extent. asks Writes (Remove extent)))
-    ∷ row (codes "ls") (on_one (λ word. on_name word (λ name. Asks (On name Names))))
+    ∷ row (codes "ls") (on_one (asks Looks Names))
     ∷ row (codes "meta-get") (on_two (λ word meta. on_name_for Looks word (λ name. on_meta meta (Asks (On name (GetMeta meta))))))
     ∷ row (codes "meta-set") (on_three (λ word meta text. on_name_for Writes word (λ name. on_meta meta (Asks (On name (SetMeta meta text))))))
     ∷ row (codes "meta-ls") (on_one (asks Looks MetaNames))

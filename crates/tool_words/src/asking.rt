@@ -39,7 +39,7 @@ fn read_name<'a>(alloc: Global, word: &'a str, by: Use) -> Result<Named<'a>, Mem
     match read_any_name(alloc, word)? {
         Named::Is(name) => {
             if bars(by, name.namespace()) {
-                Ok(Named::IsNone(Request::Bars { by, name }))
+                Ok(Named::IsNone(Request::Bars(name)))
             } else {
                 Ok(Named::Is(name))
             }
@@ -58,16 +58,6 @@ pub fn ask<'a>(
     ensures { IfOk result (λ read. IsSeenAs read (asks by (action_of action.entry) word.now)) }
 {
     match read_name(alloc, word, by)? {
-        Named::Is(name) => Ok(Request::Asks(Question::On { name, action })),
-        Named::IsNone(request) => Ok(request),
-    }
-}
-
-/// An action on the key that a word is to name, whatever its namespace.
-pub fn ask_any<'a>(alloc: Global, word: &'a str, action: Action<'a>) -> Result<Request<'a>, Memory>
-    ensures { IfOk result (λ read. IsSeenAs read (on_name word.now (λ name. asked.Asks (asked.On name (action_of action.entry))))) }
-{
-    match read_any_name(alloc, word)? {
         Named::Is(name) => Ok(Request::Asks(Question::On { name, action })),
         Named::IsNone(request) => Ok(request),
     }

@@ -1,7 +1,6 @@
 //! What a command line can ask for.
 use crate::extents::Extent;
 use crate::meta_names::MetaName;
-use crate::uses::Use;
 use crate::ways::Way;
 use kdb_outside::Kind;
 use key_merge::Strategy;
@@ -66,12 +65,12 @@ pub enum Question<'a> {
     On { name: KeyName, action: Action<'a> },
 }
 
-/// What words ask for, which may be that keys of the input replace those at or below a name, a name that can't be used so, or why
+/// What words ask for, which may be that keys of the input replace those at or below a name, a name that no file holds, or why
 /// there is neither.
 #[derive(Debug, Drop)]
 pub enum Request<'a> {
     Refuses(Refusal<'a>),
-    Bars { by: Use, name: KeyName },
+    Bars(KeyName),
     Asks(Question<'a>),
     Imports { name: KeyName, kind: Kind },
 }

@@ -15,9 +15,18 @@ pub enum Use {
 pub fn bars(by: Use, namespace: Namespace) -> bool
     ensures { result ≡ bars by namespace }
 {
+    match by {
+        Use::Looks => false,
+        Use::Writes => is_without_file(namespace),
+    }
+}
+
+/// Whether no file holds names of a namespace.
+fn is_without_file(namespace: Namespace) -> bool
+    ensures { result ≡ bars Use.Writes namespace }
+{
     match namespace {
-        Namespace::Cascading | Namespace::Default => true,
-        Namespace::Proc => by == Use::Writes,
+        Namespace::Cascading | Namespace::Proc | Namespace::Default => true,
         Namespace::Spec | Namespace::Dir | Namespace::User | Namespace::System => false,
     }
 }

@@ -10,8 +10,8 @@ use crate::arguments::{
     four_and_strategy, none, one, one_and_extent, three, two, two_and_extent, two_or_three,
 };
 use crate::asking::{
-    ask, ask_any, ask_for_file, ask_for_violations, ask_to_bring, ask_to_merge, ask_to_mount,
-    ask_to_pass, refuse_argument,
+    ask, ask_for_file, ask_for_violations, ask_to_bring, ask_to_merge, ask_to_mount, ask_to_pass,
+    refuse_argument,
 };
 use crate::extents::Extent;
 use crate::flows::Flow;
@@ -55,7 +55,7 @@ fn read_behind<'a>(
         "get" => read_one(alloc, words, Use::Looks, Action::Get),
         "set" => read_name_and_value(alloc, words),
         "rm" => read_removal(alloc, words),
-        "ls" => read_listing(alloc, words),
+        "ls" => read_one(alloc, words, Use::Looks, Action::Names),
         "meta-get" => read_meta(alloc, words),
         "meta-set" => read_meta_and_text(alloc, words),
         "meta-ls" => read_one(alloc, words, Use::Looks, Action::MetaNames),
@@ -142,16 +142,6 @@ fn read_bringing<'a>(alloc: Global, words: &'a [&'a str], way: Way) -> Result<Re
         return Ok(Request::Refuses(Refusal::OptionsRefused));
     };
     ask_to_bring(alloc, from, to, way, extent)
-}
-
-/// The words behind `ls`.
-fn read_listing<'a>(alloc: Global, words: &'a [&'a str]) -> Result<Request<'a>, Memory>
-    ensures { IfOk result (λ read. IsSeenAs read (on_one (λ word. on_name word (λ name. asked.Asks (asked.On name asked.Names))) (texts_of words.now))) }
-{
-    let Some(name) = one(alloc, words)? else {
-        return Ok(Request::Refuses(Refusal::OptionsRefused));
-    };
-    ask_any(alloc, name, Action::Names)
 }
 
 /// The words behind `mount`.

@@ -5,19 +5,20 @@ use Rattle.std.specs.List.{flat_map}
 use Rattle.model_names.specs.Name.{Name}
 use Rattle.model_maps.specs.Entry.{Entry, plain_entry, with_meta}
 use Rattle.model_maps.specs.KeyMap.{KeyMap}
+use Rattle.spec_cascade.specs.declared.founds.Found.{Found}
 use Rattle.tool_commands.specs.Lines.{not_found, no_metadata}
 use Rattle.tool_commands.specs.Report.{Report, told, warned}
 use Rattle.tool_commands.specs.Step.{Step, Sets}
 
--- `meta-get`, by what a key has under the metadata name
+-- `meta-get`, by what is found under the metadata name
 abbrev pub text_got : List ℕ → Option (List ℕ) → Report
 text_got meta None = warned 11 (no_metadata meta)
 text_got meta (Some text) = told (text ++ 10 ∷ [])
 
--- `meta-get`: a metadata text of a key that is there, with a line feed
-abbrev pub meta_got : Name → List ℕ → Option Entry → Report
+-- `meta-get`: a metadata text of what is found, with a line feed
+abbrev pub meta_got : Name → List ℕ → Option Found → Report
 meta_got name meta None = warned 11 (not_found name)
-meta_got name meta (Some entry) = text_got meta (map.get entry.meta meta)
+meta_got name meta (Some found) = text_got meta (map.get found.meta meta)
 
 -- an entry with one more metadata text; a missing one has the empty value
 abbrev pub with_text : Option Entry → List ℕ → List ℕ → Entry
@@ -28,7 +29,7 @@ with_text (Some entry) meta text = with_meta entry meta text
 abbrev pub meta_set_in : KeyMap → Name → List ℕ → List ℕ → Step
 meta_set_in keys name meta text = Sets (map.insert keys name (with_text (map.get keys name) meta text)) []
 
--- `meta-ls`: a line for each metadata name of a key that is there, in the order of their bytes
-abbrev pub meta_listed : Name → Option Entry → Report
+-- `meta-ls`: a line for each metadata name of what is found, in the order of their bytes
+abbrev pub meta_listed : Name → Option Found → Report
 meta_listed name None = warned 11 (not_found name)
-meta_listed name (Some entry) = told (flat_map (λ item. item.0 ++ 10 ∷ []) (map.entries entry.meta))
+meta_listed name (Some found) = told (flat_map (λ item. item.0 ++ 10 ∷ []) (map.entries found.meta))

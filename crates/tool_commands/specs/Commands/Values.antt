@@ -4,14 +4,15 @@ use Rattle.std.specs.FinMap as map
 use Rattle.model_names.specs.Name.{Name}
 use Rattle.model_maps.specs.Entry.{Entry, plain_entry}
 use Rattle.model_maps.specs.KeyMap.{KeyMap}
+use Rattle.spec_cascade.specs.declared.founds.Found.{Found}
 use Rattle.tool_commands.specs.Lines.{not_found, created, set_to}
 use Rattle.tool_commands.specs.Report.{Report, told, warned}
 use Rattle.tool_commands.specs.Step.{Step, Sets}
 
--- `get`: the value of a key that is there, with a line feed
-abbrev pub got : Name → Option Entry → Report
+-- `get`: the value of what is found, with a line feed
+abbrev pub got : Name → Option Found → Report
 got name None = warned 11 (not_found name)
-got name (Some entry) = told (entry.value ++ 10 ∷ [])
+got name (Some found) = told (found.value ++ 10 ∷ [])
 
 -- an entry with another value; metadata stay
 abbrev pub with_value : Option Entry → List ℕ → Entry

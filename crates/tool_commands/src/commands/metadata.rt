@@ -15,16 +15,22 @@ use crate::steps::{Step, set_silently};
 use key_meta::{Memory, Meta, Text};
 use key_name::KeyName;
 use key_set::{Entry, KeySet};
+use spec_cascade::Found;
 use std::alloc::Global;
 use tool_words::MetaName;
 
-/// `meta-get`: a metadata text of a key and a line feed.
-pub fn get_meta(alloc: Global, name: &KeyName, meta: &str, keys: &KeySet) -> Result<Step, Memory>
-    ensures step { IfOk result (λ step. seen_step step ≡ Tells (meta_got name.now meta.now (map.get keys.now name.now))) }
+/// `meta-get`: a metadata text of what was found for a name, and a line feed.
+pub fn get_meta(
+    alloc: Global,
+    name: &KeyName,
+    meta: &str,
+    found: Option<Found>,
+) -> Result<Step, Memory>
+    ensures step { IfOk result (λ step. seen_step step ≡ Tells (meta_got name.now meta.now found)) }
     ensures status { IfOk result (λ step. TellsEnd (11 ∷ []) (seen_step step)) }
 {
-    match keys.lookup(name) {
-        Some(entry) => Ok(Step::Tells(get_text(alloc, meta, &entry.meta)?)),
+    match found {
+        Some(found) => Ok(Step::Tells(get_text(alloc, meta, &found.meta)?)),
         None => Ok(Step::Tells(warn_not_found(alloc, name)?)),
     }
 }
@@ -94,14 +100,14 @@ fn set_text(entry: Entry, meta: &MetaName<'_>, text: &str) -> Result<Entry, Memo
     Ok(entry)
 }
 
-/// `meta-ls`: a line for each metadata name of a key.
-pub fn list_meta(alloc: Global, name: &KeyName, keys: &KeySet) -> Result<Step, Memory>
-    ensures step { IfOk result (λ step. seen_step step ≡ Tells (meta_listed name.now (map.get keys.now name.now))) }
+/// `meta-ls`: a line for each metadata name of what was found for a name.
+pub fn list_meta(alloc: Global, name: &KeyName, found: Option<Found>) -> Result<Step, Memory>
+    ensures step { IfOk result (λ step. seen_step step ≡ Tells (meta_listed name.now found)) }
     ensures status { IfOk result (λ step. TellsEnd (11 ∷ []) (seen_step step)) }
 {
-    match keys.lookup(name) {
-        Some(entry) => {
-            let lines = lines_of_meta(alloc, &entry.meta)?;
+    match found {
+        Some(found) => {
+            let lines = lines_of_meta(alloc, &found.meta)?;
             Ok(Step::Tells(tell(alloc, lines)))
         }
         None => Ok(Step::Tells(warn_not_found(alloc, name)?)),

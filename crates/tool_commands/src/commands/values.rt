@@ -1,6 +1,5 @@
 //! The commands on the values of keys.
 ghost use Rattle.std.specs.Prelude.{◌≡◌, ℕ, List, ◌++◌, ◌∷◌, [], IfOk, string_bytes};
-ghost use Rattle.std.specs.FinMap as map;
 ghost use Rattle.std.specs.Option.{option_map};
 ghost use Rattle.key_set.specs.EntryView.{entry_of};
 ghost use Rattle.tool_commands.specs.StepView.{seen_step};
@@ -15,20 +14,21 @@ use kdb_text::{quoted, shown};
 use key_meta::{Memory, Meta, Text};
 use key_name::KeyName;
 use key_set::{Entry, KeySet};
+use spec_cascade::Found;
 use std::alloc::Global;
 
-/// `get`: the value and a line feed.
-pub fn get(alloc: Global, name: &KeyName, keys: &KeySet) -> Result<Step, Memory>
-    ensures step { IfOk result (λ step. seen_step step ≡ Tells (got name.now (map.get keys.now name.now))) }
+/// `get`: the value of what was found for a name, and a line feed.
+pub fn get(alloc: Global, name: &KeyName, found: Option<Found>) -> Result<Step, Memory>
+    ensures step { IfOk result (λ step. seen_step step ≡ Tells (got name.now found)) }
     ensures status { IfOk result (λ step. TellsEnd (11 ∷ []) (seen_step step)) }
 {
-    match keys.lookup(name) {
-        Some(entry) => found(alloc, &entry.value),
+    match found {
+        Some(found) => tell_value(alloc, &found.value),
         None => Ok(Step::Tells(warn_not_found(alloc, name)?)),
     }
 }
 
-fn found(alloc: Global, value: &Text) -> Result<Step, Memory>
+fn tell_value(alloc: Global, value: &Text) -> Result<Step, Memory>
     ensures step { IfOk result (λ step. seen_step step ≡ Tells (told (value.now ++ 10 ∷ []))) }
     ensures status { (own : List ℕ) → IfOk result (λ step. TellsEnd (own) (seen_step step)) }
 {

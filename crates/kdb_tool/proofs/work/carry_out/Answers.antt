@@ -49,7 +49,7 @@ returns-in-Ok-Refuses-clause-unserved g c = λ tells_disk files doubt calm stops
 
 pub returns-in-Ok-Bars-clause-served : goal.returns-in-Ok-Bars-clause-served
 returns-in-Ok-Bars-clause-served g c = λ tells_disk files doubt calm given fed.
-    let asked : request c.args.words.now ≡ Bars c.in-Ok-Bars.by c.in-Ok-Bars.name = ap request (sym (ap texts_of c.deref.ensures.value ∙ c.in-Ok.ensures)) ∙ subst (λ (r : code.Request). IsSeenAs r (request (texts_of c.deref.result.now))) c.in-Ok-Bars.field-0-is c.in-Ok-Bars.ensures in
+    let asked : request c.args.words.now ≡ Bars c.in-Ok-Bars.name = ap request (sym (ap texts_of c.deref.ensures.value ∙ c.in-Ok.ensures)) ∙ subst (λ (r : code.Request). IsSeenAs r (request (texts_of c.deref.result.now))) c.in-Ok-Bars.field-0-is c.in-Ok-Bars.ensures in
     handed_on g.D.Disk c.args.disk c.without_store-in-Ok-Bars.result.disk files doubt (AnswersRequest (MayRefuse c.without_store-in-Ok-Bars.result.answer (g.P.Patterns.refusals c.args.patterns) (g.P.Patterns.refusals c.without_store-in-Ok-Bars.result.patterns)) (request c.args.words.now) given (opened_files (g.D.Disk.seen c.args.disk))) c.warn_of_name.result c.without_store-in-Ok-Bars.result.answer c.without_store-in-Ok-Bars.ensures.answer c.without_store-in-Ok-Bars.ensures.disk tells_disk calm
     (IfOk-weaker c.warn_of_name.result _ _ (λ report told. subst (λ (r : Request). AnswersRequest (MayRefuse c.without_store-in-Ok-Bars.result.answer (g.P.Patterns.refusals c.args.patterns) (g.P.Patterns.refusals c.without_store-in-Ok-Bars.result.patterns)) r given (opened_files (g.D.Disk.seen c.args.disk)) (tells (report_of report))) (sym asked) (ap tells told)) c.warn_of_name.ensures)
 

@@ -11,7 +11,7 @@ returns-then-bars c = λ asked.
     let name = c.in-Is.name in
     let named = subst (IsRead (on_name c.args.word.now)) c.in-Is.is c.in_ok-name.ensures in
     let barred : bars by name.namespace ≡ true = ap (bars by) (sym c.namespace.ensures) ∙ (sym c.bars.ensures ∙ c.if-bars.true) in
-    named (λ (n : Name). cond (bars by n.namespace) (Bars by n) (asked n)) ∙ ap (λ b. cond b (Bars by name) (asked name)) barred
+    named (λ (n : Name). cond (bars by n.namespace) (Bars n) (asked n)) ∙ ap (λ b. cond b (Bars name) (asked name)) barred
 
 pub returns-else-bars : goal.returns-else-bars
 returns-else-bars c = λ asked.
@@ -19,8 +19,8 @@ returns-else-bars c = λ asked.
     let name = c.in-Is.name in
     let named = subst (IsRead (on_name c.args.word.now)) c.in-Is.is c.in_ok-name.ensures in
     let free : bars by name.namespace ≡ false = ap (bars by) (sym c.namespace.ensures) ∙ (sym c.bars.ensures ∙ c.if-bars.false) in
-    named (λ (n : Name). cond (bars by n.namespace) (Bars by n) (asked n)) ∙ ap (λ b. cond b (Bars by name) (asked name)) free
+    named (λ (n : Name). cond (bars by n.namespace) (Bars n) (asked n)) ∙ ap (λ b. cond b (Bars name) (asked name)) free
 
 pub returns-in-IsNone : goal.returns-in-IsNone
 returns-in-IsNone c = λ asked.
-    subst (IsRead (on_name c.args.word.now)) c.in-IsNone.is c.in_ok-name.ensures (λ (n : Name). cond (bars c.args.by n.namespace) (Bars c.args.by n) (asked n))
+    subst (IsRead (on_name c.args.word.now)) c.in-IsNone.is c.in_ok-name.ensures (λ (n : Name). cond (bars c.args.by n.namespace) (Bars n) (asked n))
