@@ -1,12 +1,9 @@
 -- For worked files: an entry with comments and an alias that stands twice.
-use Rattle.std.specs.Prelude.{◌≡◌, ℕ, ◌+◌, ◌≤◌, List, [], ◌∷◌, codes, length, Option, None, Some, true, false}
+use Rattle.std.specs.Prelude.{◌≡◌, ℕ, ◌+◌, ◌≤◌, List, [], ◌∷◌, codes, length, Option, None, Some, true}
 use Rattle.std.proofs.Common.{refl, sym, ap, subst, ◌∙◌, arith, lit≤, lit<, inl, inr}
 use Rattle.std.specs.FinMap as finite
 use Rattle.std.specs.List.{list_all}
-use Rattle.std.specs.Str.{IsUtf8, is_utf8}
-use Rattle.std.proofs.lemmas.Bool.{true≢false}
 use Rattle.std.proofs.lemmas.Cmp.{nat_list_cmp_total}
-use Rattle.std.proofs.lemmas.Str.{is_utf8-from_IsUtf8}
 use Rattle.model_names.specs.Name.{Name}
 use Rattle.model_names.specs.Order.{name_cmp}
 use Rattle.model_names.specs.Spelling.{spelling}
@@ -121,9 +118,6 @@ plain_a_has none = let clash : ◌≡◌ {A = Option Entry} None (Some (plain_en
 -- a line of ASCII with its meaning
 pub says : (line : List ℕ) (m : Meaning) (before after : Progress) → list_all is_ascii_text_byte line ≡ true → meaning line ≡ m → Does m before after → Step before line after
 says line m before after ascii is does = record { utf8 = (text_from_test line ascii).utf8; does = subst (λ n. Does n before after) (sym is) does }
-
-pub not_utf8 : (line : List ℕ) → is_utf8 line ≡ false → IsUtf8 line → ⊥
-not_utf8 line e h = true≢false (sym (is_utf8-from_IsUtf8 line h) ∙ e)
 
 abbrev one_waits : Progress
 one_waits = record { keys = no_keys; waiting = codes " c" ∷ [] }

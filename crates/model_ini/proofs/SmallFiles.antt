@@ -1,39 +1,26 @@
--- For worked files: the line of a key, and lines without a reading.
-use Rattle.std.specs.Prelude.{◌≡◌, ◌≢◌, ℕ, ◌+◌, List, [], ◌∷◌, codes, Option, None, Some, true, false}
-use Rattle.std.proofs.Common.{refl, sym, ap, ap₂, subst, ◌∙◌, arith, lit≤}
+-- For worked files: the line of the key `/a` = `1`, and lines without a reading.
+use Rattle.std.specs.Prelude.{◌≡◌, ◌≢◌, ℕ, List, [], ◌∷◌, codes, Option, None, Some, true}
+use Rattle.std.proofs.Common.{refl, sym, ap, subst, ◌∙◌, arith, lit≤}
 use Rattle.std.specs.FinMap as finite
 use Rattle.std.specs.List.{list_all}
-use Rattle.std.specs.Str.{IsUtf8, is_utf8}
-use Rattle.std.proofs.lemmas.Bool.{true≢false}
-use Rattle.std.proofs.lemmas.Str.{is_utf8-from_IsUtf8}
 use Rattle.model_names.specs.declared.namespaces.Namespace.TheVariants.{Cascading}
 use Rattle.model_names.specs.Name.{Name}
 use Rattle.model_names.specs.Order.{name_cmp}
 use Rattle.model_names.specs.Spells.{Spells}
-use Rattle.model_names.proofs.OrderLemmas.{name_cmp_total}
 use Rattle.model_names.proofs.PartLemmas.{text_from_test}
 use Rattle.model_names.proofs.SpellsLemmas.{is_ascii_text_byte, Spells-once, Spells-from_tests}
 use Rattle.model_maps.specs.Entry.{Entry, plain_entry}
-use Rattle.model_maps.specs.KeyMap.{KeyMap, no_keys, weight}
-use Rattle.model_lines.proofs.MapFacts.{get-insert_same, weight-insert, weight-no_keys, weight_of_key-plain, IsValue-from_ascii}
+use Rattle.model_maps.specs.KeyMap.{KeyMap, no_keys}
+use Rattle.model_dump.proofs.SmallDumps.{name_a, plain_a, plain_a_has, plain_a_weighs}
+use Rattle.model_lines.proofs.MapFacts.{IsValue-from_ascii}
 use Rattle.model_ini.specs.Line.{Skipped, Pair, meaning}
 use Rattle.model_ini.specs.Ini.{AddsKey, Does, Step}
-
--- the key `/a` = `1`
-abbrev pub name_a : Name
-name_a = record { namespace = Cascading; parts = codes "a" ∷ [] }
-
-abbrev pub only_a : KeyMap
-only_a = finite.insert no_keys name_a (plain_entry (codes "1"))
-
-only_a-weighs : weight only_a ≡ 67
-only_a-weighs = weight-insert no_keys name_a (plain_entry (codes "1")) (finite.get-empty name_cmp name_a) ∙ ap₂ (λ m n. m + n) weight-no_keys (weight_of_key-plain name_a (codes "1"))
 
 some_parts : ◌≢◌ {A = List (List ℕ)} (codes "a" ∷ []) []
 some_parts e = absurd cc
 
 -- a text that spells its name adds it,
-pub adds_a : (text : List ℕ) → Spells (47 ∷ text) name_a → AddsKey no_keys text (codes "1") only_a
+pub adds_a : (text : List ℕ) → Spells (47 ∷ text) name_a → AddsKey no_keys text (codes "1") plain_a
 adds_a text spelled = record {
   name = name_a;
   spelled = spelled;
@@ -41,14 +28,14 @@ adds_a text spelled = record {
   is_new = finite.get-empty name_cmp name_a;
   is_value = IsValue-from_ascii (codes "1") (omega arith) (lit≤ tt);
   added = refl;
-  light = omega (arith, only_a-weighs);
+  light = omega (arith, plain_a_weighs);
 }
 
 -- and nothing adds it again
-pub adds_a-once : (text value : List ℕ) (after : KeyMap) → Spells (47 ∷ text) name_a → AddsKey only_a text value after → ⊥
+pub adds_a-once : (text value : List ℕ) (after : KeyMap) → Spells (47 ∷ text) name_a → AddsKey plain_a text value after → ⊥
 adds_a-once text value after spelled adds =
     let same = Spells-once (47 ∷ text) adds.name name_a adds.spelled spelled in
-    let none : ◌≡◌ {A = Option Entry} None (Some (plain_entry (codes "1"))) = sym adds.is_new ∙ ap (finite.get only_a) same ∙ get-insert_same name_cmp_total no_keys name_a (plain_entry (codes "1")) in
+    let none : ◌≡◌ {A = Option Entry} None (Some (plain_entry (codes "1"))) = sym adds.is_new ∙ ap (finite.get plain_a) same ∙ plain_a_has in
     absurd cc
 
 -- no text adds the mountpoint
@@ -65,6 +52,3 @@ skips line keys ascii skipped = record { utf8 = (text_from_test line ascii).utf8
 -- and so does the line of an entry
 pub enters : (line text value : List ℕ) (before after : KeyMap) → list_all is_ascii_text_byte line ≡ true → meaning line ≡ Pair text value → AddsKey before text value after → Step before line after
 enters line text value before after ascii pair adds = record { utf8 = (text_from_test line ascii).utf8; does = subst (λ m. Does m before after) (sym pair) adds }
-
-pub not_utf8 : (bytes : List ℕ) → is_utf8 bytes ≡ false → IsUtf8 bytes → ⊥
-not_utf8 bytes e h = true≢false (sym (is_utf8-from_IsUtf8 bytes h) ∙ e)

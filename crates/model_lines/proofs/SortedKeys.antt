@@ -1,28 +1,20 @@
--- Keys in name order: what stands in a sorted list is found, and what stands before a key is less.
+-- Keys in name order: what stands before a key is less, and what stands behind it greater.
 use Rattle.std.specs.Prelude.{◌≡◌, T, List, [], ◌∷◌, ◌++◌}
-use Rattle.std.proofs.Common.{ap, ◌∙◌}
-use Rattle.std.specs.Cmp.{tied_itself}
-use Rattle.std.specs.FinMap as finite
 use Rattle.std.specs.FinMap.{is_sorted}
 use Rattle.std.specs.FinMap.Entries.{below_all}
 use Rattle.std.specs.List.{AllByRecursion}
-use Rattle.std.specs.Ordering.{is_lt, ordering_reverse}
-use Rattle.std.specs.declared.cmp.Ordering.TheVariants.{Less, Greater}
+use Rattle.std.specs.Ordering.{is_lt}
+use Rattle.std.specs.declared.cmp.Ordering.TheVariants.{Less}
 use Rattle.general_words.proofs.Tests.{first, second}
 use Rattle.general_words.proofs.Orders.{less}
 use Rattle.model_names.specs.Name.{Name}
 use Rattle.model_names.specs.Order.{name_cmp}
-use Rattle.model_names.proofs.OrderLemmas.{name_cmp_total}
 use Rattle.model_maps.specs.Entry.{Entry}
-use Rattle.model_maps.specs.KeyMap.{KeyMap}
 
 -- what is below all of a list is below what stands in it
 pub below : (x : Name) (front : List (Name × Entry)) (key : Name × Entry) (rest : List (Name × Entry)) → T (below_all name_cmp x (front ++ key ∷ rest)) → name_cmp x key.0 ≡ Less
 below x [] key rest h = less _ (first _ _ h)
 below x (f ∷ front) key rest h = below x front key rest (second _ _ h)
-
-above : (x : Name) (front : List (Name × Entry)) (key : Name × Entry) (rest : List (Name × Entry)) → T (below_all name_cmp x (front ++ key ∷ rest)) → name_cmp key.0 x ≡ Greater
-above x front key rest h = name_cmp_total.antisymm key.0 x ∙ ap ordering_reverse (below x front key rest h)
 
 pub sorted-behind : (front : List (Name × Entry)) (key : Name × Entry) (rest : List (Name × Entry)) → T (is_sorted name_cmp (front ++ key ∷ rest)) → T (below_all name_cmp key.0 rest)
 sorted-behind [] key rest h = first _ _ h

@@ -3,9 +3,10 @@ use Rattle.std.specs.Prelude.{◌≡◌, false, [], ◌∷◌, ◌++◌, codes, 
 use Rattle.std.specs.Str.{is_utf8, chars}
 use Rattle.std.proofs.Common.{refl, arith}
 use Rattle.model_maps.specs.KeyMap.{no_keys}
+use Rattle.model_lines.proofs.Utf8Lemmas.{not_utf8}
 use Rattle.model_hosts.specs.Line.{Skipped, Comment, Gives}
 use Rattle.model_hosts.specs.Hosts.{Progress, start}
-use Rattle.model_hosts.proofs.SmallFiles.{plain_a, adds_plain_a, plain_a_has, says, not_utf8}
+use Rattle.model_hosts.proofs.SmallFiles.{plain_a, adds_plain_a, plain_a_has, says}
 use Rattle.model_hosts.proofs.examples.files_are_bad_at_their_first_bad_line.Goals as goal
 
 abbrev one_waits : Progress

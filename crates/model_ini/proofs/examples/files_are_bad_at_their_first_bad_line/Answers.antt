@@ -4,7 +4,9 @@ use Rattle.std.specs.Str.{is_utf8, chars}
 use Rattle.std.proofs.Common.{refl, lit≤}
 use Rattle.model_names.proofs.SpellsLemmas.{Spells-from_tests}
 use Rattle.model_maps.specs.KeyMap.{no_keys}
-use Rattle.model_ini.proofs.SmallFiles.{name_a, only_a, adds_a, adds_a-once, adds_no_root, skips, enters, not_utf8}
+use Rattle.model_dump.proofs.SmallDumps.{name_a, plain_a}
+use Rattle.model_lines.proofs.Utf8Lemmas.{not_utf8}
+use Rattle.model_ini.proofs.SmallFiles.{adds_a, adds_a-once, adds_no_root, skips, enters}
 use Rattle.model_ini.proofs.examples.files_are_bad_at_their_first_bad_line.Goals as goal
 
 pub returns-clause-section : goal.returns-clause-section
@@ -49,11 +51,11 @@ returns-clause-name_twice c =
     let again = Spells-from_tests (codes "/./a") name_a (codes "./a") refl refl refl (lit≤ tt) in
     record {
       front = codes "a = 1" ∷ [];
-      progress = only_a;
+      progress = plain_a;
       line = codes "./a = 1";
       behind = [];
       whole = refl;
-      leads = (only_a, enters (codes "a = 1") (codes "a") (codes "1") no_keys only_a refl refl (adds_a (codes "a") first), refl);
+      leads = (plain_a, enters (codes "a = 1") (codes "a") (codes "1") no_keys plain_a refl refl (adds_a (codes "a") first), refl);
       has_none = λ after step. adds_a-once (codes "./a") (codes "1") after again step.does;
       number_is = refl;
     }

@@ -2,7 +2,8 @@ use Rattle.std.specs.Prelude.{[], codes}
 use Rattle.std.proofs.Common.{refl, lit≤}
 use Rattle.model_names.proofs.SpellsLemmas.{Spells-from_tests}
 use Rattle.model_maps.specs.KeyMap.{no_keys}
-use Rattle.model_ini.proofs.SmallFiles.{name_a, only_a, adds_a, skips, enters}
+use Rattle.model_dump.proofs.SmallDumps.{name_a, plain_a}
+use Rattle.model_ini.proofs.SmallFiles.{adds_a, skips, enters}
 use Rattle.model_ini.proofs.examples.small_files_read.Goals as goal
 
 pub returns-clause-no_keys : goal.returns-clause-no_keys
@@ -13,5 +14,5 @@ returns-clause-one_key c =
     let spelled = Spells-from_tests (codes "//a") name_a (codes "/a") refl refl refl (lit≤ tt) in (
       no_keys,
       skips (codes "# b = 2") no_keys refl refl,
-      (no_keys, skips [] no_keys refl refl, (only_a, enters (codes " /a= 1\r") (codes "/a") (codes "1") no_keys only_a refl refl (adds_a (codes "/a") spelled), refl)),
+      (no_keys, skips [] no_keys refl refl, (plain_a, enters (codes " /a= 1\r") (codes "/a") (codes "1") no_keys plain_a refl refl (adds_a (codes "/a") spelled), refl)),
     )
