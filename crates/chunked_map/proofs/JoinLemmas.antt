@@ -1,5 +1,5 @@
 -- Chunks with others in the place of one.
-use Rattle.std.proofs.Common.{◌≡◌, ℕ, zero, suc, ◌*◌, ◌<◌, ◌≤◌, T, List, [], ◌∷◌, ◌++◌, length, take, drop, get_or, set, Result, Ok, Err, OnOk, OnErr, refl, sym, ap, ◌∙◌, subst, arith}
+use Rattle.std.proofs.Common.{◌≡◌, ℕ, zero, suc, ◌*◌, ◌<◌, ◌≤◌, T, List, [], ◌∷◌, ◌++◌, length, take, drop, get_or, set, Result, Ok, Err, OnOk, OnErr, refl, sym, ap, ◌∙◌, subst, arith, append-nil, append_assoc}
 use Rattle.std.specs.List.{AllByRecursion}
 use Rattle.std.specs.FinMap.{is_sorted}
 use Rattle.std.specs.declared.cmp.Ordering.{Ordering}
@@ -29,15 +29,8 @@ module _ {A : Type 0} where
   pub joined-in_place : (cs : List (List A)) (at : ℕ) (others : List (List A)) → joined (in_place cs at others) ≡ joined (take at cs) ++ (joined others ++ joined (drop (suc at) cs))
   joined-in_place cs at others = joined-append (take at cs) (others ++ drop (suc at) cs) ∙ ap (λ es. joined (take at cs) ++ es) (joined-append others (drop (suc at) cs))
 
-  pub here : (cs : List (List A)) (at : ℕ) (d : List A) → at < length cs → cs ≡ in_place cs at (get_or cs at d ∷ [])
-  here cs at d lt = sym (set-get_or cs at d) ∙ set_split cs at (get_or cs at d) lt
-
-  pub no_more : (es : List A) → es ++ [] ≡ es
-  no_more [] = refl
-  no_more (e ∷ es) = ap (λ fs. e ∷ fs) (no_more es)
-
   pub joined-one : (c : List A) → joined (c ∷ []) ≡ c
-  joined-one c = no_more c
+  joined-one c = append-nil c
 
   pub joined_set : (cs : List (List A)) (at : ℕ) (c : List A) → at < length cs → joined (set cs at c) ≡ joined (take at cs) ++ (c ++ joined (drop (suc at) cs))
   joined_set cs at c lt = ap joined (set_split cs at c lt) ∙ joined-in_place cs at (c ∷ []) ∙ ap (λ es. joined (take at cs) ++ (es ++ joined (drop (suc at) cs))) (joined-one c)
@@ -51,12 +44,8 @@ module _ {A : Type 0} where
 
   pub take_one_more : (cs : List (List A)) (at : ℕ) (d : List A) → at < length cs → joined (take (suc at) cs) ≡ joined (take at cs) ++ get_or cs at d
   take_one_more [] at d lt = absurd (omega arith)
-  take_one_more (c ∷ cs) zero d lt = no_more c
-  take_one_more (c ∷ cs) (suc at) d lt = ap (λ es. c ++ es) (take_one_more cs at d (omega arith)) ∙ sym (same_sum c (joined (take at cs)) (get_or cs at d))
-    where
-      same_sum : (xs ys zs : List A) → (xs ++ ys) ++ zs ≡ xs ++ (ys ++ zs)
-      same_sum [] ys zs = refl
-      same_sum (x ∷ xs) ys zs = ap (λ es. x ∷ es) (same_sum xs ys zs)
+  take_one_more (c ∷ cs) zero d lt = append-nil c
+  take_one_more (c ∷ cs) (suc at) d lt = ap (λ es. c ++ es) (take_one_more cs at d (omega arith)) ∙ sym (append_assoc c (joined (take at cs)) (get_or cs at d))
 
   pub drop_one_less : (cs : List (List A)) (at : ℕ) (d : List A) → at < length cs → joined (drop at cs) ≡ get_or cs at d ++ joined (drop (suc at) cs)
   drop_one_less [] at d lt = absurd (omega arith)

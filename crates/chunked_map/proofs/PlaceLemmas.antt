@@ -1,5 +1,5 @@
 -- What is found, put and taken out in the chunk into which a key belongs.
-use Rattle.std.proofs.Common.{◌≡◌, ℕ, zero, suc, ◌<◌, ◌≤◌, ◌^◌, T, not, List, [], ◌∷◌, ◌++◌, length, take, drop, get_or, set, None, refl, sym, ap, ◌∙◌, subst, arith}
+use Rattle.std.proofs.Common.{◌≡◌, ℕ, zero, suc, ◌<◌, ◌≤◌, ◌^◌, T, not, List, [], ◌∷◌, ◌++◌, length, take, drop, get_or, set, None, refl, sym, ap, ◌∙◌, subst, arith, append-nil}
 use Rattle.std.specs.Cmp.{IsTotalOrder}
 use Rattle.std.specs.FinMap.{find, is_sorted}
 use Rattle.std.specs.FinMap.Entries.{put, where_key, is_sorted-put, is_sorted-where_key}
@@ -10,7 +10,7 @@ use Rattle.std.proofs.lemmas.List.{take_all, take-set, drop-set-lt, get_or-set_s
 use Rattle.general_words.proofs.Lists.{no_entries}
 use Rattle.chunked_map.specs.Chunks.{joined, IsSized, AreChunks, IsChunkOf, all_before, in_place}
 use Rattle.chunked_map.proofs.OrderLemmas.{find-between, put-between, without-between, some-put, length-without}
-use Rattle.chunked_map.proofs.JoinLemmas.{joined-append, joined_at, joined_set, joined-in_place, no_more, sized-in_place, sized-append, sized_at}
+use Rattle.chunked_map.proofs.JoinLemmas.{joined-append, joined_at, joined_set, joined-in_place, sized-in_place, sized-append, sized_at}
 
 module _ {K X : Type 0} (R : K → K → Ordering) (o : IsTotalOrder R) (q : K) (cs : List (List (K × X))) where
   -- the entries of the chunks around one
@@ -79,7 +79,7 @@ module _ {K X : Type 0} (R : K → K → Ordering) (o : IsTotalOrder R) (q : K) 
     all_are_before = subst (λ es. T (all_before R q (joined es))) (take_all at cs past) place.before
 
     bare : joined cs ++ ([] ++ []) ≡ joined cs
-    bare = no_more (joined cs)
+    bare = append-nil (joined cs)
 
     pub find_end : find R q (joined cs) ≡ None
     find_end = ap (find R q) (sym bare) ∙ find-between R o q (joined cs) [] [] all_are_before tt

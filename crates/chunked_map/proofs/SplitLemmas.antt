@@ -1,12 +1,12 @@
 -- Chunks with one cut in two.
-use Rattle.std.proofs.Common.{◌≡◌, ℕ, zero, suc, ◌+◌, ◌<◌, ◌≤◌, ◌^◌, ◌-◌, T, List, [], ◌∷◌, ◌++◌, length, take, drop, get_or, set, slice_range, refl, sym, ap, ◌∙◌, subst, arith}
+use Rattle.std.proofs.Common.{◌≡◌, ℕ, zero, suc, ◌+◌, ◌<◌, ◌≤◌, ◌^◌, ◌-◌, T, List, [], ◌∷◌, ◌++◌, length, take, drop, get_or, set, slice_range, refl, sym, ap, ◌∙◌, subst, arith, append-nil}
 use Rattle.std.specs.FinMap.{is_sorted}
 use Rattle.std.specs.FinMap.Entries.{below_all}
 use Rattle.std.specs.List.{insert, remove_range}
 use Rattle.std.specs.declared.cmp.Ordering.{Ordering}
 use Rattle.std.proofs.lemmas.List.{take-append-drop, take_all, drop_all, length-take-le, length-drop}
 use Rattle.chunked_map.specs.Chunks.{joined, AreChunks, IsChunkOf, all_before, in_place, parted}
-use Rattle.chunked_map.proofs.JoinLemmas.{joined-in_place, joined_at, no_more, sized-in_place, sized_at, same_default}
+use Rattle.chunked_map.proofs.JoinLemmas.{joined-in_place, joined_at, sized-in_place, sized_at, same_default}
 
 module _ {A : Type 0} where
   pub take_same : (cs : List A) (at : ℕ) (others : List A) → at < length cs → take at (in_place cs at others) ≡ take at cs
@@ -45,7 +45,7 @@ pub parted_is : {A : Type 0} (cs : List (List A)) (at k : ℕ) (c a b : List A) 
 parted_is cs at k c a b n lt is len front back =
     let one = is ∙ same_default cs at c [] lt in
     let whole : length c ≡ n = ap length one ∙ sym len in
-    let left : a ≡ take k (get_or cs at []) = front ∙ ap (λ es. take k c ++ es) (drop_all n c (omega arith)) ∙ no_more (take k c) ∙ ap (take k) one in
+    let left : a ≡ take k (get_or cs at []) = front ∙ ap (λ es. take k c ++ es) (drop_all n c (omega arith)) ∙ append-nil (take k c) ∙ ap (take k) one in
     let m = length-drop k c in
     let right : b ≡ drop k (get_or cs at []) = back ∙ take_all (n - k) (drop k c) (omega arith) ∙ ap (drop k) one in
     let next : at + 1 ≡ suc at = omega arith in
@@ -59,7 +59,7 @@ module _ {K X : Type 0} (R : K → K → Ordering) (cs : List (List (K × X))) (
   pub joined_parted : (n : ℕ) → joined (parted cs at n) ≡ joined cs
   joined_parted n =
       joined-in_place cs at (take n cut_one ∷ drop n cut_one ∷ [])
-      ∙ ap (λ es. joined (take at cs) ++ (es ++ joined (drop (suc at) cs))) (ap (λ es. take n cut_one ++ es) (no_more (drop n cut_one)) ∙ take-append-drop n cut_one)
+      ∙ ap (λ es. joined (take at cs) ++ (es ++ joined (drop (suc at) cs))) (ap (λ es. take n cut_one ++ es) (append-nil (drop n cut_one)) ∙ take-append-drop n cut_one)
       ∙ sym (joined_at cs at [] lt)
 
   pub parted_are : AreChunks R cs → (n : ℕ) → 0 < n → n < length cut_one → length cs < 2 ^ 57 → AreChunks R (parted cs at n)
