@@ -89,7 +89,7 @@ present : (change : Change) (old : DiskState) (moment : ℕ) → moment ≡ mome
 present change old moment is = ap (λ past. left_of (record old { past = past })) (take_all moment (old.past ++ change ∷ []) (omega (arith, moment_of-change change old)))
 
 -- two numbers in order
-le_or_lt : (a b : ℕ) → (a ≤ b) ⊎ (b < a)
+pub le_or_lt : (a b : ℕ) → (a ≤ b) ⊎ (b < a)
 le_or_lt a b = elim (leb_tells a b) [ inl is ↦ inl is.1 | inr is ↦ inr is.1 ]
 
 -- a crash since then came before the change, or comes behind it

@@ -1,8 +1,8 @@
 -- What the number of a crash chooses counts among what a crash may leave. This project's own.
-use Rattle.std.proofs.Common.{◌≡◌, ◌⊎◌, inl, inr, ℕ, zero, suc, ◌+◌, ◌-◌, ◌%◌, ◌<◌, ◌≤◌, Bool, true, false, cond, List, [], ◌∷◌, ◌++◌, length, take, drop, replicate, None, Some, slice_get, slice_index_or, get_or, nat_le, bytes_eq, refl, sym, ap, ◌∙◌, arith, length-take, length-append, append-nil}
+use Rattle.std.proofs.Common.{◌≡◌, inl, inr, ℕ, zero, suc, ◌+◌, ◌-◌, ◌%◌, ◌<◌, ◌≤◌, Bool, true, false, cond, List, [], ◌∷◌, ◌++◌, length, take, drop, replicate, None, Some, slice_get, slice_index_or, get_or, nat_le, bytes_eq, refl, sym, ap, ◌∙◌, arith, length-take, length-append, append-nil}
 use Rattle.std.proofs.lemmas.List.{take_at, take_more, take-take, drop-drop, length-replicate}
 use Rattle.std.proofs.lemmas.Bool.{cond-true, leb-true, le-leb}
-use Rattle.std.proofs.lemmas.Bool.Decides.{leb_tells, nat_tests}
+use Rattle.std.proofs.lemmas.Bool.Decides.{nat_tests}
 use Rattle.kdb_outside.specs.Files.{written}
 use Rattle.kdb_outside.specs.Images.{IsTornWrite, IsTornCut}
 use Rattle.kdb_outside.proofs.SteadyBytes.{slice_get-take, slice_get-drop, same_behind}
@@ -15,6 +15,7 @@ use Rattle.disk_memory.specs.declared.torn.Way.{Way}
 use Rattle.disk_memory.specs.declared.torn.Way.TheVariants.{Out, Whole, Torn}
 use Rattle.disk_memory.specs.Choices.{drawn, way, torn_byte, torn_bytes, kept_of_write, kept_of_cut, torn_write, torn_cut, write_by_way, left_of_write, cut_by_way, left_of_step, left_along}
 use Rattle.disk_memory.specs.Steps.{steps_of, after, after_all, Leaves, LeavesAfter, sure_after, synced}
+use Rattle.disk_memory.proofs.ChangeLemmas.{le_or_lt}
 
 -- no byte is not some byte
 none_is_not_some : (y : ℕ) → None ≡ Some y → ⊥
@@ -39,9 +40,6 @@ torn_bytes-same choice place [] (byte ∷ bytes) (suc i) within same = torn_byte
 torn_bytes-same choice place (x ∷ former) (byte ∷ bytes) (suc i) within same = torn_bytes-same choice (place + 1) former bytes i (omega arith) same
 
 -- two numbers in order
-le_or_lt : (a b : ℕ) → (a ≤ b) ⊎ (b < a)
-le_or_lt a b = elim (leb_tells a b) [ inl is ↦ inl is.1 | inr is ↦ inr is.1 ]
-
 -- a write of fewer bytes, which are any but where they were written over with themselves
 IsTornWrite-piece : (at : ℕ) (bytes piece former : List ℕ) → at ≤ length former → length piece ≤ length bytes
     → ((i : ℕ) → i < length piece → slice_get former (at + i) ≡ slice_get bytes i → slice_get piece i ≡ slice_get former (at + i))

@@ -12,7 +12,7 @@ use Rattle.intent_journal.specs.Journal.{JournalValue}
 use Rattle.intent_journal.specs.Opened.{fault_of}
 use Rattle.intent_journal.specs.JournalBytes.{entry_at, entry_in, files_read, IsBroken}
 use Rattle.intent_journal.specs.BadJournals.{open_length, bad_place_in, bad_place_of, bad_place}
-use Rattle.intent_journal.proofs.Heads.{IsOpenHead-length, TellsBody-whole, drop_five}
+use Rattle.intent_journal.proofs.Heads.{IsOpenHead-length, TellsBody-whole, drop_five, none_unless}
 use Rattle.intent_journal.proofs.GateBytes.{cond_gives}
 use Rattle.intent_journal.proofs.ReadSizes.{length-read}
 
@@ -41,10 +41,6 @@ not_bad size there files reads whole =
     let short = length-read there files reads in
     (TellsBody-whole size there files (omega arith) reads whole).0
 
-none_or : (o : Option (List FileText)) → ((files : List FileText) → o ≡ Some files → ⊥) → o ≡ None
-none_or None never = refl
-none_or (Some files) never = absurd (never files refl)
-
 bad_with : (journal : List ℕ) (at : ℕ) (o : Option ℕ) → open_length journal ≡ o → bad_place_of o journal ≡ Some at → IsBroken journal
 bad_with journal at None is bad = absurd (cc)
 bad_with journal at (Some size) is bad =
@@ -52,7 +48,7 @@ bad_with journal at (Some size) is bad =
     record {
       not_short = head.not_short;
       not_closed = λ closed. let is_open = head.gate_is in omega arith;
-      no_body = none_or (entry_in journal) (λ files some.
+      no_body = none_unless (entry_in journal) (λ files some.
           let whole = whole_of (drop 1 journal) size files head.size_is some in
           let there : take size (drop 4 (drop 1 journal)) ≡ take size (drop 5 journal) = ap (take size) (drop_five journal) in
           let sized : length (take size (drop 5 journal)) ≡ size = omega (arith, whole.room, length-take size (drop 5 journal), ap length (drop_five journal)) in

@@ -68,7 +68,7 @@ open_length-front journal n is = elim (cases_lt (length journal) 5) [
   | inr long ↦ let five : n ≡ 5 = omega arith in ap (λ (k : ℕ). open_length (take k journal)) five ∙ front_of journal long
 ]
 
-none_unless : (o : Option (List FileText)) → ((entry : List FileText) → o ≡ Some entry → ⊥) → o ≡ None
+pub none_unless : (o : Option (List FileText)) → ((entry : List FileText) → o ≡ Some entry → ⊥) → o ≡ None
 none_unless None never = refl
 none_unless (Some entry) never = absurd (never entry refl)
 

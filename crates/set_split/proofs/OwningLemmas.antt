@@ -4,7 +4,7 @@ use Rattle.std.specs.FinMap as map
 use Rattle.std.specs.List.{list_any}
 use Rattle.std.specs.List.Sorted.{IsStrictlySortedBy}
 use Rattle.std.specs.Option.{option_eq}
-use Rattle.std.proofs.lemmas.Bool.{and_parts, or_from, cases_Bool, eqb-true, eq-eqb, leb-true, false_from_ne_true, not_from_true}
+use Rattle.std.proofs.lemmas.Bool.{and_parts, or_from, cases_Bool, eq-eqb, leb-true, false_from_ne_true, not_from_true}
 use Rattle.std.proofs.lemmas.List.{get_or-drop, get_or_default, length-drop}
 use Rattle.std.proofs.lemmas.List.Folds.{list_all_at, list_any_at, list_any_more}
 use Rattle.std.proofs.lemmas.List.Quantifiers.{position-Some}
@@ -16,6 +16,7 @@ use Rattle.model_names.proofs.OrderLemmas.{name_cmp_total, name_cmp-IsAntisymmet
 use Rattle.model_maps.specs.Entry.{Entry}
 use Rattle.model_maps.specs.KeyMap.{KeyMap, no_keys, at_or_below, not_below}
 use Rattle.general_words.proofs.Maps.{get-retain}
+use Rattle.general_words.proofs.Tests.{is_number}
 use Rattle.key_name.specs.Owner.{is_longest, owner_of}
 use Rattle.key_name.proofs.OwnerLemmas.{owner_of-last, shorter}
 use Rattle.set_split.specs.Involved.{owns}
@@ -33,13 +34,9 @@ place_of f (x ∷ xs) d e = elim (cases_Bool (f x)) [
   | inr fails ↦ let rest = place_of f xs d (ap (λ b. b || list_any f xs) (sym fails) ∙ e) in (suc (rest.0), omega (arith, rest.1), rest.2)
 ]
 
-same_owner : (o : Option ℕ) (i : ℕ) → option_eq nat_eq o (Some i) ≡ true → o ≡ Some i
-same_owner None i e = absurd cc
-same_owner (Some j) i e = ap Some (eqb-true j i e)
-
 -- an owner is told by its number
 pub owner_is : (points : List Name) (i : ℕ) (name : Name) → owns points i name ≡ true → owner_of points name ≡ Some i
-owner_is points i name e = same_owner (owner_of points name) i e
+owner_is points i name e = is_number (owner_of points name) i e
 
 -- no mount of a number that is not there owns a name
 pub owns-beyond : (points : List Name) (i : ℕ) (name : Name) → length points ≤ i → owns points i name ≡ false

@@ -1,5 +1,5 @@
 -- The run that an opening begins.
-use Rattle.std.proofs.Common.{◌≡◌, List, Bool, true, false, inl, Option, Some, None, Result, Ok, Err, refl, sym, ap, ◌∙◌}
+use Rattle.std.proofs.Common.{◌≡◌, List, Bool, true, false, inl, Option, Some, None, Result, Ok, Err, refl, sym, ◌∙◌}
 use Rattle.std.specs.Prelude.{IfOk, is_some}
 use Rattle.kdb_outside.specs.declared.disks.Disk.{Ghosts}
 use Rattle.kdb_outside.specs.Crashes.{EveryImage}
@@ -8,7 +8,7 @@ use Rattle.kdb_outside.specs.Images.{Image}
 use Rattle.journal_codec.specs.declared.files.FileText.{FileText}
 use Rattle.journal_codec.specs.Entry.{journal_name}
 use Rattle.intent_journal.specs.declared.faults.JournalRefused.{JournalRefused}
-use Rattle.intent_journal.specs.declared.states.State.TheVariants.{Clean, Doubt, Lag}
+use Rattle.intent_journal.specs.declared.states.State.TheVariants.{Doubt}
 use Rattle.intent_journal.specs.BadJournals.{open_entry, opened_files, opened_doubt}
 use Rattle.intent_journal.specs.Journal.{JournalValue}
 use Rattle.intent_journal.specs.Moments.{LeavesOnly}
@@ -17,26 +17,16 @@ use Rattle.intent_journal.specs.Outcomes.{SameFiles}
 use Rattle.intent_journal.specs.States.{IsSettled, IsDoubtful, IsCalm}
 use Rattle.model_crashes.specs.Runs.{new_run}
 use Rattle.intent_journal.proofs.Calm.{calm_at_read, settled_calm}
-use Rattle.store_phases.specs.Resting.{IsResting}
 use Rattle.store_phases.specs.Stores.{IsStore}
+use Rattle.store_phases.proofs.Resting.{rests_in_doubt}
 use Rattle.store_phases.proofs.Stores.{IsStore-new}
-
--- a journal in doubt is at rest
-rests_opened : {D : Type 0} (g : Ghosts D) (journal : JournalValue D) (files : Image) (doubt : Option (List FileText)) → g.tells journal.disk ≡ true → journal.state ≡ Doubt
-    → IsDoubtful (g.may_leave journal.disk) files doubt → IsResting g journal files doubt
-rests_opened g journal files doubt tells in_doubt state = record {
-  tells = tells;
-  clean = λ clean. absurd (let both : Doubt ≡ Clean = sym in_doubt ∙ clean in cc);
-  doubtful = λ _. state;
-  lag = λ lag. absurd (let both : Doubt ≡ Lag = sym in_doubt ∙ lag in cc);
-}
 
 -- the run on the calm disk's own files
 pub opened_own : {D : Type 0} (g : Ghosts D) (disk : D) (result : Result (JournalValue D) (JournalRefused D)) (files : Image) (doubt : Option (List FileText)) → g.tells disk ≡ true → GoesOn g disk (disk_of result)
     → IfOk result (λ j. (j.state ≡ Doubt) × (j.found ≡ false)) → IfOk result (λ j. IsDoubtful (g.may_leave j.disk) files doubt)
     → IfOk result (λ j. IsCalm (g.seen j.disk) (g.may_leave j.disk) files doubt) → IfOk result (λ j. IsStore g j.disk j (new_run files (g.faults disk) doubt))
 opened_own g disk (Ok j) files doubt tells goes state doubtful calm =
-    IsStore-new g j files (g.faults disk) doubt goes.later state.0 (rests_opened g j files doubt (goes.tells ∙ tells) state.0 doubtful) calm
+    IsStore-new g j files (g.faults disk) doubt goes.later state.0 (rests_in_doubt g j files doubt (goes.tells ∙ tells) state.0 doubtful) calm
 opened_own g disk (Err refused) files doubt tells goes state doubtful calm = tt
 
 -- the opened disk is calm with the files that the opening leaves
@@ -63,7 +53,7 @@ pub opened_run : {D : Type 0} (g : Ghosts D) (disk : D) (result : Result (Journa
     → IfOk result (λ j. IsStore g j.disk j (new_run (opened_files (g.seen disk)) (g.faults disk) (opened_doubt (g.seen disk))))
 opened_run g disk (Ok j) files doubt tells goes calm state doubtful told left settled =
     IsStore-new g j (opened_files (g.seen disk)) (g.faults disk) (opened_doubt (g.seen disk)) goes.later state.0
-    (rests_opened g j (opened_files (g.seen disk)) (opened_doubt (g.seen disk)) (goes.tells ∙ tells) state.0 doubtful)
+    (rests_in_doubt g j (opened_files (g.seen disk)) (opened_doubt (g.seen disk)) (goes.tells ∙ tells) state.0 doubtful)
     (opened_calm g disk j files doubt j.recovered tells goes calm refl told left settled)
 opened_run g disk (Err refused) files doubt tells goes calm state doubtful told left settled = tt
 

@@ -54,7 +54,7 @@ resting_doubt g journal files doubt rests not_lag = elim (cases_state journal.st
 ]
 
 -- a gate that could not be closed
-rests_in_doubt : {D : Type 0} (g : Ghosts D) (journal : JournalValue D) (files : Image) (doubt : Option (List FileText)) → g.tells journal.disk ≡ true → journal.state ≡ Doubt
+pub rests_in_doubt : {D : Type 0} (g : Ghosts D) (journal : JournalValue D) (files : Image) (doubt : Option (List FileText)) → g.tells journal.disk ≡ true → journal.state ≡ Doubt
     → IsDoubtful (g.may_leave journal.disk) files doubt → IsResting g journal files doubt
 rests_in_doubt g journal files doubt tells in_doubt state = record {
   tells = tells;
