@@ -4,6 +4,7 @@ use Rattle.std.specs.FinMap as map
 use Rattle.std.specs.FinMap.Entries.{where_key}
 use Rattle.std.specs.List.{AllByRecursion}
 use Rattle.std.proofs.lemmas.Bool.{cond-true, cond-false}
+use Rattle.std.proofs.lemmas.List.{nil_from_length}
 use Rattle.model_names.specs.Name.{Name}
 use Rattle.model_names.specs.Order.{name_cmp}
 use Rattle.model_names.proofs.OrderLemmas.{name_cmp_total, name_cmp-IsAntisymmetric}
@@ -79,7 +80,7 @@ none-fails keys p all =
     let passing = ap length (sym (entries-retain name_cmp_total name_cmp-IsAntisymmetric keys p)) ∙ all in
     let counted = both (λ name. true) p fails (λ name. by (p name)) (map.entries keys) in
     map.same_entries_map no_keys (map.retain_keys keys fails)
-    (entries-empty name_cmp Entry ∙ sym (entries-retain name_cmp_total name_cmp-IsAntisymmetric keys fails ∙ nothing (where_key name_cmp fails (map.entries keys)) (omega (arith, counted, passing, whole (map.entries keys)))))
+    (entries-empty name_cmp Entry ∙ sym (entries-retain name_cmp_total name_cmp-IsAntisymmetric keys fails ∙ nil_from_length (where_key name_cmp fails (map.entries keys)) (omega (arith, counted, passing, whole (map.entries keys)))))
   where
     by : (b : Bool) → 1 ≡ cond b 1 0 + cond (not b) 1 0
     by true = refl
@@ -88,7 +89,3 @@ none-fails keys p all =
     whole : (es : List (Name × Entry)) → length (where_key name_cmp (λ name. true) es) ≡ length es
     whole [] = refl
     whole (e ∷ es) = let rest = whole es in omega (arith, rest)
-
-    nothing : (es : List (Name × Entry)) → length es ≡ 0 → es ≡ []
-    nothing [] e = refl
-    nothing (f ∷ es) e = absurd (omega (arith, e))

@@ -77,11 +77,7 @@ module _ (point : Name) (keys : KeyMap) where
       ap (λ es. with_keys es no_keys) (ap (filter_map (as_way point)) (take-next (map.entries keys) i e there) ∙ filter_map-append (as_way point) (take i (map.entries keys)) (e ∷ []))
       ∙ with_keys-append (filter_map (as_way point) (take i (map.entries keys))) (filter_map (as_way point) (e ∷ [])) no_keys
 
--- what there is by a test that passes, and by one that fails
-pub some_if : {A : Type 0} (b : Bool) (x y : A) → Some y ≡ cond b (Some x) None → (b ≡ true) × (y ≡ x)
-some_if true x y e = (refl, cc)
-some_if false x y e = absurd cc
-
+-- where there is nothing by a test, it fails
 pub none_if : {A : Type 0} (b : Bool) (x : A) → None ≡ cond b (Some x) None → b ≡ false
 none_if true x e = absurd cc
 none_if false x e = refl

@@ -1,5 +1,6 @@
 -- What a format reads is within the limits, so its names can be put behind a mountpoint.
 use Rattle.std.proofs.Common.{refl, subst, sym, ◌∙◌, inr}
+use Rattle.std.proofs.lemmas.Option.{cond_some}
 use Rattle.mounted_files.specs.Holding.{IsHolding}
 use Rattle.mounted_files.specs.Short.{AreShort}
 use Rattle.mounted_files.specs.Whole.{all_fit, whole}
@@ -7,7 +8,7 @@ use Rattle.mounted_files.specs.declared.holding.Holding.{Holding}
 use Rattle.model_maps.specs.KeyMap.{KeyMap}
 use Rattle.mounted_files.proofs.LimitLemmas.{cascading-limited, short-limited}
 use Rattle.mounted_files.proofs.ChangeLemmas.{short-whole}
-use Rattle.mounted_files.proofs.WholeLemmas.{some_if, none_if}
+use Rattle.mounted_files.proofs.WholeLemmas.{none_if}
 use Rattle.mounted_files.proofs.holding.holding_of.Goals as goal
 
 pub whole-requires : goal.whole-requires
@@ -17,16 +18,16 @@ pub returns-in-Some-clause-is : goal.returns-in-Some-clause-is
 returns-in-Some-clause-is g c few =
     let point = c.args.point.now in
     let keys = c.in-Ok.keys in
-    let is = some_if (all_fit point keys) (whole point keys) c.in-Some.keys (sym c.in-Some.is ∙ c.in_ok-keys-in-Ok.ensures) in
-    record { keys = keys; reads_as = record { few = few; reads = c.in-Ok.ensures }; fit = is.0; is = is.1 }
+    let is = cond_some (all_fit point keys) (whole point keys) c.in-Some.keys (sym c.in_ok-keys-in-Ok.ensures ∙ c.in-Some.is) in
+    record { keys = keys; reads_as = record { few = few; reads = c.in-Ok.ensures }; fit = is.0; is = sym is.1 }
 
 pub returns-in-Some-clause-short : goal.returns-in-Some-clause-short
 returns-in-Some-clause-short g c =
     let point = c.args.point.now in
     let keys = c.in-Ok.keys in
-    let is = some_if (all_fit point keys) (whole point keys) c.in-Some.keys (sym c.in-Some.is ∙ c.in_ok-keys-in-Ok.ensures) in
+    let is = cond_some (all_fit point keys) (whole point keys) c.in-Some.keys (sym c.in_ok-keys-in-Ok.ensures ∙ c.in-Some.is) in
     let limited = g.F.Formats.read_is_limited c.args.kind c.args.bytes.now keys c.in-Ok.ensures in
-    subst (λ (found : KeyMap). AreShort found) (sym is.1) (short-whole point keys (short-limited keys limited))
+    subst (λ (found : KeyMap). AreShort found) is.1 (short-whole point keys (short-limited keys limited))
 
 pub returns-in-Ok-clause-is : goal.returns-in-Ok-clause-is
 returns-in-Ok-clause-is g c few =

@@ -2,6 +2,7 @@
 use Rattle.std.proofs.Common.{◌≤◌, ◌&&◌, length, Some, None, ap, sym, ◌∙◌, arith}
 use Rattle.std.specs.FinMap as map
 use Rattle.std.proofs.lemmas.Bool.{cond-true, cond-false}
+use Rattle.std.proofs.lemmas.Option.{cond_some}
 use Rattle.key_name.specs.Joining.{joined}
 use Rattle.key_set.specs.EntryView.{entry_of}
 use Rattle.key_set.proofs.WalkLemmas.{walk-first, walk-rest, walk-some}
@@ -9,7 +10,7 @@ use Rattle.model_names.specs.Name.{Name}
 use Rattle.model_maps.specs.Entry.{Entry}
 use Rattle.mounted_files.specs.Whole.{all_fit, fits, whole}
 use Rattle.mounted_files.proofs.MapLemmas.{key-at}
-use Rattle.mounted_files.proofs.WholeLemmas.{fit-next, fit-fails, fit-all, whole-next, whole-all, some_if, none_if}
+use Rattle.mounted_files.proofs.WholeLemmas.{fit-next, fit-fails, fit-all, whole-next, whole-all, none_if}
 use Rattle.mounted_files.proofs.whole.whole.Goals as goal
 
 pub whole_name-requires : goal.whole_name-requires
@@ -32,11 +33,11 @@ loop-i-preserved c =
     let key : Name × Entry = (c.in-Some.name.now, entry_of c.in-Some.entry.now) in
     let there = walk-first (map.entries c.args.keys.now) c.loop-i.i c.loop-i.rest c.next.new.self key c.loop-i.invariant.to_come c.in-Some.ensures.steps in
     let point = c.args.point.now in
-    let is = some_if (fits point key) (joined point key.0) c.in-Some-2.name (sym c.in-Some-2.is ∙ c.in_ok-name.ensures) in
+    let is = cond_some (fits point key) (joined point key.0) c.in-Some-2.name (sym c.in_ok-name.ensures ∙ c.in-Some-2.is) in
     record {
       made =
           c.in_ok-put.ensures
-          ∙ (λ k. map.insert (c.loop-i.invariant.made k) (is.1 k) key.1)
+          ∙ (λ k. map.insert (c.loop-i.invariant.made k) (sym is.1 k) key.1)
           ∙ sym (whole-next point c.args.keys.now c.loop-i.i key there);
       fit =
           fit-next point c.args.keys.now c.loop-i.i key there
