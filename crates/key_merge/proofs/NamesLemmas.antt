@@ -1,5 +1,5 @@
 -- Names in their order are those of a list alone: two such lists with the same names are one.
-use Rattle.std.specs.Prelude.{◌≡◌, ◌⊎◌, ◌<◌, ◌&&◌, ◌||◌, ℕ, suc, zero, Bool, true, false, T, List, [], ◌∷◌, length, map as over, filter, cond, slice_index_or}
+use Rattle.std.specs.Prelude.{◌≡◌, ◌⊎◌, ◌<◌, ◌||◌, ℕ, suc, zero, Bool, true, false, T, List, [], ◌∷◌, length, map as over, filter, cond, slice_index_or}
 use Rattle.std.proofs.Common.{refl, sym, ap, subst, ◌∙◌, inl, inr, arith}
 use Rattle.std.specs.FinMap.{is_sorted}
 use Rattle.std.specs.FinMap.Entries.{below_all}
@@ -10,6 +10,7 @@ use Rattle.std.specs.declared.cmp.Ordering.TheVariants.{Less, Greater}
 use Rattle.std.proofs.lemmas.Map.Keys.{sorted_head, sorted_tail}
 use Rattle.general_words.proofs.Lookups.{tied_or_not}
 use Rattle.general_words.proofs.Orders.{less, turned}
+use Rattle.general_words.proofs.Tests.{first, second}
 use Rattle.model_names.specs.Name.{Name}
 use Rattle.model_names.specs.Order.{name_cmp}
 use Rattle.model_names.proofs.OrderLemmas.{name_cmp_total, name_cmp-IsAntisymmetric}
@@ -111,19 +112,11 @@ one_list (x ∷ xs) (y ∷ ys) xs_rise ys_rise there back = ap (λ name. name �
         by (inr rest) = rest
 
 -- the names of entries in their order
-T_front : (a b : Bool) → T (a && b) → T a
-T_front true b h = tt
-T_front false b h = absurd h
-
-T_back : (a b : Bool) → T (a && b) → T b
-T_back true b h = h
-T_back false b h = absurd h
-
 all_behind : (name : Name) (es : List (Name × Entry)) → T (below_all name_cmp name es) → AllByRecursion (λ other. name_cmp name other ≡ Less) (over (λ e. e.0) es)
 all_behind name [] h = tt
-all_behind name (e ∷ es) h = (less _ (T_front _ _ h), all_behind name es (T_back _ _ h))
+all_behind name (e ∷ es) h = (less _ (first _ _ h), all_behind name es (second _ _ h))
 
 pub names_rise : (es : List (Name × Entry)) → T (is_sorted name_cmp es) → IsStrictlySortedBy name_cmp (over (λ e. e.0) es)
 unfolding IsStrictlySortedBy
 names_rise [] h = tt
-names_rise (e ∷ es) h = (all_behind e.0 es (T_front _ _ h), names_rise es (T_back _ _ h))
+names_rise (e ∷ es) h = (all_behind e.0 es (first _ _ h), names_rise es (second _ _ h))

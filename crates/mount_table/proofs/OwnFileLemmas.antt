@@ -1,5 +1,5 @@
 -- The mounts of a table have files of their own, whose names are files' names that don't begin with `journal`.
-use Rattle.std.proofs.Common.{◌≡◌, ◌≢◌, ◌≤◌, ℕ, length, zero, suc, Bool, true, false, cond, not, ◌&&◌, nat_eq, List, [], ◌∷◌, ◌++◌, map as over, filter, fold, slice_get, Option, Some, None, ok_or, Ok, Err, codes, refl, sym, ap, subst, ◌∙◌}
+use Rattle.std.proofs.Common.{◌≡◌, ◌≢◌, ◌≤◌, ℕ, length, zero, suc, Bool, true, false, cond, not, ◌&&◌, nat_eq, List, [], ◌∷◌, ◌++◌, map as over, filter, fold, slice_get, Some, ok_or, Ok, Err, codes, refl, sym, ap, subst, ◌∙◌}
 use Rattle.std.specs.FinMap as map
 use Rattle.std.specs.FinMap.{FinMap}
 use Rattle.std.specs.FinMap.Entries.{put, by_order}
@@ -23,11 +23,10 @@ use Rattle.mount_table.specs.Points.{point_of, file_of}
 use Rattle.mount_table.specs.Reading.{kind_said, mount_at, mount_of, next_mount, is_taken, mounts_from}
 use Rattle.mount_table.specs.Table.{root_mounts, own_mount, remains, remaining, by_point, in_order, most_mounts, limited, table_of}
 use Rattle.mount_table.specs.declared.entries.MountEntry.{MountEntry}
-use Rattle.mount_table.specs.declared.faults.TableFault.{TableFault}
 use Rattle.mount_table.specs.declared.faults.TableFault.TheVariants.{BadMountpoint, NoPath, BadPath, UnknownPlugin, FileTwice}
 use Rattle.mount_table.specs.declared.mounts.Mount.{Mount}
 use Rattle.mount_table.proofs.CountLemmas.{is_limited, few_limited}
-use Rattle.mount_table.proofs.TableLemmas.{from_then, ok_is, all_filter, mount_of-next}
+use Rattle.mount_table.proofs.TableLemmas.{from_then, from_ok_or, ok_is, all_filter, mount_of-next}
 
 -- a file isn't the journal's
 abbrev IsFree : List ℕ → Type 0
@@ -44,10 +43,6 @@ HaveOwn (mount ∷ mounts) = AllByRecursion (λ other. other.file ≢ mount.file
 
 -- ---- one mount more
 
-from_or : {A : Type 0} (o : Option A) (fault : TableFault) (x : A) → ok_or o fault ≡ Ok x → o ≡ Some x
-from_or None fault x h = absurd cc
-from_or (Some y) fault x h = ap Some (ok_is y x h)
-
 free_file : (text file : List ℕ) → file_of text ≡ Some file → MayHave file
 free_file text file h =
     let found = cond_some (is_file_name text && not (starts_with nat_eq text (codes "journal"))) (Some text) file h in
@@ -60,7 +55,7 @@ free_mount text said mount h =
     let path = from_then (ok_or said.path (NoPath text)) _ mount point.2 in
     let file = from_then (ok_or (file_of path.0) (BadPath text)) _ mount path.2 in
     let kind = from_then (ok_or (kind_said said.plugin) (UnknownPlugin text)) _ mount file.2 in
-    subst (λ (m : Mount). MayHave m.file) (ok_is (record { at = point.0; file = file.0; kind = kind.0 }) mount kind.2) (free_file path.0 file.0 (from_or (file_of path.0) (BadPath text) file.0 file.1))
+    subst (λ (m : Mount). MayHave m.file) (ok_is (record { at = point.0; file = file.0; kind = kind.0 }) mount kind.2) (free_file path.0 file.0 (from_ok_or (file_of path.0) (BadPath text) file.0 file.1))
 
 not_taken : (taken : List ℕ → Bool) (text : Part) (said : MountEntry) (mount : Mount) → next_mount taken text said ≡ Ok mount → taken mount.file ≡ false
 not_taken taken text said mount h =

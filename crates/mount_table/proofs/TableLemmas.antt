@@ -44,7 +44,7 @@ pub from_then : {A B : Type 0} (r : Result A TableFault) (f : A → Result B Tab
 from_then (Ok x) f y h = (x, refl, h)
 from_then (Err fault) f y h = absurd cc
 
-from_ok_or : {A : Type 0} (o : Option A) (fault : TableFault) (x : A) → ok_or o fault ≡ Ok x → o ≡ Some x
+pub from_ok_or : {A : Type 0} (o : Option A) (fault : TableFault) (x : A) → ok_or o fault ≡ Ok x → o ≡ Some x
 from_ok_or None fault x h = absurd cc
 from_ok_or (Some y) fault x h = some_of y x h
   where
