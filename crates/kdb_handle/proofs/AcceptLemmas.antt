@@ -2,6 +2,7 @@
 use Rattle.std.proofs.Common.{◌≡◌, ℕ, true, nat_eq, List, length, Option, sym, ap, ap₂, subst, ◌∙◌, eqb-true}
 use Rattle.std.specs.FinMap as map
 use Rattle.std.specs.Option.{option_eq, option_map}
+use Rattle.std.proofs.lemmas.Bool.{and_parts}
 use Rattle.kdb_handle.specs.Opened.{store_at}
 use Rattle.kdb_handle.specs.Turns.{IsPrepared}
 use Rattle.model_history.specs.History.{Commit, is_among}
@@ -12,7 +13,7 @@ use Rattle.model_store.specs.Records.{Fetched, IsRecord, Record, fetched_at}
 use Rattle.model_store.specs.Sets as sets
 use Rattle.model_store.specs.Sets.{front_in, only, prepared, prepared_by}
 use Rattle.model_store.specs.Store.{Formats, points_of}
-use Rattle.model_store.proofs.Members.{first_of, second_of, from_list_all, same_numbers, only-alike, only-there}
+use Rattle.model_store.proofs.Members.{from_list_all, same_numbers, only-alike, only-there}
 use Rattle.mounted_files.specs.declared.files.MountedFile.{MountedFile}
 use Rattle.set_split.specs.Involved.{involved_in}
 use Rattle.set_split.specs.Parts.{left_aside}
@@ -29,11 +30,11 @@ module _ (formats : Formats) (files : List MountedFile) (history : List Commit) 
   accepted = subst (λ (s : sets.Prepared). accepts rec number s ≡ true) made.is ok
 
   same_handle : number ≡ handle
-  same_handle = eqb-true number handle (first_of _ _ accepted)
+  same_handle = eqb-true number handle (and_parts _ _ accepted).0
 
   same_front : (m : ℕ) → is_among involved m ≡ true → front_in rec m ≡ front_in before m
   same_front m among =
-      same_numbers _ _ (from_list_all (λ n. option_eq nat_eq (front_in rec n) (front_in (only involved before) n)) involved m (second_of (nat_eq number handle) _ accepted) among)
+      same_numbers _ _ (from_list_all (λ n. option_eq nat_eq (front_in rec n) (front_in (only involved before) n)) involved m (and_parts (nat_eq number handle) _ accepted).1 among)
       ∙ ap (option_map (λ (f : Fetched). f.front)) (only-there involved before m among)
 
   same_kept : (m : ℕ) → is_among involved m ≡ true → rec m ≡ before m

@@ -1,7 +1,7 @@
 -- The core stands for the story after each turn.
 use Rattle.std.proofs.Common.{◌≡◌, inl, ℕ, ◌+◌, ◌≤◌, nat_eq, Bool, true, false, cond, List, [], ◌∷◌, ◌++◌, length, map as over, Option, Some, None, Result, Ok, Err, refl, sym, ap, ap₂, subst, ◌∙◌, append-nil, arith, length-append, eqb-true}
 use Rattle.std.specs.Coded.{Coded}
-use Rattle.std.proofs.lemmas.Bool.{leb-true}
+use Rattle.std.proofs.lemmas.Bool.{and_parts, leb-true}
 use Rattle.general_words.proofs.Lists.{some_is}
 use Rattle.kdb_outside.specs.Faults.{HasRisen}
 use Rattle.kdb_outside.specs.Frames.{GoesOn}
@@ -37,7 +37,6 @@ use Rattle.model_store.specs.Store.{Store, Formats}
 use Rattle.model_store.specs.Verdicts as late
 use Rattle.model_store.specs.Verdicts.{commit_of}
 use Rattle.model_store.specs.Worlds.{World, first_world}
-use Rattle.model_store.proofs.Members.{first_of, second_of}
 use Rattle.model_store.proofs.Owning.{Goes, follows}
 use Rattle.mounted_files.specs.Getting.{visible_keys}
 use Rattle.mounted_files.specs.declared.files.MountedFile.{MountedFile}
@@ -231,7 +230,7 @@ module _ (formats : Formats) {D P : Type 0} (g : Ghosts D) (code : Coded D) (ref
       by false is = unrefused n before rose later
       by true is =
           risen-once n before (refused core.patterns) (refused after.patterns) rose
-          (cause violation front refl (eqb-true violation.rule 6 (first_of _ _ is)) (leb-true (length violation.given) longest_pattern (second_of (nat_eq violation.rule 6) _ is))) later
+          (cause violation front refl (eqb-true violation.rule 6 (and_parts _ _ is).0) (leb-true (length violation.given) longest_pattern (and_parts (nat_eq violation.rule 6) _ is).1)) later
   refusals_by (Err (fault.DatabaseFull weight front)) n before rose later cause = unrefused n before rose later
   refusals_by (Err (fault.HistoryFull weight front)) n before rose later cause = unrefused n before rose later
   refusals_by (Err (fault.DiskFault front)) n before rose later cause = unrefused n before rose later

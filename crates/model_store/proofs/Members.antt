@@ -1,10 +1,11 @@
 -- Numbers in lists: what holds of each, and what a search among them tells.
-use Rattle.std.proofs.Common.{◌≡◌, ℕ, ◌+◌, ◌<◌, zero, suc, Bool, true, false, cond, ◌&&◌, ◌||◌, nat_eq, List, [], ◌∷◌, filter, Option, Some, None, refl, sym, ap, subst, ◌∙◌, arith, eqb-true, eq-eqb, lt-ltb, ◌==◌}
+use Rattle.std.proofs.Common.{◌≡◌, ℕ, ◌+◌, ◌<◌, zero, suc, Bool, true, false, cond, ◌||◌, nat_eq, List, [], ◌∷◌, filter, Option, Some, None, refl, sym, ap, subst, ◌∙◌, arith, eqb-true, eq-eqb, lt-ltb, ◌==◌}
 use Rattle.std.specs.List.{AllByRecursion, list_all, range_with_len}
 use Rattle.std.specs.List.Sorted.{IsStrictlySortedBy}
 use Rattle.std.specs.Option.{option_eq}
 use Rattle.std.specs.Ordering.{nat_cmp}
 use Rattle.std.specs.declared.cmp.Ordering.TheVariants.{Less, Equal, Greater}
+use Rattle.std.proofs.lemmas.Bool.{and_parts}
 use Rattle.general_words.specs.Searches.{first_some}
 use Rattle.general_words.proofs.Searches.{none_before, none_behind}
 use Rattle.general_words.proofs.Tests.{or_behind}
@@ -19,14 +20,6 @@ same_numbers (Some n) (Some m) e = ap Some (eqb-true n m e)
 
 pub itself_number : (n : ℕ) → nat_eq n n ≡ true
 itself_number n = eq-eqb n n refl
-
-pub first_of : (a b : Bool) → (a && b) ≡ true → a ≡ true
-first_of true b e = refl
-first_of false b e = absurd cc
-
-pub second_of : (a b : Bool) → (a && b) ≡ true → b ≡ true
-second_of true b e = e
-second_of false b e = absurd cc
 
 -- the first is among its list, and what is among the rest is
 pub among-first : (m : ℕ) (ms : List ℕ) → is_among (m ∷ ms) m ≡ true
@@ -49,8 +42,8 @@ from_all P (n ∷ ms) m all among = elim (nat_eq m n) as (λ b. nat_eq m n ≡ b
 pub from_list_all : (p : ℕ → Bool) (ms : List ℕ) (m : ℕ) → list_all p ms ≡ true → is_among ms m ≡ true → p m ≡ true
 from_list_all p [] m all among = absurd cc
 from_list_all p (n ∷ ms) m all among = elim (nat_eq m n) as (λ b. nat_eq m n ≡ b → (b || is_among ms m) ≡ true → p m ≡ true) [
-  | true ↦ λ is e. ap p (eqb-true m n is) ∙ first_of (p n) (list_all p ms) all
-  | false ↦ λ is e. from_list_all p ms m (second_of (p n) (list_all p ms) all) e
+  | true ↦ λ is e. ap p (eqb-true m n is) ∙ (and_parts (p n) (list_all p ms) all).0
+  | false ↦ λ is e. from_list_all p ms m (and_parts (p n) (list_all p ms) all).1 e
 ] refl among
 
 -- where a search tells nothing, it tells nothing of each

@@ -1,10 +1,11 @@
 -- Each step of a core is a step of the world for which it stands, and so is every run.
 use Rattle.std.proofs.Common.{◌≡◌, ℕ, ◌+◌, true, nat_eq, List, [], ◌∷◌, ◌++◌, length, Option, Some, None, refl, sym, ap, subst, ◌∙◌, arith, length-append, eqb-true}
 use Rattle.std.specs.Option.{option_eq, option_map}
+use Rattle.std.proofs.lemmas.Bool.{and_parts}
 use Rattle.model_names.specs.Name.{Name}
 use Rattle.model_maps.specs.KeyMap.{KeyMap}
 use Rattle.model_history.specs.History as past
-use Rattle.model_history.specs.History.{is_among, replay, history_weight, heaviest_history}
+use Rattle.model_history.specs.History.{replay}
 use Rattle.model_history.proofs.HistoryLemmas.{replay-append}
 use Rattle.model_store.specs.Store.{Store, Formats, points_of}
 use Rattle.model_store.specs.Legal.{IsLegal, IsLegalCommit}
@@ -15,7 +16,7 @@ use Rattle.model_store.specs.Events.{Event, Get, Prepare, Commit, Answer, Memory
 use Rattle.model_store.specs.Worlds.{World, Asked, first_world, Judges, Meant, set_now, world_after}
 use Rattle.model_store.specs.Cores.{Core, first_core, accepts, GetMade, PreparationMade, JudgementMade, CommitMade, Made, core_after}
 use Rattle.model_store.specs.Promise.{Runs, IsAsked, IsSet, Stands, IsOneOwner}
-use Rattle.model_store.proofs.Members.{first_of, second_of, from_list_all, nothing_at, same_numbers, only-there}
+use Rattle.model_store.proofs.Members.{from_list_all, nothing_at, same_numbers, only-there}
 use Rattle.model_store.proofs.Histories.{legal-more}
 use Rattle.model_store.proofs.Judged.{HasPassed, has_passed, IsCommitted, is_committed}
 use Rattle.model_store.proofs.Kept.{put-each, record-stays, record-moves, set-stays, front-of, set-alike, good_mount}
@@ -109,8 +110,8 @@ module _ (formats : Formats) (store : Store) where
   accepted world sets r asked set h ok =
       let involved : List ℕ = involved_in (points_of store) asked.parent in
       let ok' : accepts (record_of store world.history (world.fronts r)) r (set_of store world.history asked.handle asked.fronts asked.parent asked.keys) ≡ true = subst (λ (s : Prepared). accepts (record_of store world.history (world.fronts r)) r s ≡ true) h.is ok in
-      let handle : asked.handle ≡ r = sym (eqb-true r asked.handle (first_of _ _ ok')) in
-      let each = second_of (nat_eq r asked.handle) _ ok' in
+      let handle : asked.handle ≡ r = sym (eqb-true r asked.handle (and_parts _ _ ok').0) in
+      let each = (and_parts (nat_eq r asked.handle) _ ok').1 in
       h.is ∙ set-alike store world.history asked.handle r asked.fronts (world.fronts r) asked.parent asked.keys handle (λ m among.
       sym (sym (front-of store world.history (world.fronts r) m)
       ∙ same_numbers _ _ (from_list_all (λ n. option_eq nat_eq (front_in (record_of store world.history (world.fronts r)) n) (front_in (only involved (record_of store world.history asked.fronts)) n)) involved m each among)

@@ -1,5 +1,5 @@
 -- What words in a row ask for, and when `clap` refuses words.
-use Rattle.std.specs.Prelude.{◌≡◌, ◌≢◌, ℕ, ◌&&◌, Bool, true, false, cond, List, [], ◌∷◌, Option, Some, None}
+use Rattle.std.specs.Prelude.{◌≡◌, ◌≢◌, ℕ, true, false, cond, List, [], ◌∷◌, Option, Some, None}
 use Rattle.std.proofs.Common.{refl, ap, ◌∙◌}
 use Rattle.clap.specs.Words.{IsAmong, Kinds}
 use Rattle.clap.specs.declared.error.kind.ErrorKind.{ErrorKind}
@@ -20,11 +20,6 @@ use Rattle.model_names.specs.Spells.{Spells}
 use Rattle.model_names.proofs.NameOfLemmas.{name_of-spelled, name_of-refused}
 use Rattle.kdb_outside.specs.declared.kinds.Kind.{Kind}
 use Rattle.kdb_outside.specs.declared.kinds.Kind.TheVariants.{Dump}
-
--- the first of two tests that both pass
-pub both_first : (a b : Bool) → (a && b) ≡ true → a ≡ true
-both_first true b is = refl
-both_first false b is = is
 
 -- an error's kind is one of those for which words are refused
 pub among-some : (kind : ErrorKind) (kinds : Kinds) → IsAmong kind kinds → has_fault kinds ≡ true
