@@ -1,9 +1,8 @@
 -- A first set has seen its mounts, nothing blocks it, and the history has room for it.
-use Rattle.std.proofs.Common.{◌≡◌, ◌⊎◌, ℕ, ◌≤◌, Bool, true, false, cond, nat_lt, if◌then◌else◌, List, [], ◌∷◌, ◌++◌, zero, suc, Option, Some, None, refl, sym, ap, ◌∙◌, inl, inr, arith, ltb-false, ltb-true, length, slice_get, Result, Ok, Err}
+use Rattle.std.proofs.Common.{◌≡◌, ℕ, ◌≤◌, Bool, true, false, cond, nat_lt, if◌then◌else◌, List, [], ◌∷◌, ◌++◌, zero, suc, Option, Some, None, refl, sym, ap, ◌∙◌, inl, inr, arith, ltb-false, ltb-true, length, slice_get, Result, Ok, Err}
 use Rattle.std.specs.FinMap as map
 use Rattle.std.proofs.lemmas.List.Sums.{sum_by-cons}
 use Rattle.backend_files.specs.WholeFile.{longest_file}
-use Rattle.std.specs.List.{AllByRecursion}
 use Rattle.std.specs.Option.{option_and_then, option_map, option_or, unwrap_or}
 use Rattle.general_words.specs.Saturated.{saturated}
 use Rattle.general_words.specs.Searches.{first_some}
@@ -20,11 +19,11 @@ use Rattle.mount_table.specs.declared.faults.TableFault.{TableFault}
 use Rattle.mount_table.specs.declared.mounts.Mount.{Mount}
 use Rattle.model_specified.specs.declared.violations.Violation.{Violation}
 use Rattle.model_store.specs.First.{first_record, first_set}
-use Rattle.model_store.specs.Fitting.{Early, NotFetched, ValueTooLong, TooHeavy, NotStorable, TooLong, BadTable, heavy_contents, too_heavy, long_text, too_long, fault_of_table, bad_table, IsStorableAt}
+use Rattle.model_store.specs.Fitting.{Early, NotFetched, ValueTooLong, TooHeavy, NotStorable, TooLong, BadTable, heavy_contents, too_heavy, long_text, too_long, fault_of_table, bad_table}
 use Rattle.model_store.specs.Records.{Fetched}
 use Rattle.model_store.specs.Sets.{Prepared, only, wants, kept, differs}
 use Rattle.model_store.specs.Store.{Store, Formats, contents, points_of}
-use Rattle.model_store.specs.Verdicts.{Late, Same, Conflict, Invalid, DatabaseFull, HistoryFull, Commits, Follows, Checks, IsEarly, IsLate, BreaksFirst, wanted_in, if_unseen, not_fetched, long_value, before_formats, behind_formats, conflict_at, conflict, commit_of, if_untouched, if_heavy, if_full}
+use Rattle.model_store.specs.Verdicts.{Late, Same, Conflict, Invalid, DatabaseFull, HistoryFull, Commits, Follows, Checks, IsEarly, IsLate, FromFormats, wanted_in, if_unseen, not_fetched, long_value, before_formats, conflict_at, conflict, commit_of, if_untouched, if_heavy, if_full}
 use Rattle.model_store.proofs.Members.{among-first, among-rest, among-filter}
 use Rattle.model_store.proofs.Owners.{get-other}
 use Rattle.model_store.proofs.Touched.{AreOwned, change-differs}
@@ -102,7 +101,7 @@ module _ (formats : Formats) (store : Store) (set : Prepared) (seen : not_fetche
   before_off : is_unseen (before_formats store set) ≡ false
   before_off = either (not_fetched set) _ (ap is_unseen seen) (either (long_value store set) _ long_off heavy_off)
 
-  behind_off : (answer : Option Early) → BreaksFirst formats store set answer ⊎ (AllByRecursion (IsStorableAt formats store wanted) set.touched × (answer ≡ behind_formats formats store set)) → is_unseen answer ≡ false
+  behind_off : (answer : Option Early) → FromFormats formats store set answer → is_unseen answer ≡ false
   behind_off answer (inl breaks) = ap is_unseen breaks.is
   behind_off answer (inr can) = ap is_unseen can.1 ∙ either (first_some (too_long formats store wanted) set.touched) _ text_off table_off
 

@@ -1,6 +1,5 @@
 -- What follows from a verdict: a set that passed has fronts and fits its files; a set that commits is blocked by nothing and is light.
-use Rattle.std.proofs.Common.{◌≡◌, ◌⊎◌, ℕ, ◌≤◌, Bool, true, false, cond, nat_lt, List, [], ◌∷◌, ◌++◌, Option, Some, None, refl, sym, ap, subst, ◌∙◌, inl, inr, ltb-false}
-use Rattle.std.specs.List.{AllByRecursion}
+use Rattle.std.proofs.Common.{◌≡◌, ℕ, ◌≤◌, Bool, true, false, cond, nat_lt, List, [], ◌∷◌, ◌++◌, Option, Some, None, refl, sym, ap, subst, ◌∙◌, inl, inr, ltb-false}
 use Rattle.std.specs.Option.{option_map, option_or, option_and_then}
 use Rattle.general_words.specs.Saturated.{saturated}
 use Rattle.general_words.specs.Searches.{first_some}
@@ -16,7 +15,7 @@ use Rattle.model_store.specs.Store.{Store, Formats}
 use Rattle.model_store.specs.Fitting.{Fits, too_heavy, too_long, bad_table, IsStorableAt}
 use Rattle.model_store.specs.Rules.{FirstBreach, KeepRules}
 use Rattle.model_store.specs.Sets.{Prepared}
-use Rattle.model_store.specs.Verdicts.{Late, Same, Conflict, Invalid, DatabaseFull, HistoryFull, Commits, Follows, Checks, IsEarly, IsLate, BreaksFirst, wanted_in, if_unseen, not_fetched, long_value, before_formats, behind_formats, blocking, conflict_at, conflict, commit_of, if_untouched, if_heavy, if_full}
+use Rattle.model_store.specs.Verdicts.{Late, Same, Conflict, Invalid, DatabaseFull, HistoryFull, Commits, Follows, Checks, IsEarly, IsLate, FromFormats, wanted_in, if_unseen, not_fetched, long_value, before_formats, blocking, conflict_at, conflict, commit_of, if_untouched, if_heavy, if_full}
 use Rattle.model_store.proofs.Members.{from_all, nothing_at}
 
 -- where an answer is nothing, no step tells anything
@@ -53,7 +52,7 @@ has_passed formats store set early =
     passed heavy (none_before (not_fetched set) _ first.0) first.1
   where
     passed : first_some (too_heavy store (wanted_in store set)) set.touched ≡ None → not_fetched set ≡ None
-        → BreaksFirst formats store set None ⊎ (AllByRecursion (IsStorableAt formats store (wanted_in store set)) set.touched × (None ≡ behind_formats formats store set)) → HasPassed formats store set
+        → FromFormats formats store set None → HasPassed formats store set
     passed heavy fetched (inl breaks) = let is = breaks.is in absurd cc
     passed heavy fetched (inr can) = record {
       fetched = λ m among. seen m (set.fronts m) (nothing_at (λ n. if_unseen n (set.fronts n)) set.involved m fetched among);

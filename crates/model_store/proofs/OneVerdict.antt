@@ -18,7 +18,7 @@ use Rattle.model_specified.proofs.Refusals.{AreOfKeys-none, first-caused, first_
 use Rattle.model_store.specs.Fitting.{Early, NotStorable, IsStorableAt, BreaksAtMount}
 use Rattle.model_store.specs.Sets.{Prepared}
 use Rattle.model_store.specs.Store.{Store, Formats, contents}
-use Rattle.model_store.specs.Verdicts.{Late, Invalid, Commits, Follows, Checks, BreaksRules, IsEarly, IsLate, BreaksFirst, wanted_in, before_formats, behind_formats, conflict, commit_of, if_untouched, if_heavy, if_full, is_certain}
+use Rattle.model_store.specs.Verdicts.{Late, Invalid, Commits, Follows, Checks, BreaksRules, IsEarly, IsLate, BreaksFirst, FromFormats, wanted_in, before_formats, behind_formats, conflict, commit_of, if_untouched, if_heavy, if_full, is_certain}
 use Rattle.model_store.proofs.Judged.{is_breach}
 
 -- what follows a step is told once where it is told once without it
@@ -75,17 +75,14 @@ module _ (formats : Formats)
     not_both : (answer : Option Early) → BreaksFirst formats store set answer → AllByRecursion (IsStorableAt formats store wanted) set.touched → ⊥
     not_both answer p all = none_breaks wanted p.before p.mount p.behind p.name (subst (AllByRecursion (IsStorableAt formats store wanted)) p.stand all) p.breaks
 
-    abbrev Otherwise : Option Early → Type 0
-    Otherwise answer = BreaksFirst formats store set answer ⊎ (AllByRecursion (IsStorableAt formats store wanted) set.touched × (answer ≡ behind_formats formats store set))
-
-    otherwise_once : (answer other : Option Early) → Otherwise answer → Otherwise other → answer ≡ other
+    otherwise_once : (answer other : Option Early) → FromFormats formats store set answer → FromFormats formats store set other → answer ≡ other
     otherwise_once answer other (inl p) (inl q) = Breaks-once answer other p q
     otherwise_once answer other (inl p) (inr q) = absurd (not_both answer p q.0)
     otherwise_once answer other (inr p) (inl q) = absurd (not_both other q p.0)
     otherwise_once answer other (inr p) (inr q) = p.1 ∙ sym q.1
 
     pub IsEarly-once : (early other : Option Early) → IsEarly formats store set early → IsEarly formats store set other → early ≡ other
-    IsEarly-once early other p q = follows-once (before_formats store set) early other (Otherwise early) (Otherwise other) (otherwise_once early other) p q
+    IsEarly-once early other p q = follows-once (before_formats store set) early other (FromFormats formats store set early) (FromFormats formats store set other) (otherwise_once early other) p q
 
 module _ (formats : Formats)
     (storable_or_breaks : (kind : Kind) (keys : KeyMap) → formats.IsStorable kind keys ⊎ ((name : Name) × formats.BreaksAt kind keys name))
@@ -130,11 +127,11 @@ module _ (formats : Formats)
   IsEarly-some = by (before_formats store set)
     where
       otherwise : FirstOf set.touched ⊎ AllByRecursion (IsStorableAt formats store wants_of) set.touched
-          → (early : Option Early) × (BreaksFirst formats store set early ⊎ (AllByRecursion (IsStorableAt formats store wants_of) set.touched × (early ≡ behind_formats formats store set)))
+          → (early : Option Early) × FromFormats formats store set early
       otherwise (inl b) = (Some (NotStorable b.mount b.name), inl (record { before = b.before; mount = b.mount; behind = b.behind; stand = b.stand; storable = b.storable; name = b.name; breaks = b.breaks; is = refl }))
       otherwise (inr all) = (behind_formats formats store set, inr (all, refl))
 
-      by : (o : Option Early) → (early : Option Early) × Follows o early (BreaksFirst formats store set early ⊎ (AllByRecursion (IsStorableAt formats store wants_of) set.touched × (early ≡ behind_formats formats store set)))
+      by : (o : Option Early) → (early : Option Early) × Follows o early (FromFormats formats store set early)
       by (Some told) = (Some told, refl)
       by None = otherwise (first_or_all set.touched)
 

@@ -59,12 +59,15 @@ pub record BreaksFirst (formats : Formats) (store : Store) (set : Prepared) (ans
 abbrev pub behind_formats : Formats → Store → Prepared → Option Early
 behind_formats formats store set = option_or (first_some (too_long formats store (wanted_in store set)) set.touched) (first_some (bad_table store (wanted_in store set)) set.touched)
 
+-- what is told from the formats on: the first touched mount that breaks; or all can be stored, and what is told behind that
+abbrev pub FromFormats : Formats → Store → Prepared → Option Early → Type 0
+FromFormats formats store set answer =
+    BreaksFirst formats store set answer
+    ⊎ (AllByRecursion (IsStorableAt formats store (wanted_in store set)) set.touched × (answer ≡ behind_formats formats store set))
+
 -- the first refusal of a set, or none
 abbrev pub IsEarly : Formats → Store → Prepared → Option Early → Type 0
-IsEarly formats store set answer =
-    Follows (before_formats store set) answer
-    (BreaksFirst formats store set answer
-    ⊎ (AllByRecursion (IsStorableAt formats store (wanted_in store set)) set.touched × (answer ≡ behind_formats formats store set)))
+IsEarly formats store set answer = Follows (before_formats store set) answer (FromFormats formats store set answer)
 
 -- ---- blocking commits
 
