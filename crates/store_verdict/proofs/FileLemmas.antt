@@ -23,7 +23,7 @@ use Rattle.mounted_files.specs.declared.refusals.SetRefusal.TheVariants as refus
 use Rattle.model_store.specs.Fitting.{Early, ValueTooLong, TooHeavy, NotStorable, TooLong, too_heavy, too_long, bad_table, heavy_contents, long_text, fault_of_table, IsStorableAt, BreaksAtMount}
 use Rattle.model_store.specs.Sets.{Prepared}
 use Rattle.model_store.specs.Store.{Store, Formats, points_of, contents}
-use Rattle.model_store.specs.Verdicts.{Follows, IsEarly, BreaksFirst, wanted_in, not_fetched, long_value, before_formats, behind_formats}
+use Rattle.model_store.specs.Verdicts.{Follows, IsEarly, FromFormats, wanted_in, not_fetched, long_value, before_formats, behind_formats}
 use Rattle.std.proofs.lemmas.List.{map-append}
 use Rattle.std.proofs.lemmas.List.Elements.{filter_map-append}
 use Rattle.general_words.proofs.Lists.{take-next}
@@ -198,9 +198,6 @@ module _ (formats : Formats) (store : Store) (set : Prepared) where
     pub early : IsEarly formats store set answer
     pub agrees : Agrees answer refusal
 
-  abbrev Otherwise : Option Early → Type 0
-  Otherwise answer = BreaksFirst formats store set answer ⊎ (AllByRecursion (IsStorableAt formats store wanted) set.touched × (answer ≡ behind_formats formats store set))
-
   abbrev Rest : Option SetRefusal → Type 0
   Rest refusal = IsSomeAnd refusal (Breaks formats.IsStorable formats.BreaksAt (filter_map made set.touched)) ⊎ (AreStorable formats.IsStorable (filter_map made set.touched) × (refusal ≡ late_refusal formats.text (filter_map made set.touched)))
 
@@ -219,7 +216,7 @@ module _ (formats : Formats) (store : Store) (set : Prepared) where
           let why : Early = NotStorable at.mount (joined h.change.mount.at h.key) in
           record {
             answer = Some why;
-            early = subst (λ (o : Option Early). Follows o (Some why) (Otherwise (Some why))) (sym none)
+            early = subst (λ (o : Option Early). Follows o (Some why) (FromFormats formats store set (Some why))) (sym none)
                 (inl (record {
                   before = at.front;
                   mount = at.mount;
@@ -236,7 +233,7 @@ module _ (formats : Formats) (store : Store) (set : Prepared) where
       by : (e : Option Early) → option_or (long_value store set) (first_some (too_heavy store wanted) set.touched) ≡ e → (v : Option SetRefusal) → Agrees e v → files.Follows v refusal (Rest refusal) → Bridge refusal
       by (Some why) is (Some v) h p = record {
         answer = Some why;
-        early = subst (λ (o : Option Early). Follows o (Some why) (Otherwise (Some why))) (sym (before_is (Some why) is)) refl;
+        early = subst (λ (o : Option Early). Follows o (Some why) (FromFormats formats store set (Some why))) (sym (before_is (Some why) is)) refl;
         agrees = subst (λ (o : Option SetRefusal). Agrees (Some why) o) (sym p) h;
       }
       by (Some why) is None h p = absurd h
@@ -244,7 +241,7 @@ module _ (formats : Formats) (store : Store) (set : Prepared) where
       by None is None h (inl some) = breaks refusal refl some (before_is None is)
       by None is None h (inr can) = record {
         answer = behind_formats formats store set;
-        early = subst (λ (o : Option Early). Follows o (behind_formats formats store set) (Otherwise (behind_formats formats store set))) (sym (before_is None is)) (inr (storable-at set.touched can.0, refl));
+        early = subst (λ (o : Option Early). Follows o (behind_formats formats store set) (FromFormats formats store set (behind_formats formats store set))) (sym (before_is None is)) (inr (storable-at set.touched can.0, refl));
         agrees = subst (λ (o : Option SetRefusal). Agrees (behind_formats formats store set) o) (sym can.1)
             (agrees-or (first_some (too_long formats store wanted) set.touched) (first_some (files.too_long formats.text) (filter_map made set.touched)) _ _
             (agrees-first (too_long formats store wanted) (files.too_long formats.text) long-agrees set.touched)

@@ -1,5 +1,5 @@
 -- What the first keys of two walks add to changes, so that those behind them add the rest.
-use Rattle.std.proofs.Common.{◌≡◌, ◌⊎◌, ◌+◌, ◌<◌, T, Bool, true, false, cond, List, [], ◌∷◌, length, drop, slice_get, Option, Some, None, is_some, MatchOption, inl, inr, refl, sym, ap, ap₂, subst, ◌∙◌, arith}
+use Rattle.std.proofs.Common.{◌≡◌, ◌⊎◌, T, Bool, true, false, cond, List, [], ◌∷◌, drop, slice_get, Option, Some, None, is_some, MatchOption, inl, inr, refl, sym, ap, ap₂, subst, ◌∙◌}
 use Rattle.std.specs.Cmp.{IsTotalOrder}
 use Rattle.std.specs.FinMap as map
 use Rattle.std.specs.FinMap.{find, is_sorted}
@@ -31,10 +31,6 @@ pub none_is : {A : Type 0} (xs : List A) → None ≡ slice_get xs 0 → xs ≡ 
 none_is [] e = refl
 none_is (y ∷ xs) e = absurd cc
 
-pub fewer_behind : {A : Type 0} (xs : List A) (x : A) → xs ≡ x ∷ drop 1 xs → length (drop 1 xs) < length xs
-fewer_behind [] x e = absurd cc
-fewer_behind (y ∷ xs) x e = omega arith
-
 -- ---- a walk
 
 -- a walk that passes its first key has what was behind it
@@ -55,14 +51,8 @@ all_to_come before wanted q = ap₂ change_of (sym (map.get-entries before q)) (
 -- ---- a sorted list behind its first key
 
 module _ (es : List (Name × Entry)) (e : Name × Entry) (is : es ≡ e ∷ drop 1 es) (sorted : T (is_sorted name_cmp es)) where
-  ordered : T (is_sorted name_cmp (e ∷ drop 1 es))
-  ordered = subst (λ l. T (is_sorted name_cmp l)) is sorted
-
-  pub sorted_behind : T (is_sorted name_cmp (drop 1 es))
-  sorted_behind = second _ _ ordered
-
   pub below_behind : T (below_all name_cmp e.0 (drop 1 es))
-  below_behind = first _ _ ordered
+  below_behind = first _ _ (subst (λ l. T (is_sorted name_cmp l)) is sorted)
 
 -- a name before the first of a sorted list stands before all of it
 further : (x y : Name) (es : List (Name × Entry)) → name_cmp x y ≡ Less → T (below_all name_cmp y es) → T (below_all name_cmp x es)
@@ -155,13 +145,3 @@ module _ (changes next : Changes) (q : Name) where
   changed had had_rest wanted wanted_rest name old new is wanted_is below beside made =
       kept_or_changed name old new had_rest wanted_rest below beside (same_entry old new) refl made
       ∙ ap₂ (λ xs ys. option_or (change_between xs ys q) (map.get changes q)) (sym is) (sym wanted_is)
-
--- ---- the end
-
--- where no key is still to come, nothing is to be added
-pub all_added : (had wanted : List (Name × Entry)) (changes : Changes) (q : Name) (o : Option (Option Entry)) → length had + length wanted ≡ 0 → option_or (change_between had wanted q) (map.get changes q) ≡ o → map.get changes q ≡ o
-all_added had wanted changes q o none is = sym (ap₂ (λ xs ys. option_or (change_between xs ys q) (map.get changes q)) (nothing had (omega (arith, none))) (nothing wanted (omega (arith, none)))) ∙ is
-  where
-    nothing : (es : List (Name × Entry)) → length es ≡ 0 → es ≡ []
-    nothing [] e = refl
-    nothing (f ∷ es) e = absurd (omega (arith, e))
