@@ -5,6 +5,7 @@ use Rattle.std.specs.FinMap as map
 use Rattle.std.specs.FinMap.Entries.{where_key}
 use Rattle.std.specs.List.{flat_map}
 use Rattle.std.proofs.lemmas.List.Elements.{Contains-get_or}
+use Rattle.std.proofs.lemmas.Option.{cond_some}
 use Rattle.key_merge.specs.Merged.{conflicts, merged}
 use Rattle.key_merge.specs.Merging.{AreConflicts, IsMerged, choice_of, is_taken_from_their, merged_entry}
 use Rattle.key_merge.specs.declared.strategies.Strategy.{Strategy}
@@ -63,25 +64,9 @@ relative-next above key left behind found now whole cut step so_far =
 pub relative-last : (above : Name) (left : List (Name × Entry)) (found whole : KeyMap) → left ≡ [] → with_left above found left ≡ whole → found ≡ whole
 relative-last above left found whole none so_far = ap (with_left above found) (sym none) ∙ so_far
 
-some_if : {A : Type 0} (b : Bool) (x y : A) → Some y ≡ cond b (Some x) None → (b ≡ true) × (y ≡ x)
-some_if true x y e = (refl, cc)
-some_if false x y e = absurd cc
-
-none_if : {A : Type 0} (b : Bool) (x : A) → None ≡ cond b (Some x) None → b ≡ false
-none_if true x e = absurd cc
-none_if false x e = refl
-
-pub way-set : (above name way : Name) (entry : Entry) (keys : KeyMap) → Some way ≡ way_to above name → map.insert keys way entry ≡ with_brought above way_root keys (cond (is_at_or_below above name) ((name, entry) ∷ []) [])
-way-set above name way entry keys found =
-    let is = some_if (is_at_or_below above name) (brought above way_root name) way found in
-    ap (λ n. map.insert keys n entry) is.1 ∙ ap (λ b. with_brought above way_root keys (cond b ((name, entry) ∷ []) [])) (sym is.0)
-
-pub no_way-set : (above name : Name) (entry : Entry) (keys : KeyMap) → None ≡ way_to above name → keys ≡ with_brought above way_root keys (cond (is_at_or_below above name) ((name, entry) ∷ []) [])
-no_way-set above name entry keys found = ap (λ b. with_brought above way_root keys (cond b ((name, entry) ∷ []) [])) (sym (none_if (is_at_or_below above name) (brought above way_root name) found))
-
 -- a name that leads to another is cascading
 way-cascading : (above name way : Name) → Some way ≡ way_to above name → way.namespace ≡ Cascading
-way-cascading above name way found = ap (λ (n : Name). n.namespace) (some_if (is_at_or_below above name) (brought above way_root name) way found).1
+way-cascading above name way found = ap (λ (n : Name). n.namespace) (sym (cond_some (is_at_or_below above name) (brought above way_root name) way (sym found)).1)
 
 pub ways-set : (above name way : Name) (entry : Entry) (keys : KeyMap) → Some way ≡ way_to above name → AreWays keys → AreWays (map.insert keys way entry)
 ways-set above name way entry keys found each = each-insert name_cmp_total name_cmp-IsAntisymmetric (λ (n : Name) (e : Entry). n.namespace ≡ Cascading) keys way entry each (way-cascading above name way found)
