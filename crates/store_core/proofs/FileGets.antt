@@ -5,10 +5,7 @@ use Rattle.std.specs.List.{cons_option}
 use Rattle.std.specs.Option.{option_map_or, option_or}
 use Rattle.general_words.specs.Searches.{first_some}
 use Rattle.key_set.specs.WithAll.{with_all}
-use Rattle.key_set.proofs.WithAllLemmas.{get-with_all}
 use Rattle.model_names.specs.Name.{Name}
-use Rattle.model_names.specs.Order.{name_cmp}
-use Rattle.model_names.proofs.OrderLemmas.{name_cmp_total, name_cmp-IsAntisymmetric}
 use Rattle.model_maps.specs.KeyMap.{KeyMap, no_keys}
 use Rattle.model_store.specs.Events as event
 use Rattle.model_store.specs.Events.{first_bad, if_bad, shows_proc}
@@ -28,10 +25,7 @@ use Rattle.set_split.specs.Involved.{involved_in}
 use Rattle.set_split.specs.Parts.{in_reach}
 use Rattle.store_core.specs.Gets.{fault_at}
 use Rattle.store_core.specs.Plans.{is_bad, store_of}
-
--- no keys set among others change nothing
-with_none : (keys : KeyMap) → with_all no_keys keys ≡ keys
-with_none keys = map.same_map name_cmp_total name_cmp-IsAntisymmetric _ _ (λ name. get-with_all no_keys keys name ∙ ap (λ o. option_or o (map.get keys name)) (map.get-empty name_cmp name))
+use Rattle.store_core.proofs.VisibleLemmas.{with_none}
 
 module _ (files : List MountedFile) (procs : ℕ → KeyMap) where
   -- of some mounts behind one that tells this, the first fault is that of the first bad mount
