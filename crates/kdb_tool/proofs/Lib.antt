@@ -1,4 +1,3 @@
-pub mod StatusLemmas
 pub mod RiseLemmas
 pub mod SetLemmas
 pub mod AnswersOnce

@@ -1,17 +1,13 @@
 -- What the test of a count's rise says.
-use Rattle.std.specs.Prelude.{◌≡◌, ℕ, Bool, true, false, T, Result, Ok, Err}
-use Rattle.std.proofs.Common.{refl}
+use Rattle.std.specs.Prelude.{ℕ, T, Result, Ok, Err}
+use Rattle.general_words.proofs.Tests.{true_of}
 use Rattle.model_store.specs.Rules.{has_risen}
 use Rattle.model_store.proofs.Risen.{has_risen-Decides}
 use Rattle.tool_commands.specs.declared.reports.Report as code
 use Rattle.kdb_tool.specs.Serving.{MayRefuse}
 use Rattle.kdb_tool.specs.declared.answers.Stop.{Stop}
 
-is_true : (b : Bool) → T b → b ≡ true
-is_true true t = refl
-is_true false t = absurd t
-
 -- where the count rose, a pattern may have been refused, however the work ended
 pub rose_may : (result : Result code.Report Stop) (before now : ℕ) → T (has_risen before now) → MayRefuse result before now
-rose_may (Ok report) before now rose = (has_risen-Decides before now).0 (is_true (has_risen before now) rose)
+rose_may (Ok report) before now rose = (has_risen-Decides before now).0 (true_of (has_risen before now) rose)
 rose_may (Err stop) before now rose = tt

@@ -7,7 +7,6 @@ use Rattle.kdb_tool.specs.Answers.{AnswersIn, AnswersOver}
 use Rattle.kdb_tool.specs.Serving.{MayRefuse, Serve}
 use Rattle.kdb_tool.proofs.OpeningLemmas.{has_begun, refused_serve}
 use Rattle.kdb_tool.proofs.ServeLemmas.{serve, serving_untouched, serving_unstored, serving_weaker}
-use Rattle.kdb_tool.proofs.StatusLemmas.{own_status}
 use Rattle.kdb_tool.proofs.questions.answer_question.Goals as goal
 
 pub returns-in-Ok-clause-served : goal.returns-in-Ok-clause-served
