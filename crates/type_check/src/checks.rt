@@ -34,6 +34,10 @@ pub fn check_type(alloc: Global, value: &str, meta: &Meta) -> Result<Option<Brok
 pub fn check_enum(alloc: Global, value: &str, meta: &Meta) -> Result<Option<Broken>, Memory>
     ensures { IfOk result (Tells (BreaksEnum value.now meta.now)) }
 {
+    // Most keys have no metadata, and to look for the first item means to make its name.
+    if meta.is_empty() {
+        return Ok(None);
+    }
     let items = meta.array("check/enum")?;
     if items.as_slice().is_empty() {
         return Ok(None);
