@@ -6,6 +6,7 @@ mod chunked_maps;
 mod chunks;
 mod copies;
 mod counted;
+mod items;
 mod iters;
 mod ranges;
 mod shared;
@@ -14,4 +15,5 @@ mod tests;
 
 pub use chunked_maps::ChunkedMap;
 pub use copies::Copied;
+pub use items::ChunkedItems;
 pub use iters::ChunkedIter;

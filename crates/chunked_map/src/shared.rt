@@ -52,6 +52,13 @@ impl<K: Ord, V> Entries<K, V> {
     {
         &self.sorted
     }
+
+    /// The entries by themselves.
+    pub fn into_list(self) -> Vec<(K, V)>
+        ensures { result.items ≡ self }
+    {
+        self.sorted
+    }
 }
 
 impl<K: Ord + Drop, V: Drop> Entries<K, V> {
@@ -196,12 +203,15 @@ impl<K: Ord + Drop, V: Copied<K> + Drop> Chunk<K, V> {
     }
 
     /// The entries by themselves. They are moved where no other map has the chunk, and else copied.
-    pub fn into_entries(self) -> Result<Vec<(K, V)>, AllocError>
-        ensures { IfOk result (λ entries. entries.items ≡ self) }
+    pub fn into_entries(self) -> Result<Entries<K, V>, AllocError>
+        ensures { IfOk result (λ entries. entries ≡ self) }
     {
         match Arc::try_unwrap(self.shared) {
-            Ok(entries) => Ok(entries.sorted),
-            Err(shared) => copy_of(shared.allocator(), shared.list()),
+            Ok(entries) => Ok(entries),
+            Err(shared) => {
+                let sorted = copy_of(shared.allocator(), shared.list())?;
+                Ok(Entries { sorted })
+            }
         }
     }
 
