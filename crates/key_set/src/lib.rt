@@ -3,6 +3,7 @@
 
 mod counting;
 mod entries;
+mod items;
 mod iters;
 mod key_sets;
 mod ranges;
@@ -11,6 +12,7 @@ mod weights;
 
 pub use counting::ten_thousand_keys_take_21_steps;
 pub use entries::Entry;
+pub use items::KeySetItems;
 pub use iters::KeySetIter;
 pub use key_sets::{KeySet, equal_sets_are_the_same_map, the_keys_set_last_are_found};
 pub use weights::{HEAVIEST_MAP, KEY_WEIGHT};
