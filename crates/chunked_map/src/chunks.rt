@@ -45,7 +45,7 @@ pub fn chunk_of<K: Ord, V>(chunks: &[Chunk<K, V>], key: &K) -> usize
     low
 }
 
-/// Puts a key that is behind all chunks into a chunk of its own.
+/// Puts a key that is behind all chunks into a chunk of its own. One behind others gets its room at once: they were filled, so it may be, too.
 fn open_chunk<K: Ord + Drop, V: Copied<K> + Drop>(
     chunks: &mut Vec<Chunk<K, V>>,
     key: K,
@@ -61,7 +61,8 @@ fn open_chunk<K: Ord + Drop, V: Copied<K> + Drop>(
         return Err(AllocError);
     }
     let alloc = *chunks.allocator();
-    let mut entries = Vec::new(alloc);
+    let room = if chunks.len() == 0 { 1 } else { CHUNK_SIZE };
+    let mut entries = Vec::with_capacity(alloc, room)?;
     entries.push((key, value))?;
     let chunk = Chunk::of(alloc, entries)?;
     chunks.push(chunk)?;
