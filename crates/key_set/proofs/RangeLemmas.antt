@@ -1,5 +1,5 @@
 -- Where the keys at or below a name begin and end.
-use Rattle.std.proofs.Common.{◌≡◌, ℕ, ◌+◌, zero, suc, ◌<◌, ◌≤◌, Bool, true, false, T, not, ◌||◌, List, length, take, drop, get_or, slice_range, refl, sym, ap, ◌∙◌, inl, inr, [], ◌∷◌, true≢false, arith}
+use Rattle.std.proofs.Common.{◌≡◌, ℕ, ◌+◌, ◌-◌, zero, suc, ◌<◌, ◌≤◌, Bool, true, false, T, not, ◌||◌, List, length, take, drop, get_or, Some, slice_get, slice_range, refl, sym, ap, ◌∙◌, inl, inr, [], ◌∷◌, true≢false, arith}
 use Rattle.std.specs.FinMap.{is_sorted}
 use Rattle.std.specs.FinMap.Entries.{where_key}
 use Rattle.std.specs.List.{remove_range, list_all}
@@ -153,6 +153,13 @@ module _ (above : Name) {X : Type 0} (es : List (Name × X)) (h : T (is_sorted n
     outside_of : where_key name_cmp (λ name. not (is_at_or_below above name)) es ≡ remove_range es from to
     outside_of = outside_range above es h from to (omega arith) begins (λ k d le lt. up_to k d lt (omega arith), ends) order
 
+  -- where the second place is the end
+  pub inside_to_end : length es ≤ to → where_key name_cmp (is_at_or_below above) es ≡ slice_range es from to
+  inside_to_end all = inside_of (λ k d le in_list. absurd (omega arith))
+
+  pub outside_to_end : length es ≤ to → where_key name_cmp (λ name. not (is_at_or_below above name)) es ≡ remove_range es from to
+  outside_to_end all = outside_of (λ k d le in_list. absurd (omega arith))
+
   module _ (e : Name × X) (rest : List (Name × X)) (comes : drop to es ≡ e ∷ rest) where
     -- where a key comes that is not at or below the name
     module _ (none : is_at_or_below above e.0 ≡ false) where
@@ -188,3 +195,23 @@ module _ (above : Name) {X : Type 0} (es : List (Name × X)) (h : T (is_sorted n
 
     pub outside_all : where_key name_cmp (λ name. not (is_at_or_below above name)) es ≡ remove_range es from to
     outside_all = outside_of at_end
+
+or_true : (a b : Bool) → b ≡ true → (a || b) ≡ true
+or_true true b e = refl
+or_true false b e = e
+
+-- the key at a place
+pub key_there : {A : Type 0} (es : List A) (n : ℕ) (e d : A) → Some e ≡ slice_get es n → get_or es n d ≡ e
+key_there [] n e d there = absurd cc
+key_there (f ∷ es) zero e d there = cc
+key_there (f ∷ es) (suc n) e d there = key_there es n e d there
+
+-- where the last key is at or below a name, so are all from the name's place on
+pub below_to_end : (above : Name) {X : Type 0} (es : List (Name × X)) (h : T (is_sorted name_cmp es)) (from : ℕ) (within : from ≤ length es)
+    (before : T (all_before name_cmp above (take from es))) (behind : T (none_before name_cmp above (drop from es)))
+    → ((d : Name × X) → is_at_or_below above (get_or es (length es - 1) d).0 ≡ true)
+    → (k : ℕ) (d : Name × X) → from ≤ k → k < length es → is_at_or_below above (get_or es k d).0 ≡ true
+below_to_end above es h from within before behind last k d le in_list =
+    let starts : PartsBy above es h (is_before above) from = begins above es h from from (omega arith) within before behind (λ j e ge lt in_es. absurd (omega arith)) in
+    let end : is_not_behind above (get_or es (length es - 1) d).0 ≡ true = or_true _ _ (last d) in
+    sym (or_second _ _ (starts.1 k d le in_list)) ∙ parted_behind above es h k (length es - 1) d (omega arith) (omega arith) end

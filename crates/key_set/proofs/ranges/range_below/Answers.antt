@@ -1,6 +1,6 @@
 -- The walk ends at the first key that is not at or below the name.
 use Rattle.std.proofs.Common.{◌≡◌, ◌+◌, ◌<◌, suc, length, sym, ◌∙◌, arith}
-use Rattle.key_set.proofs.RangeLemmas.{inside_found, outside_found, inside_all, outside_all, below_more, to_come, one_more}
+use Rattle.key_set.proofs.RangeLemmas.{below_to_end, inside_to_end, outside_to_end, inside_found, outside_found, inside_all, outside_all, below_more, to_come, one_more}
 use Rattle.key_set.proofs.ranges.range_below.Goals as goal
 
 pub loop-name-preserved : goal.loop-name-preserved
@@ -31,3 +31,19 @@ returns-clause-inside c = inside_all c.args.at.now c.args.keys.now c.count_befor
 
 pub returns-clause-outside : goal.returns-clause-outside
 returns-clause-outside c = outside_all c.args.at.now c.args.keys.now c.count_before-from.ensures.sorted c.count_before-from.result c.loop-name.to c.loop-name.invariant.1 c.loop-name.invariant.2 c.count_before-from.ensures.before c.count_before-from.ensures.behind c.loop-name.invariant.3 (sym c.loop-name.invariant.0 ∙ c.in-None.ensures.steps.0)
+
+pub returns-then-is_last_below-clause-inside : goal.returns-then-is_last_below-clause-inside
+returns-then-is_last_below-clause-inside c =
+    let keys = c.args.keys.now in
+    let found = c.count_before-from.ensures in
+    let all = c.len.ensures.len in
+    let below = below_to_end c.args.at.now keys found.sorted c.count_before-from.result found.bounds found.before found.behind (c.is_last_below.ensures.below c.if-is_last_below.true) in
+    inside_to_end c.args.at.now keys found.sorted c.count_before-from.result c.len.result (let le = found.bounds in omega (arith, le, all)) (omega (arith, all)) found.before found.behind (λ k d le lt in_list. below k d le in_list) (omega (arith, all))
+
+pub returns-then-is_last_below-clause-outside : goal.returns-then-is_last_below-clause-outside
+returns-then-is_last_below-clause-outside c =
+    let keys = c.args.keys.now in
+    let found = c.count_before-from.ensures in
+    let all = c.len.ensures.len in
+    let below = below_to_end c.args.at.now keys found.sorted c.count_before-from.result found.bounds found.before found.behind (c.is_last_below.ensures.below c.if-is_last_below.true) in
+    outside_to_end c.args.at.now keys found.sorted c.count_before-from.result c.len.result (let le = found.bounds in omega (arith, le, all)) (omega (arith, all)) found.before found.behind (λ k d le lt in_list. below k d le in_list) (omega (arith, all))
