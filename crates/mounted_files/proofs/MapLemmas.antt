@@ -17,11 +17,6 @@ use Rattle.general_words.proofs.Maps.{entries-empty, entries-retain, get-at, eac
 use Rattle.general_words.proofs.Lists.{all_from_places}
 use Rattle.set_split.proofs.SplitLemmas.{both}
 
--- keys that are set in a list, one more behind it
-pub with_keys-more : (es : List (Name × Entry)) (key : Name × Entry) (keys : KeyMap) → with_keys (es ++ key ∷ []) keys ≡ map.insert (with_keys es keys) key.0 key.1
-with_keys-more [] key keys = refl
-with_keys-more (e ∷ es) key keys = with_keys-more es key (map.insert keys e.0 e.1)
-
 -- keys that are set in two lists, one after the other
 pub with_keys-append : (es fs : List (Name × Entry)) (keys : KeyMap) → with_keys (es ++ fs) keys ≡ with_keys fs (with_keys es keys)
 with_keys-append [] fs keys = refl

@@ -17,30 +17,26 @@ use key_set::{Entry, KeySet};
 use std::alloc::{AllocError, Global};
 
 /// The keys of a file under whole names. There are none where one of these names would be too long.
-pub fn whole(alloc: Global, point: &KeyName, keys: &KeySet) -> Result<Option<KeySet>, Memory>
-    requires { AreCascading keys.now }
-    ensures { IfOk result (λ found. found ≡ (if all_fit point.now keys.now then Some (whole point.now keys.now) else None)) }
+pub fn whole(alloc: Global, point: &KeyName, keys: KeySet) -> Result<Option<KeySet>, Memory>
+    requires { AreCascading keys }
+    ensures { IfOk result (λ found. found ≡ (if all_fit point.now keys then Some (whole point.now keys) else None)) }
 {
     let mut all = KeySet::new(alloc);
-    let mut rest = keys.iter();
-    for i in 0..keys.len() {
-        let Some((name, entry)) = rest.next() else {
-            unreachable!()
-        };
+    for (name, entry) in keys.into_items()? {
         let Some(name) = whole_name(point, name)? else {
             return Ok(None);
         };
-        put(&mut all, name, entry)?;
+        all.append(name, entry)?;
     }
     Ok(Some(all))
 }
 
 /// A name behind a mountpoint, unless it would be too long.
-fn whole_name(point: &KeyName, name: &KeyName) -> Result<Option<KeyName>, Memory>
-    requires { name.now.namespace ≡ Cascading }
-    ensures { IfOk result (λ found. found ≡ (if nat_le (length (path (joined point.now name.now))) longest_path then Some (joined point.now name.now) else None)) }
+fn whole_name(point: &KeyName, name: KeyName) -> Result<Option<KeyName>, Memory>
+    requires { name.namespace ≡ Cascading }
+    ensures { IfOk result (λ found. found ≡ (if nat_le (length (path (joined point.now name))) longest_path then Some (joined point.now name) else None)) }
 {
-    match point.join(name) {
+    match name.joined_onto(point) {
         Ok(whole) => Ok(Some(whole)),
         Err(NameFault::Memory) => Err(AllocError),
         Err(_) => Ok(None),

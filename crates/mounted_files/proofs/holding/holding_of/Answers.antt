@@ -29,8 +29,8 @@ returns-in-Some-clause-short g c =
     let limited = g.F.Formats.read_is_limited c.args.kind c.args.bytes.now keys c.in-Ok.ensures in
     subst (λ (found : KeyMap). AreShort found) is.1 (short-whole point keys (short-limited keys limited))
 
-pub returns-in-Ok-clause-is : goal.returns-in-Ok-clause-is
-returns-in-Ok-clause-is g c few =
+pub returns-in-None-clause-is : goal.returns-in-None-clause-is
+returns-in-None-clause-is g c few =
     let point = c.args.point.now in
     let keys = c.in-Ok.keys in
     let too_long = none_if (all_fit point keys) (whole point keys) (sym c.in-None.is ∙ c.in_ok-keys-in-Ok.ensures) in
