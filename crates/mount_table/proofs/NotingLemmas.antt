@@ -1,5 +1,5 @@
 -- Entries noted key by key are those of all keys.
-use Rattle.std.proofs.Common.{◌≡◌, ℕ, Bool, true, false, cond, not, ◌&&◌, ◌||◌, T, List, [], ◌∷◌, filter_map, Option, Some, None, unwrap_or, refl, sym, ap, ◌∙◌}
+use Rattle.std.proofs.Common.{◌≡◌, ℕ, Bool, true, false, cond, not, ◌&&◌, ◌||◌, T, List, [], ◌∷◌, ◌++◌, filter_map, Option, Some, None, unwrap_or, refl, sym, ap, ◌∙◌}
 use Rattle.std.specs.Cmp.{Equal-is}
 use Rattle.std.specs.FinMap as map
 use Rattle.std.specs.FinMap.{find, is_sorted}
@@ -19,12 +19,13 @@ use Rattle.model_names.specs.Order.{name_cmp}
 use Rattle.model_names.proofs.OrderLemmas.{name_cmp_total, name_cmp-IsAntisymmetric}
 use Rattle.model_maps.specs.Entry.{Entry}
 use Rattle.model_maps.specs.KeyMap.{KeyMap}
-use Rattle.mount_table.specs.Entries.{entries_of, has_entry, said_by, value_at}
+use Rattle.mount_table.specs.Entries.{Entries, entries_of, has_entry, said_by, value_at}
 use Rattle.mount_table.specs.Noting.{nothing_said, child_word, is_word, said_with, noted_in, noted_at, noted}
 use Rattle.mount_table.specs.Places.{entry_name, child_name, path_word, plugin_word, text_of_entry}
 use Rattle.mount_table.specs.declared.entries.MountEntry.{MountEntry}
 use Rattle.mount_table.proofs.PlaceLemmas.{is_found, at_or_below-entry, is_child}
 use Rattle.general_words.proofs.Texts.{text_cmp-IsAntisymmetric}
+use Rattle.general_words.proofs.Fronts.{next_joins, none_left, all_left}
 use Rattle.general_words.proofs.Maps.{insert-remove, entries-empty, from_sorted-put, from_sorted-without}
 
 same_text : (a b : Part) → eq_by_cmp text_cmp a b ≡ true → a ≡ b
@@ -162,6 +163,21 @@ entries_of-none = map.same_map nat_list_cmp_total text_cmp-IsAntisymmetric _ _ (
     get-entries_of map.empty text
     ∙ ap (λ es. cond (list_any (λ key. is_at_or_below (entry_name text) key.0) es) (Some (said_by map.empty text)) None) (entries-empty name_cmp Entry)
     ∙ sym (map.get-empty text_cmp text))
+
+-- the entries with some more keys, one after the other
+abbrev pub noted_all : List (Name × Entry) → Entries → Entries
+noted_all [] entries = entries
+noted_all (key ∷ keys) entries = noted_all keys (noted entries key.0 key.1.value)
+
+noted_rest : (whole part : KeyMap) (rest : List (Name × Entry)) → map.entries whole ≡ map.entries part ++ rest → noted_all rest (entries_of part) ≡ entries_of whole
+noted_rest whole part [] cut = ap entries_of (none_left whole part cut)
+noted_rest whole part (key ∷ rest) cut =
+    ap (noted_all rest) (sym (entries_of-insert part key.0 key.1))
+    ∙ noted_rest whole (map.insert part key.0 key.1) rest (next_joins name_cmp_total whole part key rest cut)
+
+-- all keys noted are the entries of all
+pub noted_all-entries : (keys : KeyMap) → noted_all (map.entries keys) map.empty ≡ entries_of keys
+noted_all-entries keys = ap (noted_all (map.entries keys)) (sym entries_of-none) ∙ noted_rest keys map.empty (map.entries keys) (all_left keys)
 
 -- ---- an entry's place among those that were collected
 

@@ -29,11 +29,7 @@ pub fn entries_of(alloc: Global, keys: &KeySet) -> Result<SortedMap<Text, MountE
     ensures { IfOk result (λ entries. map.from_sorted {R = text_cmp} entries ≡ entries_of keys.now) }
 {
     let mut entries = SortedMap::new(alloc);
-    let mut rest = keys.iter();
-    for i in 0..keys.len() {
-        let Some((name, entry)) = rest.next() else {
-            unreachable!()
-        };
+    for (name, entry) in keys.iter() {
         note(alloc, &mut entries, name, &entry.value)?;
     }
     Ok(entries)
