@@ -1,5 +1,5 @@
 -- Which names belong to which entry, told by their parts.
-use Rattle.std.proofs.Common.{◌≡◌, ℕ, Bool, true, false, cond, ◌&&◌, ◌==◌, nat_eq, List, [], ◌∷◌, length, slice_get, Option, Some, None, codes, refl, sym, ap, ◌∙◌, arith}
+use Rattle.std.proofs.Common.{◌≡◌, ℕ, ◌<◌, Bool, true, false, cond, ◌&&◌, ◌==◌, nat_eq, List, [], ◌∷◌, length, slice_get, Option, Some, None, codes, refl, sym, ap, ◌∙◌, arith}
 use Rattle.std.specs.Cmp.Lexicographic.{pointwise, texts_ties}
 use Rattle.std.specs.List.{starts_with}
 use Rattle.std.specs.Ordering.{eq_by_cmp}
@@ -49,6 +49,17 @@ parts_belong text r (a ∷ b ∷ c ∷ parts) = some_three text c r (pointwise n
 -- a name is an entry's or below it where it has the entry's text
 pub at_or_below-entry : (text : Part) (name : Name) → is_at_or_below (entry_name text) name ≡ is_found text (text_of_entry name)
 at_or_below-entry text name = parts_belong text (nat_eq (rank name.namespace) (rank System)) name.parts
+
+-- a name with no third part belongs to none
+pub short-entry : (text : Part) (name : Name) → length name.parts < 3 → false ≡ is_at_or_below (entry_name text) name
+short-entry text name few = by (is_at_or_below mountpoints name) name.parts few ∙ sym (at_or_below-entry text name)
+  where
+    by : (b : Bool) (parts : List Part) → length parts < 3 → false ≡ is_found text (cond b (slice_get parts 2) None)
+    by false parts few = refl
+    by true [] few = refl
+    by true (a ∷ []) few = refl
+    by true (a ∷ b ∷ []) few = refl
+    by true (a ∷ b ∷ c ∷ parts) few = absurd (omega (arith, few))
 
 -- ---- the children of an entry
 

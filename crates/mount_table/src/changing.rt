@@ -104,8 +104,10 @@ fn belongs_to(name: &KeyName, text: &str) -> bool
     ensures belongs { result ≡ is_at_or_below (entry_name text.now) name.now }
     ensures well_formed { IsName name.now }
 {
-    // A name tells that it is well formed once it is asked for its length.
-    let _length = name.len();
+    // The mountpoints' name has two parts, and those below it have more.
+    if name.len() < 3 {
+        return false;
+    }
     match text_of_entry(name) {
         Some(other) => text == other,
         None => false,

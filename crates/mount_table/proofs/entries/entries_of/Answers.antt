@@ -1,5 +1,5 @@
 -- Each turn notes one more key, and in the end all are noted.
-use Rattle.std.proofs.Common.{ap, ap₂, sym, ◌∙◌}
+use Rattle.std.proofs.Common.{ap, ap₂, ◌∙◌}
 use Rattle.std.specs.FinMap as map
 use Rattle.general_words.proofs.Maps.{from_sorted-nil}
 use Rattle.general_words.specs.Texts.{text_cmp}
