@@ -1,9 +1,9 @@
 -- What stands in a finite map is found in it, and a property of its entries lasts where one more is inserted.
-use Rattle.std.proofs.Common.{◌≡◌, ℕ, ◌+◌, ◌≤◌, Bool, true, false, cond, not, List, [], ◌∷◌, ◌++◌, length, slice_get, Some, refl, sym, ap, ◌∙◌, arith}
+use Rattle.std.proofs.Common.{◌≡◌, ℕ, ◌+◌, Bool, true, false, cond, not, List, [], ◌∷◌, ◌++◌, length, slice_get, Some, refl, sym, ap, ◌∙◌, arith}
 use Rattle.std.specs.FinMap as map
 use Rattle.std.specs.FinMap.Entries.{where_key}
 use Rattle.std.specs.List.{AllByRecursion}
-use Rattle.std.proofs.lemmas.Bool.{cond-true, cond-false}
+use Rattle.std.proofs.lemmas.Bool.{cond-false}
 use Rattle.std.proofs.lemmas.List.{nil_from_length}
 use Rattle.model_names.specs.Name.{Name}
 use Rattle.model_names.specs.Order.{name_cmp}
@@ -11,9 +11,8 @@ use Rattle.model_names.proofs.OrderLemmas.{name_cmp_total, name_cmp-IsAntisymmet
 use Rattle.model_maps.specs.Entry.{Entry}
 use Rattle.model_maps.specs.KeyMap.{KeyMap, no_keys}
 use Rattle.key_set.specs.WithAll.{with_keys}
-use Rattle.general_words.specs.Fronts.{front}
-use Rattle.general_words.proofs.Fronts.{front-all, front-next}
-use Rattle.general_words.proofs.Maps.{entries-empty, entries-retain, get-at, each-insert, from_sorted-nil, retain-empty, retain-insert}
+use Rattle.key_set.proofs.WithAllLemmas.{with_all-none}
+use Rattle.general_words.proofs.Maps.{entries-empty, entries-retain, get-at, each-insert}
 use Rattle.general_words.proofs.Lists.{all_from_places}
 use Rattle.set_split.proofs.SplitLemmas.{both}
 
@@ -46,27 +45,18 @@ all-entries P keys each = all_from_places (λ (e : Name × Entry). P e.1) (map.e
 
 -- ---- the keys that pass a test, key by key
 
-module _ (keys : KeyMap) (p : Name → Bool) where
-  -- those of the first keys
-  abbrev pub kept : ℕ → KeyMap
-  kept n = map.retain_keys (front keys n) p
+module _ (p : Name → Bool) where
+  -- those of some keys, set among others
+  abbrev pub with_passing : List (Name × Entry) → KeyMap → KeyMap
+  with_passing es keys = with_keys (where_key name_cmp p es) keys
 
-  pub kept-none : no_keys ≡ kept 0
-  kept-none = sym (ap (λ k. map.retain_keys k p) (from_sorted-nil name_cmp) ∙ retain-empty name_cmp_total name_cmp-IsAntisymmetric p)
+  pub passing-all : (keys : KeyMap) → with_passing (map.entries keys) no_keys ≡ map.retain_keys keys p
+  passing-all keys =
+      ap (λ es. with_keys es no_keys) (sym (entries-retain name_cmp_total name_cmp-IsAntisymmetric keys p))
+      ∙ sym (with_all-none (map.retain_keys keys p) no_keys (ap length (entries-empty name_cmp Entry)))
 
-  kept-next : (i : ℕ) (e : Name × Entry) → Some e ≡ slice_get (map.entries keys) i → kept (i + 1) ≡ cond (p e.0) (map.insert (kept i) e.0 e.1) (kept i)
-  kept-next i e there =
-      ap (λ k. map.retain_keys k p) (front-next name_cmp_total name_cmp-IsAntisymmetric keys i e there)
-      ∙ retain-insert name_cmp_total name_cmp-IsAntisymmetric (front keys i) p e.0 e.1
-
-  pub kept-more : (i : ℕ) (e : Name × Entry) → Some e ≡ slice_get (map.entries keys) i → p e.0 ≡ true → kept (i + 1) ≡ map.insert (kept i) e.0 e.1
-  kept-more i e there passes = kept-next i e there ∙ cond-true (p e.0) _ _ passes
-
-  pub kept-same : (i : ℕ) (e : Name × Entry) → Some e ≡ slice_get (map.entries keys) i → p e.0 ≡ false → kept (i + 1) ≡ kept i
-  kept-same i e there fails = kept-next i e there ∙ cond-false (p e.0) _ _ fails
-
-  pub kept-all : (n : ℕ) → length (map.entries keys) ≤ n → kept n ≡ map.retain_keys keys p
-  kept-all n le = ap (λ k. map.retain_keys k p) (front-all keys n le)
+  pub passing-same : (e : Name × Entry) (rest : List (Name × Entry)) (keys : KeyMap) → p e.0 ≡ false → with_passing rest keys ≡ with_passing (e ∷ rest) keys
+  passing-same e rest keys fails = ap (λ es. with_keys es keys) (sym (cond-false (p e.0) _ _ fails))
 
 -- where as many pass a test as there are, none fails it
 pub none-fails : (keys : KeyMap) (p : Name → Bool) → length (map.entries (map.retain_keys keys p)) ≡ length (map.entries keys) → no_keys ≡ map.retain_keys keys (λ name. not (p name))

@@ -46,11 +46,7 @@ fn not_owned(
         return Ok(KeySet::new(alloc));
     }
     let mut shadow = KeySet::new(alloc);
-    let mut rest = keys.iter();
-    for place in 0..keys.len() {
-        let Some((name, entry)) = rest.next() else {
-            unreachable!()
-        };
+    for (name, entry) in keys.iter() {
         if !owns(points, i, name) {
             put(&mut shadow, name.copy()?, entry)?;
         }

@@ -49,11 +49,7 @@ pub fn first_long<'a>(
     requires { IsStrictlySortedBy name_cmp points.now }
     ensures { option_map (λ found. (found.0.now, found.1)) result ≡ first_long_in points.now mounts.now keys.now }
 {
-    let mut rest = keys.iter();
-    for i in 0..keys.len() {
-        let Some((name, entry)) = rest.next() else {
-            unreachable!()
-        };
+    for (name, entry) in keys.iter() {
         if let Some(bytes) = long_text_if_owned(points, mounts, name, entry) {
             return Some((name, bytes));
         }
