@@ -1,6 +1,5 @@
 -- Keys that are brought to other names, one after the other.
-use Rattle.std.proofs.Common.{◌≡◌, ℕ, ◌+◌, Bool, true, false, cond, List, [], ◌∷◌, ◌++◌, take, Option, Some, None, All, zero, suc, ◌<◌, slice_index_or, arith, refl, sym, ap, subst, ◌∙◌, inl}
-use Rattle.std.specs.Prelude.{slice_get}
+use Rattle.std.proofs.Common.{◌≡◌, ℕ, Bool, true, false, cond, List, [], ◌∷◌, Option, Some, None, All, zero, suc, ◌<◌, slice_index_or, arith, refl, sym, ap, subst, ◌∙◌, inl}
 use Rattle.std.specs.Option.{option_or}
 use Rattle.std.specs.FinMap as map
 use Rattle.std.specs.FinMap.Entries.{put}
@@ -17,27 +16,9 @@ use Rattle.key_set.specs.WithAll.{with_all, with_keys}
 use Rattle.key_set.proofs.WithAllLemmas.{get-with_all}
 use Rattle.tool_words.specs.declared.extents.Extent.{Extent}
 use Rattle.tool_words.specs.declared.extents.Extent.TheVariants.{Alone, WithBelow}
-use Rattle.tool_commands.specs.Commands.Trees.{brought, bytes_over, first_too_long, with_brought, sources}
+use Rattle.tool_commands.specs.Commands.Trees.{brought, with_brought, sources}
 use Rattle.tool_commands.proofs.TreeLemmas.{entries-below}
-use Rattle.general_words.proofs.Lists.{take-next}
-use Rattle.general_words.proofs.Searches.{first_some-found, first_some-next}
 use Rattle.general_words.proofs.Maps.{entries-empty}
-
--- no name so far is too long, and neither is one more
-pub long-next : (from to : Name) (keys : List (Name × Entry)) (i : ℕ) (key : Name × Entry) → Some key ≡ slice_get keys i → first_too_long from to (take i keys) ≡ None → None ≡ bytes_over (brought from to key.0) → first_too_long from to (take (i + 1) keys) ≡ None
-long-next from to keys i key found none is = first_some-next (λ k. bytes_over (brought from to k.0)) keys i key found none (sym is)
-
--- no name so far is too long, and the next one is
-pub long-found : (from to : Name) (keys : List (Name × Entry)) (i : ℕ) (key : Name × Entry) (bytes : ℕ) → Some key ≡ slice_get keys i → first_too_long from to (take i keys) ≡ None → Some bytes ≡ bytes_over (brought from to key.0) → Some bytes ≡ first_too_long from to keys
-long-found from to keys i key bytes found none is = sym (first_some-found (λ k. bytes_over (brought from to k.0)) keys i key bytes found none (sym is))
-
-with_brought-append : (from to : Name) (keys : KeyMap) (xs ys : List (Name × Entry)) → with_brought from to keys (xs ++ ys) ≡ with_brought from to (with_brought from to keys xs) ys
-with_brought-append from to keys [] ys = refl
-with_brought-append from to keys (x ∷ xs) ys = with_brought-append from to (map.insert keys (brought from to x.0) x.1) xs ys
-
--- the keys so far are set, and then one more
-pub brought-next : (from to : Name) (keys : KeyMap) (taken : List (Name × Entry)) (i : ℕ) (key : Name × Entry) → Some key ≡ slice_get taken i → with_brought from to keys (take (i + 1) taken) ≡ map.insert (with_brought from to keys (take i taken)) (brought from to key.0) key.1
-brought-next from to keys taken i key found = ap (with_brought from to keys) (take-next taken i key found) ∙ with_brought-append from to keys (take i taken) (key ∷ [])
 
 -- to set a key and others is to set the key and those with it
 insert-with_all : (others keys : KeyMap) (name : Name) (entry : Entry) → map.insert (with_all others keys) name entry ≡ with_all (map.insert others name entry) keys

@@ -172,11 +172,7 @@ fn bring_all(
     ensures long { IfOk result (λ found. found ≡ first_too_long from.now to.now (map.entries taken.now)) }
     ensures set { IfOk result (λ found. found ≡ None → keys.new ≡ with_brought from.now to.now keys.old (map.entries taken.now)) }
 {
-    let mut rest = taken.iter();
-    for i in 0..taken.len() {
-        let Some((name, entry)) = rest.next() else {
-            unreachable!()
-        };
+    for (name, entry) in taken.iter() {
         if let Some(bytes) = set_one(from, to, name, entry, keys)? {
             return Ok(Some(bytes));
         }
@@ -234,11 +230,7 @@ fn lines_below(alloc: Global, above: &KeyName, keys: &KeySet) -> Result<String, 
     ensures { IfOk result (λ lines. string_bytes lines ≡ flat_map (λ key. line_of_name key.0) (filter (λ key. is_listed above.now key.0) (map.entries keys.now))) }
 {
     let mut lines = String::new(alloc);
-    let mut rest = keys.iter();
-    for i in 0..keys.len() {
-        let Some((name, _)) = rest.next() else {
-            unreachable!()
-        };
+    for (name, _) in keys.iter() {
         push_if_listed(alloc, &mut lines, name, above)?;
     }
     Ok(lines)
