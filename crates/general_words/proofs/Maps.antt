@@ -107,17 +107,6 @@ module _ {K X : Type 0} {R : K → K → Ordering} (total : IsTotalOrder R) wher
     pub get-retain : (m : FinMap R X) (p : K → Bool) (q : K) → map.get (map.retain_keys m p) q ≡ cond (p q) (map.get m q) None
     get-retain m p q = map.get-retain_keys m p q (λ x t. ap p (sym (same q x t)))
 
-    -- a key that passes a test is inserted among those that do, and another leaves them as they are
-    pub retain-insert : (m : FinMap R X) (p : K → Bool) (k : K) (v : X) → map.retain_keys (map.insert m k v) p ≡ cond (p k) (map.insert (map.retain_keys m p) k v) (map.retain_keys m p)
-    retain-insert m p k v = map.same_map total same _ _ (λ q. get-retain (map.insert m k v) p q ∙ ap (λ o. cond (p q) o None) (map.get-insert total m k v q) ∙ by q (p k) refl (eq_by_cmp R q k) refl)
-      where
-        by : (q : K) (b : Bool) → p k ≡ b → (t : Bool) → eq_by_cmp R q k ≡ t → cond (p q) (cond t (Some v) (map.get m q)) None ≡ map.get (cond b (map.insert (map.retain_keys m p) k v) (map.retain_keys m p)) q
-        by q true is true t =
-            cond-true (p q) (Some v) None (ap p (same q k (tied _ t)) ∙ is) ∙ sym (map.get-insert total (map.retain_keys m p) k v q ∙ ap (λ b. cond b (Some v) (map.get (map.retain_keys m p) q)) t)
-        by q true is false t = sym (map.get-insert total (map.retain_keys m p) k v q ∙ ap (λ b. cond b (Some v) (map.get (map.retain_keys m p) q)) t ∙ get-retain m p q)
-        by q false is true t = let off = ap p (same q k (tied _ t)) ∙ is in cond-false (p q) (Some v) None off ∙ sym (get-retain m p q ∙ cond-false (p q) (map.get m q) None off)
-        by q false is false t = sym (get-retain m p q)
-
     -- no key passes where there is none
     pub retain-empty : (p : K → Bool) → map.retain_keys (map.empty {X = X} {R = R}) p ≡ map.empty
     retain-empty p = map.same_map total same _ _ (λ q. get-retain map.empty p q ∙ none (p q) (map.get map.empty q) (map.get-empty R q) ∙ sym (map.get-empty R q))

@@ -49,11 +49,7 @@ pub fn relative(alloc: Global, point: &KeyName, keys: &KeySet) -> Result<KeySet,
     ensures sound { IfOk result (λ found. AreSound point.now found) }
 {
     let mut all = KeySet::new(alloc);
-    let mut rest = keys.iter();
-    for i in 0..keys.len() {
-        let Some((name, entry)) = rest.next() else {
-            unreachable!()
-        };
+    for (name, entry) in keys.iter() {
         put_way(&mut all, point, name, entry)?;
     }
     Ok(all)

@@ -1,9 +1,9 @@
--- The keys so far under relative names, all sound.
-use Rattle.std.proofs.Common.{◌≡◌, drop}
-use Rattle.std.specs.FinMap as map
+-- The keys so far under relative names, all sound: with those to come they are all.
+use Rattle.std.proofs.Common.{◌≡◌, filter_map}
+use Rattle.key_set.specs.WithAll.{with_keys}
 use Rattle.mounted_files.specs.Sound.{AreSound}
-use Rattle.mounted_files.proofs.WholeLemmas.{relative_front}
+use Rattle.mounted_files.specs.Whole.{as_way, relative}
 use Rattle.mounted_files.proofs.whole.relative.Given as goal
 
-abbrev pub invariant-loop-i : goal.invariant-loop-i
-invariant-loop-i l = record { made : l.all ≡ relative_front l.point l.keys l.i; sound : AreSound l.point l.all; to_come : l.rest ≡ drop l.i (map.entries l.keys) }
+abbrev pub invariant-loop-name : goal.invariant-loop-name
+invariant-loop-name l = record { made : with_keys (filter_map (as_way l.point) l.name-iterator) l.all ≡ relative l.point l.keys; sound : AreSound l.point l.all }
