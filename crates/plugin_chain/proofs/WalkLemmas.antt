@@ -17,6 +17,10 @@ use Rattle.model_specified.proofs.SpecifiedLemmas.{entries-specified}
 use Rattle.model_specified.proofs.ViolationLemmas.{AreOfKey-still, AreOfKeys-append, AreOfKeys-one, AreOfKeys-still}
 use Rattle.plugin_chain.specs.Steps.{Adds, AddsIf, IsFirstOf, checked}
 
+-- what is added to a list that is as another was added to that one
+pub added_to : {A : Type 0} (now room after more : List A) → after ≡ room ++ more → room ≡ now → after ≡ now ++ more
+added_to now room after more added same = added ∙ ap (λ items. items ++ more) same
+
 -- ---- the four checks of a value
 
 map-append : {A B : Type 0} (f : A → B) (xs ys : List A) → map f (xs ++ ys) ≡ map f xs ++ map f ys

@@ -1,5 +1,5 @@
 //! The four checks of a key.
-ghost use Rattle.std.specs.Prelude.{◌≡◌, ◌≤◌, ◌++◌, map, OnOk};
+ghost use Rattle.std.specs.Prelude.{◌≡◌, ◌≤◌, ◌++◌, map, IfOk, IfSome, OnOk};
 ghost use Rattle.std.specs.Option.{option_to_list};
 ghost use Rattle.kdb_outside.specs.Faults.{HasRisen};
 ghost use Rattle.key_set.specs.EntryView.{entry_of};
@@ -83,16 +83,55 @@ fn check_value<P: Patterns>(
     add(list, name, check_type(alloc, value, meta)?)?;
     add(list, name, check_range(alloc, value, meta)?)?;
     add(list, name, check_enum(alloc, value, meta)?)?;
-    add(list, name, check_pattern(alloc, patterns, value, meta)?)?;
+    let room = room_for_refusal(list, name, meta)?;
+    add_at(
+        list,
+        name,
+        room,
+        check_pattern(alloc, patterns, value, meta)?,
+    )?;
     Ok(())
+}
+
+/// Takes room for a refused pattern at a key, and answers a copy of the key's name, where the key has a pattern: want of memory then comes before the
+/// search and hides no refusal.
+fn room_for_refusal(
+    list: &mut Vec<Violation>,
+    key: &KeyName,
+    meta: &Meta,
+) -> Result<Option<KeyName>, Memory>
+    ensures key { IfOk result (λ room. IfSome room (λ copy. copy ≡ key.now)) }
+    ensures same { list.new.items ≡ list.old.items }
+{
+    if meta.get("check/validation").is_none() {
+        return Ok(None);
+    }
+    list.reserve(1)?;
+    Ok(Some(key.copy()?))
 }
 
 /// Adds a breach at a key, if there is one.
 fn add(list: &mut Vec<Violation>, key: &KeyName, broken: Option<Broken>) -> Result<(), Memory>
     ensures ok { OnOk result (list.new.items ≡ list.old.items ++ map (violation_at key.now) (option_to_list broken)) }
 {
+    add_at(list, key, None, broken)
+}
+
+/// Adds a breach at a key, if there is one, under the copy of its name if that was made before.
+fn add_at(
+    list: &mut Vec<Violation>,
+    key: &KeyName,
+    copied: Option<KeyName>,
+    broken: Option<Broken>,
+) -> Result<(), Memory>
+    requires { IfSome copied (λ copy. copy ≡ key.now) }
+    ensures ok { OnOk result (list.new.items ≡ list.old.items ++ map (violation_at key.now) (option_to_list broken)) }
+{
     if let Some(Broken { rule, given }) = broken {
-        let key = key.copy()?;
+        let key = match copied {
+            Some(copy) => copy,
+            None => key.copy()?,
+        };
         list.push(Violation { key, rule, given })?;
     }
     Ok(())

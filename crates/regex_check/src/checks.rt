@@ -49,15 +49,17 @@ fn breach_of<P: Patterns>(
         (Refutes (HasRisen (P.refusals patterns.old) (P.refusals patterns.new)) pattern.now value.now)) }
     ensures later { P.refusals patterns.old ≤ P.refusals patterns.new }
 {
+    // Room for a refusal is taken before the search: so want of memory hides no refused pattern.
+    let refused = Text::new(alloc, pattern)?;
     match patterns.search(alloc, pattern, value)? {
         Search::Found => Ok(None),
         Search::Missing => {
             let given = Text::new(alloc, value)?;
             Ok(Some(Broken { rule: 7, given }))
         }
-        Search::Refused => {
-            let given = Text::new(alloc, pattern)?;
-            Ok(Some(Broken { rule: 6, given }))
-        }
+        Search::Refused => Ok(Some(Broken {
+            rule: 6,
+            given: refused,
+        })),
     }
 }
