@@ -16,8 +16,10 @@ pub const FILES: [&str; 6] = [
     "elektra.ecf",
 ];
 
-/// Some names in their order: each with the mount that owns it, and how its file names it. The last one says that `user:/sw` is a mount.
-pub const KEYS: [(&str, usize, &str); 8] = [
+/// Some names in their order: each with the mount that owns it, and how its file names it. The first one specifies the path `/a`, and the last one says that
+/// `user:/sw` is a mount.
+pub const KEYS: [(&str, usize, &str); 9] = [
+    ("spec:/a", 0, "a"),
     ("user:/a", 2, "a"),
     ("user:/b", 2, "b"),
     ("user:/sw", 3, ""),
@@ -31,6 +33,19 @@ pub const KEYS: [(&str, usize, &str); 8] = [
         "mountpoints/user:\\/sw/path",
     ),
 ];
+
+/// The key of the specification, if there is one, and its metadata: a range of numbers.
+pub const SPECIFICATION: usize = 0;
+
+pub const RANGE: (&str, &str) = ("check/range", "1-1");
+
+/// A value lies in the range, and so may be that of a key with the path `/a`.
+pub fn is_in_range(value: &str) -> bool {
+    value == "1"
+}
+
+/// The keys with that path, in their order.
+pub const SPECIFIED: [usize; 2] = [1, 6];
 
 /// What two files hold at first. The others aren't there.
 pub const USER: &str = "kdbOpen 2\n$key string 1 1\na\n1\n$key string 4 1\nsw/x\nh\n$end\n";
@@ -70,6 +85,7 @@ pub fn parent_of(number: usize) -> (&'static str, &'static [usize]) {
 /// The values of all names at first.
 pub fn first_values(alloc: Global) -> Result<Vec<Value>, Memory> {
     Ok(vec![in alloc;
+        None,
         Some("1"),
         None,
         None,

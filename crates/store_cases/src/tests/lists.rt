@@ -1,6 +1,6 @@
 //! Lists of events in no order but a fixed one, which are made up while a slow store goes along.
 
-use crate::tests::ground::{Value, put};
+use crate::tests::ground::{SPECIFICATION, Value, first_values, put};
 use crate::tests::slow::{Ask, SlowStore};
 use key_meta::Memory;
 use std::alloc::Global;
@@ -28,7 +28,8 @@ impl Numbers {
     }
 }
 
-/// A list of so many events by up to three handles, over four places. Most handles get everything first.
+/// A list of so many events by up to three handles, over four places. Most handles get everything first, and half of the lists begin with a commit of the
+/// specification.
 pub fn list_of(
     alloc: Global,
     numbers: &mut Numbers,
@@ -44,12 +45,35 @@ pub fn list_of(
             asks.push(ask)?;
         }
     }
+    if numbers.below(2) == 0 {
+        for ask in specifying(alloc)? {
+            let _ = slow.answer(&ask, false)?;
+            asks.push(ask)?;
+        }
+    }
     for _ in asks.len()..length {
         let ask = ask_of(&asks, &slow, numbers)?;
         let _ = slow.answer(&ask, false)?;
         asks.push(ask)?;
     }
     Ok(asks)
+}
+
+/// The first handle gets everything, and puts the specification.
+fn specifying(alloc: Global) -> Result<Vec<Ask>, Memory> {
+    let (handle, number, parent) = (0, 0, 0);
+    let mut values = first_values(alloc)?;
+    put(&mut values, SPECIFICATION, Some("1"));
+    Ok(vec![in alloc;
+        Ask::Get { handle, parent },
+        Ask::Prepare {
+            handle,
+            number,
+            parent,
+            values,
+        },
+        Ask::Commit { handle, number },
+    ]?)
 }
 
 /// The next event. Most sets are committed at once.
@@ -92,7 +116,7 @@ fn one_of(numbers: &mut Numbers, limit: u32) -> usize {
 fn values_of(slow: &SlowStore, numbers: &mut Numbers) -> Result<Vec<Value>, Memory> {
     let mut values = slow.present()?;
     for _ in 0..numbers.below(4) {
-        let key = numbers.below(8);
+        let key = numbers.below(9);
         put(&mut values, key, value_of(numbers.below(4)));
     }
     Ok(values)

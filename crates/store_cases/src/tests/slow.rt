@@ -1,7 +1,8 @@
 //! A store as its definitions say it, with nothing kept but the history: everything is worked out anew from it at each event.
 
 use crate::tests::ground::{
-    ELEKTRA, KEPT, KEYS, USER, Value, first_values, parent_of, point_of, put, value_at,
+    ELEKTRA, KEPT, KEYS, RANGE, SPECIFICATION, SPECIFIED, USER, Value, first_values, is_in_range,
+    parent_of, point_of, put, value_at,
 };
 use key_meta::Memory;
 use std::alloc::Global;
@@ -45,6 +46,7 @@ struct Commit {
 enum Verdict {
     Same,
     Conflict { mount: usize, by: usize },
+    Invalid { key: usize, value: &'static str },
     Commits { commit: Commit },
 }
 
@@ -198,6 +200,10 @@ impl SlowStore {
                 let point = point_of(mount);
                 format!(in self.alloc; "conflict {point} by {by} front {front}")
             }
+            Verdict::Invalid { key, value } => {
+                let name = KEYS.get(key).map_or("", |key| key.0);
+                format!(in self.alloc; "invalid {name} rule 4 given {value} front {front}")
+            }
             Verdict::Commits { commit } => {
                 if has_failed {
                     self.in_doubt.push(commit)?;
@@ -247,9 +253,35 @@ impl SlowStore {
                 return Ok(Verdict::Conflict { mount: *mount, by });
             }
         }
+        if let Some((key, value)) = self.broken(&touched, &changes)? {
+            return Ok(Verdict::Invalid { key, value });
+        }
         Ok(Verdict::Commits {
             commit: Commit { touched, changes },
         })
+    }
+
+    /// The first key of a touched mount that would lie outside the range which the specification gives it then, and its value.
+    fn broken(
+        &self,
+        touched: &[usize],
+        changes: &[(usize, Value)],
+    ) -> Result<Option<(usize, &'static str)>, Memory> {
+        let mut values = self.present()?;
+        for change in changes {
+            put(&mut values, change.0, change.1);
+        }
+        if value_at(&values, SPECIFICATION).is_none() {
+            return Ok(None);
+        }
+        for (key, (_, owner, _)) in KEYS.iter().enumerate() {
+            if let Some(value) = value_at(&values, key) {
+                if SPECIFIED.contains(&key) && touched.contains(owner) && !is_in_range(value) {
+                    return Ok(Some((key, value)));
+                }
+            }
+        }
+        Ok(None)
     }
 
     /// Notes how the values of a mount's names differ from those that the handle has seen, and tells whether they do.
@@ -328,6 +360,13 @@ fn aside_of(asked: &Asked) -> usize {
     count
 }
 
+/// The record of the specification's metadata.
+fn range_record(alloc: Global) -> Result<String, Memory> {
+    let (name, range) = RANGE;
+    let (n, r) = (name.len(), range.len());
+    format!(in alloc; "$meta {n} {r}\n{name}\n{range}\n")
+}
+
 /// The dump of the keys that a mount owns, and of the key that is kept for later.
 fn dump_of(alloc: Global, values: &[Value], mount: usize) -> Result<String, Memory> {
     let mut text = String::from_str(alloc, "kdbOpen 2\n")?;
@@ -338,6 +377,9 @@ fn dump_of(alloc: Global, values: &[Value], mount: usize) -> Result<String, Memo
                 text.push_str(format!(in alloc;
                     "$key string {n} {v}\n{name}\n{value}\n"
                 )?.as_str())?;
+                if key == SPECIFICATION {
+                    text.push_str(range_record(alloc)?.as_str())?;
+                }
             }
         }
     }
