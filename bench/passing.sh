@@ -4,13 +4,8 @@
 # git, and hyperfine of Debian's packages. Not part of the gate.
 set -eu
 cd "$(dirname "$0")/.."
-kdb=$PWD/build/kdb
-[ -x "$kdb" ] || { echo "run ./first-use.sh first" >&2; exit 1; }
-for tool in git hyperfine; do
-  command -v "$tool" >/dev/null || { echo "install $tool first (apt-get install $tool)" >&2; exit 1; }
-done
-work=$(mktemp -d)
-trap 'rm -rf "$work"' EXIT
+. bench/words.sh
+wants git hyperfine
 cd "$work"
 count=35000
 awk -v count=$count 'BEGIN {
@@ -21,12 +16,11 @@ awk -v count=$count 'BEGIN {
   }
 }'
 
-# instructions INPUT COMMAND..: how many millions it takes, where valgrind is there to count them
-instructions() {
-  command -v valgrind >/dev/null || { echo '-'; return; }
+# millions INPUT COMMAND..: how many millions of instructions it takes, or -
+millions() {
   input=$1
   shift
-  valgrind --tool=callgrind --callgrind-out-file=/dev/null "$@" 2>&1 >/dev/null <"$input" | awk '/Collected/ { printf "%.1f", $4 / 1e6 }'
+  instructions "$@" <"$input" | awk '{ if ($1) printf "%.1f", $1 / 1e6; else print "-" }'
 }
 
 # measure NAME PREPARE INPUT COMMAND..: the median of its times and the mean of its processor times, in milliseconds, and its instructions.
@@ -36,7 +30,7 @@ measure() {
   shift 3
   hyperfine --shell sh --warmup 1 --runs 15 --prepare "$prepare" --export-csv times.csv "$* <$input" >/dev/null 2>&1
   $prepare >/dev/null
-  awk -F, -v name="$name" -v count="$(instructions "$input" "$@")" 'NR == 2 {
+  awk -F, -v name="$name" -v count="$(millions "$input" "$@")" 'NR == 2 {
     printf "  %s: %.1f ms, processor time %.1f ms, %s million instructions\n", name, $(NF - 4) * 1000, ($(NF - 3) + $(NF - 2)) * 1000, count
   }' times.csv
 }

@@ -1,39 +1,12 @@
 #!/usr/bin/env bash
-# Times `kdb set` of one key on a file of 20 keys and on one of 18,270 (1 MiB), beside `git config` and sqlite3 that store the same data, in
+# Times `kdb set` of one key on files of 20, 1,000 and 18,270 short keys (1 MiB), of these in falling order, and of 1,000 keys of a kilobyte each, beside `git config` and sqlite3 that store the same data, in
 # one run: wall clock, processor time and, with valgrind, instructions; and counts what each asks of the disk: the calls of fsync and
 # fdatasync, and the bytes that it writes to files. Wants build/kdb (first-use.sh makes it), git, and hyperfine, sqlite3 and strace of
 # Debian's packages. Not part of the gate.
 set -eu
 cd "$(dirname "$0")/.."
-kdb=$PWD/build/kdb
-[ -x "$kdb" ] || { echo "run ./first-use.sh first" >&2; exit 1; }
-for tool in git hyperfine sqlite3 strace; do
-  command -v "$tool" >/dev/null || { echo "install $tool first (apt-get install $tool)" >&2; exit 1; }
-done
-work=$(mktemp -d)
-trap 'rm -rf "$work"' EXIT
-
-# data COUNT: that many keys as a dump, as git's configuration and as a table
-data() {
-  mkdir -p "$work/$1/.kdb"
-  awk -v count="$1" -v folder="$work/$1" 'BEGIN {
-    dump = folder "/.kdb/user.ecf"; git = folder "/git.cfg"; sql = folder "/rows.sql"
-    printf "kdbOpen 2\n" >dump
-    print "create table settings(name text primary key, value text); begin;" >sql
-    for (i = 0; i < count; i++) {
-      group = sprintf("app%05d", int(i / 20)); key = sprintf("key%05d", i); value = "value number " i
-      name = "sw/" group "/" key
-      printf "$key string %d %d\n%s\n%s\n", length(name), length(value), name, value >dump
-      if (group != last) printf "[sw \"%s\"]\n", group >git
-      last = group
-      printf "\t%s = %s\n", key, value >git
-      printf "insert into settings values(\"%s\", \"%s\");\n", name, value >sql
-    }
-    printf "$end\n" >dump
-    print "commit;" >sql
-  }'
-  sqlite3 "$work/$1/rows.db" <"$work/$1/rows.sql"
-}
+. bench/words.sh
+wants git hyperfine sqlite3 strace
 
 # asked COMMAND: how often it calls fsync or fdatasync, and how many bytes it writes to files
 asked() {
@@ -44,16 +17,10 @@ asked() {
     END { printf "%d syncs and %d bytes", syncs, bytes }' trace.txt
 }
 
-# instructions COMMAND..: how many it takes, where valgrind is there to count them
-instructions() {
-  command -v valgrind >/dev/null || { echo 0; return; }
-  valgrind --tool=callgrind --callgrind-out-file=/dev/null "$@" 2>&1 >/dev/null | awk '/Collected/ { print $4 }'
-}
-
-# measure COUNT: the median times and the mean processor times in milliseconds, and those of kdb over those of the others
+# measure COUNT BYTES ORDER: the median times and the mean processor times in milliseconds, and those of kdb over those of the others
 measure() {
-  data "$1"
-  cd "$work/$1"
+  data "$1-$2-$3" "$1" "$2" "$3"
+  cd "$work/$1-$2-$3"
   name=app00000/key00007 key=app00000.key00007
   for i in 0 1 2; do
     for word in new old; do
@@ -75,10 +42,10 @@ measure() {
   sh -c "${restore[1]}" >/dev/null
   ours=$(instructions "$kdb" set user:/sw/$name new)
   theirs=$(instructions git config --file git.cfg sw.$key new)
-  awk -F, -v count="$1" -v bytes="$(wc -c <.kdb/user.ecf)" -v ours="$ours" -v theirs="$theirs" '
+  awk -F, -v count="$1" -v order="$3" -v bytes="$(wc -c <.kdb/user.ecf)" -v ours="$ours" -v theirs="$theirs" '
     FNR == 2 { n += 0; median[n] = $(NF - 4) * 1000; cpu[n] = ($(NF - 3) + $(NF - 2)) * 1000; n++ }
     END {
-      printf "set one of %d keys, %d bytes: kdb %.2f ms, git config %.2f ms, sqlite3 %.2f ms\n", count, bytes, median[0], median[1], median[2]
+      printf "set one of %d keys, %d bytes, %s: kdb %.2f ms, git config %.2f ms, sqlite3 %.2f ms\n", count, bytes, order, median[0], median[1], median[2]
       printf "  kdb / git config %.2f, kdb / sqlite3 %.2f\n", median[0] / median[1], median[0] / median[2]
       printf "  processor time %.2f, %.2f and %.2f ms, kdb / git config %.2f, kdb / sqlite3 %.2f\n", cpu[0], cpu[1], cpu[2], cpu[0] / cpu[1], cpu[0] / cpu[2]
       if (ours) printf "  instructions %.2f and %.2f million, kdb / git config %.2f\n", ours / 1e6, theirs / 1e6, ours / theirs
@@ -87,5 +54,8 @@ measure() {
   cd - >/dev/null
 }
 
-measure 20
-measure 18270
+measure 20 0 rising
+measure 1000 0 rising
+measure 18270 0 rising
+measure 18270 0 falling
+measure 1000 980 rising
