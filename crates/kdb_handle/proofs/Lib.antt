@@ -7,3 +7,4 @@ mod BelongLemmas
 mod SharedLemmas
 mod HandleLemmas
 mod CloseLemmas
+pub mod Crossing
