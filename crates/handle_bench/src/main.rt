@@ -1,0 +1,98 @@
+//! Commits of handles on threads over a disk in memory, and turns at a bare lock, to be timed from outside by bench/handles.sh. The words are what is done (0
+//! commits of handles, each at a mount of its own, 1 commits at one mount, 2 turns of two seats), how many handles there are, and how many commits they make between
+//! them, or turns each seat takes.
+#![tactic(auto)]
+
+use all_formats::AllFormats;
+use disk_memory::MemDisk;
+use handle_tests::{Team, disk_with_mounts, points_of};
+use key_name::{KeyName, Namespace};
+use lock_tests::count_by_two;
+use regex_check::RegexPatterns;
+use std::alloc::Global;
+use std::env;
+use std::process::ExitCode;
+use std::sync::Wait;
+use std::thread::Threads;
+
+/// How often a commit is tried.
+const TRIES: u32 = 1_000_000;
+
+/// A word as a number; 0 where it is none.
+fn number(words: &[String], at: usize) -> u32 {
+    match words.get(at) {
+        Some(word) => word.as_str().parse().unwrap_or(0),
+        None => 0,
+    }
+}
+
+fn main(rt: HostRuntime) -> ExitCode {
+    let mut words = Vec::new(rt.alloc());
+    let Ok(args) = env::args(&rt) else {
+        return ExitCode::from(1);
+    };
+    for word in args.skip(1) {
+        if words.push(word).is_err() {
+            return ExitCode::from(1);
+        }
+    }
+    let handles = number(&words, 1);
+    let count = number(&words, 2);
+    let done = match number(&words, 0) {
+        0 => apart(&rt, rt.alloc(), handles, count),
+        1 => at_one(&rt, rt.alloc(), handles, count),
+        _ => turns(&rt, rt.alloc(), count),
+    };
+    if done == Some(true) {
+        ExitCode::from(0)
+    } else {
+        ExitCode::from(1)
+    }
+}
+
+/// Handles commit each at a mount of its own; whether all commits were made.
+fn apart<R: Threads + Wait + Sync>(
+    rt: &R,
+    alloc: Global,
+    handles: u32,
+    commits: u32,
+) -> Option<bool> {
+    let parents = points_of(alloc, handles).ok()?;
+    let disk = disk_with_mounts(alloc, handles).ok()?;
+    committed(rt, alloc, disk, &parents, commits)
+}
+
+/// Handles commit at one mount; whether all commits were made.
+fn at_one<R: Threads + Wait + Sync>(
+    rt: &R,
+    alloc: Global,
+    handles: u32,
+    commits: u32,
+) -> Option<bool> {
+    let mut parents = Vec::new(alloc);
+    for _ in 0..handles {
+        parents.push(KeyName::root(alloc, Namespace::User)).ok()?;
+    }
+    let disk = MemDisk::new(alloc, Vec::new(alloc), Vec::new(alloc), None).ok()?;
+    committed(rt, alloc, disk, &parents, commits)
+}
+
+/// A handle for each parent; whether they made so many commits between them.
+fn committed<R: Threads + Wait + Sync>(
+    rt: &R,
+    alloc: Global,
+    disk: MemDisk,
+    parents: &[KeyName],
+    commits: u32,
+) -> Option<bool> {
+    let commits = commits as u64;
+    let team = Team::open(alloc, disk, AllFormats, RegexPatterns::new(), parents.len())?;
+    let closed = team.work(rt, alloc, parents, commits, TRIES).close();
+    Some(closed.history.len() == commits)
+}
+
+/// Two seats take so many turns each; whether all of them were counted.
+fn turns<R: Threads + Wait + Sync>(rt: &R, alloc: Global, turns: u32) -> Option<bool> {
+    let tally = count_by_two(rt, alloc, turns)?;
+    Some(tally.total() == (turns as u64).saturating_mul(2))
+}
