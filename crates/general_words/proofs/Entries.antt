@@ -1,14 +1,16 @@
 -- Entries in the order of their keys: a front of them and the rest, and what is found among them.
-use Rattle.std.proofs.Common.{◌≡◌, ℕ, zero, suc, ◌+◌, ◌-◌, ◌<◌, true, false, T, cond, List, [], ◌∷◌, ◌++◌, length, get_or, take, drop, slice_get, slice_range, Some, None, refl, ap, subst, ◌∙◌, arith}
+use Rattle.std.proofs.Common.{◌≡◌, ℕ, zero, suc, ◌+◌, ◌-◌, ◌<◌, true, false, T, cond, List, [], ◌∷◌, ◌++◌, length, get_or, take, drop, map, slice_get, slice_range, Some, None, refl, ap, subst, ◌∙◌, arith}
 use Rattle.std.specs.Cmp.{IsTotalOrder, tied_itself}
 use Rattle.std.specs.FinMap.{find, is_sorted}
 use Rattle.std.specs.FinMap.Entries.{below_all, put, find-append}
+use Rattle.std.specs.List.{AllByRecursion}
+use Rattle.std.specs.List.Sorted.{IsStrictlySortedBy}
 use Rattle.std.specs.Ordering.{eq_by_cmp}
 use Rattle.std.specs.declared.cmp.Ordering.{Ordering}
 use Rattle.std.specs.declared.cmp.Ordering.TheVariants.{Less, Greater}
 use Rattle.std.specs.Option.{option_or}
 use Rattle.general_words.proofs.Tests.{first, second, both}
-use Rattle.general_words.proofs.Orders.{less, not_tied, turned}
+use Rattle.general_words.proofs.Orders.{less, is_less, not_tied, turned}
 use Rattle.general_words.proofs.Lists.{take-next, cut-next}
 
 module _ {K X : Type 0} (R : K → K → Ordering) where
@@ -73,7 +75,23 @@ module _ {K X : Type 0} (R : K → K → Ordering) where
   find_nowhere q [] h = refl
   find_nowhere q (e ∷ es) h = ap (λ b. cond b (Some e.1) (find R q es)) (h 0 e (omega arith)) ∙ find_nowhere q es (λ k d lt. h (suc k) d (omega arith))
 
+  -- a key below all entries is below their keys
+  below_keys : (x : K) (es : List (K × X)) → T (below_all R x es) → AllByRecursion (λ y. R x y ≡ Less) (map (λ e. e.0) es)
+  below_keys x [] h = tt
+  below_keys x (e ∷ es) h = (less _ (first _ _ h), below_keys x es (second _ _ h))
+
+  -- the keys of entries in order rise
+  pub keys_rise : (es : List (K × X)) → T (is_sorted R es) → IsStrictlySortedBy R (map (λ e. e.0) es)
+  unfolding IsStrictlySortedBy
+  keys_rise [] h = tt
+  keys_rise (e ∷ es) h = (below_keys e.0 es (first _ _ h), keys_rise es (second _ _ h))
+
 module _ {K X : Type 0} {R : K → K → Ordering} (total : IsTotalOrder R) where
+  -- what is below a key is below the entries behind that
+  pub below_further : (x y : K) (es : List (K × X)) → R x y ≡ Less → T (below_all R y es) → T (below_all R x es)
+  below_further x y [] lt h = tt
+  below_further x y (e ∷ es) lt h = both _ _ (is_less _ (total.trans x y e.0 lt (less _ (first _ _ h)))) (below_further x y es lt (second _ _ h))
+
   -- what is below all of a list is below what stands in it
   above : (x : K) (before : List (K × X)) (e : K × X) (rest : List (K × X)) → T (below_all R x (before ++ e ∷ rest)) → R e.0 x ≡ Greater
   above x [] e rest h = turned total x e.0 Less (less _ (first _ _ h))

@@ -1,18 +1,18 @@
 -- Finite maps: how entries make them, and what an insertion, a removal and a test of their keys give.
 use Rattle.std.proofs.Common.{◌≡◌, ℕ, ◌+◌, Bool, true, false, cond, not, T, List, [], ◌∷◌, length, take, slice_get, Option, Some, None, refl, sym, ap, subst, ◌∙◌, arith}
 use Rattle.std.specs.Prelude.{sum_by}
-use Rattle.std.specs.Cmp.{IsTotalOrder, Equal-is, eq_by_cmp_equiv}
+use Rattle.std.specs.Cmp.{IsTotalOrder, eq_by_cmp_equiv}
 use Rattle.std.specs.FinMap as map
 use Rattle.std.specs.FinMap.{FinMap, IsAntisymmetric, find, is_sorted}
 use Rattle.std.specs.FinMap.Entries.{by_order, put, where_key, find-where_key, is_sorted-put, is_sorted-where_key}
 use Rattle.std.specs.Ordering.{eq_by_cmp, is_eq}
 use Rattle.std.specs.declared.cmp.Ordering.{Ordering}
 use Rattle.std.specs.declared.cmp.Ordering.TheVariants.{Less, Equal, Greater}
-use Rattle.std.proofs.lemmas.Bool.{cond-true, cond-false}
+use Rattle.std.proofs.lemmas.Bool.{cond-true}
+use Rattle.std.proofs.lemmas.List.{nil_from_length}
 use Rattle.std.proofs.lemmas.List.Sums.{sum_by-cons}
-use Rattle.general_words.proofs.Tests.{shadowed}
+use Rattle.general_words.proofs.Tests.{shadowed, cond_nothing}
 use Rattle.general_words.proofs.Orders.{tied, itself}
-use Rattle.general_words.proofs.Lists.{no_entries}
 use Rattle.general_words.proofs.Entries.{find-front, find-next}
 
 -- ---- the map of no entries
@@ -23,7 +23,7 @@ from_sorted-nil R = map.empty_of_len _ (map.len-entries (map.from_sorted []) ∙
 
 -- the empty map has no entries
 pub entries-empty : {K : Type 0} (R : K → K → Ordering) (X : Type 0) → map.entries (map.empty {X = X} {R = R}) ≡ []
-entries-empty R X = no_entries _ (sym (map.len-entries (map.empty {X = X} {R = R})) ∙ map.len-empty R X)
+entries-empty R X = nil_from_length _ (sym (map.len-entries (map.empty {X = X} {R = R})) ∙ map.len-empty R X)
 
 -- ---- what a change of entries in the order of their keys does to the map that they make
 
@@ -109,11 +109,7 @@ module _ {K X : Type 0} {R : K → K → Ordering} (total : IsTotalOrder R) wher
 
     -- no key passes where there is none
     pub retain-empty : (p : K → Bool) → map.retain_keys (map.empty {X = X} {R = R}) p ≡ map.empty
-    retain-empty p = map.same_map total same _ _ (λ q. get-retain map.empty p q ∙ none (p q) (map.get map.empty q) (map.get-empty R q) ∙ sym (map.get-empty R q))
-      where
-        none : (b : Bool) (o : Option X) → o ≡ None → cond b o None ≡ None
-        none true o e = e
-        none false o e = refl
+    retain-empty p = map.same_map total same _ _ (λ q. get-retain map.empty p q ∙ cond_nothing (p q) (map.get map.empty q) (map.get-empty R q) ∙ sym (map.get-empty R q))
 
     pub entries-retain : (m : FinMap R X) (p : K → Bool) → map.entries (map.retain_keys m p) ≡ where_key R p (map.entries m)
     entries-retain m p =

@@ -1,4 +1,4 @@
--- Tests: two that are joined by `&&` or `||`, what holds where one does, and branches on them.
+-- Tests: two that are joined by `&&`, what holds where one does, and branches on them.
 use Rattle.std.proofs.Common.{◌≡◌, ℕ, Bool, true, false, T, not, ◌&&◌, ◌||◌, cond, nat_eq, Option, Some, None, refl, sym, ap, subst, eqb-true, eq-eqb}
 use Rattle.std.specs.Option.{option_eq}
 
@@ -51,3 +51,18 @@ number_itself (Some n) = eq-eqb n n refl
 pub shadowed : {A : Type 0} (b : Bool) (x y z : A) → cond b x (cond b y z) ≡ cond b x z
 shadowed true x y z = refl
 shadowed false x y z = refl
+
+-- an answer that only one branch has
+pub cond_some : {A : Type 0} (t : Bool) (o : Option A) (y : A) → cond t o None ≡ Some y → (t ≡ true) × (o ≡ Some y)
+cond_some true o y h = (refl, h)
+cond_some false o y h = absurd cc
+
+-- it was not given
+pub cond_off : {A : Type 0} (t : Bool) (x : A) → cond t (Some x) None ≡ None → t ≡ false
+cond_off true x h = absurd cc
+cond_off false x h = refl
+
+-- there is none to give
+pub cond_nothing : {A : Type 0} (t : Bool) (o : Option A) → o ≡ None → cond t o None ≡ None
+cond_nothing true o none = none
+cond_nothing false o none = refl

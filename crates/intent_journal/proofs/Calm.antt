@@ -3,6 +3,7 @@ use Rattle.std.proofs.Common.{◌≡◌, ℕ, ◌≤◌, List, [], ◌∷◌, Bo
 use Rattle.std.specs.Prelude.{◌==◌}
 use Rattle.std.proofs.lemmas.Bool.{eqb-true, eq-eqb}
 use Rattle.std.proofs.lemmas.Slice.Eq.{bytes_eq-Decides}
+use Rattle.general_words.proofs.Tests.{cond_some}
 use Rattle.kdb_outside.specs.Images.{Image, IsImage, KeepsImages}
 use Rattle.journal_codec.specs.declared.files.FileText.{FileText}
 use Rattle.journal_codec.specs.Entry.{journal_name}
@@ -15,14 +16,10 @@ use Rattle.intent_journal.proofs.Meanwhile.{else_weaker, else_both, meanwhile}
 use Rattle.intent_journal.proofs.Passages.{GivesEither, shut_or_holds, with_entries-same, either_same, IsDoubtful-from, IsDoubtful-only, IsSettled-doubt, IsSettled-only}
 use Rattle.intent_journal.proofs.ReadLemmas.{IsImage-kept}
 
-cond_open : (b : Bool) (o : Option (List FileText)) (entry : List FileText) → cond b o None ≡ Some entry → (b ≡ true) × (o ≡ Some entry)
-cond_open true o entry is = (refl, is)
-cond_open false o entry is = absurd (cc)
-
 -- the open entry is open, and the only one
 pub IsOpen-open_entry : (journal : List ℕ) (entry : List FileText) → open_entry journal ≡ Some entry → IsOpen entry journal
 IsOpen-open_entry journal entry is =
-    let parts = cond_open (gate journal == 1) (entry_in journal) entry is in
+    let parts = cond_some (gate journal == 1) (entry_in journal) entry is in
     record { gate_is = eqb-true (gate journal) 1 parts.0; body = parts.1 }
 
 pub open_entry-IsOpen : (journal : List ℕ) (entry : List FileText) → IsOpen entry journal → open_entry journal ≡ Some entry

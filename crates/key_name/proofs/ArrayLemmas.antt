@@ -4,6 +4,7 @@ use Rattle.std.specs.Option.{option_map, is_some}
 use Rattle.std.specs.Result.{result_map_both, result_ok}
 use Rattle.general_words.specs.Texts.{is_text}
 use Rattle.general_words.proofs.Texts.{same_text}
+use Rattle.general_words.proofs.Tests.{cond_some}
 use Rattle.std.specs.Char.{is_ascii_digit}
 use Rattle.std.specs.List.{AllByRecursion, list_all}
 use Rattle.std.proofs.lemmas.Bool.{cond-true, cond-false, and_parts, and_left, or_cases, eqb-true, eq-eqb, ne_eqb, cases_Bool, cases_eq}
@@ -14,7 +15,7 @@ use Rattle.model_names.specs.Refuses.{bad_array}
 use Rattle.model_names.proofs.ArrayLemmas.{digit_range, length-like, like_parts}
 use Rattle.model_names.proofs.EscapeLemmas.{IsUnescaped}
 use Rattle.model_names.proofs.ReadLemmas.{by_form, unescaped_from, unescaped-escape, unescaped-plain}
-use Rattle.model_names.proofs.RefusesLemmas.{from_map, cond_some}
+use Rattle.model_names.proofs.RefusesLemmas.{from_map}
 
 -- ---- the forms of a part
 

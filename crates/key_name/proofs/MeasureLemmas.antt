@@ -14,12 +14,13 @@ use Rattle.model_names.proofs.EscapeLemmas.{IsUnescaped, flat_map-escaped-same}
 use Rattle.model_names.proofs.NameLemmas.{spelled-text}
 use Rattle.model_names.proofs.PartLemmas.{slashed-raw_parts}
 use Rattle.model_names.proofs.ReadLemmas.{meaning-by_form, unescaped_from, unescaped-escape, unescaped-next}
-use Rattle.model_names.proofs.RefusesLemmas.{from_map, from_and_then, branch_taken, cond_some}
+use Rattle.model_names.proofs.RefusesLemmas.{from_map, from_and_then, branch_taken}
 use Rattle.general_words.proofs.Texts.{other_text, same_text}
 use Rattle.model_names.proofs.ArrayLemmas.{are_digits-like, canonical_part-from, is_array_like-part_of_digits}
 use Rattle.key_name.proofs.ArrayLemmas.{array_ordinary, digits_fit}
 use Rattle.key_name.proofs.WellFormedLemmas.{slashed, length-all_escaped-least, length-slashed-append}
 use Rattle.general_words.proofs.Lists.{some_is}
+use Rattle.general_words.proofs.Tests.{cond_some}
 
 -- ---- one part
 

@@ -1,8 +1,8 @@
 -- Of each record it can be told whether it has a reading behind the records before it.
-use Rattle.std.specs.Prelude.{◌≡◌, ℕ, ◌≤◌, List, ◌∷◌, Option, None, Some}
+use Rattle.std.specs.Prelude.{◌≡◌, ℕ, ◌≤◌, List, ◌∷◌, Some}
 use Rattle.std.specs.FinMap as map
 use Rattle.std.proofs.Common.{refl, sym, ap, subst, ◌∙◌, inl, inr}
-use Rattle.general_words.proofs.Lists.{found_once}
+use Rattle.general_words.proofs.Lists.{found_once, not_both}
 use Rattle.model_names.specs.Name.{Name}
 use Rattle.model_names.specs.Spells.{Spells}
 use Rattle.model_names.proofs.SpellsLemmas.{Spells-once}
@@ -12,9 +12,6 @@ use Rattle.model_formats.proofs.Telling.{IsTold, told-along, le-told, value-told
 use Rattle.model_dump.specs.Record.{RecordKind, KeyKind, MetaKind, CopyKind, Record}
 use Rattle.model_dump.specs.Adds.{Progress, AddsKey, PutsMeta, AddsMeta, CopiesMeta, AddsBy, Adds}
 use Rattle.model_dump.proofs.AddsOnce.{AddsBy-once}
-
-none_or : {A : Type 0} (o : Option A) (x : A) → o ≡ None → o ≡ Some x → ⊥
-none_or o x none some = let both = sym none ∙ some in absurd cc
 
 -- the map after a record
 abbrev Told : (Progress → Type 0) → Type 0
@@ -29,23 +26,23 @@ key-told before text value = elim (spells-told (47 ∷ text)) as (λ _. Told (Ad
         (value-told value)
     | inr found ↦ inr (λ (added : (after : Progress) × AddsKey before text value after).
         let same = Spells-once (47 ∷ text) added.1.name spelled.0 added.1.spelled spelled.1 in
-        none_or (map.get before.keys added.1.name) found.0 added.1.is_new (ap (map.get before.keys) same ∙ found.1))
+        not_both found.0 added.1.is_new (ap (map.get before.keys) same ∙ found.1))
   ]
   | inr fails ↦ inr (λ (added : (after : Progress) × AddsKey before text value after). fails (added.1.name, added.1.spelled))
 ]
 
 puts-told : (before : Progress) (name text : List ℕ) → Told (PutsMeta before name text)
 puts-told before name text = elim (option-told before.present) as (λ _. Told (PutsMeta before name text)) [
-  | inl none ↦ inr (λ (puts : (after : Progress) × PutsMeta before name text after). none_or before.present puts.1.key none puts.1.present)
+  | inl none ↦ inr (λ (puts : (after : Progress) × PutsMeta before name text after). not_both puts.1.key none puts.1.present)
   | inr key ↦ elim (option-told (map.get before.keys key.0)) as (λ _. Told (PutsMeta before name text)) [
     | inl none ↦ inr (λ (puts : (after : Progress) × PutsMeta before name text after).
-        none_or (map.get before.keys key.0) puts.1.entry none (ap (map.get before.keys) (found_once key.0 puts.1.key key.1 puts.1.present) ∙ puts.1.found))
+        not_both puts.1.entry none (ap (map.get before.keys) (found_once key.0 puts.1.key key.1 puts.1.present) ∙ puts.1.found))
     | inr entry ↦ elim (option-told (map.get entry.0.meta name)) as (λ _. Told (PutsMeta before name text)) [
       | inl is_new ↦ inl (_, record { key = key.0; present = key.1; entry = entry.0; found = entry.1; is_new = is_new; added = refl })
       | inr taken ↦ inr (λ (puts : (after : Progress) × PutsMeta before name text after).
           let keys = found_once key.0 puts.1.key key.1 puts.1.present in
           let entries = found_once entry.0 puts.1.entry entry.1 (ap (map.get before.keys) keys ∙ puts.1.found) in
-          none_or (map.get puts.1.entry.meta name) taken.0 puts.1.is_new (ap (λ (e : Entry). map.get e.meta name) (sym entries) ∙ taken.1))
+          not_both taken.0 puts.1.is_new (ap (λ (e : Entry). map.get e.meta name) (sym entries) ∙ taken.1))
     ]
   ]
 ]
@@ -70,7 +67,7 @@ copy-told before source_text name = elim (spells-told (47 ∷ source_text)) as (
   where
     earlier-told : (source : Name) → IsTold (before.present ≡ Some source)
     earlier-told source = elim (option-told before.present) as (λ _. IsTold (before.present ≡ Some source)) [
-      | inl none ↦ inr (λ is. none_or before.present source none is)
+      | inl none ↦ inr (λ is. not_both source none is)
       | inr key ↦ told-along (λ same. key.1 ∙ ap Some same) (λ is. found_once key.0 source key.1 is) (names-told key.0 source)
     ]
 
@@ -79,10 +76,10 @@ copy-told before source_text name = elim (spells-told (47 ∷ source_text)) as (
       | inl present ↦ inr (λ (copies : (after : Progress) × CopiesMeta before source_text name after). copies.1.earlier (present ∙ ap Some (same copies.1)))
       | inr earlier ↦ elim (option-told (map.get before.keys source)) as (λ _. Told (CopiesMeta before source_text name)) [
         | inl none ↦ inr (λ (copies : (after : Progress) × CopiesMeta before source_text name after).
-            none_or (map.get before.keys source) copies.1.entry none (ap (map.get before.keys) (same copies.1) ∙ copies.1.found))
+            not_both copies.1.entry none (ap (map.get before.keys) (same copies.1) ∙ copies.1.found))
         | inr entry ↦ elim (option-told (map.get entry.0.meta name)) as (λ _. Told (CopiesMeta before source_text name)) [
           | inl none ↦ inr (λ (copies : (after : Progress) × CopiesMeta before source_text name after).
-              none_or (map.get entry.0.meta name) copies.1.text none (ap (λ (e : Entry). map.get e.meta name) (entries entry.0 entry.1 copies.1) ∙ copies.1.has))
+              not_both copies.1.text none (ap (λ (e : Entry). map.get e.meta name) (entries entry.0 entry.1 copies.1) ∙ copies.1.has))
           | inr text ↦ told-along
               (λ (puts : (after : Progress) × PutsMeta before name text.0 after). (puts.0, record { source = source; spelled = spells; earlier = earlier; entry = entry.0; found = entry.1; text = text.0; has = text.1; puts = puts.1 }))
               (λ (copies : (after : Progress) × CopiesMeta before source_text name after).

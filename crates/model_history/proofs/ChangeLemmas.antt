@@ -8,6 +8,7 @@ use Rattle.std.specs.Option.{option_eq, option_map, unwrap_or}
 use Rattle.std.specs.Ordering.{eq_by_cmp, is_eq, is_lt}
 use Rattle.std.specs.declared.cmp.Ordering.{Ordering}
 use Rattle.std.specs.declared.cmp.Ordering.TheVariants.{Less, Equal, Greater}
+use Rattle.std.proofs.lemmas.List.Folds.{list_any-append}
 use Rattle.model_names.specs.Name.{Name}
 use Rattle.model_names.specs.Order.{name_cmp}
 use Rattle.model_names.proofs.OrderLemmas.{name_cmp_total, name_cmp-IsAntisymmetric}
@@ -15,9 +16,9 @@ use Rattle.model_maps.specs.Entry.{Entry}
 use Rattle.model_maps.specs.KeyMap.{KeyMap}
 use Rattle.key_set.specs.Same.{same_entry}
 use Rattle.key_set.proofs.SameLemmas.{entry_decides}
-use Rattle.general_words.proofs.Tests.{first, second}
+use Rattle.general_words.proofs.Tests.{first, second, cond_nothing}
 use Rattle.general_words.proofs.Orders.{tied}
-use Rattle.general_words.proofs.Lists.{some_is}
+use Rattle.general_words.proofs.Lists.{some_is, none_by_test}
 use Rattle.model_history.specs.Changes.{Change, Changes, change_at, named_change, difference, changed, changed_by, after}
 use Rattle.general_words.proofs.Entries.{find-below}
 
@@ -70,40 +71,33 @@ module _ (g : Name → Option (Option Entry)) where
   find-pairs q [] = refl
   find-pairs q (name ∷ names) = by (find-pairs q names) (eq_by_cmp name_cmp q name) refl (g name) refl
     where
-      rest : (b : Bool) (o : Option (Option Entry)) → o ≡ None → cond b o None ≡ None
-      rest true o e = e
-      rest false o e = refl
-
       by : find name_cmp q (filter_map pair names) ≡ cond (list_any (eq_by_cmp name_cmp q) names) (g q) None → (t : Bool) → eq_by_cmp name_cmp q name ≡ t → (o : Option (Option Entry)) → g name ≡ o → find name_cmp q (cons_option (option_map (λ change. (name, change)) o) (filter_map pair names)) ≡ cond (t || list_any (eq_by_cmp name_cmp q) names) (g q) None
       by more true t None is =
           let none : g q ≡ None = ap g (name_cmp-IsAntisymmetric q name (tied _ t)) ∙ is in
-          more ∙ rest (list_any (eq_by_cmp name_cmp q) names) (g q) none ∙ sym none
+          more ∙ cond_nothing (list_any (eq_by_cmp name_cmp q) names) (g q) none ∙ sym none
       by more true t (Some change) is =
           ap (λ b. cond b (Some change) (find name_cmp q (filter_map pair names))) t ∙ sym (ap g (name_cmp-IsAntisymmetric q name (tied _ t)) ∙ is)
       by more false t None is = more
       by more false t (Some change) is = ap (λ b. cond b (Some change) (find name_cmp q (filter_map pair names))) t ∙ more
 
-pub unfound : {A : Type 0} (o : Option A) → is_some o ≡ false → o ≡ None
-unfound None e = refl
-unfound (Some x) e = absurd cc
-
-any-append : (p : Name → Bool) (xs ys : List Name) → list_any p (xs ++ ys) ≡ (list_any p xs || list_any p ys)
-any-append p [] ys = refl
-any-append p (x ∷ xs) ys = elim (p x) as (λ b. (b || list_any p (xs ++ ys)) ≡ ((b || list_any p xs) || list_any p ys)) [ true ↦ refl | false ↦ any-append p xs ys ]
-
 pub get-difference : (before wanted : KeyMap) (q : Name) → map.get (difference before wanted) q ≡ change_at before wanted q
 get-difference before wanted q =
     map.get-from_entries name_cmp_total (filter_map (named_change before wanted) (map.keys before ++ map.keys wanted)) q
     ∙ find-pairs (change_at before wanted) q (map.keys before ++ map.keys wanted)
-    ∙ ap (λ b. cond b (change_at before wanted q) None) (any-append (eq_by_cmp name_cmp q) (map.keys before) (map.keys wanted))
+    ∙ ap (λ b. cond b (change_at before wanted q) None) (list_any-append (eq_by_cmp name_cmp q) (map.keys before) (map.keys wanted))
     ∙ by (list_any (eq_by_cmp name_cmp q) (map.keys before)) (map.contains_key-keys before q) (list_any (eq_by_cmp name_cmp q) (map.keys wanted)) (map.contains_key-keys wanted q)
   where
     by : (a : Bool) → is_some (map.get before q) ≡ a → (b : Bool) → is_some (map.get wanted q) ≡ b → cond (a || b) (change_at before wanted q) None ≡ change_at before wanted q
     by true _ b _ = refl
     by false _ true _ = refl
-    by false x false y = sym (change_at-same before wanted q (unfound _ x ∙ sym (unfound _ y)))
+    by false x false y = sym (change_at-same before wanted q (none_by_test _ x ∙ sym (none_by_test _ y)))
 
 -- ---- changes made
+
+-- one change more
+pub changed_by-snoc : (changes : List Change) (change : Change) (keys : KeyMap) → changed_by (changes ++ change ∷ []) keys ≡ changed (changed_by changes keys) change
+changed_by-snoc [] change keys = refl
+changed_by-snoc (first ∷ changes) change keys = changed_by-snoc changes change (changed keys first)
 
 -- one change: at its name what it gives, and elsewhere what was there
 get-changed : (keys : KeyMap) (change : Change) (q : Name) → map.get (changed keys change) q ≡ cond (eq_by_cmp name_cmp q change.0) change.1 (map.get keys q)

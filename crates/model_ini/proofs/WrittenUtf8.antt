@@ -5,8 +5,9 @@ use Rattle.std.specs.List.{flat_map}
 use Rattle.std.specs.Str.{IsUtf8}
 use Rattle.std.proofs.lemmas.Bool.{eqb-true, or_cases}
 use Rattle.std.proofs.lemmas.Str.{IsUtf8-append}
+use Rattle.general_words.proofs.Tests.{cond_some}
 use Rattle.model_names.proofs.PartLemmas.{IsUtf8-cons}
-use Rattle.model_names.proofs.RefusesLemmas.{from_map, from_and_then, cond_some, branch_taken}
+use Rattle.model_names.proofs.RefusesLemmas.{from_map, from_and_then, branch_taken}
 use Rattle.model_lines.proofs.Utf8Lemmas.{utf8-before, utf8-behind}
 use Rattle.model_ini.specs.declared.signs.Sign.{Sign}
 use Rattle.model_ini.specs.declared.signs.Sign.TheVariants.{Plain, Covered}

@@ -10,9 +10,9 @@ use Rattle.std.proofs.lemmas.Bool.{cond_both, cond-true, cond-false, and_from, a
 use Rattle.std.proofs.lemmas.Fmt.{decimal_is_IsNumeral, decimal-digits_value, decimal_digit, first_decimal}
 use Rattle.std.proofs.lemmas.List.{length-replicate}
 use Rattle.std.proofs.lemmas.Str.Parse.{IsDigitsTest, IsNumeralModel, numerals_by_value, digit_at}
+use Rattle.general_words.proofs.Tests.{cond_some}
 use Rattle.model_names.specs.Name.{Part}
 use Rattle.model_names.specs.ArrayPart.{last_index, without_underscores, are_digits, is_array_like, digits_of, underscores_of, has_leading_zero, is_index, is_canonical, is_bare, IsArrayPart, part_of_digits, array_part, canonical_part}
-use Rattle.model_names.proofs.RefusesLemmas.{cond_some}
 
 -- ---- digits
 

@@ -5,7 +5,7 @@ use Rattle.std.specs.List.{AllByRecursion, flat_map, onto_first}
 use Rattle.std.specs.Option.{option_map}
 use Rattle.std.specs.Str.{IsUtf8, all_scalars}
 use Rattle.std.proofs.lemmas.Bool.{true≢false, false_from_ne_true, cond_both, cond-true, cond-false, and_parts, or_from, or_parts, ne_eqb, cases_Bool, cases_eq, eqb-false, eqb-true}
-use Rattle.std.proofs.lemmas.List.{append-nil}
+use Rattle.std.proofs.lemmas.List.{append-nil, nil_from_length}
 use Rattle.std.proofs.lemmas.List.Concat.{flat_map-append}
 use Rattle.std.proofs.lemmas.Slice.Eq.{bytes_eq-Decides}
 use Rattle.std.proofs.lemmas.Str.{IsUtf8-append, IsUtf8-nil, IsUtf8-encode, encode_ascii}
@@ -82,14 +82,10 @@ data SpelledAs (part : Part) : Type 0 where
   AsDots : part ≡ codes ".." → SpelledAs part
   AsText : (length part == 0) ≡ false → is_reserved part ≡ false → SpelledAs part
 
-empty_from_length : (part : Part) → (length part == 0) ≡ true → part ≡ []
-empty_from_length [] e = refl
-empty_from_length (b ∷ part) e = let h = eqb-true (length (b ∷ part)) 0 e in absurd (omega arith)
-
 spelled_as : (part : Part) → SpelledAs part
 spelled_as part =
     elim (cases_Bool (length part == 0)) [
-      | inl e ↦ AsEmpty (empty_from_length part e)
+      | inl e ↦ AsEmpty (nil_from_length part (eqb-true (length part) 0 e))
       | inr filled ↦ elim (cases_Bool (is_text part (codes "%"))) [
         | inl e ↦ AsPercent (same_text part (codes "%") e)
         | inr percent ↦ elim (cases_Bool (is_text part (codes "."))) [

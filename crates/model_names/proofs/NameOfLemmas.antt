@@ -5,6 +5,7 @@ use Rattle.std.specs.Option.{option_map}
 use Rattle.std.specs.Str.{is_utf8}
 use Rattle.std.proofs.lemmas.Bool.{and_from, and_parts, cond-true, cond-false}
 use Rattle.std.proofs.lemmas.Str.{IsUtf8-from_is_utf8, is_utf8-from_IsUtf8}
+use Rattle.general_words.proofs.Tests.{cond_some}
 use Rattle.model_names.specs.declared.namespaces.Namespace.{Namespace}
 use Rattle.model_names.specs.declared.namespaces.Namespace.TheVariants.{Cascading, Spec, Proc, Dir, User, System, Default}
 use Rattle.model_names.specs.Name.{Name}
@@ -13,7 +14,7 @@ use Rattle.model_names.specs.RawParts.{raw_parts}
 use Rattle.model_names.specs.Refuses.{At, Refused, Refusal, start_of_text, refusal_of}
 use Rattle.model_names.specs.Spelling.{word_of}
 use Rattle.model_names.specs.Spells.{Spells, walked}
-use Rattle.model_names.proofs.RefusesLemmas.{cond_some, refusal_of-spelled, start_of_text-word, Spells-from_no_refusal}
+use Rattle.model_names.proofs.RefusesLemmas.{refusal_of-spelled, start_of_text-word, Spells-from_no_refusal}
 use Rattle.model_names.proofs.SpellsLemmas.{drop-word}
 
 namespace_before-word : (n : Namespace) (rest : List ℕ) → namespace_before (word_of n ++ 47 ∷ rest) (length (word_of n)) ≡ Some n

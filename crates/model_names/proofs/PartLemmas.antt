@@ -20,9 +20,10 @@ use Rattle.model_names.specs.WellFormed.{IsPart}
 use Rattle.model_names.proofs.ArrayLemmas.{are_digits-like, canonical_part-from, ascii-part_of_digits, is_canonical-part_of_digits}
 use Rattle.model_names.proofs.EscapeLemmas.{IsUnescaped-encode_utf8, read_all, escapes_no_letter}
 use Rattle.model_names.proofs.ReadLemmas.{meaning-by_form, unescaped_from, unescaped-escape, unescaped-next}
-use Rattle.model_names.proofs.RefusesLemmas.{from_map, from_and_then, cond_some, branch_taken}
+use Rattle.model_names.proofs.RefusesLemmas.{from_map, from_and_then, branch_taken}
 use Rattle.model_names.proofs.SpellsLemmas.{is_ascii_text_byte, no_nul-from_test, is_ascii-from_test}
 use Rattle.general_words.proofs.Lists.{some_is, all_append, all_back}
+use Rattle.general_words.proofs.Tests.{cond_some}
 
 -- ---- texts
 

@@ -4,10 +4,7 @@ use Rattle.std.specs.List.{onto_first}
 use Rattle.std.proofs.lemmas.Bool.{cases_eq, eq-eqb, ne_eqb}
 use Rattle.model_names.specs.RawParts.{raw_parts_from, put_before}
 use Rattle.model_names.specs.RawCuts.{HasWholeEscapes, Empty, Byte, Escape, HasBareSlash, AreCut}
-use Rattle.general_words.proofs.Lists.{head_is}
-
-tail_is : (a b : ℕ) (x y : List ℕ) → a ∷ x ≡ b ∷ y → x ≡ y
-tail_is a b x y e = cc
+use Rattle.general_words.proofs.Lists.{head_is, tail_is}
 
 whole_behind : (b : ℕ) (bytes : List ℕ) → b ≢ 92 → HasWholeEscapes (b ∷ bytes) → HasWholeEscapes bytes
 whole_behind b bytes other (Byte c left ne rest) = rest

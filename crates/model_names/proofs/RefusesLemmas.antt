@@ -18,6 +18,7 @@ use Rattle.model_names.specs.Spells.{Spells, Move, meaning, moved, read_part, wa
 use Rattle.model_names.specs.Refuses.{Refusal, NoNamespace, UnknownNamespace, NoSlash, BadEscape, BadArray, Nul, TooLong, Start, At, Refused, namespace_of_word, begins_with_slash, start_behind, start_of_text, placed, bad_escape, bad_array, too_long, refusal_behind, refusal_of}
 use Rattle.model_names.proofs.SpellsLemmas.{drop-word}
 use Rattle.general_words.proofs.Texts.{same_text}
+use Rattle.general_words.proofs.Tests.{cond_off}
 
 -- ---- options
 
@@ -36,11 +37,6 @@ from_or (Some x) b h = absurd cc
 map_none : {A B : Type 0} (f : A → B) (o : Option A) → option_map f o ≡ None → o ≡ None
 map_none f None h = refl
 map_none f (Some x) h = absurd cc
-
--- an answer that only one branch has
-pub cond_some : {A : Type 0} (t : Bool) (o : Option A) (y : A) → cond t o None ≡ Some y → (t ≡ true) × (o ≡ Some y)
-cond_some true o y h = (refl, h)
-cond_some false o y h = absurd cc
 
 -- which of two branches was taken
 pub branch_taken : {A G : Type 0} (t : Bool) (x y z : A) → cond t x y ≡ z → (t ≡ true → x ≡ z → G) → (y ≡ z → G) → G
@@ -122,11 +118,7 @@ all_above_nul (b ∷ text) h =
 
 pub no_nul-from_position : (text : List ℕ) → position (λ b. b == 0) text ≡ None → AllByRecursion (λ b. 0 < b) text
 no_nul-from_position text h =
-    all_above_nul text (ltb-false _ _ (no_some (nat_lt (position_or_len (λ b. b == 0) text) (length text)) _ h))
-  where
-    no_some : (t : Bool) (n : ℕ) → cond t (Some n) None ≡ None → t ≡ false
-    no_some true n h = absurd cc
-    no_some false n h = refl
+    all_above_nul text (ltb-false _ _ (cond_off (nat_lt (position_or_len (λ b. b == 0) text) (length text)) _ h))
 
 -- ---- the length
 
@@ -136,13 +128,9 @@ too_long-at raws parts h = ap (option_and_then (λ parts. cond (nat_lt longest_p
 pub too_long-short : (raws : List (List ℕ)) (parts : List Part) → walked [] raws ≡ Some parts → length (path_of_parts parts) ≤ longest_path → too_long raws ≡ None
 too_long-short raws parts h short = too_long-at raws parts h ∙ cond-false _ _ _ (le-ltb longest_path (length (path_of_parts parts)) short)
 
-no_some : (t : Bool) (n : ℕ) → cond t (Some n) None ≡ None → t ≡ false
-no_some true n h = absurd cc
-no_some false n h = refl
-
 short_from_too_long : (raws : List (List ℕ)) (parts : List Part) → walked [] raws ≡ Some parts → too_long raws ≡ None → length (path_of_parts parts) ≤ longest_path
 short_from_too_long raws parts h none =
-    ltb-false longest_path (length (path_of_parts parts)) (no_some _ (length (path_of_parts parts)) (sym (too_long-at raws parts h) ∙ none))
+    ltb-false longest_path (length (path_of_parts parts)) (cond_off _ (length (path_of_parts parts)) (sym (too_long-at raws parts h) ∙ none))
 
 -- ---- the start
 

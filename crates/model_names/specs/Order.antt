@@ -9,9 +9,6 @@ use Rattle.model_names.specs.Name.{Name, Part, rank}
 abbrev pub part_cmp : Part → Part → Ordering
 part_cmp = slice_cmp nat_cmp
 
-abbrev pub parts_cmp : Name → Name → Ordering
-parts_cmp = on (λ n. n.parts) (slice_cmp (slice_cmp nat_cmp))
-
 -- the order of names
 abbrev pub name_cmp : Name → Name → Ordering
 name_cmp = then_cmp (on (λ n. rank n.namespace) nat_cmp) (on (λ n. n.parts) (slice_cmp (slice_cmp nat_cmp)))

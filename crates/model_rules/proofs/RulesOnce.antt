@@ -1,17 +1,14 @@
 -- A value breaks the rules of one check in one way at most.
-use Rattle.std.specs.Prelude.{◌≡◌, ℕ, ◌<◌, List, length, Option, None, Some}
+use Rattle.std.specs.Prelude.{◌≡◌, ℕ, ◌<◌, List, length}
 use Rattle.std.proofs.Common.{sym, ap, subst, ◌∙◌, arith, get_or}
 use Rattle.std.proofs.lemmas.List.{same_lists}
 use Rattle.std.proofs.lemmas.Option.{slice_get-get_or}
-use Rattle.general_words.proofs.Lists.{found_once}
+use Rattle.general_words.proofs.Lists.{found_once, not_both}
 use Rattle.model_maps.specs.Entry.{Meta, IsArray}
 use Rattle.model_rules.specs.Types.{kind_of}
 use Rattle.model_rules.specs.Rules.{BreaksType, UnknownType, WrongType, BreaksRange, BadRange, OutOfRange, BreaksEnum, breach}
 use Rattle.model_rules.specs.Range.{IsRange}
 use Rattle.model_rules.specs.declared.breaches.Broken.{Broken}
-
-not_both : {A : Type 0} {o : Option A} (a : A) → o ≡ None → o ≡ Some a → ⊥
-not_both a p q = cc
 
 -- an array ends where another goes on
 no_shorter : (meta : Meta) (prefix : List ℕ) (a b : List (List ℕ)) → IsArray meta prefix a → IsArray meta prefix b → length a < length b → ⊥

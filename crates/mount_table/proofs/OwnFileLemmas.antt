@@ -11,12 +11,12 @@ use Rattle.general_words.specs.Texts.{is_text}
 use Rattle.general_words.proofs.Lists.{some_is, all_append}
 use Rattle.general_words.proofs.Maps.{entries-empty}
 use Rattle.general_words.proofs.Texts.{is_text-Decides}
+use Rattle.general_words.proofs.Tests.{cond_some}
 use Rattle.kdb_outside.specs.FileName.{IsFileName, is_file_name}
 use Rattle.kdb_outside.proofs.FileNameLemmas.{is_file_name-Decides}
 use Rattle.model_names.specs.Name.{Name, Part}
 use Rattle.model_names.specs.Order.{name_cmp}
 use Rattle.model_names.proofs.OrderLemmas.{name_cmp_total}
-use Rattle.model_names.proofs.RefusesLemmas.{cond_some}
 use Rattle.model_maps.specs.KeyMap.{KeyMap}
 use Rattle.mount_table.specs.Entries.{entries_of}
 use Rattle.mount_table.specs.Points.{point_of, file_of}

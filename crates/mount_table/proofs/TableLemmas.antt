@@ -17,7 +17,7 @@ use Rattle.model_names.specs.NameOf.{name_of}
 use Rattle.model_names.specs.Namespaces.{has_files}
 use Rattle.model_names.specs.Order.{name_cmp}
 use Rattle.model_names.proofs.OrderLemmas.{name_cmp_total, name_cmp-IsAntisymmetric}
-use Rattle.model_names.proofs.RefusesLemmas.{from_and_then, cond_some}
+use Rattle.model_names.proofs.RefusesLemmas.{from_and_then}
 use Rattle.general_words.specs.Texts.{text_cmp}
 use Rattle.mount_table.specs.Entries.{Entries}
 use Rattle.mount_table.specs.Points.{is_point, point_of, file_of}
@@ -28,7 +28,7 @@ use Rattle.mount_table.specs.declared.faults.TableFault.{TableFault}
 use Rattle.mount_table.specs.declared.faults.TableFault.TheVariants.{BadMountpoint, NoPath, BadPath, UnknownPlugin, FileTwice, TooMany}
 use Rattle.mount_table.specs.declared.mounts.Mount.{Mount}
 use Rattle.general_words.proofs.Lists.{some_is, all_append}
-use Rattle.general_words.proofs.Tests.{first, second}
+use Rattle.general_words.proofs.Tests.{first, second, cond_some}
 use Rattle.general_words.proofs.Orders.{less}
 
 pub is_some-copied : {X : Type 0} (o : Option (Bor X)) → is_some (option_copied o) ≡ is_some o

@@ -17,7 +17,7 @@ use Rattle.set_split.specs.Involved.{owns}
 use Rattle.set_split.specs.Parts.{owned_by}
 use Rattle.general_words.proofs.Maps.{get-retain}
 use Rattle.general_words.proofs.Orders.{tied}
-use Rattle.model_names.proofs.RefusesLemmas.{cond_some}
+use Rattle.general_words.proofs.Tests.{cond_some}
 use Rattle.mounted_files.specs.Setting.{first_long_in, long_in, long_text}
 use Rattle.mounted_files.specs.Short.{AreShort}
 use Rattle.mounted_files.specs.Whole.{as_way, as_whole, relative, whole}

@@ -9,13 +9,9 @@ use Rattle.std.specs.declared.cmp.Ordering.TheVariants.{Less, Equal, Greater}
 use Rattle.sorted_map.specs.Merge.{put_all, firsts_cmp}
 use Rattle.general_words.proofs.Tests.{both, first, second}
 use Rattle.general_words.proofs.Orders.{less, is_less, turned}
+use Rattle.general_words.proofs.Entries.{below_further}
 
 module _ {K X : Type 0} (R : K → K → Ordering) (o : IsTotalOrder R) where
-  -- what stands before a key stands before the keys behind that
-  below_further : (x y : K) (es : List (K × X)) → R x y ≡ Less → T (below_all R y es) → T (below_all R x es)
-  below_further x y [] lt h = tt
-  below_further x y (e ∷ es) lt h = both _ _ (is_less _ (o.trans x y e.0 lt (less _ (first _ _ h)))) (below_further x y es lt (second _ _ h))
-
   -- so does what ties with it
   below_tied : (x y : K) (es : List (K × X)) → R x y ≡ Equal → T (below_all R y es) → T (below_all R x es)
   below_tied x y [] ties h = tt
@@ -31,7 +27,7 @@ module _ {K X : Type 0} (R : K → K → Ordering) (o : IsTotalOrder R) where
   -- the first entry of the list into which others are put, where it has the smaller key
   first_of_ours : (e : K × X) (es fs : List (K × X)) → T (is_sorted R fs) → firsts_cmp R (e ∷ es) fs ≡ Less → put_all R fs (e ∷ es) ≡ e ∷ put_all R fs es
   first_of_ours e es [] h lt = refl
-  first_of_ours e es (f ∷ fs) h lt = put_all-first e es (f ∷ fs) (both _ _ (is_less _ lt) (below_further e.0 f.0 fs lt (first _ _ h)))
+  first_of_ours e es (f ∷ fs) h lt = put_all-first e es (f ∷ fs) (both _ _ (is_less _ lt) (below_further o e.0 f.0 fs lt (first _ _ h)))
 
   -- the first of the others, where it has the smaller key
   first_of_theirs : (f : K × X) (es fs : List (K × X)) → T (is_sorted R (f ∷ fs)) → firsts_cmp R es (f ∷ fs) ≡ Greater → put_all R (f ∷ fs) es ≡ f ∷ put_all R fs es

@@ -7,6 +7,10 @@ use Rattle.std.specs.Ordering.{eq_by_cmp, is_lt}
 use Rattle.std.specs.declared.cmp.Ordering.{Ordering}
 use Rattle.std.specs.declared.cmp.Ordering.TheVariants.{Less, Equal, Greater}
 
+pub mapped-cond : {X Y : Type 0} (f : X → Y) (b : Bool) (v : X) (o : Option X) → option_map f (cond b (Some v) o) ≡ cond b (Some (f v)) (option_map f o)
+mapped-cond f true v o = refl
+mapped-cond f false v o = refl
+
 module _ {K X Y : Type 0} (R : K → K → Ordering) (f : X → Y) where
   abbrev pub seen : List (K × X) → List (K × Y)
   seen es = map (λ e. (e.0, f e.1)) es
@@ -19,13 +23,9 @@ module _ {K X Y : Type 0} (R : K → K → Ordering) (f : X → Y) where
   is_sorted-seen [] = refl
   is_sorted-seen (e ∷ es) = λ i. below_all-seen e.0 es i && is_sorted-seen es i
 
-  mapped-cond : (b : Bool) (v : X) (o : Option X) → option_map f (cond b (Some v) o) ≡ cond b (Some (f v)) (option_map f o)
-  mapped-cond true v o = refl
-  mapped-cond false v o = refl
-
   pub find-seen : (q : K) (es : List (K × X)) → find R q (seen es) ≡ option_map f (find R q es)
   find-seen q [] = refl
-  find-seen q (e ∷ es) = ap (cond (eq_by_cmp R q e.0) (Some (f e.1))) (find-seen q es) ∙ sym (mapped-cond (eq_by_cmp R q e.0) e.1 (find R q es))
+  find-seen q (e ∷ es) = ap (cond (eq_by_cmp R q e.0) (Some (f e.1))) (find-seen q es) ∙ sym (mapped-cond f (eq_by_cmp R q e.0) e.1 (find R q es))
 
   pub put-seen : (q : K) (v : X) (es : List (K × X)) → put R q (f v) (seen es) ≡ seen (put R q v es)
   put-seen q v [] = refl

@@ -1,6 +1,7 @@
-use Rattle.std.specs.Prelude.{◌≡◌, List, [], ◌∷◌, length, codes}
+use Rattle.std.specs.Prelude.{◌≡◌, [], ◌∷◌, codes}
 use Rattle.std.specs.FinMap as map
-use Rattle.std.proofs.Common.{refl, sym, ◌∙◌, arith}
+use Rattle.std.proofs.Common.{refl, ◌∙◌}
+use Rattle.general_words.proofs.Maps.{entries-empty}
 use Rattle.model_names.specs.declared.namespaces.Namespace.TheVariants.{Cascading}
 use Rattle.model_names.specs.Name.{Name}
 use Rattle.model_names.specs.Order.{name_cmp}
@@ -27,15 +28,8 @@ keys_c = map.insert no_keys name_c one
 abbrev keys_bc : KeyMap
 keys_bc = map.insert keys_c name_b one
 
-none_of_none : (es : List (Name × Entry)) → length es ≡ 0 → es ≡ []
-none_of_none [] e = refl
-none_of_none (x ∷ es) e = absurd (omega arith)
-
-no_entries : map.entries no_keys ≡ []
-no_entries = none_of_none _ (sym (map.len-entries no_keys) ∙ map.len-empty name_cmp Entry)
-
 one_entry : map.entries keys_c ≡ (name_c, one) ∷ []
-one_entry = map.entries-insert name_cmp_total no_keys name_c one ∙ rw no_entries
+one_entry = map.entries-insert name_cmp_total no_keys name_c one ∙ rw (entries-empty name_cmp Entry)
 
 two_entries : map.entries keys_bc ≡ (name_b, one) ∷ (name_c, one) ∷ []
 two_entries = map.entries-insert name_cmp_total keys_c name_b one ∙ rw one_entry
