@@ -2,6 +2,7 @@
 use Rattle.std.proofs.Common.{◌≡◌, ℕ, zero, suc, ◌+◌, ◌-◌, nat_lt, ◌<◌, ◌≤◌, Bool, true, false, cond, List, [], ◌∷◌, ◌++◌, length, drop, slice_get, Some, None, refl, sym, ap, ◌∙◌, arith}
 use Rattle.std.specs.List.{position_from}
 use Rattle.std.proofs.lemmas.Bool.{ltb-true, ltb-false}
+use Rattle.std.proofs.lemmas.List.{drop_all}
 use Rattle.general_words.proofs.Lists.{some_is}
 use Rattle.model_maps.specs.KeyMap.{KeyMap}
 use Rattle.model_history.specs.Changes.{changed_by}
@@ -75,12 +76,6 @@ length-behind xs zero lt = omega arith
 length-behind [] (suc front) lt = absurd (omega arith)
 length-behind (x ∷ xs) (suc front) lt = omega (arith, length-behind xs front (omega arith))
 
-past : {A : Type 0} (xs : List A) (front : ℕ) → length xs ≤ front → drop front xs ≡ []
-past [] zero le = refl
-past (x ∷ xs) zero le = absurd (omega arith)
-past [] (suc front) le = refl
-past (x ∷ xs) (suc front) le = past xs front (omega arith)
-
 module _ (history : List Commit) (mount front : ℕ) where
   at_front : (at : ℕ) → front ≤ at → front + (at - front) ≡ at
   at_front at le = omega arith
@@ -95,7 +90,7 @@ module _ (history : List Commit) (mount front : ℕ) where
   ] refl
     where
       nowhere : length history ≤ front → ⊥
-      nowhere le = let none : position_from (touches mount) (front + 1) (drop front history) ≡ None = ap (position_from (touches mount) (front + 1)) (past history front le) in absurd cc
+      nowhere le = let none : position_from (touches mount) (front + 1) (drop front history) ≡ None = ap (position_from (touches mount) (front + 1)) (drop_all front history le) in absurd cc
 
   pub first_after-there : (number : ℕ) (commit : Commit) → first_after history mount front ≡ Some (number + 1) → slice_get history number ≡ Some commit → touches mount commit ≡ true
   first_after-there number commit e there =

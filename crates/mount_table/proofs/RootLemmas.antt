@@ -13,6 +13,7 @@ use Rattle.std.proofs.lemmas.List.{get_or_default, length-map}
 use Rattle.general_words.specs.Texts.{text_cmp}
 use Rattle.general_words.proofs.Lists.{some_is}
 use Rattle.general_words.proofs.Texts.{text_cmp-IsAntisymmetric}
+use Rattle.general_words.proofs.Entries.{keys_rise}
 use Rattle.key_name.specs.Owner.{owner_of}
 use Rattle.key_name.proofs.OwnerLemmas.{owner_of-last}
 use Rattle.model_maps.specs.KeyMap.{KeyMap}
@@ -34,7 +35,7 @@ use Rattle.mount_table.specs.Table.{root_mounts, own_mount, remains, remaining, 
 use Rattle.mount_table.specs.declared.entries.MountEntry.{MountEntry}
 use Rattle.mount_table.specs.declared.mounts.Mount.{Mount}
 use Rattle.mount_table.proofs.CountLemmas.{is_limited}
-use Rattle.mount_table.proofs.TableLemmas.{InFiles-remaining, in_files_from, IsKeyed-by_point, ascend, points-keyed, from_then, ok_is, point_of-mount, mount_of-next, IsPoint-from}
+use Rattle.mount_table.proofs.TableLemmas.{InFiles-remaining, in_files_from, IsKeyed-by_point, points-keyed, from_then, ok_is, point_of-mount, mount_of-next, IsPoint-from}
 
 -- ---- a mount at a point
 
@@ -192,7 +193,7 @@ has_owner keys mounts name ok files =
     let root : Name = record { namespace = name.namespace; parts = [] } in
     let there : map.contains_key (by_point all) root ≡ true = has_fold root all map.empty (inl (has_root entries all name.namespace read.1 files)) in
     let points : over (λ mount. mount.at) (in_order all) ≡ map.keys (by_point all) = points-keyed (map.entries (by_point all)) (IsKeyed-by_point all (in_files_from (remaining entries) (map.entries entries) all (InFiles-remaining entries) read.1)) in
-    let rise : IsStrictlySortedBy name_cmp (over (λ mount. mount.at) (in_order all)) = subst (IsStrictlySortedBy name_cmp) (sym points) (ascend (map.entries (by_point all)) (map.entries_sorted (by_point all))) in
+    let rise : IsStrictlySortedBy name_cmp (over (λ mount. mount.at) (in_order all)) = subst (IsStrictlySortedBy name_cmp) (sym points) (keys_rise name_cmp (map.entries (by_point all)) (map.entries_sorted (by_point all))) in
     let found = owner_there (over (λ mount. mount.at) (in_order all)) name rise root (at_root name) (ap (list_any (eq_by_cmp name_cmp root)) points ∙ sym (map.contains_key-keys (by_point all) root) ∙ there) in
     subst (λ (ms : List Mount). (m : ℕ) × (m < length ms) × (owner_of (over (λ mount. mount.at) ms) name ≡ Some m)) (is_limited (in_order all) mounts read.2)
     (found.0, subst (λ n. found.0 < n) (length-map (in_order all) (λ mount. mount.at)) found.1, found.2)

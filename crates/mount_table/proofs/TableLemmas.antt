@@ -2,16 +2,15 @@
 use Rattle.std.proofs.Common.{◌≡◌, ℕ, ◌+◌, ◌<◌, ◌≤◌, Bool, true, false, cond, ltb, T, List, [], ◌∷◌, ◌++◌, length, take, get_or, map as over, filter, fold, Option, Some, None, is_some, ok_or, Result, Ok, Err, refl, sym, ap, subst, ◌∙◌, arith, length-append, Bor}
 use Rattle.std.specs.FinMap as map
 use Rattle.std.specs.FinMap.{FinMap, is_sorted}
-use Rattle.std.specs.FinMap.Entries.{put, by_order, below_all}
+use Rattle.std.specs.FinMap.Entries.{put, by_order}
 use Rattle.std.specs.List.{AllByRecursion, list_all}
-use Rattle.std.specs.List.Sorted.{IsStrictlySortedBy}
 use Rattle.std.specs.Option.{option_copied}
 use Rattle.std.specs.declared.cmp.Ordering.{Ordering}
 use Rattle.std.specs.declared.cmp.Ordering.TheVariants.{Less, Equal, Greater}
 use Rattle.std.proofs.lemmas.Bool.{and_from, and_parts, cond-true, cond-false, lt-ltb, le-ltb}
 use Rattle.std.proofs.lemmas.List.{length-map}
 use Rattle.std.proofs.lemmas.List.Sums.{fold_more}
-use Rattle.general_words.proofs.Maps.{from_sorted-nil}
+use Rattle.general_words.proofs.Maps.{entries-empty}
 use Rattle.model_names.specs.Name.{Name, Part}
 use Rattle.model_names.specs.NameOf.{name_of}
 use Rattle.model_names.specs.Namespaces.{has_files}
@@ -28,8 +27,8 @@ use Rattle.mount_table.specs.declared.faults.TableFault.{TableFault}
 use Rattle.mount_table.specs.declared.faults.TableFault.TheVariants.{BadMountpoint, NoPath, BadPath, UnknownPlugin, FileTwice, TooMany}
 use Rattle.mount_table.specs.declared.mounts.Mount.{Mount}
 use Rattle.general_words.proofs.Lists.{some_is, all_append}
-use Rattle.general_words.proofs.Tests.{first, second, cond_some}
-use Rattle.general_words.proofs.Orders.{less}
+use Rattle.general_words.proofs.Tests.{cond_some}
+use Rattle.general_words.proofs.Entries.{keys_rise}
 
 pub is_some-copied : {X : Type 0} (o : Option (Bor X)) → is_some (option_copied o) ≡ is_some o
 is_some-copied None = refl
@@ -136,11 +135,8 @@ IsKeyed-fold [] table files h = h
 IsKeyed-fold (mount ∷ mounts) table files h =
     IsKeyed-fold mounts (map.insert table mount.at mount) files.1 (subst (AllByRecursion IsKeyed) (sym (map.entries-insert name_cmp_total table mount.at mount)) (IsKeyed-put mount (map.entries table) files.0 h))
 
-no_entries : map.entries (map.empty {X = Mount} {R = name_cmp}) ≡ []
-no_entries = ap map.entries (sym (from_sorted-nil name_cmp)) ∙ map.entries-from_sorted name_cmp [] tt
-
 pub IsKeyed-by_point : (mounts : List Mount) → AllByRecursion InFiles mounts → AllByRecursion IsKeyed (map.entries (by_point mounts))
-IsKeyed-by_point mounts files = IsKeyed-fold mounts map.empty files (subst (AllByRecursion IsKeyed) (sym no_entries) tt)
+IsKeyed-by_point mounts files = IsKeyed-fold mounts map.empty files (subst (AllByRecursion IsKeyed) (sym (entries-empty name_cmp Mount)) tt)
 
 -- a table grows by at most one mount at a time, and never falls
 length-insert : (table : FinMap name_cmp Mount) (mount : Mount) → map.len table ≤ map.len (map.insert table mount.at mount)
@@ -165,15 +161,6 @@ length-by_point [] some = absurd (omega arith)
 length-by_point (mount ∷ mounts) some = omega (arith, length-first mount, length-fold mounts (map.insert map.empty mount.at mount))
 
 -- ---- in their order
-
-all_behind : (name : Name) (es : List (Name × Mount)) → T (below_all name_cmp name es) → AllByRecursion (λ other. name_cmp name other ≡ Less) (over (λ e. e.0) es)
-all_behind name [] h = tt
-all_behind name (e ∷ es) h = (less _ (first _ _ h), all_behind name es (second _ _ h))
-
-pub ascend : (es : List (Name × Mount)) → T (is_sorted name_cmp es) → IsStrictlySortedBy name_cmp (over (λ e. e.0) es)
-unfolding IsStrictlySortedBy
-ascend [] h = tt
-ascend (e ∷ es) h = (all_behind e.0 es (first _ _ h), ascend es (second _ _ h))
 
 pub points-keyed : (es : List (Name × Mount)) → AllByRecursion IsKeyed es → over (λ m. m.at) (over (λ e. e.1) es) ≡ over (λ e. e.0) es
 points-keyed [] h = refl
@@ -227,7 +214,7 @@ module _ (entries : List (Part × MountEntry)) (entries_sorted : T (is_sorted te
         let many : 1 ≤ map.len (by_point all) = length-by_point all (omega arith) in
         let same : map.len (by_point all) ≡ length table = map.len-entries (by_point all) ∙ ap length table_entries in
         record {
-          points = record { ascending = ascend table table_sorted; in_files = files-keyed table keyed };
+          points = record { ascending = keys_rise name_cmp table table_sorted; in_files = files-keyed table keyed };
           some = omega arith;
           few = omega arith;
         }
