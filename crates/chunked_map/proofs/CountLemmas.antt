@@ -10,8 +10,9 @@ use Rattle.std.proofs.lemmas.List.{length-append, length-take-le}
 use Rattle.general_words.proofs.Entries.{below_at}
 use Rattle.general_words.proofs.Orders.{less, is_less, turned}
 use Rattle.general_words.proofs.Tests.{both, first, second}
+use Rattle.general_words.proofs.Lists.{same_default}
 use Rattle.chunked_map.specs.Chunks.{joined, AreChunks, IsChunkOf, all_before, none_before}
-use Rattle.chunked_map.proofs.JoinLemmas.{joined_at, same_default, sorted-take, sized-take}
+use Rattle.chunked_map.proofs.JoinLemmas.{joined_at, sorted-take, sized-take}
 use Rattle.chunked_map.proofs.OrderLemmas.{all_before-append, behind_key}
 
 module _ {A : Type 0} where

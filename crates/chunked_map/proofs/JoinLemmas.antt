@@ -10,17 +10,14 @@ use Rattle.std.proofs.lemmas.List.{set_split, set-get_or, take-append-drop, leng
 use Rattle.chunked_map.specs.Chunks.{joined, IsSized, in_place}
 use Rattle.chunked_map.proofs.OrderLemmas.{sorted_left, sorted_right}
 
+pub positive : (n : ℕ) → (n ≡ 0 → ⊥) → 0 < n
+positive zero h = absurd (h refl)
+positive (suc n) h = omega arith
+
 -- what follows from a good result and from a bad one
 pub either_way : {A E P Q : Type 0} {G : Type 0} (r : Result A E) → OnOk r P → OnErr r Q → (P → G) → (Q → G) → G
 either_way (Ok x) p q f g = f p
 either_way (Err e) p q f g = g q
-
-module _ {A : Type 0} where
-  -- what stands at a place does not depend on what would be read where nothing is
-  pub same_default : (cs : List A) (at : ℕ) (d e : A) → at < length cs → get_or cs at d ≡ get_or cs at e
-  same_default [] at d e lt = absurd (omega arith)
-  same_default (c ∷ cs) zero d e lt = refl
-  same_default (c ∷ cs) (suc at) d e lt = same_default cs at d e (omega arith)
 
 module _ {A : Type 0} where
   pub joined-append : (cs ds : List (List A)) → joined (cs ++ ds) ≡ joined cs ++ joined ds

@@ -1,16 +1,15 @@
 -- What is found, put and taken out in the chunk into which a key belongs.
-use Rattle.std.proofs.Common.{◌≡◌, ℕ, zero, suc, ◌<◌, ◌≤◌, ◌^◌, T, not, List, [], ◌∷◌, ◌++◌, length, take, drop, get_or, set, None, refl, sym, ap, ◌∙◌, subst, arith, append-nil}
+use Rattle.std.proofs.Common.{◌≡◌, ℕ, zero, suc, ◌<◌, ◌≤◌, ◌^◌, T, not, List, [], ◌∷◌, ◌++◌, length, take, drop, get_or, set, None, sym, ap, ◌∙◌, subst, arith, append-nil}
 use Rattle.std.specs.Cmp.{IsTotalOrder}
 use Rattle.std.specs.FinMap.{find, is_sorted}
 use Rattle.std.specs.FinMap.Entries.{put, where_key, is_sorted-put, is_sorted-where_key}
 use Rattle.std.specs.List.{AllByRecursion, remove}
 use Rattle.std.specs.Ordering.{eq_by_cmp}
 use Rattle.std.specs.declared.cmp.Ordering.{Ordering}
-use Rattle.std.proofs.lemmas.List.{take_all, take-set, drop-set-lt, get_or-set_same, set_split, length-set, length-append}
-use Rattle.general_words.proofs.Lists.{no_entries}
+use Rattle.std.proofs.lemmas.List.{take_all, take-set, drop-set-lt, get_or-set_same, set_split, length-set, length-append, nil_from_length}
 use Rattle.chunked_map.specs.Chunks.{joined, IsSized, AreChunks, IsChunkOf, all_before, in_place}
 use Rattle.chunked_map.proofs.OrderLemmas.{find-between, put-between, without-between, some-put, length-without}
-use Rattle.chunked_map.proofs.JoinLemmas.{joined-append, joined_at, joined_set, joined-in_place, sized-in_place, sized-append, sized_at}
+use Rattle.chunked_map.proofs.JoinLemmas.{joined-append, joined_at, joined_set, joined-in_place, sized-in_place, sized-append, sized_at, positive}
 
 module _ {K X : Type 0} (R : K → K → Ordering) (o : IsTotalOrder R) (q : K) (cs : List (List (K × X))) where
   -- the entries of the chunks around one
@@ -103,14 +102,10 @@ module _ {K X : Type 0} (R : K → K → Ordering) (o : IsTotalOrder R) (q : K) 
     read_is = read ∙ get_or-set_same cs at d r lt ∙ written
 
     pub nothing_left : length r ≡ 0 → where_key R (λ k. not (eq_by_cmp R q k)) c ≡ []
-    nothing_left none = sym read_is ∙ no_entries r none
+    nothing_left none = sym read_is ∙ nil_from_length r none
 
     pub some_left : (length r ≡ 0 → ⊥) → 0 < length (where_key R (λ k. not (eq_by_cmp R q k)) c)
     some_left some = subst (λ es. 0 < length es) read_is (positive (length r) some)
-      where
-        positive : (n : ℕ) → (n ≡ 0 → ⊥) → 0 < n
-        positive zero h = absurd (h refl)
-        positive (suc n) h = omega arith
 
     pub taken_out : remove (set cs at d) at ≡ in_place cs at []
     taken_out = λ i. take-set cs at d i ++ drop-set-lt (suc at) cs at d (omega arith) i

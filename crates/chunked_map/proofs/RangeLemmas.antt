@@ -6,17 +6,14 @@ use Rattle.std.specs.declared.cmp.Ordering.{Ordering}
 use Rattle.std.proofs.lemmas.Bool.{cases_lt}
 use Rattle.std.proofs.lemmas.List.{length-append, length-take-le, length-drop, drop_at}
 use Rattle.general_words.proofs.Entries.{is_sorted-slice_range}
+use Rattle.general_words.proofs.Lists.{same_default}
 use Rattle.sorted_map.proofs.RangeLemmas.{is_sorted-remove_range}
 use Rattle.chunked_map.specs.Chunks.{joined, IsSized, AreChunks, in_place, parted}
-use Rattle.chunked_map.proofs.JoinLemmas.{joined-append, joined_parts, joined-one, joined_at, same_default, take_one_more, sized-take, sized-drop, sized-append}
+use Rattle.chunked_map.proofs.JoinLemmas.{joined-append, joined_parts, joined-one, joined_at, take_one_more, sized-take, sized-drop, sized-append}
 
 -- what is left of a place is left in a chunk
 pub in_a_chunk : (at n left : ℕ) → (n ≤ at → left ≡ 0) → (left ≡ 0 → ⊥) → at < n
 in_a_chunk at n left behind some = elim (cases_lt at n) [ inl lt ↦ lt | inr le ↦ absurd (some (behind le)) ]
-
-pub positive : (n : ℕ) → (n ≡ 0 → ⊥) → 0 < n
-positive zero h = absurd (h refl)
-positive (suc n) h = omega arith
 
 module _ {A : Type 0} where
   pub take_front : (cs : List A) (at m : ℕ) (others : List A) → at < length cs → m ≤ at → take m (in_place cs at others) ≡ take m cs

@@ -9,10 +9,11 @@ use Rattle.std.specs.declared.cmp.Ordering.TheVariants.{Less, Equal, Greater}
 use Rattle.general_words.proofs.Entries.{below_at}
 use Rattle.general_words.proofs.Orders.{is_less}
 use Rattle.general_words.proofs.Tests.{both, first, second}
+use Rattle.general_words.proofs.Lists.{same_default}
 use Rattle.sorted_map.specs.Place.{IsPlace}
 use Rattle.chunked_map.specs.Chunks.{joined, AreChunks, IsChunkOf, IsBeforeLast, all_before}
 use Rattle.chunked_map.proofs.OrderLemmas.{below_all-right, sorted_left, all_before-last, below_all-last}
-use Rattle.chunked_map.proofs.JoinLemmas.{same_default, sized_at, take_one_more, sorted-take}
+use Rattle.chunked_map.proofs.JoinLemmas.{sized_at, take_one_more, sorted-take}
 use Rattle.chunked_map.proofs.ChunkLemmas.{before_more, sorted_here}
 
 module _ {K X : Type 0} (R : K → K → Ordering) (o : IsTotalOrder R) (q : K) where

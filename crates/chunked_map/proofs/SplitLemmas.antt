@@ -5,8 +5,9 @@ use Rattle.std.specs.FinMap.Entries.{below_all}
 use Rattle.std.specs.List.{insert, remove_range}
 use Rattle.std.specs.declared.cmp.Ordering.{Ordering}
 use Rattle.std.proofs.lemmas.List.{take-append-drop, take_all, drop_all, length-take-le, length-drop}
+use Rattle.general_words.proofs.Lists.{same_default}
 use Rattle.chunked_map.specs.Chunks.{joined, AreChunks, IsChunkOf, all_before, in_place, parted}
-use Rattle.chunked_map.proofs.JoinLemmas.{joined-in_place, joined_at, sized-in_place, sized_at, same_default}
+use Rattle.chunked_map.proofs.JoinLemmas.{joined-in_place, joined_at, sized-in_place, sized_at}
 
 module _ {A : Type 0} where
   pub take_same : (cs : List A) (at : ℕ) (others : List A) → at < length cs → take at (in_place cs at others) ≡ take at cs

@@ -7,10 +7,10 @@ use Rattle.std.specs.Ordering.{eq_by_cmp}
 use Rattle.std.specs.declared.cmp.Ordering.{Ordering}
 use Rattle.std.proofs.lemmas.Bool.{cases_lt}
 use Rattle.std.proofs.lemmas.List.{set-get_or}
+use Rattle.general_words.proofs.Lists.{same_default}
 use Rattle.sorted_map.specs.Place.{IsPlace, IsGap}
 use Rattle.sorted_map.proofs.RisingLemmas.{find-place, find-gap, without-gap}
 use Rattle.chunked_map.specs.Chunks.{joined, AreChunks, IsChunkOf}
-use Rattle.chunked_map.proofs.JoinLemmas.{same_default}
 use Rattle.chunked_map.proofs.PlaceLemmas.{find_in, find_end, without_set, without_end}
 use Rattle.chunked_map.proofs.SearchLemmas.{sorted_chunk}
 

@@ -1,19 +1,20 @@
 -- A history with one more commit: what it makes of keys, what it weighs, which commit is the first behind a front, and its index.
 use Rattle.std.proofs.Common.{◌≡◌, ℕ, zero, suc, ◌+◌, ◌-◌, ◌<◌, ◌≤◌, Bool, true, false, cond, List, [], ◌∷◌, ◌++◌, length, drop, take, get_or, map, slice_get, Option, Some, None, refl, sym, ap, subst, ◌∙◌, arith, nat_lt, ◌^◌, min, All}
-use Rattle.std.proofs.lemmas.List.{take_all, take-append-le}
+use Rattle.std.proofs.lemmas.List.{take_all, take-append-le, map_push}
 use Rattle.std.proofs.lemmas.Bool.{ltb-true, ltb-false}
 use Rattle.std.proofs.lemmas.List.Elements.{All-push}
 use Rattle.std.proofs.lemmas.List.Sums.{sum_by-append}
 use Rattle.std.proofs.lemmas.Option.{slice_get-map}
 use Rattle.std.specs.List.{position_from}
 use Rattle.std.specs.Option.{option_map}
-use Rattle.general_words.proofs.Lists.{some_is, at_place, take-next}
+use Rattle.general_words.proofs.Lists.{some_is, at_place, take-next, same_default}
 use Rattle.general_words.proofs.Places.{there_is, before-last, at-last}
 use Rattle.model_maps.specs.KeyMap.{KeyMap}
 use Rattle.model_history.specs.Changes as changes
 use Rattle.model_history.specs.Changes.{changed, changed_by}
 use Rattle.model_history.specs.History.{Commit, replay, touches, is_among, first_after, history_weight, weight_of_commit}
 use Rattle.model_history.proofs.HistoryLemmas.{replay-append, first_after-behind, first_after-within, first_after-there}
+use Rattle.model_history.proofs.ChangeLemmas.{changed_by-snoc}
 use Rattle.commit_log.specs.CommitView.{change_of, commit_of}
 use Rattle.commit_log.specs.Index.{IsIndex, last_of}
 use Rattle.commit_log.specs.declared.commits.Change as code
@@ -21,24 +22,16 @@ use Rattle.commit_log.specs.declared.commits.Commit as logged
 
 -- ---- one more
 
-map-snoc : {A B : Type 0} (f : A → B) (xs : List A) (x : A) → map f (xs ++ x ∷ []) ≡ map f xs ++ f x ∷ []
-map-snoc f [] x = refl
-map-snoc f (y ∷ ys) x = ap (λ zs. f y ∷ zs) (map-snoc f ys x)
-
-changed_by-snoc : (cs : List changes.Change) (c : changes.Change) (keys : KeyMap) → changed_by (cs ++ c ∷ []) keys ≡ changed (changed_by cs keys) c
-changed_by-snoc [] c keys = refl
-changed_by-snoc (d ∷ ds) c keys = changed_by-snoc ds c (changed keys d)
-
 pub make-next : (cs : List code.Change) (i : ℕ) (c : code.Change) (keys : KeyMap) → i < length cs → c ≡ get_or cs i c → changed_by (map change_of (take (i + 1) cs)) keys ≡ changed (changed_by (map change_of (take i cs)) keys) (change_of c)
 make-next cs i c keys lt is =
     ap (λ xs. changed_by (map change_of xs) keys) (take-next cs i c (at_place cs i c lt is))
-    ∙ ap (λ xs. changed_by xs keys) (map-snoc change_of (take i cs) c)
+    ∙ ap (λ xs. changed_by xs keys) (map_push change_of (take i cs) c)
     ∙ changed_by-snoc (map change_of (take i cs)) (change_of c) keys
 
 pub replay-next : (cs : List logged.Commit) (i : ℕ) (c : logged.Commit) (keys : KeyMap) → i < length cs → c ≡ get_or cs i c → replay keys (map commit_of (take (i + 1) cs)) ≡ changed_by (map change_of c.changes) (replay keys (map commit_of (take i cs)))
 replay-next cs i c keys lt is =
     ap (λ xs. replay keys (map commit_of xs)) (take-next cs i c (at_place cs i c lt is))
-    ∙ ap (replay keys) (map-snoc commit_of (take i cs) c)
+    ∙ ap (replay keys) (map_push commit_of (take i cs) c)
     ∙ replay-append keys (map commit_of (take i cs)) (commit_of c ∷ [])
 
 -- ---- the first behind a front
@@ -103,7 +96,7 @@ history_weight-snoc history commit =
     sum_by-append weight_of_commit history (commit ∷ []) ∙ ap (λ n. history_weight history + n) plain
 
 pub map-pushed : (cs : List logged.Commit) (c : logged.Commit) → map commit_of (cs ++ c ∷ []) ≡ map commit_of cs ++ commit_of c ∷ []
-map-pushed cs c = map-snoc commit_of cs c
+map-pushed cs c = map_push commit_of cs c
 
 -- a weight that is added within a limit is exact
 pub added : (before one weight told all limit : ℕ) → all ≡ before + one → told ≡ min one (2 ^ 64 - 1) → weight ≡ before → all ≤ limit → limit < 2 ^ 64 - 1 → (weight + told ≡ all) × (weight + told ≤ limit)
@@ -111,14 +104,9 @@ added before one weight told all limit e is same le small = (omega arith, omega 
 
 -- ---- places of the index
 
-any_default : (xs : List ℕ) (n d e : ℕ) → n < length xs → get_or xs n d ≡ get_or xs n e
-any_default [] n d e h = absurd (omega arith)
-any_default (x ∷ xs) zero d e h = refl
-any_default (x ∷ xs) (suc n) d e h = any_default xs n d e (omega arith)
-
 pub covered-next : (mounts : List ℕ) (i old new : ℕ) → i < length mounts → old ≤ new → get_or mounts i 0 < new → All (λ m. m < old) (take i mounts) → All (λ m. m < new) (take (i + 1) mounts)
 covered-next mounts i old new lt le one all =
-    subst (All (λ m. m < new)) (sym (take-next mounts i (get_or mounts i 0) (at_place mounts i (get_or mounts i 0) lt (any_default mounts i 0 (get_or mounts i 0) lt))))
+    subst (All (λ m. m < new)) (sym (take-next mounts i (get_or mounts i 0) (at_place mounts i (get_or mounts i 0) lt (same_default mounts i 0 (get_or mounts i 0) lt))))
     (All-push (λ m. m < new) (take i mounts) (get_or mounts i 0) (λ k d within. omega (arith, all k d within)) one)
 
 pub covered-all : (mounts : List ℕ) (i n : ℕ) → length mounts ≤ i → All (λ m. m < n) (take i mounts) → All (λ m. m < n) mounts

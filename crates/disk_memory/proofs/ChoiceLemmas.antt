@@ -1,6 +1,6 @@
 -- What the number of a crash chooses counts among what a crash may leave. This project's own.
 use Rattle.std.proofs.Common.{◌≡◌, inl, inr, ℕ, zero, suc, ◌+◌, ◌-◌, ◌%◌, ◌<◌, ◌≤◌, Bool, true, false, cond, List, [], ◌∷◌, ◌++◌, length, take, drop, replicate, None, Some, slice_get, slice_index_or, get_or, nat_le, bytes_eq, refl, sym, ap, ◌∙◌, arith, length-take, length-append, append-nil}
-use Rattle.std.proofs.lemmas.List.{take_at, take_more, take-take, drop-drop, length-replicate}
+use Rattle.std.proofs.lemmas.List.{take_at, take_more, take-take, drop-drop, length-replicate, nil_from_length}
 use Rattle.std.proofs.lemmas.Bool.{cond-true, leb-true, le-leb}
 use Rattle.std.proofs.lemmas.Bool.Decides.{nat_tests}
 use Rattle.kdb_outside.specs.Files.{written}
@@ -72,11 +72,6 @@ IsTornWrite-torn choice at bytes former within =
     let here = slice_get-take bytes kept i (omega (arith, length-take kept bytes)) in
     torn_bytes-same choice at (drop at former) (take kept bytes) i fewer (there ∙ was ∙ sym here) ∙ there)
 
--- no bytes
-none_left : (bytes : List ℕ) → length bytes ≡ 0 → bytes ≡ []
-none_left [] e = refl
-none_left (byte ∷ bytes) e = absurd (omega arith)
-
 -- a cut that leaves some of the bytes past its length
 IsTornCut-end : (new_length : ℕ) (end former : List ℕ) → length end ≤ length former - new_length → IsTornCut new_length former (take new_length former ++ end)
 IsTornCut-end new_length end former few =
@@ -86,7 +81,7 @@ IsTornCut-end new_length end former few =
       front = elim (le_or_lt new_length (length former)) [
         | inl within ↦ take_at (take new_length former) end new_length (omega (arith, there))
         | inr past ↦
-            let none = none_left end (omega arith) in
+            let none = nil_from_length end (omega arith) in
             ap (λ e. take new_length (take new_length former ++ e)) none ∙ ap (take new_length) (append-nil (take new_length former)) ∙ take-take new_length new_length former (omega arith)
       ];
       no_shorter = omega (arith, there, both);

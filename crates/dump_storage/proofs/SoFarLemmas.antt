@@ -2,7 +2,6 @@
 use Rattle.std.proofs.Common.{◌≡◌, ◌≢◌, ◌<◌, length, arith, ℕ, Bool, true, false, cond, List, [], ◌∷◌, Option, Some, None, refl, sym, ap, ◌∙◌}
 use Rattle.std.specs.BTreeMap.{is_at, insert_entry}
 use Rattle.std.specs.FinMap as finite
-use Rattle.std.specs.FinMap.{IsAntisymmetric, nat_cmp-IsAntisymmetric, slice_cmp-IsAntisymmetric}
 use Rattle.std.specs.Map.{lookup}
 use Rattle.std.specs.Option.{option_or, is_some}
 use Rattle.std.specs.Ordering.{eq_by_cmp, match_ordering}
@@ -12,6 +11,7 @@ use Rattle.std.specs.declared.cmp.Ordering.TheVariants.{Less, Equal, Greater}
 use Rattle.std.proofs.lemmas.Cmp.{nat_list_cmp_total}
 use Rattle.general_words.specs.Texts.{text_cmp}
 use Rattle.general_words.proofs.Searches.{or_none}
+use Rattle.general_words.proofs.Texts.{text_cmp-IsAntisymmetric}
 use Rattle.model_maps.specs.Entry.{Entry, Meta}
 use Rattle.dump_storage.specs.SoFarView.{HasMetaLength, HaveMetaLengths}
 
@@ -26,9 +26,6 @@ meta_of items = finite.from_entries items
 abbrev pub entry_with : List ℕ → Meta → Entry
 entry_with value meta = record { value = value; meta = meta }
 
-same_texts : IsAntisymmetric text_cmp
-same_texts = slice_cmp-IsAntisymmetric nat_cmp-IsAntisymmetric
-
 lookup-find : (es : Items) (q : List ℕ) → lookup (is_at (text_cmp q)) es ≡ finite.find text_cmp q es
 lookup-find [] q = refl
 lookup-find (e ∷ es) q = ap (cond (eq_by_cmp text_cmp q e.0) (Some e.1)) (lookup-find es q)
@@ -42,13 +39,9 @@ pub some-there : {A : Type 0} (o : Option A) → is_some o ≡ true → o ≢ No
 some-there None is none = absurd cc
 some-there (Some a) is none = absurd cc
 
-pub none-there : {A : Type 0} (o : Option A) → is_some o ≡ false → o ≡ None
-none-there None is = refl
-none-there (Some a) is = absurd cc
-
 -- items that differ at one name make metadata that differ there
 pub meta_of-insert : (es fs : Items) (name text : List ℕ) → ((q : List ℕ) → lookup (is_at (text_cmp q)) fs ≡ cond (is_at (text_cmp name) q) (Some text) (lookup (is_at (text_cmp q)) es)) → meta_of fs ≡ finite.insert (meta_of es) name text
-meta_of-insert es fs name text h = finite.same_map nat_list_cmp_total same_texts _ _ (λ q.
+meta_of-insert es fs name text h = finite.same_map nat_list_cmp_total text_cmp-IsAntisymmetric _ _ (λ q.
     get-lookup fs q
     ∙ h q
     ∙ ap (λ b. cond b (Some text) (lookup (is_at (text_cmp q)) es)) ((eq_by_cmp_equiv nat_list_cmp_total).symm name q)
@@ -76,12 +69,12 @@ Splits-more whole meta name text es rest first none splits q =
   where
     missing : eq_by_cmp text_cmp q name ≡ true → finite.get (meta_of rest) q ≡ None
     missing tied =
-        let same : q ≡ name = same_texts q name ((Equal-is (text_cmp q name)).0 tied) in
+        let same : q ≡ name = text_cmp-IsAntisymmetric q name ((Equal-is (text_cmp q name)).0 tied) in
         ap (finite.get (meta_of rest)) same ∙ get-lookup rest name ∙ none
 
 -- with nothing left the metadata are all
 pub Splits-end : (whole meta : Meta) (rest : Items) → rest ≡ [] → Splits whole meta rest → meta ≡ whole
-Splits-end whole meta rest none splits = finite.same_map nat_list_cmp_total same_texts _ _ (λ q.
+Splits-end whole meta rest none splits = finite.same_map nat_list_cmp_total text_cmp-IsAntisymmetric _ _ (λ q.
     sym (ap (λ o. option_or o (finite.get meta q)) (ap (λ (fs : Items). finite.get (meta_of fs) q) none ∙ finite.get-empty text_cmp q)) ∙ splits q)
 
 -- a name that isn't too short or too long joins such

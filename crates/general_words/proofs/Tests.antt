@@ -1,5 +1,5 @@
 -- Tests: two that are joined by `&&`, what holds where one does, and branches on them.
-use Rattle.std.proofs.Common.{◌≡◌, ℕ, Bool, true, false, T, not, ◌&&◌, ◌||◌, cond, nat_eq, Option, Some, None, refl, sym, ap, subst, eqb-true, eq-eqb}
+use Rattle.std.proofs.Common.{◌≡◌, ℕ, Bool, true, false, T, not, ◌&&◌, cond, nat_eq, Option, Some, None, refl, sym, ap, subst, eqb-true, eq-eqb}
 use Rattle.std.specs.Option.{option_eq}
 
 -- of two tests that hold together, the first
@@ -32,11 +32,6 @@ not_true false h = refl
 pub not_is : (b : Bool) → not b ≡ true → b ≡ false
 not_is true e = absurd cc
 not_is false e = refl
-
--- one of two tests that holds is enough
-pub or_behind : (a b : Bool) → b ≡ true → (a || b) ≡ true
-or_behind true b e = refl
-or_behind false b e = e
 
 -- a number that passes the test of another is that one
 pub is_number : (o : Option ℕ) (i : ℕ) → option_eq nat_eq o (Some i) ≡ true → o ≡ Some i

@@ -1,5 +1,5 @@
 -- Whether a key can be held, by its parts.
-use Rattle.std.proofs.Common.{◌≡◌, ℕ, ◌==◌, ◌&&◌, ◌≤◌, Bool, true, false, List, [], ◌∷◌, length, Option, None, Some, refl, sym, ap, subst, ◌∙◌, arith, inl, inr}
+use Rattle.std.proofs.Common.{◌≡◌, ℕ, ◌==◌, ◌&&◌, ◌≤◌, Bool, true, false, List, [], ◌∷◌, length, Option, None, Some, sym, ap, subst, ◌∙◌, inl, inr}
 use Rattle.std.specs.Bool.{Decides}
 use Rattle.std.specs.Cmp.Lexicographic.{pointwise_decides, bytes_decides}
 use Rattle.std.specs.FinMap as map
@@ -7,6 +7,7 @@ use Rattle.std.specs.List.{AllByRecursion}
 use Rattle.std.specs.Option.{option_map}
 use Rattle.std.specs.Prelude.{is_some}
 use Rattle.std.proofs.lemmas.Bool.{eqb-true}
+use Rattle.std.proofs.lemmas.List.{nil_from_length}
 use Rattle.general_words.specs.Texts.{text_cmp}
 use Rattle.model_names.specs.declared.namespaces.Namespace.TheVariants.{Cascading}
 use Rattle.model_names.specs.ArrayPart.{last_index}
@@ -21,19 +22,11 @@ use Rattle.hosts_storage.specs.Holding.{HasComments, IsHost, IsAlias}
 use Rattle.general_words.proofs.Deciding.{said}
 use Rattle.key_meta.proofs.SameLemmas.{meta_decides}
 
--- metadata are empty where they have no item
-empty_meta : (meta : Meta) → length (map.entries meta) ≡ 0 → meta ≡ map.empty
-empty_meta meta none = map.empty_of_len meta (map.len-entries meta ∙ none)
-
 pub nothing-decides : (entry : Entry) (is : Bool) → length entry.value ≡ 0 → is ≡ (length (map.entries entry.meta) == 0) → Decides is (entry ≡ plain_entry [])
 nothing-decides entry is none test = (
-  λ passes. λ i. record { value = no_bytes entry.value none i; meta = empty_meta entry.meta (eqb-true (length (map.entries entry.meta)) 0 (sym test ∙ passes)) i },
+  λ passes. λ i. record { value = nil_from_length entry.value none i; meta = map.empty_of_len entry.meta (map.len-entries entry.meta ∙ eqb-true (length (map.entries entry.meta)) 0 (sym test ∙ passes)) i },
   λ plain. test ∙ ap (λ (e : Entry). length (map.entries e.meta) == 0) plain ∙ ap (λ (items : List (List ℕ × List ℕ)). length items == 0) (entries-empty text_cmp (List ℕ)),
 )
-  where
-    no_bytes : (bytes : List ℕ) → length bytes ≡ 0 → bytes ≡ []
-    no_bytes [] e = refl
-    no_bytes (b ∷ bytes) e = absurd (omega arith)
 
 -- a key is there where something is found
 pub there-decides : {A : Type 0} (f : A → Entry) (o : Option A) (found : Option Entry) (is : Bool) → option_map f o ≡ found → is ≡ is_some o → Decides is ((entry : Entry) × (found ≡ Some entry))

@@ -53,16 +53,9 @@ signs_at-long sides.Name b (c ∷ rest) some = refl
 signs_at-long sides.Value b [] some = absurd (omega arith)
 signs_at-long sides.Value b (c ∷ rest) some = refl
 
-no_items : (meta : Meta) → length (finite.entries meta) ≡ 0 → meta ≡ finite.empty
-no_items meta none = finite.same_entries_map meta finite.empty (nothing (finite.entries meta) none ∙ sym (entries-empty text_cmp (List ℕ)))
-  where
-    nothing : (items : List (List ℕ × List ℕ)) → length items ≡ 0 → items ≡ []
-    nothing [] e = refl
-    nothing (item ∷ items) e = absurd (omega arith)
-
 -- a key below the mountpoint can be stored exactly where it has no metadata
 pub ini_key-decides : (name : Name) (entry : Entry) (is : Bool) → 0 < length name.parts → is ≡ (length (finite.entries entry.meta) == 0) → Decides is (IsIniKey name entry)
 ini_key-decides name entry is some test = (
-  λ passes. record { below = λ none. absurd (omega (arith, ap length none)); no_meta = no_items entry.meta (eqb-true (length (finite.entries entry.meta)) 0 (sym test ∙ passes)) },
+  λ passes. record { below = λ none. absurd (omega (arith, ap length none)); no_meta = finite.empty_of_len entry.meta (finite.len-entries entry.meta ∙ eqb-true (length (finite.entries entry.meta)) 0 (sym test ∙ passes)) },
   λ key. test ∙ ap (λ (meta : Meta). length (finite.entries meta) == 0) key.no_meta ∙ ap (λ (items : List (List ℕ × List ℕ)). length items == 0) (entries-empty text_cmp (List ℕ)),
 )

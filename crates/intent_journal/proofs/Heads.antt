@@ -3,6 +3,7 @@ use Rattle.std.proofs.Common.{◌≡◌, ◌≢◌, ℕ, ◌<◌, ◌≤◌, min
 use Rattle.std.specs.Prelude.{nat_le, nat_lt, ◌==◌}
 use Rattle.std.proofs.lemmas.Bool.{leb-true, le-leb, false_from_ne_true, eqb-true, eq-eqb, cases_eq, cases_lt, ltb-true, lt-ltb}
 use Rattle.std.proofs.lemmas.List.{take_all, length-take}
+use Rattle.general_words.proofs.Tests.{cond_nothing}
 use Rattle.journal_codec.specs.declared.files.FileText.{FileText}
 use Rattle.journal_codec.specs.Entry.{number_of}
 use Rattle.journal_codec.specs.Reading.{Reading, Reads, Fails, read_body}
@@ -71,10 +72,6 @@ open_length-front journal n is = elim (cases_lt (length journal) 5) [
 pub none_unless : (o : Option (List FileText)) → ((entry : List FileText) → o ≡ Some entry → ⊥) → o ≡ None
 none_unless None never = refl
 none_unless (Some entry) never = absurd (never entry refl)
-
-cond_nothing : (b : Bool) (o : Option (List FileText)) → o ≡ None → cond b o None ≡ None
-cond_nothing true o none = none
-cond_nothing false o none = refl
 
 -- no length, no open entry
 pub open_entry-none : (journal : List ℕ) → open_length journal ≡ None → open_entry journal ≡ None

@@ -30,6 +30,7 @@ use Rattle.mounted_files.specs.Getting.{visible_keys}
 use Rattle.mounted_files.specs.declared.files.MountedFile.{MountedFile}
 use Rattle.seat_lock.specs.Known.{Known, Place, knowledge}
 use Rattle.seat_lock.specs.Story.{made_by}
+use Rattle.seat_lock.proofs.Dealing.{all-left}
 use Rattle.store_core.specs.declared.closing.Closed.{Closed}
 use Rattle.store_core.specs.declared.cores.Core.{Core}
 use Rattle.store_core.specs.declared.cores.Plan.{Plan}
@@ -47,14 +48,10 @@ module _ {A : Type 0} (P : A → Type 0) where
   all-at (y ∷ xs) ys zero x all is = subst P (some_is y x is) (All-head P y (xs ++ ys) all)
   all-at (y ∷ xs) ys (suc k) x all is = all-at xs ys k x (All-tail P y (xs ++ ys) all) is
 
-  all-front : (xs ys : List A) → All P (xs ++ ys) → All P xs
-  all-front [] ys all = All-nil P
-  all-front (x ∷ xs) ys all = All-cons P x xs (All-head P x (xs ++ ys) all) (all-front xs ys (All-tail P x (xs ++ ys) all))
-
 all-of-back : (P : Known Told → Type 0) (handles : List HandleValue) → All P (seats_back handles) → All (λ handle. P (seat_of handle)) handles
 all-of-back P [] all = All-nil (λ handle. P (seat_of handle))
 all-of-back P (handle ∷ handles) all =
-    All-cons (λ h. P (seat_of h)) handle handles (All-head P (seat_of handle) [] (all-behind P (seats_back handles) (seat_of handle ∷ []) all)) (all-of-back P handles (all-front P (seats_back handles) (seat_of handle ∷ []) all))
+    All-cons (λ h. P (seat_of h)) handle handles (All-head P (seat_of handle) [] (all-behind P (seats_back handles) (seat_of handle ∷ []) all)) (all-of-back P handles (all-left P (seats_back handles) (seat_of handle ∷ []) all))
 
 pub length-back : (handles : List HandleValue) → length (seats_back handles) ≡ length handles
 length-back [] = refl

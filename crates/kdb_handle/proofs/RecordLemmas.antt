@@ -3,6 +3,7 @@ use Rattle.std.proofs.Common.{◌≡◌, ℕ, ◌≤◌, Bool, true, false, cond
 use mathlib.Core.List.{IsPrefix}
 use Rattle.std.specs.List.{list_all}
 use Rattle.std.specs.Option.{option_eq, option_map}
+use Rattle.std.proofs.lemmas.Bool.{or_right}
 use Rattle.model_history.specs.History.{Commit, is_among}
 use Rattle.model_maps.specs.KeyMap.{KeyMap}
 use Rattle.model_names.specs.Name.{Name}
@@ -13,7 +14,7 @@ use Rattle.model_store.specs.Store.{Store, points_of}
 use Rattle.model_store.proofs.Kept.{front-of, record-stays, record-whole}
 use Rattle.model_store.proofs.Members.{only-there}
 use Rattle.set_split.specs.Involved.{involved_in}
-use Rattle.general_words.proofs.Tests.{or_behind, number_itself}
+use Rattle.general_words.proofs.Tests.{number_itself}
 
 module _ (store : Store) where
   -- a record that keeps nothing is that of no fronts
@@ -34,7 +35,7 @@ module _ (store : Store) where
 all-of : (P : ℕ → Bool) (ms among : List ℕ) → ((m : ℕ) → is_among among m ≡ true → P m ≡ true) → ((m : ℕ) → is_among ms m ≡ true → is_among among m ≡ true) → list_all P ms ≡ true
 all-of P [] among each within = refl
 all-of P (m ∷ ms) among each within =
-    ap₂ (λ a b. a && b) (each m (within m (ap (λ b. b || is_among ms m) (eq-eqb m m refl)))) (all-of P ms among each (λ n is. within n (or_behind (nat_eq n m) (is_among ms n) is)))
+    ap₂ (λ a b. a && b) (each m (within m (ap (λ b. b || is_among ms m) (eq-eqb m m refl)))) (all-of P ms among each (λ n is. within n (or_right (nat_eq n m) (is_among ms n) is)))
 
 -- a record accepts the set that it makes
 pub accepts-own : (points : List Name) (number : ℕ) (rec : Record) (parent : Name) (keys : KeyMap) → accepts rec number (prepared points number rec parent keys) ≡ true

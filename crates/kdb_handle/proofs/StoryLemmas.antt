@@ -1,5 +1,6 @@
 -- Stories: what they tell together, and how they begin.
 use Rattle.std.proofs.Common.{◌≡◌, ◌+◌, List, [], ◌∷◌, ◌++◌, length, sym, refl, ap, ◌∙◌, append-nil, arith, length-append}
+use Rattle.std.proofs.lemmas.List.{nil_from_length}
 use mathlib.Core.List.{IsPrefix}
 use Rattle.model_history.specs.History.{Commit}
 use Rattle.kdb_handle.specs.Story.{Told, Opening, Opened, Committed, Failed, Refused, commits_of, failures_in, refusals_in}
@@ -45,8 +46,4 @@ pub prefix-both : {E : Type 0} (xs ys : List E) → IsPrefix xs ys → IsPrefix 
 prefix-both {E} xs ys p q =
     let long = ap length p.1 in let short = ap length q.1 in
     let a = length-append xs p.0 in let b = length-append ys q.0 in
-    sym (append-nil xs) ∙ ap (λ (l : List E). xs ++ l) (sym (empty p.0 (omega arith))) ∙ p.1
-  where
-    empty : (zs : List E) → length zs ≡ 0 → zs ≡ []
-    empty [] none = refl
-    empty (z ∷ zs) none = absurd (omega arith)
+    sym (append-nil xs) ∙ ap (λ (l : List E). xs ++ l) (sym (nil_from_length p.0 (omega arith))) ∙ p.1

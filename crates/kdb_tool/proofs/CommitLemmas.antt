@@ -3,6 +3,7 @@ use Rattle.std.proofs.Common.{◌≡◌, ◌≢◌, ◌⊎◌, inl, inr, ℕ, �
 use Rattle.std.specs.List.{list_all}
 use Rattle.std.specs.Option.{option_eq}
 use Rattle.std.proofs.lemmas.List.{length-map}
+use Rattle.std.proofs.lemmas.Bool.{and_from}
 use Rattle.kdb_outside.specs.declared.disks.Disk.{Ghosts}
 use Rattle.journal_codec.specs.Entry.{IsEntry}
 use Rattle.journal_codec.specs.declared.files.FileText.{FileText}
@@ -69,14 +70,11 @@ use Rattle.general_words.proofs.Tests.{number_itself}
 all_fronts : (rec : model.Record) (involved ms : List ℕ) → ((m : ℕ) → is_among ms m ≡ true → is_among involved m ≡ true) → list_all (λ m. option_eq nat_eq (front_in rec m) (front_in (only involved rec) m)) ms ≡ true
 all_fronts rec involved [] there = refl
 all_fronts rec involved (m ∷ ms) there =
-    both _ _ (ap (λ b. option_eq nat_eq (front_in rec m) (front_of (cond b (rec m) None))) (there m (among-first m ms)) ∙ number_itself (front_in rec m))
+    and_from _ _ (ap (λ b. option_eq nat_eq (front_in rec m) (front_of (cond b (rec m) None))) (there m (among-first m ms)) ∙ number_itself (front_in rec m))
     (all_fronts rec involved ms (λ k among. there k (among-rest m k ms among)))
   where
     front_of : Option model.Fetched → Option ℕ
     front_of o = front_in (λ k. o) m
-
-    both : (a b : Bool) → a ≡ true → b ≡ true → (a && b) ≡ true
-    both a b p q = ap (λ x. x && b) p ∙ q
 
 pub accepts-made : (points : List Name) (handle : ℕ) (rec : model.Record) (parent : Name) (keys : KeyMap) → accepts rec handle (prepared points handle rec parent keys) ≡ true
 accepts-made points handle rec parent keys =

@@ -10,13 +10,9 @@ use Rattle.std.specs.declared.cmp.Ordering.{Ordering}
 use Rattle.std.specs.declared.cmp.Ordering.TheVariants.{Equal}
 use Rattle.std.proofs.lemmas.List.Sums.{sum_by-cons}
 use Rattle.general_words.proofs.Maps.{sum_by-insert, sum_by-empty}
-use Rattle.sorted_map.proofs.SeenLemmas.{seen, find-seen}
+use Rattle.sorted_map.proofs.SeenLemmas.{seen, find-seen, mapped-cond}
 use Rattle.key_list.specs.ListView.{HasNoneTwice}
 use Rattle.key_list.proofs.FoundLemmas.{IsFirst, find-set, find-remove, find-without}
-
-mapped_first : {X Y : Type 0} (f : X → Y) (b : Bool) (v : X) (o : Option X) → option_map f (cond b (Some v) o) ≡ cond b (Some (f v)) (option_map f o)
-mapped_first f true v o = refl
-mapped_first f false v o = refl
 
 mapped_none : {X Y : Type 0} (f : X → Y) (b : Bool) (o : Option X) → option_map f (cond b None o) ≡ cond b None (option_map f o)
 mapped_none f true o = refl
@@ -57,7 +53,7 @@ module _ {K X Y : Type 0} (R : K → K → Ordering) (f : X → Y) where
     module _ (same : IsAntisymmetric R) where
       inserted : (es fs : List (K × X)) (k : K) (v : X) → ((q : K) → find R q fs ≡ cond (eq_by_cmp R q k) (Some v) (find R q es)) → made fs ≡ insert (made es) k (f v)
       inserted es fs k v is = same_map o same _ _ (λ q.
-          get-made fs q ∙ ap (option_map f) (is q) ∙ mapped_first f (eq_by_cmp R q k) v (find R q es)
+          get-made fs q ∙ ap (option_map f) (is q) ∙ mapped-cond f (eq_by_cmp R q k) v (find R q es)
           ∙ sym (get-insert o (made es) k (f v) q ∙ ap (cond (eq_by_cmp R q k) (Some (f v))) (get-made es q)))
 
       removed : (es fs : List (K × X)) (k : K) → ((q : K) → find R q fs ≡ cond (eq_by_cmp R q k) None (find R q es)) → made fs ≡ remove (made es) k

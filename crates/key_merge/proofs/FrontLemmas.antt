@@ -8,6 +8,7 @@ use Rattle.std.specs.declared.cmp.Ordering.TheVariants.{Less}
 use Rattle.general_words.proofs.Tests.{first, second, both}
 use Rattle.general_words.proofs.Orders.{less, is_less, itself, turned}
 use Rattle.general_words.proofs.Lists.{some_is}
+use Rattle.general_words.proofs.Entries.{below_further, find-below}
 use Rattle.key_name.specs.Comparing.{name_ties}
 use Rattle.model_names.specs.Name.{Name}
 use Rattle.model_names.specs.Order.{name_cmp, name_eq}
@@ -15,15 +16,6 @@ use Rattle.model_names.proofs.OrderLemmas.{name_cmp_total}
 use Rattle.model_maps.specs.Entry.{Entry}
 use Rattle.key_merge.specs.Front.{next_name, entry_at, behind}
 use Rattle.key_merge.proofs.LowestLemmas.{IsAtMost}
-
-pub below_further : (x y : Name) (es : List (Name × Entry)) → name_cmp x y ≡ Less → T (below_all name_cmp y es) → T (below_all name_cmp x es)
-below_further x y [] e h = tt
-below_further x y (f ∷ es) e h =
-    both _ _ (is_less _ (name_cmp_total.trans x y f.0 e (less _ (first _ _ h)))) (below_further x y es e (second _ _ h))
-
-pub not_below : (q : Name) (es : List (Name × Entry)) → T (below_all name_cmp q es) → find name_cmp q es ≡ None
-not_below q [] h = refl
-not_below q (f ∷ es) h = ap (λ r. cond (is_eq r) (Some f.1) (find name_cmp q es)) (less _ (first _ _ h)) ∙ not_below q es (second _ _ h)
 
 -- what a name makes of the keys ahead
 pub record IsTaken (name : Name) (ahead : List (Name × Entry)) : Type 0 where
@@ -44,7 +36,7 @@ begins name key rest sorted same =
     let over : T (below_all name_cmp name rest) = subst (λ k. T (below_all name_cmp k rest)) (sym same) (first _ _ sorted) in
     record {
       entry = ap (λ b. cond b (Some key.1) None) test ∙ sym (ap (λ b. cond b (Some key.1) (find name_cmp name rest)) ties);
-      gone = ap (find name_cmp name) is ∙ not_below name rest over;
+      gone = ap (find name_cmp name) is ∙ find-below name_cmp name rest over;
       others = λ q apart. ap (find name_cmp q) is ∙ sym (ap (λ b. cond b (Some key.1) (find name_cmp q rest)) (subst (λ k. eq_by_cmp name_cmp q k ≡ false) same apart));
       sorted = subst (λ es. T (is_sorted name_cmp es)) (sym is) (second _ _ sorted);
       above = subst (λ es. T (below_all name_cmp name es)) (sym is) over;
@@ -55,8 +47,8 @@ begins name key rest sorted same =
 -- or the list is above it
 apart : (name : Name) (ahead : List (Name × Entry)) → T (is_sorted name_cmp ahead) → T (below_all name_cmp name ahead) → entry_at name ahead ≡ None → behind name ahead ≡ ahead → IsTaken name ahead
 apart name ahead sorted over none is = record {
-  entry = none ∙ sym (not_below name ahead over);
-  gone = ap (find name_cmp name) is ∙ not_below name ahead over;
+  entry = none ∙ sym (find-below name_cmp name ahead over);
+  gone = ap (find name_cmp name) is ∙ find-below name_cmp name ahead over;
   others = λ q apart. ap (find name_cmp q) is;
   sorted = subst (λ es. T (is_sorted name_cmp es)) (sym is) sorted;
   above = subst (λ es. T (below_all name_cmp name es)) (sym is) over;
@@ -70,7 +62,7 @@ taken name (key ∷ rest) sorted (inl same) = begins name key rest sorted same
 taken name (key ∷ rest) sorted (inr low) =
     let test : name_eq key.0 name ≡ false = name_ties key.0 name ∙ ap is_eq (turned name_cmp_total name key.0 Less low) in
     apart name (key ∷ rest) sorted
-    (both _ _ (is_less _ low) (below_further name key.0 rest low (first _ _ sorted)))
+    (both _ _ (is_less _ low) (below_further name_cmp_total name key.0 rest low (first _ _ sorted)))
     (ap (λ b. cond b (Some key.1) None) test) (ap (λ b. cond b rest (key ∷ rest)) test)
 
 -- the name that stands first is found, what is below the list is below it, and the list gets shorter

@@ -5,6 +5,7 @@ use Rattle.std.specs.FinMap as map
 use Rattle.std.specs.FinMap.{entries_sorted}
 use Rattle.std.specs.Option.{option_or}
 use Rattle.std.proofs.lemmas.List.Kept.{IsStrictlySortedBy-filter}
+use Rattle.general_words.proofs.Entries.{keys_rise}
 use Rattle.key_set.specs.WithAll.{with_all}
 use Rattle.key_set.proofs.WithAllLemmas.{get-with_all}
 use Rattle.model_names.specs.Name.{Name}
@@ -17,7 +18,7 @@ use Rattle.key_merge.specs.declared.choices.Choice as choices
 use Rattle.key_merge.specs.declared.choices.Choice.TheVariants as choice
 use Rattle.key_merge.specs.Merged.{choice_at, conflicts, is_conflict, merged, takes_their}
 use Rattle.key_merge.specs.Merging.{AreConflicts, IsConflict, IsMerged, choice_of, merged_entry}
-use Rattle.key_merge.proofs.NamesLemmas.{Has, contains-has, filter-has, has-contains, has-filter, has-found, names_rise, one_list}
+use Rattle.key_merge.proofs.NamesLemmas.{Has, contains-has, filter-has, has-contains, has-filter, has-found, one_list}
 
 -- ---- the keys
 
@@ -77,7 +78,7 @@ module _ (base our their : KeyMap) where
   pub conflicts-are : (names : List Name) → AreConflicts base our their names → names ≡ conflicts base our their
   conflicts-are names are =
       one_list names (conflicts base our their) are.ascending
-      (IsStrictlySortedBy-filter name_cmp at (map.keys (with_all our their)) (names_rise (map.entries (with_all our their)) (entries_sorted (with_all our their))))
+      (IsStrictlySortedBy-filter name_cmp at (map.keys (with_all our their)) (keys_rise name_cmp (map.entries (with_all our their)) (entries_sorted (with_all our their))))
       (λ name h. has-conflict name (are.only name (contains-has names name h)))
       (λ name h. has-contains names name (are.each name (conflict-has name h)))
 

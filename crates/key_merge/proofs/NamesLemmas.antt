@@ -1,20 +1,16 @@
 -- Names in their order are those of a list alone: two such lists with the same names are one.
-use Rattle.std.specs.Prelude.{◌≡◌, ◌⊎◌, ◌<◌, ◌||◌, ℕ, suc, zero, Bool, true, false, T, List, [], ◌∷◌, length, map as over, filter, cond, slice_index_or}
+use Rattle.std.specs.Prelude.{◌≡◌, ◌⊎◌, ◌<◌, ◌||◌, ℕ, suc, zero, Bool, true, false, List, [], ◌∷◌, length, filter, cond, slice_index_or}
 use Rattle.std.proofs.Common.{refl, sym, ap, subst, ◌∙◌, inl, inr, arith}
-use Rattle.std.specs.FinMap.{is_sorted}
-use Rattle.std.specs.FinMap.Entries.{below_all}
 use Rattle.std.specs.List.{AllByRecursion, Contains, list_any}
 use Rattle.std.specs.List.Sorted.{IsStrictlySortedBy}
 use Rattle.std.specs.Ordering.{eq_by_cmp}
 use Rattle.std.specs.declared.cmp.Ordering.TheVariants.{Less, Greater}
 use Rattle.std.proofs.lemmas.Map.Keys.{sorted_head, sorted_tail}
 use Rattle.general_words.proofs.Lookups.{tied_or_not}
-use Rattle.general_words.proofs.Orders.{less, turned}
-use Rattle.general_words.proofs.Tests.{first, second}
+use Rattle.general_words.proofs.Orders.{turned}
 use Rattle.model_names.specs.Name.{Name}
 use Rattle.model_names.specs.Order.{name_cmp}
 use Rattle.model_names.proofs.OrderLemmas.{name_cmp_total, name_cmp-IsAntisymmetric}
-use Rattle.model_maps.specs.Entry.{Entry}
 
 -- ---- being one of some names
 
@@ -110,13 +106,3 @@ one_list (x ∷ xs) (y ∷ ys) xs_rise ys_rise there back = ap (λ name. name �
         by : (x ≡ name) ⊎ Has xs name → Has xs name
         by (inl is) = absurd (not_below_itself y (subst (λ other. name_cmp y other ≡ Less) (sym is ∙ same) (above_y name h)))
         by (inr rest) = rest
-
--- the names of entries in their order
-all_behind : (name : Name) (es : List (Name × Entry)) → T (below_all name_cmp name es) → AllByRecursion (λ other. name_cmp name other ≡ Less) (over (λ e. e.0) es)
-all_behind name [] h = tt
-all_behind name (e ∷ es) h = (less _ (first _ _ h), all_behind name es (second _ _ h))
-
-pub names_rise : (es : List (Name × Entry)) → T (is_sorted name_cmp es) → IsStrictlySortedBy name_cmp (over (λ e. e.0) es)
-unfolding IsStrictlySortedBy
-names_rise [] h = tt
-names_rise (e ∷ es) h = (all_behind e.0 es (first _ _ h), names_rise es (second _ _ h))

@@ -11,6 +11,7 @@ use Rattle.std.specs.declared.cmp.Ordering.TheVariants.{Less}
 use Rattle.std.proofs.lemmas.List.Elements.{Contains-append_left, Contains-append_right, Contains-append_cases}
 use Rattle.general_words.proofs.Lookups.{tied_or_not}
 use Rattle.general_words.proofs.Orders.{itself}
+use Rattle.general_words.proofs.Lists.{all_append}
 use Rattle.model_names.specs.Name.{Name}
 use Rattle.model_names.specs.Order.{name_cmp}
 use Rattle.model_names.proofs.OrderLemmas.{name_cmp_total, name_cmp-IsAntisymmetric}
@@ -113,15 +114,11 @@ module _ (strategy : Strategy) (at_base at_our at_their : KeyMap) where
   below-more true [] name b o t h p = (p, tt)
   below-more true (n ∷ names) name b o t h p = (h.0, below-more true names name b o t h.1 p)
 
-  all-snoc : (P : Name → Type 0) (names : List Name) (name : Name) → AllByRecursion P names → P name → AllByRecursion P (names ++ name ∷ [])
-  all-snoc P [] name h p = (p, tt)
-  all-snoc P (n ∷ names) name h p = (h.0, all-snoc P names name h.1 p)
-
   ascends-more : (told : Bool) (names : List Name) (name : Name) → IsStrictlySortedBy name_cmp names → AllByRecursion (λ q. name_cmp q name ≡ Less) names → IsStrictlySortedBy name_cmp (cond told (names ++ name ∷ []) names)
   unfolding IsStrictlySortedBy
   ascends-more false names name h p = h
   ascends-more true [] name h p = (tt, tt)
-  ascends-more true (n ∷ names) name h p = (all-snoc (λ y. name_cmp n y ≡ Less) names name h.0 p.0, ascends-more true names name h.1 p.1)
+  ascends-more true (n ∷ names) name h p = (all_append (λ y. name_cmp n y ≡ Less) names (name ∷ []) h.0 (p.0, tt), ascends-more true names name h.1 p.1)
 
   all-over : (names : List Name) (name : Name) (b o t : List (Name × Entry)) → ((q : Name) → IsBelowAll b o t q → name_cmp q name ≡ Less) → AllByRecursion (IsBelowAll b o t) names → AllByRecursion (λ q. name_cmp q name ≡ Less) names
   all-over [] name b o t over h = tt

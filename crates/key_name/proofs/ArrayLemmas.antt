@@ -8,6 +8,7 @@ use Rattle.general_words.proofs.Tests.{cond_some}
 use Rattle.std.specs.Char.{is_ascii_digit}
 use Rattle.std.specs.List.{AllByRecursion, list_all}
 use Rattle.std.proofs.lemmas.Bool.{cond-true, cond-false, and_parts, and_left, or_cases, eqb-true, eq-eqb, ne_eqb, cases_Bool, cases_eq}
+use Rattle.std.proofs.lemmas.List.{nil_from_length}
 use Rattle.model_names.specs.Name.{Part}
 use Rattle.model_names.specs.ArrayPart.{without_underscores, are_digits, is_array_like, digits_of, underscores_of, is_index, is_canonical, is_bare, part_of_digits, canonical_part}
 use Rattle.model_names.specs.Spells.{Adds, part_of_text, read_letters, unescaped}
@@ -151,8 +152,12 @@ either true x y z f h = f refl
 either false x y z f h = h
 
 pub empty_text : (raw : List ℕ) → (length raw == 0) ≡ true → raw ≡ []
-empty_text [] e = refl
-empty_text (b ∷ raw) e = let h = eqb-true (length (b ∷ raw)) 0 e in absurd (omega arith)
+empty_text raw e = nil_from_length raw (eqb-true (length raw) 0 e)
+
+-- a text is not empty
+pub length_of_some : (raw : List ℕ) → raw ≢ [] → (length raw == 0) ≡ false
+length_of_some [] h = absurd (h refl)
+length_of_some (b ∷ raw) h = ne_eqb _ 0 (omega arith)
 
 -- the literal parts and the reserved ones are none that looks like an array's
 bad_array-letters : (place : ℕ) (raw : List ℕ) → bad_array (place, raw) ≡ option_and_then (λ text. cond (is_array_like text && is_none (canonical_part text)) (Some place) None) (unescaped raw)

@@ -2,7 +2,7 @@
 use Rattle.std.proofs.Common.{◌≡◌, ◌≢◌, ℕ, ◌+◌, ◌-◌, ◌*◌, ◌<◌, ◌≤◌, Bool, true, false, cond, ◌==◌, ◌||◌, List, [], ◌∷◌, ◌++◌, length, get_or, take, drop, replicate, ltb, map, codes, Option, Some, option_and_then, inl, inr, refl, sym, ap, subst, ◌∙◌, arith, length-append}
 use Rattle.std.specs.List.{AllByRecursion, flat_map}
 use Rattle.std.specs.Option.{option_map}
-use Rattle.std.proofs.lemmas.Bool.{cond_both, cond-true, cond-false, ne_eqb, or_from, cases_Bool, and_parts, ltb-true}
+use Rattle.std.proofs.lemmas.Bool.{cond_both, cond-true, cond-false, or_from, cases_Bool, and_parts, ltb-true}
 use Rattle.std.proofs.lemmas.List.{map-append, take-map, take_more, take-append-drop, length-replicate}
 use Rattle.model_names.specs.Name.{Part}
 use Rattle.model_names.specs.ArrayPart.{is_array_like, canonical_part, digits_of, part_of_digits}
@@ -17,16 +17,12 @@ use Rattle.model_names.proofs.ReadLemmas.{meaning-by_form, unescaped_from, unesc
 use Rattle.model_names.proofs.RefusesLemmas.{from_map, from_and_then, branch_taken}
 use Rattle.general_words.proofs.Texts.{other_text, same_text}
 use Rattle.model_names.proofs.ArrayLemmas.{are_digits-like, canonical_part-from, is_array_like-part_of_digits}
-use Rattle.key_name.proofs.ArrayLemmas.{array_ordinary, digits_fit}
+use Rattle.key_name.proofs.ArrayLemmas.{array_ordinary, digits_fit, length_of_some}
 use Rattle.key_name.proofs.WellFormedLemmas.{slashed, length-all_escaped-least, length-slashed-append}
 use Rattle.general_words.proofs.Lists.{some_is}
 use Rattle.general_words.proofs.Tests.{cond_some}
 
 -- ---- one part
-
-length_of_some : (part : Part) → part ≢ [] → (length part == 0) ≡ false
-length_of_some [] h = absurd (h refl)
-length_of_some (b ∷ part) h = ne_eqb _ 0 (omega arith)
 
 -- a part that is none of the four that are spelled otherwise
 pub length-spelled-text : (part : Part) → part ≢ [] → part ≢ codes "%" → part ≢ codes "." → part ≢ codes ".." → length (spelled part) ≡ length (flat_map escaped part)

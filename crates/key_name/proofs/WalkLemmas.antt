@@ -15,17 +15,13 @@ use Rattle.model_names.proofs.RefusesLemmas.{branch_taken, from_map, from_and_th
 use Rattle.key_name.specs.declared.raw_parts.Raw.{Raw}
 use Rattle.key_name.specs.Raws.{texts}
 use Rattle.model_names.proofs.ArrayLemmas.{canonical_part-from}
-use Rattle.key_name.proofs.ArrayLemmas.{unescaped-array, is_array_like-unescaped}
+use Rattle.key_name.proofs.ArrayLemmas.{unescaped-array, is_array_like-unescaped, length_of_some}
 use Rattle.model_names.proofs.EscapeLemmas.{IsUnescaped-encode_utf8, read_all, escapes_no_letter}
 use Rattle.general_words.proofs.Texts.{other_text, same_text}
 use Rattle.key_name.proofs.PassLemmas.{drop-item}
 use Rattle.general_words.proofs.Lists.{some_is}
 
 -- ---- what a raw part means
-
-length_of_some : (raw : List ℕ) → raw ≢ [] → (length raw == 0) ≡ false
-length_of_some [] h = absurd (h refl)
-length_of_some (b ∷ raw) h = ne_eqb _ 0 (omega arith)
 
 some_move : (m n : Move) → ◌≡◌ {A = Option Move} (Some m) (Some n) → m ≡ n
 some_move m n e = cc

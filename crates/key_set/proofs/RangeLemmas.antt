@@ -6,7 +6,7 @@ use Rattle.std.specs.List.{remove_range, list_all}
 use Rattle.std.specs.List.Sorted.{IsPartitionedBy, IsPartitionPoint}
 use Rattle.std.specs.Ordering.{is_lt}
 use Rattle.std.specs.declared.cmp.Ordering.TheVariants.{Less}
-use Rattle.std.proofs.lemmas.Bool.{cases_lt}
+use Rattle.std.proofs.lemmas.Bool.{cases_lt, or_right}
 use Rattle.model_names.specs.Below.{is_at_or_below}
 use Rattle.model_names.specs.Name.{Name}
 use Rattle.model_names.specs.Order.{name_cmp}
@@ -15,8 +15,8 @@ use Rattle.model_names.proofs.BelowOrder.{at_or_below-not_before, at_or_below-be
 use Rattle.sorted_map.proofs.RangeLemmas.{where_key-range, where_key-rest, parts_in_two}
 use Rattle.general_words.proofs.Tests.{first, second, true_of, true_is, not_is}
 use Rattle.general_words.proofs.Orders.{less}
+use Rattle.general_words.proofs.Lists.{same_default}
 use Rattle.chunked_map.specs.Chunks.{all_before, none_before}
-use Rattle.chunked_map.proofs.JoinLemmas.{same_default}
 
 or_second : (a b : Bool) → a ≡ false → (a || b) ≡ b
 or_second true b e = absurd cc
@@ -196,10 +196,6 @@ module _ (above : Name) {X : Type 0} (es : List (Name × X)) (h : T (is_sorted n
     pub outside_all : where_key name_cmp (λ name. not (is_at_or_below above name)) es ≡ remove_range es from to
     outside_all = outside_of at_end
 
-or_true : (a b : Bool) → b ≡ true → (a || b) ≡ true
-or_true true b e = refl
-or_true false b e = e
-
 -- the key at a place
 pub key_there : {A : Type 0} (es : List A) (n : ℕ) (e d : A) → Some e ≡ slice_get es n → get_or es n d ≡ e
 key_there [] n e d there = absurd cc
@@ -213,5 +209,5 @@ pub below_to_end : (above : Name) {X : Type 0} (es : List (Name × X)) (h : T (i
     → (k : ℕ) (d : Name × X) → from ≤ k → k < length es → is_at_or_below above (get_or es k d).0 ≡ true
 below_to_end above es h from within before behind last k d le in_list =
     let starts : PartsBy above es h (is_before above) from = begins above es h from from (omega arith) within before behind (λ j e ge lt in_es. absurd (omega arith)) in
-    let end : is_not_behind above (get_or es (length es - 1) d).0 ≡ true = or_true _ _ (last d) in
+    let end : is_not_behind above (get_or es (length es - 1) d).0 ≡ true = or_right _ _ (last d) in
     sym (or_second _ _ (starts.1 k d le in_list)) ∙ parted_behind above es h k (length es - 1) d (omega arith) (omega arith) end

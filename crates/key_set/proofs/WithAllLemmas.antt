@@ -1,10 +1,11 @@
 -- Keys with others set among them: what is found there, and how sorted entries make them.
-use Rattle.std.proofs.Common.{◌≡◌, true, false, T, cond, List, [], ◌∷◌, length, Some, refl, sym, ap, subst, ◌∙◌}
+use Rattle.std.proofs.Common.{◌≡◌, true, false, T, cond, List, [], ◌∷◌, ◌++◌, length, Some, refl, sym, ap, subst, ◌∙◌}
 use Rattle.std.specs.FinMap as map
 use Rattle.std.specs.FinMap.{find, is_sorted}
 use Rattle.std.specs.FinMap.Entries.{below_all, put, is_sorted-put}
 use Rattle.std.specs.Option.{option_or}
 use Rattle.std.specs.Ordering.{eq_by_cmp}
+use Rattle.std.proofs.lemmas.List.{nil_from_length}
 use Rattle.model_names.specs.Name.{Name}
 use Rattle.model_names.specs.Order.{name_cmp}
 use Rattle.model_names.proofs.OrderLemmas.{name_cmp_total, name_cmp-IsAntisymmetric}
@@ -16,10 +17,14 @@ use Rattle.key_set.specs.EntryView.{entry_of, keys_of}
 use Rattle.key_set.specs.WithAll.{with_keys, with_all}
 use Rattle.key_set.proofs.SetLemmas.{Keys, entries-keys, put-keys}
 use Rattle.general_words.proofs.Tests.{first, second}
-use Rattle.general_words.proofs.Lists.{no_entries}
 use Rattle.general_words.proofs.Orders.{tied}
 use Rattle.general_words.proofs.Entries.{find-below}
 use Rattle.general_words.proofs.Searches.{or_none}
+
+-- others in two lists, one set after the other
+pub with_keys-append : (es fs : List (Name × Entry)) (keys : KeyMap) → with_keys (es ++ fs) keys ≡ with_keys fs (with_keys es keys)
+with_keys-append [] fs keys = refl
+with_keys-append (e ∷ es) fs keys = with_keys-append es fs (map.insert keys e.0 e.1)
 
 -- what is found among keys with others: the others' entry, and else the keys'
 get-with_keys : (others : List (Name × Entry)) (keys : KeyMap) (name : Name) → T (is_sorted name_cmp others) → map.get (with_keys others keys) name ≡ option_or (find name_cmp name others) (map.get keys name)
@@ -53,5 +58,5 @@ with_all-keys others keys g h = put_all-keys others keys h ∙ ap (λ es. with_k
 pub with_all-none : (others keys : KeyMap) → length (map.entries keys) ≡ 0 → others ≡ with_all others keys
 with_all-none others keys none = map.same_map name_cmp_total name_cmp-IsAntisymmetric _ _ (λ name.
     sym (get-with_all others keys name
-    ∙ ap (option_or (map.get others name)) (map.get-entries keys name ∙ ap (find name_cmp name) (no_entries (map.entries keys) none))
+    ∙ ap (option_or (map.get others name)) (map.get-entries keys name ∙ ap (find name_cmp name) (nil_from_length (map.entries keys) none))
     ∙ or_none (map.get others name)))

@@ -1,5 +1,5 @@
 -- The texts of a legal commit that touches a mount are an entry of a journal.
-use Rattle.std.proofs.Common.{◌≡◌, ◌≢◌, ◌⊎◌, inl, inr, ℕ, suc, ◌+◌, ◌<◌, ◌≤◌, Bool, true, false, cond, nat_lt, List, [], ◌∷◌, length, map as over, slice_get, Option, Some, None, refl, sym, ap, subst, ◌∙◌, arith, T, ltb-false}
+use Rattle.std.proofs.Common.{◌≡◌, ◌≢◌, ◌⊎◌, inl, inr, ℕ, suc, ◌+◌, ◌<◌, ◌≤◌, true, false, cond, nat_lt, List, [], ◌∷◌, length, map as over, slice_get, Option, Some, None, refl, sym, ap, subst, ◌∙◌, arith, T, ltb-false}
 use Rattle.std.specs.FinMap as map
 use Rattle.std.specs.FinMap.{find, is_sorted}
 use Rattle.std.specs.FinMap.Entries.{below_all}
@@ -16,7 +16,7 @@ use Rattle.general_words.proofs.Lists.{all_from_places}
 use Rattle.general_words.proofs.Lookups.{get-cases}
 use Rattle.general_words.proofs.Maps.{get-at}
 use Rattle.general_words.proofs.Orders.{less}
-use Rattle.general_words.proofs.Tests.{first, second, is_number}
+use Rattle.general_words.proofs.Tests.{first, second, is_number, cond_off}
 use Rattle.general_words.proofs.Texts.{text_cmp-total, text_cmp-IsAntisymmetric}
 use Rattle.journal_codec.specs.Entry.{IsEntry, IsEntryFile, names_of}
 use Rattle.journal_codec.specs.declared.files.FileText.{FileText}
@@ -24,7 +24,7 @@ use Rattle.key_name.specs.Owner.{owner_of, is_longest}
 use Rattle.model_maps.specs.KeyMap.{KeyMap}
 use Rattle.model_history.specs.Changes.{changed_by}
 use Rattle.model_history.specs.History.{Commit, is_among}
-use Rattle.model_store.specs.Fitting.{Early, Fits, too_long, long_text}
+use Rattle.model_store.specs.Fitting.{Fits, too_long, long_text}
 use Rattle.model_store.specs.Legal.{HasChange, IsLegalCommit}
 use Rattle.model_store.specs.Store.{Store, Formats, points_of, contents}
 use Rattle.model_store.proofs.Members.{among-first, among-rest, from_all}
@@ -59,11 +59,7 @@ some_entry [] file bytes e = absurd cc
 some_entry (x ∷ es) file bytes e = omega arith
 
 not_long : (m : ℕ) (bytes : List ℕ) → long_text m bytes ≡ None → length bytes ≤ longest_file
-not_long m bytes e = ltb-false longest_file (length bytes) (off (nat_lt longest_file (length bytes)) _ e)
-  where
-    off : (b : Bool) (why : Early) → cond b (Some why) None ≡ None → b ≡ false
-    off true why h = absurd cc
-    off false why h = refl
+not_long m bytes e = ltb-false longest_file (length bytes) (cond_off (nat_lt longest_file (length bytes)) _ e)
 
 module _ (formats : Formats) (store : Store) (keys : KeyMap) where
   -- ---- whose a text is

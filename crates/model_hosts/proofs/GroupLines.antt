@@ -12,14 +12,14 @@ use Rattle.model_names.proofs.PartLemmas.{IsUtf8-cons}
 use Rattle.model_maps.specs.Entry.{IsValue}
 use Rattle.model_maps.specs.KeyMap.{KeyMap, weight, heaviest_map}
 use Rattle.model_lines.specs.Reading.{Leads}
-use Rattle.model_lines.proofs.AllLemmas.{all-weaker, all-map}
+use Rattle.model_lines.proofs.AllLemmas.{all-weaker}
 use Rattle.model_lines.proofs.Leading.{Leads-append}
 use Rattle.model_lines.proofs.LineLemmas.{IsInLine}
 use Rattle.model_hosts.specs.Keys.{family, host_name, alias_name, IsWordByte, IsWord, IsOneLine}
 use Rattle.model_hosts.specs.Hosts.{host_entry, with_aliases, Does, Step}
 use Rattle.model_hosts.specs.Text.{host_line}
 use Rattle.model_hosts.proofs.WrittenLines.{meaning-comment, comment-in_line, meaning-host_line, host_line-in_line}
-use Rattle.general_words.proofs.Lists.{all_append}
+use Rattle.general_words.proofs.Lists.{all_append, all_map}
 
 -- comments wait one behind the other
 comment_steps : (keys : KeyMap) (waiting : List (List ℕ)) (text : List ℕ) → IsValue text → IsOneLine text → Step (record { keys = keys; waiting = waiting }) (35 ∷ text) (record { keys = keys; waiting = waiting ++ text ∷ [] })
@@ -94,5 +94,5 @@ group_leads part address host texts aliases is =
 pub group-in_line : (part : KeyMap) (address : List ℕ) (host : Part) (texts : List (List ℕ)) (aliases : List Part) → IsEntry part address host texts aliases → AllByRecursion (AllByRecursion IsInLine) (group_lines address host texts aliases)
 group-in_line part address host texts aliases is =
     all_append (AllByRecursion IsInLine) (map (λ text. 35 ∷ text) texts) (host_line address host aliases ∷ [])
-    (all-map (AllByRecursion IsInLine) (λ text. 35 ∷ text) texts (all-weaker IsOneLine (λ text. AllByRecursion IsInLine (35 ∷ text)) comment-in_line texts is.one_line))
+    (all_map (AllByRecursion IsInLine) (λ text. 35 ∷ text) texts (all-weaker IsOneLine (λ text. AllByRecursion IsInLine (35 ∷ text)) comment-in_line texts is.one_line))
     (host_line-in_line address host aliases is.address_word is.host_word is.alias_words, tt)

@@ -1,5 +1,5 @@
 -- What a set has at a name once the defaults are made.
-use Rattle.std.proofs.Common.{◌≡◌, ◌⊎◌, ℕ, Bool, true, false, cond, not, ◌&&◌, T, List, [], ◌∷◌, ◌++◌, Option, Some, None, refl, sym, ap, subst, ◌∙◌, inl, inr}
+use Rattle.std.proofs.Common.{◌≡◌, ◌⊎◌, ℕ, Bool, true, false, cond, not, ◌&&◌, T, List, [], ◌∷◌, Option, Some, None, refl, sym, ap, subst, ◌∙◌, inl, inr}
 use Rattle.std.specs.Prelude.{nat_eq, codes, if◌then◌else◌, option_and_then}
 use Rattle.std.specs.FinMap as map
 use Rattle.std.specs.FinMap.{find, is_sorted}
@@ -23,14 +23,10 @@ use Rattle.model_names.proofs.OrderLemmas.{name_cmp_total, name_cmp-IsAntisymmet
 use Rattle.model_maps.specs.Entry.{Entry, plain_entry}
 use Rattle.model_maps.specs.KeyMap.{KeyMap}
 use Rattle.key_set.specs.WithAll.{with_keys}
+use Rattle.key_set.proofs.WithAllLemmas.{with_keys-append}
 use Rattle.model_specified.specs.Globs.{has_glob}
 use Rattle.model_specified.specs.SpecMeta.{spec_keys, spec_name}
 use Rattle.model_specified.specs.Specified.{default_at, default_name, default_of, default_text, with_defaults}
-
--- others set one after the other
-pub with_keys-append : (some others : List (Name × Entry)) (keys : KeyMap) → with_keys (some ++ others) keys ≡ with_keys others (with_keys some keys)
-with_keys-append [] others keys = refl
-with_keys-append (key ∷ some) others keys = with_keys-append some others (map.insert keys key.0 key.1)
 
 -- what a key of `spec:` makes of a name
 abbrev made_by : Name → Name × Entry → Option Entry

@@ -4,7 +4,7 @@ use Rattle.std.specs.FinMap as finite
 use Rattle.std.specs.List.{AllByRecursion}
 use Rattle.std.specs.Option.{option_to_list}
 use Rattle.std.proofs.lemmas.Bool.{leb-true, leb-false}
-use Rattle.general_words.proofs.Lists.{all_append}
+use Rattle.general_words.proofs.Lists.{all_append, all_map}
 use Rattle.model_names.specs.Name.{Name}
 use Rattle.model_maps.specs.Entry.{Entry, Meta}
 use Rattle.model_rules.specs.Rules.{BreaksType, UnknownType, WrongType, BreaksRange, BadRange, OutOfRange, BreaksEnum, BreaksPattern, LongPattern, BadPattern, Mismatch, Tells, breach, longest_pattern}
@@ -85,10 +85,6 @@ module _ (M : Type 0) (name : Name) where
   told_pattern value meta None tells = tt
   told_pattern value meta (Some broken) tells = (by_pattern value meta broken tells, tt)
 
-all_mapped : {A B : Type 0} (P : B → Type 0) (f : A → B) (xs : List A) → AllByRecursion (λ x. P (f x)) xs → AllByRecursion P (map f xs)
-all_mapped P f [] p = tt
-all_mapped P f (x ∷ xs) p = (p.0, all_mapped P f xs p.1)
-
 of_key-caused : (M : Type 0) (key : Name × Entry) (violations : List Violation) → AreOfKey M key violations → AllByRecursion (HasCauseIn M) violations
 of_key-caused M key violations h =
     let value = key.1.value in
@@ -99,7 +95,7 @@ of_key-caused M key violations h =
     let rest = all_append C (option_to_list are.by_enum) (option_to_list are.by_pattern) enum (told_pattern M key.0 value meta are.by_pattern are.of_pattern) in
     let more = all_append C (option_to_list are.by_range) _ (told M key.0 (BreaksRange value meta) are.by_range (by_range M key.0 value meta) are.of_range) rest in
     let all = all_append C (option_to_list are.by_type) _ (told M key.0 (BreaksType value meta) are.by_type (by_type M key.0 value meta) are.of_type) more in
-    subst (AllByRecursion (HasCauseIn M)) (sym h.all) (all_mapped (HasCauseIn M) (violation_at key.0) h.breaches (subst (AllByRecursion C) (sym are.all) all))
+    subst (AllByRecursion (HasCauseIn M)) (sym h.all) (all_map (HasCauseIn M) (violation_at key.0) h.breaches (subst (AllByRecursion C) (sym are.all) all))
 
 AreOfKeys-caused : (M : Type 0) (keys : List (Name × Entry)) (violations : List Violation) → AreOfKeys M keys violations → AllByRecursion (HasCauseIn M) violations
 AreOfKeys-caused M [] violations h = subst (AllByRecursion (HasCauseIn M)) (sym h) tt

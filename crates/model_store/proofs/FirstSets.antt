@@ -7,6 +7,7 @@ use Rattle.std.specs.Option.{option_and_then, option_map, option_or, unwrap_or}
 use Rattle.general_words.specs.Saturated.{saturated}
 use Rattle.general_words.specs.Searches.{first_some}
 use Rattle.general_words.proofs.Lists.{some_is}
+use Rattle.general_words.proofs.Tests.{cond_off}
 use Rattle.model_names.specs.Name.{Name}
 use Rattle.model_names.specs.Order.{name_cmp, name_eq}
 use Rattle.model_maps.specs.KeyMap.{KeyMap, no_keys, weight, heaviest_map}
@@ -139,10 +140,6 @@ limited : (bad : Late → Bool) (b : Bool) (one told : Late) → bad one ≡ fal
 limited bad true one told off is = ap bad (sym (some_is one told is)) ∙ off
 limited bad false one told off is = absurd cc
 
-unheavy : (b : Bool) (one : Late) → cond b (Some one) None ≡ None → b ≡ false
-unheavy true one none = absurd cc
-unheavy false one none = refl
-
 same_off : (bad : Late → Bool) (touched : List ℕ) (aside : ℕ) (told : Late) → bad (Same aside) ≡ false → if_untouched touched aside ≡ Some told → bad told ≡ false
 same_off bad [] aside told off is = ap bad (sym (some_is (Same aside) told is)) ∙ off
 same_off bad (m ∷ touched) aside told off is = absurd cc
@@ -188,7 +185,7 @@ module _ (points : List Name) (history : List Commit) (start : KeyMap) (set : Pr
       (λ _ p. told_off is_full (conflict history set) late _ (λ told e. no_conflict told is_full e)
       (λ _ c. checked_off is_full points start set late _ (λ violation risen. refl)
       (λ q. told_off is_full (if_heavy w) late _ (λ told e. limited is_full (nat_lt heaviest_map w) (DatabaseFull (saturated w)) told refl e)
-      (λ light r. told_off is_full (if_full h) late _ (λ told e. absurd (full_off told (room (ltb-false heaviest_map w (unheavy _ (DatabaseFull (saturated w)) light))) e))
+      (λ light r. told_off is_full (if_full h) late _ (λ told e. absurd (full_off told (room (ltb-false heaviest_map w (cond_off _ (DatabaseFull (saturated w)) light))) e))
       (λ _ s. ap is_full s) r) q) c) p) is
     where
       full_off : (told : Late) → h ≤ heaviest_history → if_full h ≡ Some told → ⊥

@@ -5,10 +5,9 @@ use Rattle.std.specs.List.Sorted.{IsStrictlySortedBy}
 use Rattle.std.specs.Option.{option_eq}
 use Rattle.std.specs.Ordering.{nat_cmp}
 use Rattle.std.specs.declared.cmp.Ordering.TheVariants.{Less, Equal, Greater}
-use Rattle.std.proofs.lemmas.Bool.{and_parts}
+use Rattle.std.proofs.lemmas.Bool.{and_parts, or_right}
 use Rattle.general_words.specs.Searches.{first_some}
 use Rattle.general_words.proofs.Searches.{none_before, none_behind}
-use Rattle.general_words.proofs.Tests.{or_behind}
 use Rattle.model_history.specs.History.{is_among}
 use Rattle.model_store.specs.Sets.{only}
 
@@ -26,7 +25,7 @@ pub among-first : (m : ℕ) (ms : List ℕ) → is_among (m ∷ ms) m ≡ true
 among-first m ms = ap (λ b. b || is_among ms m) (itself_number m)
 
 pub among-rest : (n m : ℕ) (ms : List ℕ) → is_among ms m ≡ true → is_among (n ∷ ms) m ≡ true
-among-rest n m ms e = or_behind (nat_eq m n) (is_among ms m) e
+among-rest n m ms e = or_right (nat_eq m n) (is_among ms m) e
 
 pub all_among : (P : ℕ → Type 0) (ms : List ℕ) → ((m : ℕ) → is_among ms m ≡ true → P m) → AllByRecursion P ms
 all_among P [] h = tt

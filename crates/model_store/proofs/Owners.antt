@@ -1,9 +1,10 @@
 -- A name has one owner at most: what a mount owns of a map.
 use Rattle.std.proofs.Common.{◌≡◌, ℕ, Bool, true, false, cond, ◌||◌, nat_eq, List, [], ◌∷◌, None, refl, sym, ap, ◌∙◌, eqb-true}
 use Rattle.std.specs.FinMap as map
+use Rattle.std.proofs.lemmas.Bool.{or_right}
 use Rattle.general_words.proofs.Lists.{some_is}
 use Rattle.general_words.proofs.Maps.{get-retain}
-use Rattle.general_words.proofs.Tests.{or_behind, is_number}
+use Rattle.general_words.proofs.Tests.{is_number}
 use Rattle.key_name.specs.Owner.{owner_of}
 use Rattle.model_names.specs.Name.{Name}
 use Rattle.model_names.proofs.OrderLemmas.{name_cmp_total, name_cmp-IsAntisymmetric}
@@ -52,5 +53,5 @@ module _ (points : List Name) where
   owned-among [] m q among is = absurd cc
   owned-among (n ∷ mounts) m q among is = elim (nat_eq m n) as (λ b. nat_eq m n ≡ b → (b || is_among mounts m) ≡ true → (owns points n q || is_owned points mounts q) ≡ true) [
     | true ↦ λ same e. ap (λ b. b || is_owned points mounts q) (ap (λ i. owns points i q) (sym (eqb-true m n same)) ∙ is)
-    | false ↦ λ same e. or_behind (owns points n q) (is_owned points mounts q) (owned-among mounts m q e is)
+    | false ↦ λ same e. or_right (owns points n q) (is_owned points mounts q) (owned-among mounts m q e is)
   ] refl among

@@ -1,5 +1,5 @@
 -- What stands in a finite map is found in it, and a property of its entries lasts where one more is inserted.
-use Rattle.std.proofs.Common.{◌≡◌, ℕ, ◌+◌, Bool, true, false, cond, not, List, [], ◌∷◌, ◌++◌, length, slice_get, Some, refl, sym, ap, ◌∙◌, arith}
+use Rattle.std.proofs.Common.{◌≡◌, ℕ, ◌+◌, Bool, true, false, cond, not, List, [], ◌∷◌, length, slice_get, Some, refl, sym, ap, ◌∙◌, arith}
 use Rattle.std.specs.FinMap as map
 use Rattle.std.specs.FinMap.Entries.{where_key}
 use Rattle.std.specs.List.{AllByRecursion}
@@ -15,11 +15,6 @@ use Rattle.key_set.proofs.WithAllLemmas.{with_all-none}
 use Rattle.general_words.proofs.Maps.{entries-empty, entries-retain, get-at, each-insert}
 use Rattle.general_words.proofs.Lists.{all_from_places}
 use Rattle.set_split.proofs.SplitLemmas.{both}
-
--- keys that are set in two lists, one after the other
-pub with_keys-append : (es fs : List (Name × Entry)) (keys : KeyMap) → with_keys (es ++ fs) keys ≡ with_keys fs (with_keys es keys)
-with_keys-append [] fs keys = refl
-with_keys-append (e ∷ es) fs keys = with_keys-append es fs (map.insert keys e.0 e.1)
 
 -- an entry that stands at a place among keys is found
 pub key-at : (keys : KeyMap) (i : ℕ) (e : Name × Entry) → Some e ≡ slice_get (map.entries keys) i → map.get keys e.0 ≡ Some e.1

@@ -2,11 +2,11 @@
 use Rattle.std.proofs.Common.{◌≡◌, Bool, true, false, cond, List, [], ◌∷◌, ◌++◌, map as over, filter_map, Some, None, refl, ap, sym, ◌∙◌}
 use Rattle.std.proofs.lemmas.List.Elements.{filter_map-append}
 use Rattle.key_set.specs.WithAll.{with_keys}
+use Rattle.key_set.proofs.WithAllLemmas.{with_keys-append}
 use Rattle.model_names.specs.Name.{Name}
 use Rattle.model_maps.specs.Entry.{Entry}
 use Rattle.model_maps.specs.KeyMap.{KeyMap}
 use Rattle.mounted_files.specs.Whole.{as_way}
-use Rattle.mounted_files.proofs.MapLemmas.{with_keys-append}
 
 pub over-append : {A B : Type 0} (f : A → B) (xs : List A) (y : A) → over f (xs ++ y ∷ []) ≡ over f xs ++ f y ∷ []
 over-append f [] y = refl

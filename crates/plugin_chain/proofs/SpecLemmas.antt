@@ -6,7 +6,7 @@ use Rattle.std.specs.FinMap as finite
 use Rattle.std.specs.FinMap.{find}
 use Rattle.std.specs.List.{filter}
 use Rattle.std.specs.Option.{option_map_or, option_to_list}
-use Rattle.general_words.proofs.Lists.{no_entries}
+use Rattle.std.proofs.lemmas.List.{nil_from_length}
 use Rattle.model_names.specs.Glob.{MatchesGlob}
 use Rattle.model_names.specs.Name.{Name, Part}
 use Rattle.model_names.specs.Order.{name_cmp, name_eq}
@@ -53,7 +53,7 @@ said_last path keys meta said none so_far = sym (laid_over-alone meta) ∙ ap (�
 -- there is no key
 pub said_nothing : (specs : KeyMap) (path : List Part) → length (finite.entries specs) ≡ 0 → finite.empty ≡ said_of specs path
 said_nothing specs path none =
-    let no : finite.entries specs ≡ [] = no_entries (finite.entries specs) none in
+    let no : finite.entries specs ≡ [] = nil_from_length (finite.entries specs) none in
     let nowhere : finite.get specs (spec_name path) ≡ None = finite.get-entries specs (spec_name path) ∙ ap (find name_cmp (spec_name path)) no in
     sym (ap₂ (λ (o : Option Entry) (keys : List (Name × Entry)). laid_over (map (λ spec. spec.meta) (option_to_list o ++ map (λ key. key.1) (filter (λ key. is_pattern_of path key.0) keys)))) nowhere no ∙ laid_over-none)
 

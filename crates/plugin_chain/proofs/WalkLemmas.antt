@@ -1,9 +1,11 @@
 -- The violations so far, in the midst of a walk over the keys of a set.
-use Rattle.std.proofs.Common.{◌≡◌, ℕ, Bool, true, false, cond, List, [], ◌∷◌, ◌++◌, map, Option, Some, None, refl, sym, ap, ap₂, subst, ◌∙◌, append-nil, append_assoc}
+use Rattle.std.proofs.Common.{◌≡◌, ℕ, Bool, true, false, cond, List, [], ◌∷◌, ◌++◌, map, Option, Some, refl, sym, ap, ap₂, subst, ◌∙◌, append-nil, append_assoc}
 use Rattle.std.specs.Prelude.{slice_get, Result, IfOk}
 use Rattle.std.specs.FinMap as finite
 use Rattle.std.specs.List.{filter}
 use Rattle.std.specs.Option.{option_to_list}
+use Rattle.std.proofs.lemmas.List.{map-append}
+use Rattle.general_words.proofs.Lists.{appended_four}
 use Rattle.model_names.specs.Name.{Name}
 use Rattle.model_maps.specs.Entry.{Entry, Meta}
 use Rattle.model_maps.specs.KeyMap.{KeyMap}
@@ -23,10 +25,6 @@ added_to now room after more added same = added ∙ ap (λ items. items ++ more)
 
 -- ---- the four checks of a value
 
-map-append : {A B : Type 0} (f : A → B) (xs ys : List A) → map f (xs ++ ys) ≡ map f xs ++ map f ys
-map-append f [] ys = refl
-map-append f (x ∷ xs) ys = ap (λ zs. f x ∷ zs) (map-append f xs ys)
-
 module _ (name : Name) where
   abbrev at : Option Broken → List Violation
   at broken = map (violation_at name) (option_to_list broken)
@@ -36,13 +34,6 @@ module _ (name : Name) where
       map-append (violation_at name) (option_to_list a) (option_to_list b ++ (option_to_list c ++ option_to_list d))
       ∙ ap (λ vs. at a ++ vs) (map-append (violation_at name) (option_to_list b) (option_to_list c ++ option_to_list d)
       ∙ ap (λ vs. at b ++ vs) (map-append (violation_at name) (option_to_list c) (option_to_list d)))
-
-  joined : (l0 l1 l2 l3 l4 a b c d : List Violation) → l1 ≡ l0 ++ a → l2 ≡ l1 ++ b → l3 ≡ l2 ++ c → l4 ≡ l3 ++ d → l4 ≡ l0 ++ (a ++ (b ++ (c ++ d)))
-  joined l0 l1 l2 l3 l4 a b c d e1 e2 e3 e4 =
-      e4 ∙ ap (λ vs. vs ++ d) (e3 ∙ ap (λ vs. vs ++ c) (e2 ∙ ap (λ vs. vs ++ b) e1))
-      ∙ append_assoc ((l0 ++ a) ++ b) c d
-      ∙ append_assoc (l0 ++ a) b (c ++ d)
-      ∙ append_assoc l0 a (b ++ (c ++ d))
 
   pub four_checks : (M : Type 0) (value : List ℕ) (meta : Meta) (l0 l1 l2 l3 l4 : List Violation) (a b c d : Option Broken)
       → Tells (BreaksType value meta) a → Tells (BreaksRange value meta) b → Tells (BreaksEnum value meta) c → TellsPattern M value meta d
@@ -54,7 +45,7 @@ module _ (name : Name) where
       are = record { by_type = a; by_range = b; by_enum = c; by_pattern = d; of_type = ta; of_range = tb; of_enum = tc; of_pattern = td; all = refl };
       all = sym (all_four a b c d);
     };
-    all = joined l0 l1 l2 l3 l4 (at a) (at b) (at c) (at d) e1 e2 e3 e4;
+    all = appended_four l0 l1 l2 l3 l4 (at a) (at b) (at c) (at d) e1 e2 e3 e4;
   }
 
 -- ---- a walk
@@ -125,11 +116,6 @@ reached_found M specs is_chosen all rest violations violation is h =
       more = there.0;
       violations = subst (AreOfKeys M (checked specs is_chosen h.front)) there.1 h.are;
     }
-
--- none is
-pub none_there : (violations : List Violation) → None ≡ slice_get violations 0 → violations ≡ []
-none_there [] is = refl
-none_there (v ∷ more) is = absurd cc
 
 -- ---- the checked keys of a set
 

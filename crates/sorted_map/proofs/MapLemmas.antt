@@ -1,5 +1,5 @@
 -- What a change of entries in the order of their keys does to the finite map that they make.
-use Rattle.std.proofs.Common.{◌≡◌, ℕ, get_or, set, Result, Ok, Err, IfOk, OnOk, T, List, Some, None, sym, ap, ◌∙◌}
+use Rattle.std.proofs.Common.{◌≡◌, ℕ, get_or, set, T, List, Some, None, sym, ap, ◌∙◌}
 use Rattle.std.specs.Cmp.{IsTotalOrder}
 use Rattle.std.specs.FinMap.{IsAntisymmetric, get, insert, remove, from_sorted, is_sorted, get-from_sorted}
 use Rattle.std.specs.declared.cmp.Ordering.{Ordering}
@@ -25,12 +25,3 @@ module _ {K X : Type 0} (R : K → K → Ordering) (o : IsTotalOrder R) (es : Li
 
     pub remove-gap : (i : ℕ) → IsGap R es q i → from_sorted {R = R} es ≡ remove (from_sorted es) q
     remove-gap i gap = ap (from_sorted {R = R}) (sym (without-gap R o q es i gap)) ∙ from_sorted-without R o same es q h
-
--- what follows where a result is good
-pub on_ok : {A E P Q : Type 0} (r : Result A E) → (P → Q) → OnOk r P → OnOk r Q
-on_ok (Ok x) f p = f p
-on_ok (Err e) f p = p
-
-pub for_ok : {A E : Type 0} {P : A → Type 0} (Q : A → Type 0) (r : Result A E) → ((x : A) → P x → Q x) → IfOk r P → IfOk r Q
-for_ok Q (Ok x) f p = f x p
-for_ok Q (Err e) f p = p

@@ -1,5 +1,5 @@
 -- Lists of candidates, one piece behind the other.
-use Rattle.std.proofs.Common.{◌≡◌, ℕ, suc, zero, ◌+◌, ◌<◌, ◌≤◌, List, [], ◌∷◌, ◌++◌, length, Option, None, Some, arith, refl, sym, ap, ap₂, ◌∙◌, append_assoc}
+use Rattle.std.proofs.Common.{◌≡◌, ℕ, suc, zero, ◌+◌, ◌<◌, ◌≤◌, List, [], ◌∷◌, ◌++◌, length, Option, None, Some, arith, refl, sym, ap, ap₂, ◌∙◌}
 use Rattle.std.specs.List.{flat_map}
 use Rattle.std.specs.Prelude.{◌^◌, slice_get, codes, Result, Ok, Err, IfOk}
 use Rattle.std.specs.FinMap as finite
@@ -12,14 +12,7 @@ use Rattle.spec_cascade.specs.Candidates.{candidates, names_of, paths_by, texts_
 use Rattle.spec_cascade.specs.Found.{first_present, present}
 use Rattle.spec_cascade.specs.declared.founds.Found.{Found}
 use Rattle.general_words.specs.Searches.{first_some}
-
--- four pieces
-pub four_pieces : {A : Type 0} (l0 l1 l2 l3 l4 a b c d : List A) → l1 ≡ l0 ++ a → l2 ≡ l1 ++ b → l3 ≡ l2 ++ c → l4 ≡ l3 ++ d → l4 ≡ l0 ++ (a ++ (b ++ (c ++ d)))
-four_pieces l0 l1 l2 l3 l4 a b c d e1 e2 e3 e4 =
-    e4 ∙ ap (λ vs. vs ++ d) (e3 ∙ ap (λ vs. vs ++ c) (e2 ∙ ap (λ vs. vs ++ b) e1))
-    ∙ append_assoc ((l0 ++ a) ++ b) c d
-    ∙ append_assoc (l0 ++ a) b (c ++ d)
-    ∙ append_assoc l0 a (b ++ (c ++ d))
+use Rattle.general_words.proofs.Lists.{appended_four}
 
 -- the texts of an array are those that are read from its first item on
 array-from : (more : ℕ) (meta : Meta) (prefix : List ℕ) (index : ℕ) (texts : List (List ℕ)) → ((i : ℕ) → i < length texts → finite.get meta (item_name prefix (index + i)) ≡ slice_get texts i) → finite.get meta (item_name prefix (index + length texts)) ≡ None
@@ -54,7 +47,7 @@ pub four_kinds : (path : List Part) (said : Meta) (overrides words fallbacks : L
     → overrides ≡ texts_of said (codes "override") → words ≡ texts_of said (codes "namespace") → fallbacks ≡ texts_of said (codes "fallback") → l0 ≡ []
     → l1 ≡ l0 ++ flat_map names_of overrides → l2 ≡ l1 ++ paths_by path words → l3 ≡ l2 ++ flat_map names_of fallbacks → l4 ≡ l3 ++ default_name path ∷ [] → l4 ≡ candidates path said
 four_kinds path said overrides words fallbacks l0 l1 l2 l3 l4 os ws fs none e1 e2 e3 e4 =
-    four_pieces l0 l1 l2 l3 l4 (flat_map names_of overrides) (paths_by path words) (flat_map names_of fallbacks) (default_name path ∷ []) e1 e2 e3 e4
+    appended_four l0 l1 l2 l3 l4 (flat_map names_of overrides) (paths_by path words) (flat_map names_of fallbacks) (default_name path ∷ []) e1 e2 e3 e4
     ∙ (λ i. none i ++ (flat_map names_of (os i) ++ (paths_by path (ws i) ++ (flat_map names_of (fs i) ++ default_name path ∷ []))))
 
 -- the first that is present of a path's candidates

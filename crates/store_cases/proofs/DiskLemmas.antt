@@ -1,7 +1,6 @@
 -- Disks without calls, and journals without bytes.
-use Rattle.std.proofs.Common.{◌≡◌, ℕ, ◌≤◌, List, [], ◌∷◌, ◌++◌, length, Option, None, sym, subst, arith}
+use Rattle.std.proofs.Common.{◌≡◌, ℕ, ◌≤◌, length, Option, None, sym, subst, arith}
 use Rattle.std.specs.FinMap as map
-use Rattle.std.specs.List.{AllByRecursion}
 use Rattle.disk_memory.specs.DiskState.{DiskState, File, begun}
 use Rattle.intent_journal.specs.JournalBytes.{IsBroken}
 use Rattle.model_maps.specs.KeyMap.{KeyMap, no_keys}
@@ -13,7 +12,3 @@ use Rattle.store_verdict.specs.ProcKeys.{AreProc}
 
 pub are_proc : (keys : KeyMap) → keys ≡ no_keys → AreProc keys
 are_proc keys none = subst AreProc (sym none) (λ name entry e. let nothing : map.get no_keys name ≡ None = map.get-empty name_cmp name in absurd cc)
-
-pub all_push : {A : Type 0} (P : A → Type 0) (xs : List A) (x : A) → AllByRecursion P xs → P x → AllByRecursion P (xs ++ x ∷ [])
-all_push P [] x all new = (new, tt)
-all_push P (y ∷ xs) x all new = (all.0, all_push P xs x all.1 new)

@@ -1,6 +1,7 @@
 -- The run that an opening begins.
-use Rattle.std.proofs.Common.{◌≡◌, List, Bool, true, false, inl, Option, Some, None, Result, Ok, Err, refl, sym, ◌∙◌}
+use Rattle.std.proofs.Common.{◌≡◌, List, Bool, true, false, inl, Option, Result, Ok, Err, refl, sym, ◌∙◌}
 use Rattle.std.specs.Prelude.{IfOk, is_some}
+use Rattle.general_words.proofs.Lists.{none_by_test}
 use Rattle.kdb_outside.specs.declared.disks.Disk.{Ghosts}
 use Rattle.kdb_outside.specs.Crashes.{EveryImage}
 use Rattle.kdb_outside.specs.Frames.{GoesOn, OnlyReads}
@@ -39,11 +40,7 @@ opened_calm g disk j files doubt true tells goes calm is told left settled =
     (g.read_is_image j.disk (goes.tells ∙ tells)) (inl (λ file own. refl))
 opened_calm g disk j files doubt false tells goes calm is told left settled =
     let reads = left is in
-    calm_at_read (g.seen disk) (g.seen j.disk) (g.may_leave disk) (g.may_leave j.disk) files doubt calm (none_of (open_entry (g.seen disk journal_name)) (sym told ∙ is)) (reads.same tells) (reads.images tells)
-  where
-    none_of : (o : Option (List FileText)) → is_some o ≡ false → o ≡ None
-    none_of None is = refl
-    none_of (Some entry) is = absurd (cc)
+    calm_at_read (g.seen disk) (g.seen j.disk) (g.may_leave disk) (g.may_leave j.disk) files doubt calm (none_by_test (open_entry (g.seen disk journal_name)) (sym told ∙ is)) (reads.same tells) (reads.images tells)
 
 pub opened_run : {D : Type 0} (g : Ghosts D) (disk : D) (result : Result (JournalValue D) (JournalRefused D)) (files : Image) (doubt : Option (List FileText)) → g.tells disk ≡ true → GoesOn g disk (disk_of result)
     → IsCalm (g.seen disk) (g.may_leave disk) files doubt

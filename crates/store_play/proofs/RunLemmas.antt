@@ -1,5 +1,5 @@
 -- A store from its opening to its close.
-use Rattle.std.proofs.Common.{◌≡◌, ℕ, ◌≤◌, List, [], ◌∷◌, length, Option, Some, None, Result, Ok, Err, IfOk, inl, inr, true, refl, sym, ap, subst, ◌∙◌}
+use Rattle.std.proofs.Common.{◌≡◌, ℕ, ◌≤◌, List, [], ◌∷◌, length, Option, Some, None, inl, inr, true, refl, sym, ap, subst, ◌∙◌}
 use Rattle.kdb_outside.specs.Crashes.{EveryImage}
 use Rattle.kdb_outside.specs.Frames.{GoesOn}
 use Rattle.kdb_outside.specs.Images.{Image}
@@ -152,8 +152,3 @@ sound_now g disk P every image is = (every image is).not_broken
 
 pub sound_since : {D : Type 0} (g : Ghosts D) (old new : D) (P : Image → Type 0) → g.tells old ≡ true → GoesOn g old new → LeavesOnly g old new (HasOnly P) → IsNeverBroken g new
 sound_since g old new P tells goes only image is = (only.each image (g.counts_now new (g.moment old) image (goes.tells ∙ tells) goes.moment is)).not_broken
-
--- what an answer has from which something follows
-pub if_ok : {A E : Type 0} (P Q : A → Type 0) (result : Result A E) → ((a : A) → P a → Q a) → IfOk result P → IfOk result Q
-if_ok P Q (Ok a) follows holds = follows a holds
-if_ok P Q (Err e) follows holds = tt

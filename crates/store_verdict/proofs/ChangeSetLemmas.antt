@@ -1,9 +1,10 @@
 -- What a change of the changes in name order is in the map that they make.
-use Rattle.std.proofs.Common.{◌≡◌, ℕ, ◌+◌, T, List, [], ◌∷◌, ◌++◌, take, map as over, slice_get, Option, Some, refl, sym, ap, subst, ◌∙◌}
+use Rattle.std.proofs.Common.{◌≡◌, ℕ, ◌+◌, T, List, [], ◌∷◌, take, map as over, slice_get, Option, Some, sym, ap, subst, ◌∙◌}
 use Rattle.std.proofs.lemmas.List.{map-append}
 use Rattle.general_words.proofs.Lists.{take-next}
 use Rattle.model_maps.specs.KeyMap.{KeyMap}
 use Rattle.model_history.specs.Changes.{Change, changed, changed_by}
+use Rattle.model_history.proofs.ChangeLemmas.{changed_by-snoc}
 use Rattle.std.specs.FinMap as finite
 use Rattle.std.specs.FinMap.{is_sorted}
 use Rattle.std.specs.FinMap.Entries.{put}
@@ -32,10 +33,6 @@ put-changes changes name entry h =
 
 abbrev pub seen_change : Name × Option code.Entry → Change
 seen_change change = (change.0, option_map entry_of change.1)
-
-changed_by-snoc : (changes : List Change) (change : Change) (keys : KeyMap) → changed_by (changes ++ change ∷ []) keys ≡ changed (changed_by changes keys) change
-changed_by-snoc [] change keys = refl
-changed_by-snoc (first ∷ changes) change keys = changed_by-snoc changes change (changed keys first)
 
 -- one change more
 pub made-next : (changes : List (Name × Option code.Entry)) (i : ℕ) (change : Name × Option code.Entry) (keys : KeyMap) → Some change ≡ slice_get changes i

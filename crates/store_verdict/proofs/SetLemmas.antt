@@ -4,7 +4,7 @@ use Rattle.std.specs.FinMap as map
 use Rattle.std.specs.List.{AllByRecursion, range_with_len}
 use Rattle.std.specs.Option.{option_map, option_or, unwrap_or}
 use Rattle.general_words.specs.Searches.{first_some}
-use Rattle.general_words.proofs.Lists.{head_is}
+use Rattle.general_words.proofs.Lists.{head_is, tail_is}
 use Rattle.model_names.specs.Name.{Name}
 use Rattle.model_maps.specs.KeyMap.{KeyMap, no_keys}
 use Rattle.model_history.specs.Changes.{Changes, difference}
@@ -52,15 +52,12 @@ pair-mount m n o p e = ap (λ x. x.0) e
 pair-front : (m n : ℕ) (o p : Option ℕ) → ◌≡◌ {A = ℕ × Option ℕ} (m, o) (n, p) → o ≡ p
 pair-front m n o p e = ap (λ x. x.1) e
 
-tail : {A : Type 0} (x y : A) (xs ys : List A) → x ∷ xs ≡ y ∷ ys → xs ≡ ys
-tail x y xs ys e = cc
-
 module _ (rec : Record) where
   pub seen-mounts : (seen : List Seen) (ms : List ℕ) → AreSeen rec ms seen → over (λ one. one.mount) seen ≡ ms
   seen-mounts [] [] e = refl
   seen-mounts [] (m ∷ ms) e = absurd cc
   seen-mounts (s ∷ seen) [] e = absurd cc
-  seen-mounts (s ∷ seen) (m ∷ ms) e = ap₂ (λ x xs. x ∷ xs) (pair-mount _ _ _ _ (head_is _ _ _ _ e)) (seen-mounts seen ms (tail _ _ _ _ e))
+  seen-mounts (s ∷ seen) (m ∷ ms) e = ap₂ (λ x xs. x ∷ xs) (pair-mount _ _ _ _ (head_is _ _ _ _ e)) (seen-mounts seen ms (tail_is _ _ _ _ e))
 
   pub seen-fronts : (seen : List Seen) (ms : List ℕ) → AreSeen rec ms seen → (q : ℕ) → front_of seen q ≡ front_in (only ms rec) q
   seen-fronts seen ms e q = at seen ms e ∙ by (is_among ms q)
@@ -75,7 +72,7 @@ module _ (rec : Record) where
       at (s ∷ seen) [] e = absurd cc
       at (s ∷ seen) (m ∷ ms) e =
           ap (λ n. option_or (cond (nat_eq q n) (Some s.front) None) (front_of seen q)) (pair-mount _ _ _ _ (head_is _ _ _ _ e))
-          ∙ ap (option_or (cond (nat_eq q m) (Some s.front) None)) (at seen ms (tail _ _ _ _ e))
+          ∙ ap (option_or (cond (nat_eq q m) (Some s.front) None)) (at seen ms (tail_is _ _ _ _ e))
           ∙ elim (nat_eq q m) as (λ b. nat_eq q m ≡ b → option_or (cond b (Some s.front) None) (cond (is_among ms q) (front_in rec q) None) ≡ cond (b || is_among ms q) (front_in rec q) None) [
             | true ↦ λ is. pair-front _ _ _ _ (head_is _ _ _ _ e) ∙ ap (front_in rec) (sym (eqb-true q m is))
             | false ↦ λ is. refl
@@ -86,7 +83,7 @@ module _ (rec : Record) where
   all-seen [] (m ∷ ms) e = absurd cc
   all-seen (s ∷ seen) [] e = absurd cc
   all-seen (s ∷ seen) (m ∷ ms) e =
-      ap (λ o. option_or (if_unseen m o) (unseen rec ms)) (sym (pair-front _ _ _ _ (head_is _ _ _ _ e))) ∙ all-seen seen ms (tail _ _ _ _ e)
+      ap (λ o. option_or (if_unseen m o) (unseen rec ms)) (sym (pair-front _ _ _ _ (head_is _ _ _ _ e))) ∙ all-seen seen ms (tail_is _ _ _ _ e)
 
   -- the mount that was not fetched is one of those
   pub unseen-among : (ms : List ℕ) (m : ℕ) → unseen rec ms ≡ Some (NotFetched m) → is_among ms m ≡ true
@@ -129,13 +126,13 @@ pub parts-within : (k : ℕ) (wanted : ℕ → KeyMap) (parts : List Part) (ms :
 parts-within k wanted [] ms e all = tt
 parts-within k wanted (part ∷ parts) [] e all = absurd cc
 parts-within k wanted (part ∷ parts) (m ∷ ms) e all =
-    (subst (λ n. n < k) (sym (ap (λ x. x.0) (head_is _ _ _ _ e))) all.0, parts-within k wanted parts ms (tail _ _ _ _ e) all.1)
+    (subst (λ n. n < k) (sym (ap (λ x. x.0) (head_is _ _ _ _ e))) all.0, parts-within k wanted parts ms (tail_is _ _ _ _ e) all.1)
 
 pub part-mounts : (wanted : ℕ → KeyMap) (parts : List Part) (ms : List ℕ) → numbered parts ≡ over (λ m. (m, wanted m)) ms → over (λ (part : Part). part.mount) parts ≡ ms
 part-mounts wanted [] [] e = refl
 part-mounts wanted [] (m ∷ ms) e = absurd cc
 part-mounts wanted (part ∷ parts) [] e = absurd cc
-part-mounts wanted (part ∷ parts) (m ∷ ms) e = ap₂ (λ x xs. x ∷ xs) (ap (λ x. x.0) (head_is _ _ _ _ e)) (part-mounts wanted parts ms (tail _ _ _ _ e))
+part-mounts wanted (part ∷ parts) (m ∷ ms) e = ap₂ (λ x xs. x ∷ xs) (ap (λ x. x.0) (head_is _ _ _ _ e)) (part-mounts wanted parts ms (tail_is _ _ _ _ e))
 
 -- what is wanted for involved mounts is short, where no key that they own has a long text
 pub parts-short : (points : List Name) (keys : KeyMap) (mounts : List ℕ) → first_long_in points mounts keys ≡ None → (parts : List Part) (ms : List ℕ) → numbered parts ≡ over {B = ℕ × KeyMap} (λ m. (m, wants points keys m)) ms
@@ -144,7 +141,7 @@ parts-short points keys mounts none [] ms e within = tt
 parts-short points keys mounts none (part ∷ parts) [] e within = absurd cc
 parts-short points keys mounts none (part ∷ parts) (m ∷ ms) e within = (
   subst (λ (k : KeyMap). AreShort k) (sym (ap (λ (x : ℕ × KeyMap). x.1) (head_is _ _ _ _ e))) (owned-short points keys mounts none m (λ name owned. owned-among points mounts m name (within m (among-first m ms)) owned)),
-  parts-short points keys mounts none parts ms (tail _ _ _ _ e) (λ k among. within k (among-rest m k ms among)),
+  parts-short points keys mounts none parts ms (tail_is _ _ _ _ e) (λ k among. within k (among-rest m k ms among)),
 )
 
 -- ---- the set

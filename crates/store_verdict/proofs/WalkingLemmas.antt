@@ -1,6 +1,5 @@
 -- What the first keys of two walks add to changes, so that those behind them add the rest.
 use Rattle.std.proofs.Common.{◌≡◌, ◌⊎◌, T, Bool, true, false, cond, List, [], ◌∷◌, drop, slice_get, Option, Some, None, is_some, MatchOption, inl, inr, refl, sym, ap, ap₂, subst, ◌∙◌}
-use Rattle.std.specs.Cmp.{IsTotalOrder}
 use Rattle.std.specs.FinMap as map
 use Rattle.std.specs.FinMap.{find, is_sorted}
 use Rattle.std.specs.FinMap.Entries.{below_all}
@@ -8,10 +7,10 @@ use Rattle.std.specs.Option.{option_map, option_or}
 use Rattle.std.specs.Ordering.{eq_by_cmp}
 use Rattle.std.specs.declared.cmp.Ordering.TheVariants.{Less, Equal, Greater}
 use Rattle.std.proofs.lemmas.Option.{same_Some}
-use Rattle.general_words.proofs.Entries.{find-below}
+use Rattle.general_words.proofs.Entries.{find-below, below_further}
 use Rattle.general_words.proofs.Lookups.{tied_or_not}
-use Rattle.general_words.proofs.Orders.{is_less, less, turned}
-use Rattle.general_words.proofs.Tests.{first, second, both}
+use Rattle.general_words.proofs.Orders.{is_less, turned}
+use Rattle.general_words.proofs.Tests.{first, both}
 use Rattle.key_set.specs.Same.{same_entry}
 use Rattle.model_names.specs.Name.{Name}
 use Rattle.model_names.specs.Order.{name_cmp}
@@ -26,10 +25,6 @@ use Rattle.store_verdict.specs.Walking.{change_between, change_of, to_come}
 pub first_is : {A : Type 0} (xs : List A) (x : A) → Some x ≡ slice_get xs 0 → xs ≡ x ∷ drop 1 xs
 first_is [] x e = absurd cc
 first_is (y ∷ xs) x e = ap (λ z. z ∷ xs) (sym (same_Some x y e))
-
-pub none_is : {A : Type 0} (xs : List A) → None ≡ slice_get xs 0 → xs ≡ []
-none_is [] e = refl
-none_is (y ∷ xs) e = absurd cc
 
 -- ---- a walk
 
@@ -54,13 +49,8 @@ module _ (es : List (Name × Entry)) (e : Name × Entry) (is : es ≡ e ∷ drop
   pub below_behind : T (below_all name_cmp e.0 (drop 1 es))
   below_behind = first _ _ (subst (λ l. T (is_sorted name_cmp l)) is sorted)
 
--- a name before the first of a sorted list stands before all of it
-further : (x y : Name) (es : List (Name × Entry)) → name_cmp x y ≡ Less → T (below_all name_cmp y es) → T (below_all name_cmp x es)
-further x y [] lt h = tt
-further x y (e ∷ es) lt h = let order : IsTotalOrder name_cmp = name_cmp_total in both _ _ (is_less _ (order.trans x y e.0 lt (less _ (first _ _ h)))) (further x y es lt (second _ _ h))
-
 pub below_both : (x : Name) (es : List (Name × Entry)) (e : Name × Entry) → es ≡ e ∷ drop 1 es → T (is_sorted name_cmp es) → name_cmp x e.0 ≡ Less → T (below_all name_cmp x es)
-below_both x es e is sorted lt = subst (λ l. T (below_all name_cmp x l)) (sym is) (both _ _ (is_less _ lt) (further x e.0 (drop 1 es) lt (below_behind es e is sorted)))
+below_both x es e is sorted lt = subst (λ l. T (below_all name_cmp x l)) (sym is) (both _ _ (is_less _ lt) (below_further name_cmp_total x e.0 (drop 1 es) lt (below_behind es e is sorted)))
 
 pub below_none : (x : Name) (es : List (Name × Entry)) → es ≡ [] → T (below_all name_cmp x es)
 below_none x es is = subst (λ l. T (below_all name_cmp x l)) (sym is) tt

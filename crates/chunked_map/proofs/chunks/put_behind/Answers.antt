@@ -1,6 +1,6 @@
 -- The key would stand at the end of the last chunk.
 use Rattle.std.proofs.Common.{◌≡◌, ◌<◌, ◌-◌, [], suc, length, ap, ◌∙◌, arith}
-use Rattle.chunked_map.proofs.JoinLemmas.{same_default}
+use Rattle.general_words.proofs.Lists.{same_default}
 use Rattle.chunked_map.proofs.GapLemmas.{gap_at_end}
 use Rattle.chunked_map.proofs.chunks.put_behind.Goals as goal
 

@@ -1,18 +1,19 @@
 -- The key goes into its chunk as it would go among all entries.
 use Rattle.std.proofs.Common.{[], List, ◌<◌, sym, ap, ◌∙◌, subst, length, set, arith}
-use Rattle.sorted_map.proofs.MapLemmas.{on_ok}
 use Rattle.std.proofs.lemmas.List.{set-get_or}
+use Rattle.std.proofs.lemmas.Result.{on_ok_weaker}
+use Rattle.general_words.proofs.Lists.{same_default}
 use Rattle.chunked_map.specs.Chunks.{joined, AreChunks}
 use Rattle.chunked_map.proofs.OrderLemmas.{length-put}
 use Rattle.chunked_map.proofs.PlaceLemmas.{put_in_is, put_are}
-use Rattle.chunked_map.proofs.JoinLemmas.{either_way, same_default}
+use Rattle.chunked_map.proofs.JoinLemmas.{either_way}
 use Rattle.chunked_map.proofs.chunks.put_here.Goals as goal
 
 pub returns-clause-ok : goal.returns-clause-ok
 returns-clause-ok g c =
     let R = g.K.Ord.cmp in
     let cs = c.args.chunks.now.items in
-    on_ok c.insert_at.result (λ done.
+    on_ok_weaker c.insert_at.result (λ done.
     ap (λ chunk. joined (set cs c.args.at chunk)) done
     ∙ put_in_is R g.met.K.Ord.total c.args.key cs c.args.at c.index_mut.result.now c.requires.home c.requires.within c.index_mut.ensures.value c.args.value) c.insert_at.ensures.ok
 

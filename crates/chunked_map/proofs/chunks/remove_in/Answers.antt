@@ -1,8 +1,8 @@
 -- The key goes out of its chunk as it would go out of all entries.
 use Rattle.std.proofs.Common.{[], sym, ap, ◌∙◌, subst, set}
+use Rattle.general_words.proofs.Lists.{same_default}
 use Rattle.sorted_map.specs.Place.{IsPlace}
 use Rattle.chunked_map.specs.Chunks.{joined, AreChunks}
-use Rattle.chunked_map.proofs.JoinLemmas.{same_default}
 use Rattle.chunked_map.proofs.PlaceLemmas.{find_in, without_set, without_gone, without_are, gone_are, nothing_left, some_left, taken_out}
 use Rattle.chunked_map.proofs.chunks.remove_in.Goals as goal
 

@@ -1,7 +1,7 @@
 -- A chunk that is cut has its entries in two, of which the key belongs into one.
 use Rattle.std.proofs.Common.{◌≡◌, ◌+◌, ◌-◌, suc, [], sym, ap, ◌∙◌, subst, length, arith}
+use Rattle.general_words.proofs.Lists.{same_default}
 use Rattle.chunked_map.specs.Chunks.{joined, AreChunks}
-use Rattle.chunked_map.proofs.JoinLemmas.{same_default}
 use Rattle.chunked_map.proofs.SplitLemmas.{joined_parted, halved_are}
 use Rattle.chunked_map.proofs.GapLemmas.{home_in_front, home_in_back, gap_in_front, gap_in_back, room_in_front, room_in_back}
 use Rattle.chunked_map.proofs.chunks.room_in.Goals as goal

@@ -1,7 +1,7 @@
 -- The back of the chunk is put behind its front.
 use Rattle.std.proofs.Common.{◌<◌, [], sym, ap, ◌∙◌, subst, length}
+use Rattle.general_words.proofs.Lists.{same_default}
 use Rattle.chunked_map.specs.Chunks.{parted}
-use Rattle.chunked_map.proofs.JoinLemmas.{same_default}
 use Rattle.chunked_map.proofs.SplitLemmas.{parted_is}
 use Rattle.chunked_map.proofs.chunks.split_in.Goals as goal
 

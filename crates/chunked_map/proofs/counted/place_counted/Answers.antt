@@ -1,7 +1,7 @@
 -- The key in the middle tells of those before it, or of those behind it; each comparison halves what is left.
 use Rattle.std.proofs.Common.{◌≡◌, ◌<◌, ◌≤◌, ◌+◌, ◌-◌, ◌/◌, suc, length, get_or, sym, ap, ◌∙◌, arith}
 use Rattle.std.specs.declared.cmp.Ordering.TheVariants.{Less, Equal, Greater}
-use Rattle.chunked_map.proofs.JoinLemmas.{same_default}
+use Rattle.general_words.proofs.Lists.{same_default}
 use Rattle.chunked_map.proofs.CostLemmas.{none_yet, no_cost, halved, one_more_step, less_up_to, greater_from}
 use Rattle.chunked_map.proofs.counted.place_counted.Goals as goal
 

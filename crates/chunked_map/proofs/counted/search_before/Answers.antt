@@ -1,7 +1,8 @@
 -- The last key of the chunk in the middle tells of the chunks up to it, or of those behind it; each comparison halves what is left.
 use Rattle.std.proofs.Common.{◌≡◌, ◌<◌, ◌≤◌, ◌+◌, ◌-◌, ◌/◌, [], suc, length, get_or, sym, ap, ◌∙◌, subst, arith}
+use Rattle.general_words.proofs.Lists.{same_default}
 use Rattle.chunked_map.specs.Chunks.{IsBeforeLast, IsSized}
-use Rattle.chunked_map.proofs.JoinLemmas.{same_default, sized_at}
+use Rattle.chunked_map.proofs.JoinLemmas.{sized_at}
 use Rattle.chunked_map.proofs.SearchLemmas.{home_late, next_before, late_here, home_tied, place_last}
 use Rattle.chunked_map.proofs.CostLemmas.{none_yet, no_cost, halved, one_more_step, both_searches, first_search}
 use Rattle.chunked_map.proofs.counted.search_before.Goals as goal

@@ -2,8 +2,9 @@
 use Rattle.std.proofs.Common.{◌≡◌, ◌+◌, ◌<◌, ◌≤◌, [], length, take, get_or, suc, sym, ap, subst, arith, ◌∙◌}
 use Rattle.chunked_map.specs.Chunks.{joined, AreChunks}
 use Rattle.chunked_map.proofs.SplitLemmas.{joined_parted, parted_are}
-use Rattle.chunked_map.proofs.RangeLemmas.{in_a_chunk, positive, begins_at, same_front}
+use Rattle.chunked_map.proofs.RangeLemmas.{in_a_chunk, begins_at, same_front}
 use Rattle.chunked_map.proofs.ranges.boundary.Goals as goal
+use Rattle.chunked_map.proofs.JoinLemmas.{positive}
 
 pub returns-clause-same : goal.returns-clause-same
 returns-clause-same g c =

@@ -1,7 +1,7 @@
 -- The chunks between the two places have the entries between them.
 use Rattle.std.proofs.Common.{◌≡◌, length, slice_range, sym, ap, ◌∙◌, subst, arith}
 use Rattle.std.specs.List.{remove_range}
-use Rattle.sorted_map.proofs.MapLemmas.{on_ok, for_ok}
+use Rattle.std.proofs.lemmas.Result.{on_ok_weaker, IfOk-weaker}
 use Rattle.chunked_map.specs.Chunks.{joined, AreChunks}
 use Rattle.chunked_map.proofs.JoinLemmas.{either_way}
 use Rattle.chunked_map.proofs.RangeLemmas.{still_within, in_order, joined_slice, joined_rest, slice_are, rest_are}
@@ -28,7 +28,7 @@ returns-clause-taken g c =
     let within = still_within b c.boundary.new.chunks.items cs same c.in_ok-begin.ensures.within in
     let order = in_order R cs c.boundary-2.ensures.chunks b e c.args.from c.args.to starts c.in_ok-end.ensures.begins le within in
     let whole = c.in_ok-end.ensures.same ∙ c.in_ok-begin.ensures.same in
-    for_ok (λ taken. joined taken.items ≡ slice_range (joined c.args.chunks.now.items) c.args.from c.args.to) c.move_out.result (λ taken was.
+    IfOk-weaker c.move_out.result _ (λ taken. joined taken.items ≡ slice_range (joined c.args.chunks.now.items) c.args.from c.args.to) (λ taken was.
     ap joined was ∙ joined_slice cs b e c.args.from c.args.to order starts c.in_ok-end.ensures.begins ∙ ap (λ es. slice_range es c.args.from c.args.to) whole) c.move_out.ensures.taken
 
 pub returns-clause-taken_chunks : goal.returns-clause-taken_chunks
@@ -43,7 +43,7 @@ returns-clause-taken_chunks g c =
     let starts = ap (λ cs. length (joined cs)) same ∙ fits in
     let within = still_within b c.boundary.new.chunks.items cs same c.in_ok-begin.ensures.within in
     let order = in_order R cs c.boundary-2.ensures.chunks b e c.args.from c.args.to starts c.in_ok-end.ensures.begins le within in
-    for_ok (λ taken. AreChunks R taken.items) c.move_out.result (λ taken was.
+    IfOk-weaker c.move_out.result _ (λ taken. AreChunks R taken.items) (λ taken was.
     subst (AreChunks R) (sym was) (slice_are R cs c.boundary-2.ensures.chunks b e c.args.from c.args.to starts c.in_ok-end.ensures.begins order c.in_ok-end.ensures.within)) c.move_out.ensures.taken
 
 pub returns-clause-ok : goal.returns-clause-ok
@@ -59,7 +59,7 @@ returns-clause-ok g c =
     let within = still_within b c.boundary.new.chunks.items cs same c.in_ok-begin.ensures.within in
     let order = in_order R cs c.boundary-2.ensures.chunks b e c.args.from c.args.to starts c.in_ok-end.ensures.begins le within in
     let whole = c.in_ok-end.ensures.same ∙ c.in_ok-begin.ensures.same in
-    on_ok c.move_out.result (λ done.
+    on_ok_weaker c.move_out.result (λ done.
     ap joined done ∙ joined_rest cs b e c.args.from c.args.to order starts c.in_ok-end.ensures.begins ∙ ap (λ es. remove_range es c.args.from c.args.to) whole) c.move_out.ensures.ok
 
 pub returns-clause-chunks : goal.returns-clause-chunks

@@ -1,8 +1,8 @@
 -- What is refused early, what a format can't hold, and what is refused of the others.
 use Rattle.std.proofs.Common.{sym, ap, subst, ◌∙◌}
 use Rattle.std.specs.Option.{option_or}
+use Rattle.std.proofs.lemmas.Result.{IfOk-weaker}
 use Rattle.general_words.specs.Searches.{first_some}
-use Rattle.sorted_map.proofs.MapLemmas.{for_ok}
 use Rattle.mounted_files.specs.Preparing.{bad_table, too_heavy}
 use Rattle.mounted_files.specs.Setting.{first_long_in}
 use Rattle.mounted_files.specs.Written.{AreWritten, IsPrepared, IsWriting}
@@ -29,7 +29,7 @@ returns-in-Done g c =
     let all = c.args.changes.now in
     let written = c.in-Done.written in
     let well : AreWritten F.text F.is_storable all written = subst (λ (w : Writing). IsWriting F.text F.is_storable F.breaks_at all w) c.in-Done.is c.in_ok-written.ensures in
-    for_ok (IsPrepared F.text F.is_storable F.breaks_at c.args.points.now c.args.mounts.now c.args.keys.now all) c.take_written.result (λ prepared is.
+    IfOk-weaker c.take_written.result _ (IsPrepared F.text F.is_storable F.breaks_at c.args.points.now c.args.mounts.now c.args.keys.now all) (λ prepared is.
     subst (λ (p : Prepared). IsPrepared F.text F.is_storable F.breaks_at c.args.points.now c.args.mounts.now c.args.keys.now all p) (sym is)
     (prepares-late F.text F.is_storable F.breaks_at c.args.points.now c.args.mounts.now c.args.keys.now all (option_or written.too_long (first_some bad_table all)) written.files
     (sym c.in_ok-refusal.ensures ∙ c.in_default.is) well.storable (ap (λ o. option_or o (first_some bad_table all)) well.long) well.texts))

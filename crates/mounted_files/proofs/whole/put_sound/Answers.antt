@@ -1,12 +1,12 @@
 -- The key that is put is sound, and the others stay.
 use Rattle.std.proofs.Common.{ap, sym, subst}
 use Rattle.std.proofs.lemmas.Option.{cond_some}
+use Rattle.std.proofs.lemmas.Result.{on_ok_weaker}
 use Rattle.key_set.specs.EntryView.{entry_of}
 use Rattle.model_names.specs.Name.{Name}
 use Rattle.model_names.specs.Below.{is_at_or_below}
 use Rattle.model_names.specs.WellFormed.{IsName}
 use Rattle.model_maps.specs.KeyMap.{KeyMap}
-use Rattle.sorted_map.proofs.MapLemmas.{on_ok}
 use Rattle.mounted_files.specs.Sound.{AreSound, IsSound}
 use Rattle.mounted_files.proofs.MapLemmas.{each-key-insert}
 use Rattle.mounted_files.proofs.whole.put_sound.Goals as goal
@@ -23,4 +23,4 @@ returns-clause-sound c = λ sound.
       meta_names = λ name text found. (c.is_empty-is_bare.ensures.texts name text found).is_name;
       meta_texts = λ name text found. (c.is_empty-is_bare.ensures.texts name text found).is_text;
     } in
-    on_ok c.put.result (λ done. subst (λ (keys : KeyMap). AreSound point keys) (sym done) (λ name entry found. each-key-insert (IsSound point) c.args.all.now c.args.way (entry_of c.args.entry.now) sound this name entry found)) c.put.ensures
+    on_ok_weaker c.put.result (λ done. subst (λ (keys : KeyMap). AreSound point keys) (sym done) (λ name entry found. each-key-insert (IsSound point) c.args.all.now c.args.way (entry_of c.args.entry.now) sound this name entry found)) c.put.ensures

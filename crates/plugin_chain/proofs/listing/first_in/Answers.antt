@@ -1,10 +1,11 @@
 use Rattle.std.proofs.Common.{[], sym, subst, ◌∙◌, arith}
 use Rattle.std.specs.FinMap as finite
+use Rattle.general_words.proofs.Lists.{no_first}
 use Rattle.kdb_outside.specs.Faults.{HasRisen}
 use Rattle.kdb_outside.proofs.Rises.{risen_since, risen_still}
 use Rattle.key_set.specs.EntryView.{entry_of}
 use Rattle.model_specified.specs.Violations.{is_owned}
-use Rattle.plugin_chain.proofs.WalkLemmas.{Reached, none_there, reached_first, reached_found, reached_last, reached_next_from}
+use Rattle.plugin_chain.proofs.WalkLemmas.{Reached, reached_first, reached_found, reached_last, reached_next_from}
 use Rattle.plugin_chain.proofs.listing.first_in.Goals as goal
 
 pub loop-name-init : goal.loop-name-init
@@ -46,7 +47,7 @@ loop-name-preserved g c =
     let later = c.check_if.ensures.later in
     record {
       reached = subst (λ list. Reached (HasRisen start after) c.args.specs.now (is_owned c.args.points.now c.args.touched.now) (finite.entries c.args.made.now) c.next.new.self list)
-          (none_there c.check_if.new.list.items (sym c.in_default.is ∙ c.first_of.ensures))
+          (no_first c.check_if.new.list.items (sym c.in_default.is ∙ c.first_of.ensures))
           (reached_next_from (HasRisen start before) (HasRisen before after) (HasRisen start after) c.args.specs.now (is_owned c.args.points.now c.args.touched.now) (finite.entries c.args.made.now)
           c.loop-name.name-iterator c.next.new.self (c.in-Some.name.now, entry_of c.in-Some.entry.now) c.is_touched-is_chosen.result c.new-own.result.items c.check_if.new.list.items
           c.new-own.ensures.items c.in-Some.ensures.steps c.is_touched-is_chosen.ensures

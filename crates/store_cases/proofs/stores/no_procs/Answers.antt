@@ -2,14 +2,15 @@
 use Rattle.std.proofs.Common.{ℕ, ◌+◌, length, sym, ap, subst, ◌∙◌, arith}
 use Rattle.std.specs.List.{AllByRecursion}
 use Rattle.std.proofs.lemmas.List.{length_push}
-use Rattle.store_cases.proofs.DiskLemmas.{all_push, are_proc}
+use Rattle.general_words.proofs.Lists.{all_append}
+use Rattle.store_cases.proofs.DiskLemmas.{are_proc}
 use Rattle.store_verdict.specs.ProcKeys.{AreProc}
 use Rattle.store_cases.proofs.stores.no_procs.Goals as goal
 
 pub loop-preserved : goal.loop-preserved
 loop-preserved c = record {
   count = ap length c.in_ok-push.ensures.items ∙ length_push c.loop.procs.items c.new.result ∙ ap (λ (n : ℕ). n + 1) c.loop.invariant.count;
-  proc = subst (AllByRecursion AreProc) (sym c.in_ok-push.ensures.items) (all_push AreProc c.loop.procs.items c.new.result c.loop.invariant.proc (are_proc c.new.result c.new.ensures));
+  proc = subst (AllByRecursion AreProc) (sym c.in_ok-push.ensures.items) (all_append AreProc c.loop.procs.items (c.new.result ∷ []) c.loop.invariant.proc (are_proc c.new.result c.new.ensures, tt));
 }
 
 pub returns-clause-few : goal.returns-clause-few

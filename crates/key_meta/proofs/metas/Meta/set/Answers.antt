@@ -7,8 +7,9 @@ use Rattle.std.proofs.lemmas.Cmp.{nat_list_cmp_total}
 use Rattle.general_words.specs.Texts.{text_cmp}
 use Rattle.sorted_map.specs.Place.{IsPlace}
 use Rattle.general_words.proofs.Maps.{from_sorted-put}
-use Rattle.sorted_map.proofs.MapLemmas.{get-place, insert-place, on_ok}
+use Rattle.sorted_map.proofs.MapLemmas.{get-place, insert-place}
 use Rattle.std.specs.Str.{IsUtf8}
+use Rattle.std.proofs.lemmas.Result.{on_ok_weaker}
 use Rattle.model_maps.specs.Entry.{longest_meta_name}
 use Rattle.key_meta.specs.MetaView.{AreItems, IsItem}
 use Rattle.key_meta.proofs.ItemLemmas.{AreItems-put, AreItems-set, IsItem-at}
@@ -40,7 +41,7 @@ returns-in_ok-text-in-Err-clause-former c =
     subst (λ v. IfOk c.insert.result (λ former. former ≡ v)) found c.insert.ensures.former
 
 pub returns-in_ok-text-in-Err-clause-ok : goal.returns-in_ok-text-in-Err-clause-ok
-returns-in_ok-text-in-Err-clause-ok c = on_ok c.insert.result (λ done.
+returns-in_ok-text-in-Err-clause-ok c = on_ok_weaker c.insert.result (λ done.
     ap (map.from_sorted {R = text_cmp}) done
     ∙ from_sorted-put text_cmp nat_list_cmp_total c.self.inside.items c.in_ok-name-in-Err.name c.in_ok-text-in-Err.text c.insert.ensures.sorted
     ∙ ap (λ name. map.insert (map.from_sorted c.self.inside.items) name c.in_ok-text-in-Err.text) c.in_ok-name-in-Err.ensures
