@@ -2,6 +2,7 @@ pub mod OrderLemmas
 pub mod JoinLemmas
 pub mod ChunkLemmas
 pub mod PlaceLemmas
+pub mod RenameLemmas
 pub mod SplitLemmas
 pub mod RangeLemmas
 pub mod CountLemmas

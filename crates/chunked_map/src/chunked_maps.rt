@@ -44,7 +44,9 @@ impl<K: Ord, V> ChunkedMap<K, V> {
         }
     }
 
-    pub fn allocator(&self) -> Global {
+    pub fn allocator(&self) -> Global
+        ensures sorted { T (is_sorted K.cmp self.now) }
+    {
         *self.chunks.allocator()
     }
 

@@ -9,6 +9,7 @@ mod counted;
 mod items;
 mod iters;
 mod ranges;
+mod renaming;
 mod shared;
 #[cfg(test)]
 mod tests;
@@ -17,3 +18,4 @@ pub use chunked_maps::ChunkedMap;
 pub use copies::Copied;
 pub use items::ChunkedItems;
 pub use iters::ChunkedIter;
+pub use renaming::Renames;

@@ -55,7 +55,8 @@ impl<K: Ord, V> Entries<K, V> {
 
     /// The entries by themselves.
     pub fn into_list(self) -> Vec<(K, V)>
-        ensures { result.items ≡ self }
+        ensures all { result.items ≡ self }
+        ensures sorted { T (is_sorted K.cmp self) }
     {
         self.sorted
     }

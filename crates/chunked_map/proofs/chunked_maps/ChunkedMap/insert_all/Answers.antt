@@ -10,7 +10,7 @@ pub loop-chunk-preserved : goal.loop-chunk-preserved
 loop-chunk-preserved g c =
     let R = g.K.Ord.cmp in
     let rest = into_iter_items c.next.new.self in
-    ap (put_all R (joined rest)) (c.in_ok-insert_entries.ensures ∙ ap (λ es. put_all R es c.loop-chunk.all) (c.into_list.ensures ∙ c.in_ok-into_entries.ensures))
+    ap (put_all R (joined rest)) (c.in_ok-insert_entries.ensures ∙ ap (λ es. put_all R es c.loop-chunk.all) (c.into_list.ensures.all ∙ c.in_ok-into_entries.ensures))
     ∙ sym (put_all-append R c.in-Some.chunk (joined rest) c.loop-chunk.all)
     ∙ ap (λ cs. put_all R (joined cs) c.loop-chunk.all) (sym c.in-Some.ensures.steps.0)
     ∙ c.loop-chunk.invariant
