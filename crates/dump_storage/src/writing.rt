@@ -60,10 +60,7 @@ fn push_key(bytes: &mut Vec<u8>, name: &KeyName, entry: &Entry) -> Result<(), Me
 fn push_metadata(bytes: &mut Vec<u8>, meta: &Meta) -> Result<(), Memory>
     ensures { OnOk result (bytes.new.items ≡ bytes.old.items ++ flat_map (λ item. spelled_record (record_of_meta item)) (map.entries meta.now)) }
 {
-    for i in 0..meta.len() {
-        let Some((name, text)) = meta.at(i) else {
-            unreachable!()
-        };
+    for (name, text) in meta.iter() {
         let item = Record {
             kind: Kind::Meta,
             first: name.as_bytes(),

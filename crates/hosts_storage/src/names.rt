@@ -21,11 +21,7 @@ pub fn child(above: &KeyName, word: &[u8]) -> Result<Option<KeyName>, Memory>
         return Ok(None);
     };
     match above.child(part) {
-        Ok(name) => {
-            // Its length says that it is well formed.
-            let _parts = name.len();
-            Ok(Some(name))
-        }
+        Ok(name) => Ok(Some(name)),
         Err(fault) => {
             hand_on_memory(fault)?;
             Ok(None)

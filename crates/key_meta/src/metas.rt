@@ -1,5 +1,5 @@
 //! Metadata of a key: a finite map from names to texts, walked by bytes.
-ghost use Rattle.std.specs.Prelude.{◌≡◌, ◌==◌, ◌+◌, ◌<◌, ◌≤◌, T, length, IfOk, IfErr, OnOk, OnErr, slice_get, sum_by};
+ghost use Rattle.std.specs.Prelude.{◌≡◌, ◌==◌, ◌+◌, ◌^◌, ◌<◌, ◌≤◌, T, length, IfOk, IfErr, OnOk, OnErr, slice_get, sum_by};
 ghost use Rattle.std.specs.Option.{option_map};
 ghost use Rattle.std.specs.FinMap as map;
 ghost use Rattle.std.specs.FinMap.{is_sorted};
@@ -8,10 +8,11 @@ ghost use Rattle.general_words.specs.Texts.{text_cmp};
 ghost use Rattle.model_maps.specs.Entry.{IsArray, longest_meta_name, meta_bytes};
 ghost use Rattle.sorted_map.specs.Place.{IsPlace, IsGap};
 ghost use Rattle.std.specs.Cmp.{partial_equiv_from_equiv};
-ghost use Rattle.key_meta.specs.MetaView.{AreTexts};
+ghost use Rattle.key_meta.specs.MetaView.{AreItems, AreTexts};
 ghost use Rattle.key_meta.specs.Same.{same_meta, same_meta_equiv};
 
 use crate::item_names::item_name;
+use crate::iters::MetaIter;
 use crate::{List, Memory, Text};
 use sorted_map::SortedMap;
 use std::alloc::{AllocError, Global};
@@ -32,11 +33,11 @@ impl Model for Meta {
 
     ghost coded = { coded_meta };
 
-    ghost use Rattle.key_meta.specs.MetaView.{AreItems};
+    ghost use Rattle.key_meta.specs.MetaView.{AreItems as AreAll};
 
     ghost view = { λ m. finite.from_sorted m.items };
 
-    ghost invariant = { λ m. AreItems m.items };
+    ghost invariant = { λ m. AreAll m.items };
 }
 
 impl Meta {
@@ -63,13 +64,13 @@ impl Meta {
         self.items.entries().is_empty()
     }
 
-    /// The name and the text at a place in the order of the names.
-    pub fn at(&self, i: usize) -> Option<(&str, &str)>
-        ensures { option_map (λ item. (item.0.now, item.1.now)) result ≡ slice_get (map.entries self.now) i }
+    /// The names and their texts, in the order of the names.
+    pub fn iter(&self) -> MetaIter<'_>
+        ensures all { result ≡ map.entries self.now }
+        ensures items { AreItems (map.entries self.now) }
     {
-        match self.items.at(i) {
-            Some((name, text)) => Some((name.as_str(), text.as_str())),
-            None => None,
+        MetaIter {
+            rest: self.items.entries(),
         }
     }
 
@@ -119,7 +120,8 @@ impl Meta {
 
     /// The texts of an array, which ends at the first place that is missing.
     pub fn array(&self, prefix: &str) -> Result<List<Text>, Memory>
-        ensures { IfOk result (λ texts. IsArray self.now prefix.now texts) }
+        ensures texts { IfOk result (λ texts. IsArray self.now prefix.now texts) }
+        ensures count { IfOk result (λ texts. length texts < 2 ^ 64) }
     {
         let alloc = self.items.allocator();
         let mut texts = Vec::new(alloc);
@@ -143,7 +145,8 @@ impl Meta {
 
     /// The copy stands on the same allocator.
     pub fn copy(&self) -> Result<Meta, Memory>
-        ensures { IfOk result (λ copied. copied ≡ self.now) }
+        ensures copied { IfOk result (λ copied. copied ≡ self.now) }
+        ensures texts { AreTexts self.now }
     {
         let items = copy_of(self.items.allocator(), self.items.entries())?;
         Ok(Meta {

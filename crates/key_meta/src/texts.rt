@@ -42,7 +42,8 @@ impl Text {
 
     /// The copy stands on this text's own allocator.
     pub fn copy(&self) -> Result<Text, Memory>
-        ensures { IfOk result (λ made. made ≡ self.now) }
+        ensures copied { IfOk result (λ copied. copied ≡ self.now) }
+        ensures utf8 { IsUtf8 self.now }
     {
         let text = self.text.clone()?;
         Ok(Text { text })

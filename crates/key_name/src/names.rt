@@ -156,6 +156,7 @@ impl KeyName {
         ensures ok { IfOk result (λ name. name ≡ child_of self.now part.now) }
         ensures accepted { OnOk result (child_refusal self.now part.now ≡ None) }
         ensures refused { IfErr result (λ fault. IsChildRefusal self.now part.now fault) }
+        ensures name { IfOk result IsName }
     {
         if is_misspelled(part) {
             return Err(NameFault::BadArray { at: 0 });
@@ -178,6 +179,7 @@ impl KeyName {
     pub fn relative_to(&self, above: &KeyName) -> Result<Option<KeyName>, Memory>
         ensures way { IfOk result (λ found. found ≡ way_to above.now self.now) }
         ensures back { IfOk result (λ found. IfSome found (λ way. joined above.now way ≡ self.now)) }
+        ensures names { IfOk result (λ found. IfSome found (λ way. IsName way × IsName self.now)) }
     {
         if !same_namespace(self.namespace, above.namespace) {
             return Ok(None);

@@ -1,6 +1,8 @@
 //! What a key holds.
-ghost use Rattle.std.specs.Prelude.{◌≡◌, IfOk};
+ghost use Rattle.std.specs.Prelude.{◌≡◌, IfOk, OnOk};
 ghost use Rattle.std.specs.Cmp.{partial_equiv_from_equiv, on_equiv};
+ghost use Rattle.std.specs.Str.{IsUtf8};
+ghost use Rattle.key_meta.specs.MetaView.{AreTexts};
 ghost use Rattle.key_set.specs.EntryView.{entry_of};
 ghost use Rattle.key_set.specs.Same.{same_entry, same_entry_equiv};
 
@@ -18,7 +20,9 @@ pub struct Entry {
 impl Entry {
     /// The same value and metadata again, in memory of its own.
     pub fn copy(&self) -> Result<Entry, Memory>
-        ensures { IfOk result (λ copied. copied ≡ self.now) }
+        ensures copied { IfOk result (λ copied. copied ≡ self.now) }
+        ensures value { OnOk result (IsUtf8 self.now.value) }
+        ensures texts { OnOk result (AreTexts self.now.meta) }
     {
         Ok(Entry {
             value: self.value.copy()?,

@@ -21,15 +21,13 @@ fn put(meta: &mut Meta, name: &str, text: &str) -> Result<(), Memory> {
     Ok(())
 }
 
-/// The items by their places.
+/// The items, one after another.
 fn placed(alloc: Global, meta: &Meta) -> Result<String, Memory> {
     let mut all = String::new(alloc);
-    for i in 0..meta.len().saturating_add(1) {
-        match meta.at(i) {
-            Some((name, text)) => all.push_str(&format!(in alloc; "{name}={text} ")?)?,
-            None => all.push_str("end")?,
-        }
+    for (name, text) in meta.iter() {
+        all.push_str(&format!(in alloc; "{name}={text} ")?)?;
     }
+    all.push_str("end")?;
     Ok(all)
 }
 

@@ -102,10 +102,7 @@ fn long_text(entry: &Entry) -> Option<u64>
 fn long_meta(meta: &Meta) -> Option<u64>
     ensures { result ≡ first_some if_long (map.values meta.now) }
 {
-    for i in 0..meta.len() {
-        let Some((_, text)) = meta.at(i) else {
-            unreachable!()
-        };
+    for (_, text) in meta.iter() {
         if let Some(bytes) = if_long(text) {
             return Some(bytes);
         }

@@ -10,13 +10,7 @@ use key_meta::{Memory, Meta};
 pub fn lay_over(meta: &mut Meta, other: &Meta) -> Result<(), Memory>
     ensures ok { OnOk result (meta.new ≡ laid_over (meta.old ∷ other.now ∷ [])) }
 {
-    if other.is_empty() {
-        return Ok(());
-    }
-    for i in 0..other.len() {
-        let Some((name, text)) = other.at(i) else {
-            unreachable!()
-        };
+    for (name, text) in other.iter() {
         add_missing(meta, name, text)?;
     }
     Ok(())

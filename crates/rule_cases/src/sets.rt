@@ -192,11 +192,9 @@ fn push_key(
 }
 
 fn push_meta(alloc: Global, told: &mut String, indent: &str, meta: &Meta) -> Result<(), Memory> {
-    for i in 0..meta.len() {
-        if let Some((name, text)) = meta.at(i) {
-            let line = format!(in alloc; "\n  {indent}{name} = \"{text}\"")?;
-            told.push_str(&line)?;
-        }
+    for (name, text) in meta.iter() {
+        let line = format!(in alloc; "\n  {indent}{name} = \"{text}\"")?;
+        told.push_str(&line)?;
     }
     Ok(())
 }

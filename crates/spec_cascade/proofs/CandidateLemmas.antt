@@ -42,6 +42,11 @@ array-texts meta prefix texts array few =
     (ap (λ n. finite.get meta (item_name prefix n)) (moved (length texts)) ∙ array.ends)
     few
 
+-- where there is memory for them
+pub texts-if_ok : {E : Type 0} (meta : Meta) (prefix : List ℕ) (found : Result (List (List ℕ)) E) → IfOk found (IsArray meta prefix) → IfOk found (λ texts. length texts < 2 ^ 64) → IfOk found (λ texts. texts ≡ texts_of meta prefix)
+texts-if_ok meta prefix (Ok texts) array few = array-texts meta prefix texts array (omega (arith, few))
+texts-if_ok meta prefix (Err e) array few = tt
+
 -- the candidates of a path: four pieces from nothing on
 pub four_kinds : (path : List Part) (said : Meta) (overrides words fallbacks : List (List ℕ)) (l0 l1 l2 l3 l4 : List Name)
     → overrides ≡ texts_of said (codes "override") → words ≡ texts_of said (codes "namespace") → fallbacks ≡ texts_of said (codes "fallback") → l0 ≡ []

@@ -29,9 +29,7 @@ pub fn candidates(alloc: Global, path: &KeyName, said: &Meta) -> Result<Vec<KeyN
 fn texts_of(said: &Meta, prefix: &str) -> Result<List<Text>, Memory>
     ensures { IfOk result (λ texts. texts ≡ texts_of said.now prefix.now) }
 {
-    let texts = said.array(prefix)?;
-    let _count = texts.as_slice().len();
-    Ok(texts)
+    said.array(prefix)
 }
 
 /// Adds the names that some texts stand for.

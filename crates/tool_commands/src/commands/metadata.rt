@@ -119,10 +119,7 @@ fn lines_of_meta(alloc: Global, metadata: &Meta) -> Result<String, Memory>
     ensures { IfOk result (λ lines. string_bytes lines ≡ flat_map (λ item. item.0 ++ 10 ∷ []) (map.entries metadata.now)) }
 {
     let mut lines = String::new(alloc);
-    for i in 0..metadata.len() {
-        let Some((name, _)) = metadata.at(i) else {
-            unreachable!()
-        };
+    for (name, _) in metadata.iter() {
         push_line(&mut lines, name)?;
     }
     Ok(lines)

@@ -1,19 +1,30 @@
 -- Each turn appends one more.
-use Rattle.std.proofs.Common.{◌++◌, ◌≡◌, List, ℕ, ap, ap₂, sym, ◌∙◌, take}
-use Rattle.std.specs.FinMap as map
+use Rattle.std.proofs.Common.{◌++◌, ◌≡◌, List, ℕ, ap, ap₂, sym, ◌∙◌, append-nil, append_assoc}
 use Rattle.std.specs.List.{flat_map}
 use Rattle.model_dump.specs.Record.{spelled_record}
 use Rattle.model_dump.specs.Text.{record_of_meta}
-use Rattle.general_words.proofs.Lists.{flat_map-more}
-use Rattle.general_words.proofs.Lists.{appended}
 use Rattle.dump_storage.proofs.writing.push_metadata.Goals as goal
 
-pub loop-i-preserved : goal.loop-i-preserved
-loop-i-preserved c =
-    let items = map.entries c.args.meta.now in
+abbrev spelled : List ℕ × List ℕ → List ℕ
+spelled item = spelled_record (record_of_meta item)
+
+pub loop-name-init : goal.loop-name-init
+loop-name-init c = ap (λ items. c.args.bytes.now.items ++ flat_map spelled items) (c.into_iter-name-iterator.ensures.into_iter_gives ∙ c.iter-name-items.ensures.all)
+
+pub loop-name-preserved : goal.loop-name-preserved
+loop-name-preserved c =
     let item : List ℕ × List ℕ = (c.in-Some.name.now, c.in-Some.text.now) in
-    let spelled : List ℕ × List ℕ → List ℕ = λ item. spelled_record (record_of_meta item) in
-    let own : c.push_record.new.bytes.items ≡ c.loop-i.bytes.items ++ spelled item =
-    c.in_ok-push_record.ensures ∙ ap₂ (λ (name text : List ℕ). c.loop-i.bytes.items ++ spelled (name, text)) c.as_bytes.ensures.value c.as_bytes-in-loop-i.ensures.value in
-    appended c.args.bytes.now.items c.loop-i.bytes.items c.push_record.new.bytes.items (flat_map spelled (take c.loop-i.i items)) (spelled item) c.loop-i.invariant own
-    ∙ ap (λ x. c.args.bytes.now.items ++ x) (sym (flat_map-more spelled items c.loop-i.i item c.in-Some.ensures))
+    let rest = c.next.new.self in
+    let before = c.loop-name.bytes.items in
+    let own : c.push_record.new.bytes.items ≡ before ++ spelled item =
+    c.in_ok-push_record.ensures ∙ ap₂ (λ (name text : List ℕ). before ++ spelled (name, text)) c.as_bytes.ensures.value c.as_bytes-in-loop-name.ensures.value in
+    ap (λ bytes. bytes ++ flat_map spelled rest) own
+    ∙ append_assoc before (spelled item) (flat_map spelled rest)
+    ∙ ap (λ items. before ++ flat_map spelled items) (sym c.in-Some.ensures.steps)
+    ∙ c.loop-name.invariant
+
+pub returns : goal.returns
+returns c =
+    sym (append-nil c.loop-name.bytes.items)
+    ∙ ap (λ items. c.loop-name.bytes.items ++ flat_map spelled items) (sym c.in-None.ensures.steps.0)
+    ∙ c.loop-name.invariant

@@ -1,24 +1,36 @@
 -- The first text that is too long is that of the first item that has one.
-use Rattle.std.proofs.Common.{ℕ, List, sym, ◌∙◌, arith}
+use Rattle.std.proofs.Common.{ℕ, List, ap, sym, ◌∙◌}
 use Rattle.std.specs.FinMap as map
+use Rattle.general_words.specs.Searches.{first_some}
+use Rattle.general_words.proofs.Searches.{first_some-map, first_some-none, first_some-some}
 use Rattle.mounted_files.specs.Setting.{if_long}
-use Rattle.general_words.proofs.Searches.{first_some-all, first_some-found, first_some-next, first_some-map}
 use Rattle.mounted_files.proofs.setting.long_meta.Goals as goal
+
+abbrev Item : Type 0
+Item = List ℕ × List ℕ
+
+pub loop-text-init : goal.loop-text-init
+loop-text-init c = ap (first_some (λ (x : Item). if_long x.1)) (c.into_iter-text-iterator.ensures.into_iter_gives ∙ c.iter-text-items.ensures.all)
 
 pub returns-in-Some-if_long : goal.returns-in-Some-if_long
 returns-in-Some-if_long c =
-    let items = map.entries c.args.meta.now in
-    let item : List ℕ × List ℕ = (c.in-Some.field-0-0.now, c.in-Some.text.now) in
-    sym (first_some-map if_long (λ (x : List ℕ × List ℕ). x.1) items
-    ∙ first_some-found (λ (x : List ℕ × List ℕ). if_long x.1) items c.loop-i.i item c.in-Some-if_long.bytes c.in-Some.ensures c.loop-i.invariant (sym c.if_long.ensures ∙ c.in-Some-if_long.is))
+    let item : Item = (c.in-Some.field-0-0.now, c.in-Some.text.now) in
+    let first = λ (x : Item). if_long x.1 in
+    sym (first_some-map if_long (λ (x : Item). x.1) (map.entries c.args.meta.now)
+    ∙ sym c.loop-text.invariant
+    ∙ ap (first_some first) c.in-Some.ensures.steps
+    ∙ first_some-some first item c.next.new.self c.in-Some-if_long.bytes (sym c.if_long.ensures ∙ c.in-Some-if_long.is))
 
-pub loop-i-preserved : goal.loop-i-preserved
-loop-i-preserved c =
-    let item : List ℕ × List ℕ = (c.in-Some.field-0-0.now, c.in-Some.text.now) in
-    first_some-next (λ (x : List ℕ × List ℕ). if_long x.1) (map.entries c.args.meta.now) c.loop-i.i item c.in-Some.ensures c.loop-i.invariant (sym c.if_long.ensures ∙ c.in_default-if_long.is)
+pub loop-text-preserved : goal.loop-text-preserved
+loop-text-preserved c =
+    let item : Item = (c.in-Some.field-0-0.now, c.in-Some.text.now) in
+    let first = λ (x : Item). if_long x.1 in
+    sym (first_some-none first item c.next.new.self (sym c.if_long.ensures ∙ c.in_default.is))
+    ∙ ap (first_some first) (sym c.in-Some.ensures.steps)
+    ∙ c.loop-text.invariant
 
 pub returns : goal.returns
 returns c =
-    let items = map.entries c.args.meta.now in
-    sym (first_some-map if_long (λ (x : List ℕ × List ℕ). x.1) items
-    ∙ first_some-all (λ (x : List ℕ × List ℕ). if_long x.1) items c.loop-i.i (omega (arith, c.len-i-end.ensures, c.loop-i-test.false)) c.loop-i.invariant)
+    sym (first_some-map if_long (λ (x : Item). x.1) (map.entries c.args.meta.now)
+    ∙ sym c.loop-text.invariant
+    ∙ ap (first_some (λ (x : Item). if_long x.1)) c.in-None.ensures.steps.0)

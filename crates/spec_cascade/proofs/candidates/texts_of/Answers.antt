@@ -1,10 +1,6 @@
--- A list in memory has no more texts than its length can count.
-use Rattle.std.proofs.Common.{◌≡◌, length, ap, arith}
-use Rattle.spec_cascade.proofs.CandidateLemmas.{array-texts}
+-- An array has no more texts than its length can count.
+use Rattle.spec_cascade.proofs.CandidateLemmas.{texts-if_ok}
 use Rattle.spec_cascade.proofs.candidates.texts_of.Goals as goal
 
 pub returns : goal.returns
-returns c =
-    let count : length c.as_slice-count.result.now ≡ length c.in_ok-texts.texts = ap length c.as_slice-count.ensures in
-    let fits = c.shared_slice_known-1 in
-    array-texts c.args.said.now c.args.prefix.now c.in_ok-texts.texts c.in_ok-texts.ensures (omega (arith, count, fits))
+returns c = texts-if_ok c.args.said.now c.args.prefix.now c.array.result c.array.ensures.texts c.array.ensures.count

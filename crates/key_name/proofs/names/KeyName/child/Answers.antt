@@ -11,6 +11,12 @@ use Rattle.key_name.proofs.names.KeyName.child.Goals as goal
 pub with_part-requires : goal.with_part-requires
 with_part-requires c = no_nul-from_position c.args.part.now (sym c.in_default.ensures)
 
+pub returns-clause-name : goal.returns-clause-name
+returns-clause-name c =
+    let bytes = saturated_short _ _ c.child_bytes-bytes.ensures c.if-bytes-gt-LONGEST_PATH.false ∙ ap (λ (name : Name). length (path (child_of name c.args.part.now))) (sym c.self.view_is) in
+    let name = IsName-child c.self.inside.namespace c.self.inside.namespace (name_of c.self.inside).parts c.args.part.now c.self.invariant.name c.utf8.part (sym c.is_misspelled.ensures ∙ c.if-is_misspelled.false) (sym c.in_default.ensures) (omega (arith, bytes, c.if-bytes-gt-LONGEST_PATH.false)) in
+    subst (λ (parts : List Part). IsName (record { namespace = c.self.inside.namespace; parts = parts })) (sym c.in_ok-with_part.ensures) name
+
 pub invariant_of-result : goal.invariant_of-result
 invariant_of-result c =
     let own = (name_of c.self.inside).parts in

@@ -22,13 +22,20 @@ test_is c =
     let found = if_found _ _ _ (sym c.in-Some.is ∙ c.in_ok-parts.ensures) in
     rw (← c.self.view_is, ← c.above.view_is) (and_from (nat_eq (rank c.self.inside.namespace) (rank c.above.inside.namespace)) _ (sym c.same_namespace.ensures ∙ c.if-not-same_namespace.false) found.0)
 
-pub invariant_of-result : goal.invariant_of-result
-invariant_of-result c =
+-- the way there is a name, as this one is
+way_is_name : (c : goal.After-bytes_behind) → IsName (record { namespace = Cascading; parts = c.in-Some.parts })
+way_is_name c =
     let name = subst (λ (name : Name). IsName name) c.self.view_is c.self.invariant.name in
-    record {
-      name = subst (λ (parts : List Part). IsName (record { namespace = Cascading; parts = parts })) (sym (rest_is c)) (IsName-drop c.args.self.now.namespace Cascading c.args.self.now.parts (length c.args.above.now.parts) name);
-      bytes = c.bytes_behind.ensures ∙ ap (λ (parts : List Part). length (path_of_parts parts)) (sym (rest_is c));
-    }
+    subst (λ (parts : List Part). IsName (record { namespace = Cascading; parts = parts })) (sym (rest_is c)) (IsName-drop c.args.self.now.namespace Cascading c.args.self.now.parts (length c.args.above.now.parts) name)
+
+pub invariant_of-result : goal.invariant_of-result
+invariant_of-result c = record {
+  name = way_is_name c;
+  bytes = c.bytes_behind.ensures ∙ ap (λ (parts : List Part). length (path_of_parts parts)) (sym (rest_is c));
+}
+
+pub returns-in-Some-clause-names : goal.returns-in-Some-clause-names
+returns-in-Some-clause-names c = (way_is_name c, subst (λ (name : Name). IsName name) c.self.view_is c.self.invariant.name)
 
 pub returns-in-Some-clause-back : goal.returns-in-Some-clause-back
 returns-in-Some-clause-back c = ap (λ (parts : List Part). joined c.args.above.now (record { namespace = Cascading; parts = parts })) (rest_is c) ∙ joined-way c.args.above.now c.args.self.now (test_is c)
