@@ -1,7 +1,6 @@
 //! A file holds names relative to its mountpoint, which stands before each of them.
 ghost use Rattle.std.specs.Prelude.{◌≡◌, ◌∷◌, [], nat_le, if◌then◌else◌, filter_map, IfOk, OnOk, Some, None, length};
-ghost use Rattle.std.specs.FinMap as map;
-ghost use Rattle.key_name.specs.Joining.{joined, way_to};
+ghost use Rattle.key_name.specs.Joining.{joined};
 ghost use Rattle.key_set.specs.EntryView.{entry_of};
 ghost use Rattle.key_set.specs.WithAll.{with_keys};
 ghost use Rattle.model_names.specs.declared.namespaces.Namespace.TheVariants.{Cascading};
@@ -55,34 +54,14 @@ pub fn relative(alloc: Global, point: &KeyName, keys: &KeySet) -> Result<KeySet,
     Ok(all)
 }
 
-/// Puts a key under the name that leads there from a mountpoint, if it is that or below it.
+/// Puts a key under the name that leads there from a mountpoint, if it is that or below it. What is put is sound, since names, values and
+/// metadata are.
 fn put_way(all: &mut KeySet, point: &KeyName, name: &KeyName, entry: &Entry) -> Result<(), Memory>
     ensures made { OnOk result (all.new ≡ with_keys (filter_map (as_way point.now) ((name.now, entry_of entry.now) ∷ [])) all.old) }
     ensures sound { AreSound point.now all.old → OnOk result (AreSound point.now all.new) }
 {
     match name.relative_to(point)? {
-        Some(way) => put_sound(all, point, name, way, entry),
+        Some(way) => put(all, way, entry),
         None => Ok(()),
     }
-}
-
-/// Puts a key under the name that leads there. What is put is sound, since names, values and metadata are.
-fn put_sound(
-    all: &mut KeySet,
-    point: &KeyName,
-    name: &KeyName,
-    way: KeyName,
-    entry: &Entry,
-) -> Result<(), Memory>
-    requires way { Some way ≡ way_to point.now name.now }
-    requires back { joined point.now way ≡ name.now }
-    ensures made { OnOk result (all.new ≡ map.insert all.old way (entry_of entry.now)) }
-    ensures sound { AreSound point.now all.old → OnOk result (AreSound point.now all.new) }
-{
-    // Each of these calls tells that what it looks at is well formed.
-    let _parts = way.len();
-    let _all_parts = name.len();
-    let _value = entry.value.as_str();
-    let _is_bare = entry.meta.is_empty();
-    put(all, way, entry)
 }
