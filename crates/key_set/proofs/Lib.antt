@@ -3,3 +3,4 @@ pub mod RangeLemmas
 pub mod WithAllLemmas
 pub mod SameLemmas
 pub mod StepLemmas
+pub mod WholeLemmas

@@ -1,3 +1,5 @@
 pub mod EntryView
 pub mod WithAll
 pub mod Same
+pub mod Whole
+pub mod WholeOrder

@@ -9,6 +9,7 @@ mod key_sets;
 mod ranges;
 mod same;
 mod weights;
+mod wholes;
 
 pub use counting::ten_thousand_keys_take_21_steps;
 pub use entries::Entry;
