@@ -1,7 +1,7 @@
 //! A key set and a key list, run side by side.
 
 use key_list::KeyList;
-use key_meta::{Meta, Text};
+use key_meta::{Memory, Meta, Text};
 use key_name::KeyName;
 use key_set::{Entry, KeySet};
 use std::alloc::Global;
@@ -37,26 +37,33 @@ fn some_name(alloc: Global, numbers: &mut Numbers) -> Result<KeyName, Fail> {
     Ok(KeyName::parse(alloc, &text)?)
 }
 
-/// An entry that tells of its step. Each third one has metadata.
-fn entry_of_step(alloc: Global, step: u32) -> Result<Entry, Fail> {
-    let text = format!(in alloc; "{step}")?;
+/// The metadata of a step: its text, where it is a third one.
+fn meta_of_step(alloc: Global, step: u32, text: &str) -> Result<Meta, Memory> {
     let mut meta = Meta::new(alloc);
     if step % 3 == 0 {
-        meta.set("order", &text)?;
+        meta.set("order", text)?;
     }
+    Ok(meta)
+}
+
+/// An entry that tells of its step.
+fn entry_of_step(alloc: Global, step: u32) -> Result<Entry, Memory> {
+    let text = format!(in alloc; "{step}")?;
     Ok(Entry {
+        meta: meta_of_step(alloc, step, &text)?,
         value: Text::new(alloc, &text)?,
-        meta,
     })
+}
+
+fn has_same(left: &Entry, right: &Entry) -> bool {
+    left.value.as_str() == right.value.as_str()
+        && left.meta.len() == right.meta.len()
+        && left.meta.get("order") == right.meta.get("order")
 }
 
 fn is_same(left: Option<&Entry>, right: Option<&Entry>) -> bool {
     match (left, right) {
-        (Some(left), Some(right)) => {
-            left.value.as_str() == right.value.as_str()
-                && left.meta.len() == right.meta.len()
-                && left.meta.get("order") == right.meta.get("order")
-        }
+        (Some(left), Some(right)) => has_same(left, right),
         (None, None) => true,
         _ => false,
     }
@@ -91,7 +98,7 @@ impl Pair {
     }
 
     /// Makes one call on both, and tells whether they answered alike.
-    fn call(&mut self, kind: usize, at: &KeyName, step: u32) -> Result<bool, Fail> {
+    fn call(&mut self, kind: usize, at: &KeyName, step: u32) -> Result<bool, Memory> {
         match kind {
             0 => self.cut(at),
             1 => self.below(at),
@@ -101,14 +108,14 @@ impl Pair {
         }
     }
 
-    fn cut(&mut self, at: &KeyName) -> Result<bool, Fail> {
+    fn cut(&mut self, at: &KeyName) -> Result<bool, Memory> {
         let taken = self.set.cut(at)?;
         let same = has_same_keys(&taken, &self.list.cut(at)?);
         self.count(taken.len() > 0);
         Ok(same)
     }
 
-    fn below(&mut self, at: &KeyName) -> Result<bool, Fail> {
+    fn below(&mut self, at: &KeyName) -> Result<bool, Memory> {
         let copied = self.set.below(at)?;
         let same = has_same_keys(&copied, &self.list.below(at)?);
         self.count(copied.len() > 0);
@@ -123,22 +130,38 @@ impl Pair {
         same
     }
 
-    fn remove(&mut self, at: &KeyName) -> Result<bool, Fail> {
+    fn remove(&mut self, at: &KeyName) -> Result<bool, Memory> {
         let gone = self.set.remove(at)?;
         let also = self.list.remove(at);
         self.count(gone.is_some());
         Ok(is_same(gone.as_ref(), also.as_ref()))
     }
 
-    fn append(&mut self, at: &KeyName, step: u32) -> Result<bool, Fail> {
-        let former = self
-            .set
-            .append(at.copy()?, entry_of_step(self.alloc, step)?)?;
-        let also = self
-            .list
-            .append(at.copy()?, entry_of_step(self.alloc, step)?)?;
+    fn append(&mut self, at: &KeyName, step: u32) -> Result<bool, Memory> {
+        let former = self.append_to_set(at, step)?;
+        let also = self.append_to_list(at, step)?;
         self.count(former.is_some());
         Ok(is_same(former.as_ref(), also.as_ref()))
+    }
+
+    fn append_to_set(&mut self, at: &KeyName, step: u32) -> Result<Option<Entry>, Memory> {
+        let entry = entry_of_step(self.alloc, step)?;
+        self.set.append(at.copy()?, entry)
+    }
+
+    fn append_to_list(&mut self, at: &KeyName, step: u32) -> Result<Option<Entry>, Memory> {
+        let entry = entry_of_step(self.alloc, step)?;
+        self.list.append(at.copy()?, entry)
+    }
+
+    /// The two have the same keys, some, and so has a copy of the list.
+    fn ends_alike(&self) -> Result<bool, Memory> {
+        let copied = self.list.copy()?;
+        Ok(
+            self.set.len() > 0
+                && has_same_keys(&self.set, &self.list)
+                && has_same_keys(&self.set, &copied),
+        )
     }
 
     fn count(&mut self, full: bool) {
@@ -148,14 +171,19 @@ impl Pair {
     }
 }
 
+/// Makes a call that is drawn, and tells whether it is answered alike.
+fn step_alike(pair: &mut Pair, numbers: &mut Numbers, step: u32) -> Result<bool, Fail> {
+    let at = some_name(pair.alloc, numbers)?;
+    let same = pair.call(numbers.next() % 12, &at, step)?;
+    Ok(same && pair.set.len() == pair.list.len())
+}
+
 /// Runs some calls on a new pair, up to the first that is not answered alike.
 fn pair_after(alloc: Global, steps: u32) -> Result<(Pair, bool), Fail> {
     let mut pair = Pair::new(alloc);
     let mut numbers = Numbers { last: 2026 };
     for step in 0..steps {
-        let at = some_name(alloc, &mut numbers)?;
-        let kind = numbers.next() % 12;
-        if !pair.call(kind, &at, step)? || pair.set.len() != pair.list.len() {
+        if !step_alike(&mut pair, &mut numbers, step)? {
             return Ok((pair, false));
         }
     }
@@ -167,8 +195,6 @@ fn answers_as_a_key_set_does(rt: HostRuntime) -> Result<(), Fail> {
     let (pair, same) = pair_after(rt.alloc(), 2_000)?;
     assert!(rt; same);
     assert!(rt; pair.full > 500);
-    assert!(rt; pair.set.len() > 0);
-    assert!(rt; has_same_keys(&pair.set, &pair.list));
-    assert!(rt; has_same_keys(&pair.set, &pair.list.copy()?));
+    assert!(rt; pair.ends_alike()?);
     Ok(())
 }

@@ -39,24 +39,43 @@ fn stands_in_the_order_of_its_names(rt: HostRuntime) -> Result<(), Fail> {
     Ok(())
 }
 
-/// What a change of the one item gives back, and what a copy that was made before still has.
-fn changed_and_removed(alloc: Global) -> Result<String, Memory> {
-    let mut meta = meta_of(alloc, &[("order", "1")])?;
+/// What a change of the one item gives back, and a copy with the new text.
+fn changed(meta: &mut Meta) -> Result<(Option<Text>, Meta), Memory> {
     let former = meta.set("order", "2")?;
-    let copied = meta.copy()?;
+    Ok((former, meta.copy()?))
+}
+
+/// What is removed, whether nothing is removed then, and how many items are left.
+fn removed(meta: &mut Meta) -> (Option<Text>, bool, usize) {
     let removed = meta.remove("order");
-    let again = meta.remove("order");
+    let gone = meta.remove("order").is_none();
+    (removed, gone, meta.len())
+}
+
+fn shown(
+    alloc: Global,
+    former: Option<Text>,
+    (removed, gone, left): (Option<Text>, bool, usize),
+) -> Result<String, Memory> {
     let former = former.as_ref().map(Text::as_str);
     let removed = removed.as_ref().map(Text::as_str);
-    let (left, kept, other) = (meta.len(), copied.get("order"), copied.get("orde"));
-    let gone = again.is_none();
-    format!(in alloc; "{former:?} {removed:?} {gone} {left} {kept:?} {other:?}")
+    format!(in alloc; "{former:?} {removed:?} {gone} {left}")
+}
+
+/// What a change of the one item and its removal give back, and the copy that was made between.
+fn changed_and_removed(alloc: Global) -> Result<(String, Meta), Memory> {
+    let mut meta = meta_of(alloc, &[("order", "1")])?;
+    let (former, copied) = changed(&mut meta)?;
+    let text = shown(alloc, former, removed(&mut meta))?;
+    Ok((text, copied))
 }
 
 #[test]
 fn gives_back_the_text_that_a_name_had(rt: HostRuntime) -> Result<(), Fail> {
-    let want = r#"Some("1") Some("2") true 0 Some("2") None"#;
-    assert_eq!(rt; changed_and_removed(rt.alloc())?.as_str(), want);
+    let (text, copied) = changed_and_removed(rt.alloc())?;
+    assert_eq!(rt; text.as_str(), r#"Some("1") Some("2") true 0"#);
+    assert_eq!(rt; copied.get("order"), Some("2"));
+    assert_eq!(rt; copied.get("orde"), None);
     Ok(())
 }
 
@@ -107,12 +126,18 @@ fn item(alloc: Global, index: u64) -> Result<String, Memory> {
     format!(in alloc; "a/#{underscores}{index}")
 }
 
+/// Puts so many items of an array.
+fn put_items(alloc: Global, meta: &mut Meta, count: u64) -> Result<(), Memory> {
+    for index in 0..count {
+        put(meta, &item(alloc, index)?, "x")?;
+    }
+    Ok(())
+}
+
 /// How many items an array has that was given so many, one behind a hole, and one under no canonical name.
 fn items_of_array(alloc: Global, count: u64) -> Result<usize, Memory> {
     let mut meta = Meta::new(alloc);
-    for index in 0..count {
-        put(&mut meta, &item(alloc, index)?, "x")?;
-    }
+    put_items(alloc, &mut meta, count)?;
     put(&mut meta, "a/#___9999", "behind a hole")?;
     put(&mut meta, "a/#11", "no canonical name")?;
     Ok(meta.array("a")?.as_slice().len())

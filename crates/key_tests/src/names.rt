@@ -1,15 +1,27 @@
 //! Names by their calls without a text. Spellings, refusals and orders are cases of `kdb_cases`.
 
 use key_name::{KeyName, NameFault, Namespace};
+use std::alloc::Global;
 use std::test::Fail;
+
+/// The text of a name in another namespace.
+fn moved(alloc: Global, text: &str, namespace: Namespace) -> Result<String, NameFault> {
+    let name = KeyName::parse(alloc, text)?.with_namespace(namespace)?;
+    Ok(name.text()?)
+}
 
 #[test]
 fn keeps_the_parts_in_another_namespace(rt: HostRuntime) -> Result<(), Fail> {
-    let name = KeyName::parse(rt.alloc(), "/sw/a")?.with_namespace(Namespace::System)?;
-    assert_eq!(rt; name.text()?.as_str(), "system:/sw/a");
+    let text = moved(rt.alloc(), "/sw/a", Namespace::System)?;
+    assert_eq!(rt; text.as_str(), "system:/sw/a");
     let root = KeyName::root(rt.alloc(), Namespace::Spec);
     assert_eq!(rt; root.text()?.as_str(), "spec:/");
     Ok(())
+}
+
+/// The text of the name that a relative text is.
+fn spelled(alloc: Global, text: &str) -> Result<String, NameFault> {
+    Ok(KeyName::parse_relative(alloc, text)?.text()?)
 }
 
 #[test]
@@ -21,23 +33,35 @@ fn reads_relative_texts(rt: HostRuntime) -> Result<(), Fail> {
         ("#10/%", "/#_10/%"),
         ("a\\/b/..", "/"),
     ];
-    for (text, spelled) in rows {
-        let name = KeyName::parse_relative(rt.alloc(), text)?;
-        assert_eq!(rt; name.text()?.as_str(), spelled, "of {text}");
+    for (text, wanted) in rows {
+        assert_eq!(rt; spelled(rt.alloc(), text)?.as_str(), wanted, "of {text}");
     }
+    Ok(())
+}
+
+#[test]
+fn refuses_relative_texts(rt: HostRuntime) -> Result<(), Fail> {
     let refused = [
         ("a/b\\", NameFault::BadEscape { at: 4 }),
         ("#00", NameFault::BadArray { at: 1 }),
         ("a\0", NameFault::Nul { at: 2 }),
     ];
     for (text, fault) in refused {
-        assert_eq!(rt;
-            KeyName::parse_relative(rt.alloc(), text).err(),
-            Some(fault),
-            "of {text:?}"
-        );
+        assert_eq!(rt; spelled(rt.alloc(), text).err(), Some(fault), "of {text:?}");
     }
     Ok(())
+}
+
+/// The text of a relative name behind a point.
+fn joined(alloc: Global, point: &str, relative: &str) -> Result<String, NameFault> {
+    let point = KeyName::parse(alloc, point)?;
+    let way = KeyName::parse_relative(alloc, relative)?;
+    put_behind(&point, way)
+}
+
+fn put_behind(point: &KeyName, way: KeyName) -> Result<String, NameFault> {
+    let way = way.with_namespace(Namespace::Cascading)?;
+    Ok(way.joined_onto(point)?.text()?)
 }
 
 #[test]
@@ -48,17 +72,19 @@ fn puts_a_relative_name_onto_a_point(rt: HostRuntime) -> Result<(), Fail> {
         ("dir:/a", "", "dir:/a"),
     ];
     for (point, relative, whole) in rows {
-        let point = KeyName::parse(rt.alloc(), point)?;
-        let way = KeyName::parse_relative(rt.alloc(), relative)?.with_namespace(
-            Namespace::Cascading,
-        )?;
         assert_eq!(rt;
-            way.joined_onto(&point)?.text()?.as_str(),
+            joined(rt.alloc(), point, relative)?.as_str(),
             whole,
             "of {relative}"
         );
     }
     Ok(())
+}
+
+fn matches(alloc: Global, text: &str, pattern: &str) -> Result<bool, NameFault> {
+    let name = KeyName::parse(alloc, text)?;
+    let pattern = KeyName::parse(alloc, pattern)?;
+    Ok(name.matches_glob(&pattern))
 }
 
 #[test]
@@ -72,11 +98,18 @@ fn matches_patterns_part_by_part(rt: HostRuntime) -> Result<(), Fail> {
         ("user:/a/x", "user:/a/#", false),
         ("user:/_", "user:/a", false),
     ];
-    for (text, other, matches) in rows {
-        let name = KeyName::parse(rt.alloc(), text)?;
-        let pattern = KeyName::parse(rt.alloc(), other)?;
-        assert_eq!(rt; name.matches_glob(&pattern), matches, "{text} and {other}");
+    for (text, other, wanted) in rows {
+        assert_eq!(rt;
+            matches(rt.alloc(), text, other)?,
+            wanted,
+            "{text} and {other}"
+        );
     }
+    Ok(())
+}
+
+#[test]
+fn tells_a_pattern_by_its_holes(rt: HostRuntime) -> Result<(), Fail> {
     let holes = [
         ("user:/a/_", true),
         ("/#", true),

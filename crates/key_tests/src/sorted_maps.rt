@@ -29,51 +29,71 @@ fn keeps_the_order_of_its_keys_whatever_order_they_come_in(rt: HostRuntime) -> R
     Ok(())
 }
 
-/// What each call on a map of the one key 4 gives, in turn.
-fn calls_of_one_key(alloc: Global) -> Result<[Option<char>; 9], Memory> {
-    let mut map = SortedMap::new(alloc);
+/// What a key without an entry gives, then what its first and its second entry give back.
+fn put_twice(map: &mut SortedMap<i32, char>) -> Result<[Option<char>; 3], Memory> {
     let none = map.get(&4).copied();
     let new = map.insert(4, 'a')?;
     let former = map.insert(4, 'b')?;
-    let found = map.get(&4).copied();
-    let below = map.get(&3).copied();
-    let above = map.get(&5).copied();
+    Ok([none, new, former])
+}
+
+/// What the keys from 3 to 5 have.
+fn found(map: &SortedMap<i32, char>) -> [Option<char>; 3] {
+    [
+        map.get(&3).copied(),
+        map.get(&4).copied(),
+        map.get(&5).copied(),
+    ]
+}
+
+/// What is removed of a key that isn't there, of the one that is, and of that one again.
+fn removed(map: &mut SortedMap<i32, char>) -> [Option<char>; 3] {
     let missing = map.remove(&5);
     let removed = map.remove(&4);
     let again = map.remove(&4);
-    Ok([
-        none, new, former, found, below, above, missing, removed, again,
-    ])
+    [missing, removed, again]
 }
 
 #[test]
 fn gives_back_what_a_key_had(rt: HostRuntime) -> Result<(), Fail> {
-    let (a, b) = (Some('a'), Some('b'));
-    let want = [None, None, a, b, None, None, None, b, None];
-    assert_eq!(rt; calls_of_one_key(rt.alloc())?, want);
+    let mut map = SortedMap::new(rt.alloc());
+    assert_eq!(rt; put_twice(&mut map)?, [None, None, Some('a')]);
+    assert_eq!(rt; found(&map), [None, Some('b'), None]);
+    assert_eq!(rt; removed(&mut map), [None, Some('b'), None]);
     Ok(())
 }
 
-/// The entries that are taken out of a range, once one of them was replaced, and those that are left.
-fn parts_of_four(alloc: Global) -> Result<(SortedMap<i32, char>, SortedMap<i32, char>), Memory> {
+/// A map of four keys, of which the second then got another entry.
+fn map_of_four(alloc: Global) -> Result<SortedMap<i32, char>, Memory> {
     let entries = Vec::from_array(alloc, [(1, 'a'), (2, 'b'), (3, 'c'), (4, 'd')])?;
     let mut map = SortedMap::from_sorted(entries);
-    let mut taken = SortedMap::new(map.allocator());
     if map.len() == 4 {
         let _ = map.replace_at(1, 'x');
     }
+    Ok(map)
+}
+
+/// The two entries in the midst of four, which are taken out.
+fn taken_out(map: &mut SortedMap<i32, char>) -> Result<SortedMap<i32, char>, Memory> {
     if map.len() == 4 {
-        taken = map.take_range(1, 3)?;
+        map.take_range(1, 3)
+    } else {
+        Ok(SortedMap::new(map.allocator()))
     }
+}
+
+/// Removes the first entry.
+fn remove_first(map: &mut SortedMap<i32, char>) {
     if map.len() > 0 {
         let _ = map.remove_at(0);
     }
-    Ok((taken, map))
 }
 
 #[test]
 fn changes_its_entries_by_their_places(rt: HostRuntime) -> Result<(), Fail> {
-    let (taken, left) = parts_of_four(rt.alloc())?;
+    let mut left = map_of_four(rt.alloc())?;
+    let taken = taken_out(&mut left)?;
+    remove_first(&mut left);
     assert_eq!(rt; taken.entries(), [(2, 'x'), (3, 'c')].as_slice());
     assert_eq!(rt; left.entries(), [(4, 'd')].as_slice());
     assert_eq!(rt; left.at(0), Some((&4, &'d')));
@@ -81,14 +101,23 @@ fn changes_its_entries_by_their_places(rt: HostRuntime) -> Result<(), Fail> {
 }
 
 /// The entries of two maps, and of no more.
-fn united(alloc: Global) -> Result<SortedMap<i32, char>, Memory> {
-    let mut map = map_of(alloc, &[(2, 'a'), (4, 'b'), (5, 'c'), (9, 'd')])?;
-    let theirs = map_of(alloc, &[(1, 'v'), (4, 'w'), (5, 'x'), (7, 'y')])?;
+fn unite(
+    alloc: Global,
+    map: SortedMap<i32, char>,
+    theirs: SortedMap<i32, char>,
+) -> Result<SortedMap<i32, char>, Memory> {
+    let mut map = map;
     map.insert_all(theirs)?;
     map.insert_all(SortedMap::new(alloc))?;
     let mut other = SortedMap::new(alloc);
     other.insert_all(map)?;
     Ok(other)
+}
+
+fn united(alloc: Global) -> Result<SortedMap<i32, char>, Memory> {
+    let map = map_of(alloc, &[(2, 'a'), (4, 'b'), (5, 'c'), (9, 'd')])?;
+    let theirs = map_of(alloc, &[(1, 'v'), (4, 'w'), (5, 'x'), (7, 'y')])?;
+    unite(alloc, map, theirs)
 }
 
 #[test]

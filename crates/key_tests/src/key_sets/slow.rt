@@ -81,47 +81,75 @@ fn value_of(entry: Option<&Entry>) -> Option<&str> {
     entry.map(|e| e.value.as_str())
 }
 
-/// Makes one call on both, and tells whether they answered alike.
-fn alike(
-    fast: &mut KeySet,
-    slow: &mut SlowSet,
-    kind: u32,
-    at: &KeyName,
-    value: &str,
-) -> Result<bool, Fail> {
-    if kind == 0 {
-        let taken = fast.cut(at)?;
-        return Ok(taken.len() == slow.cut(at)?);
+/// The two sets, which get the same calls.
+#[derive(Drop)]
+struct Pair {
+    fast: KeySet,
+    slow: SlowSet,
+}
+
+impl Pair {
+    fn new(alloc: Global) -> Pair {
+        Pair {
+            fast: KeySet::new(alloc),
+            slow: SlowSet::new(alloc),
+        }
     }
-    if kind == 1 {
-        let gone = fast.remove(at)?;
-        let also = slow.remove(at)?;
-        return Ok(value_of(gone.as_ref()) == value_of(also.as_ref()));
+
+    /// Makes one call on both, and tells whether they answered alike.
+    fn call(&mut self, kind: u32, at: &KeyName, step: u32) -> Result<bool, Memory> {
+        match kind {
+            0 => self.cut(at),
+            1 => self.remove(at),
+            2 => Ok(value_of(self.fast.lookup(at)) == value_of(self.slow.lookup(at))),
+            _ => self.append(at, step),
+        }
     }
-    if kind == 2 {
-        return Ok(value_of(fast.lookup(at)) == value_of(slow.lookup(at)));
+
+    fn cut(&mut self, at: &KeyName) -> Result<bool, Memory> {
+        let taken = self.fast.cut(at)?;
+        Ok(taken.len() == self.slow.cut(at)?)
     }
-    let key = at.copy()?;
-    let held = entry(slow.alloc, value)?;
-    let former = fast.append(key, held)?;
-    let key = at.copy()?;
-    let held = entry(slow.alloc, value)?;
-    let also = slow.append(key, held)?;
-    Ok(value_of(former.as_ref()) == value_of(also.as_ref()))
+
+    fn remove(&mut self, at: &KeyName) -> Result<bool, Memory> {
+        let gone = self.fast.remove(at)?;
+        let also = self.slow.remove(at)?;
+        Ok(value_of(gone.as_ref()) == value_of(also.as_ref()))
+    }
+
+    fn append(&mut self, at: &KeyName, step: u32) -> Result<bool, Memory> {
+        let value = format!(in self.slow.alloc; "{step}")?;
+        let former = self.append_to_fast(at, &value)?;
+        let also = self.append_to_slow(at, &value)?;
+        Ok(value_of(former.as_ref()) == value_of(also.as_ref()))
+    }
+
+    fn append_to_fast(&mut self, at: &KeyName, value: &str) -> Result<Option<Entry>, Memory> {
+        let held = entry(self.slow.alloc, value)?;
+        self.fast.append(at.copy()?, held)
+    }
+
+    fn append_to_slow(&mut self, at: &KeyName, value: &str) -> Result<Option<Entry>, Memory> {
+        let held = entry(self.slow.alloc, value)?;
+        self.slow.append(at.copy()?, held)
+    }
+
+    /// Makes the call of a number that looks random.
+    fn step(&mut self, random: u32, step: u32) -> Result<bool, Fail> {
+        let text = NAMES[(random >> 16) as usize % NAMES.len()];
+        let at = name(self.slow.alloc, text)?;
+        let same = self.call((random >> 24) % 8, &at, step)?;
+        Ok(same && self.fast.len() == self.slow.keys.len())
+    }
 }
 
 /// How many calls in mixed order are answered alike, up to the first that is not.
 fn steps_alike(alloc: Global, steps: u32) -> Result<u32, Fail> {
-    let mut fast = KeySet::new(alloc);
-    let mut slow = SlowSet::new(alloc);
+    let mut pair = Pair::new(alloc);
     let mut random: u32 = 2026;
     for step in 0..steps {
         random = random.wrapping_mul(1_664_525).wrapping_add(1_013_904_223);
-        let text = NAMES[(random >> 16) as usize % NAMES.len()];
-        let at = name(alloc, text)?;
-        let value = format!(in alloc; "{step}")?;
-        let same = alike(&mut fast, &mut slow, (random >> 24) % 8, &at, &value)?;
-        if !same || fast.len() != slow.keys.len() {
+        if !pair.step(random, step)? {
             return Ok(step);
         }
     }
