@@ -1,6 +1,6 @@
 //! A run of commits on a journal, from its opening to its close.
 ghost use Rattle.std.specs.Prelude.{◌≡◌, ◌≢◌, ℕ, ◌++◌, length, List, Option, Some, None, true, is_some, Err, IfOk, IfErr, OnOk, OnErr};
-ghost use Rattle.backend_files.specs.WholeFile.{IsWhole, IsShort};
+ghost use Rattle.backend_files.specs.WholeFile.{IsWhole, IsShort, IsGiven};
 ghost use Rattle.kdb_outside.specs.Crashes.{EveryImage};
 ghost use Rattle.kdb_outside.specs.Faults.{HasCause, HasRisen};
 ghost use Rattle.kdb_outside.specs.Frames.{GoesOn, OnlyReads};
@@ -80,7 +80,9 @@ pub fn read<D: Disk>(
 ) -> Result<FileRead, FileFault>
     ensures told { (opened : D) (run : Run) → IsStore D.Disk opened journal.old run → ¬ HasRisen run.faults (D.faults journal.old.disk)
         → ¬ IsOwnFile file.now → IfOk result (IsWhole (files_of run file.now)) }
+    ensures seen { D.tells journal.old.disk ≡ true → IfOk result (IsWhole (D.seen journal.old.disk file.now)) }
     ensures short { IfOk result IsShort }
+    ensures given { IfOk result (IsGiven D.Disk journal.old.disk file.now) }
     ensures store { (opened : D) (run : Run) → IsStore D.Disk opened journal.old run → IsStore D.Disk opened journal.new run }
     ensures reads { OnlyReads D.Disk journal.old.disk journal.new.disk }
     ensures cause { result ≡ Err FileFault.DiskFault → HasRisen (D.faults journal.old.disk) (D.faults journal.new.disk) }
