@@ -39,6 +39,7 @@ pub fn open<D: Disk>(alloc: Global, disk: D) -> Result<Journal<D>, JournalRefuse
     ensures reads { D.tells disk ≡ true → open_entry (D.seen disk journal_name) ≡ None → OnlyReads D.Disk disk (disk_of result) }
     ensures kept { D.tells disk ≡ true → IfErr result (λ refused. refused.fault ≢ JournalFault.DiskFault → KeepsImages (D.may_leave disk) (D.may_leave refused.disk)) }
     ensures doubt { IfOk result (λ journal. journal.state ≡ IsDoubt) }
+    ensures good { D.tells disk ≡ true → OnOk result (bad_place (D.seen disk journal_name) ≡ None) }
     ensures bad { D.tells disk ≡ true → (at : ℕ) → fault_of result ≡ Some (JournalFault.BadJournal at) → bad_place (D.seen disk journal_name) ≡ Some at }
     ensures calm { D.tells disk ≡ true → (files : Image) (doubt : Option (List Item)) → IsCalm (D.seen disk) (D.may_leave disk) files doubt
         → (at : ℕ) → fault_of result ≡ Some (JournalFault.BadJournal at) → ⊥ }
