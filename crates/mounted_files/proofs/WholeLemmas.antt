@@ -1,5 +1,5 @@
 -- Keys under relative names, key by key, and what there is by a test.
-use Rattle.std.proofs.Common.{◌≡◌, Bool, true, false, cond, List, [], ◌∷◌, ◌++◌, map as over, filter_map, Some, None, refl, ap, sym, ◌∙◌}
+use Rattle.std.proofs.Common.{◌≡◌, List, [], ◌∷◌, ◌++◌, map as over, filter_map, refl, ap, sym, ◌∙◌}
 use Rattle.std.proofs.lemmas.List.Elements.{filter_map-append}
 use Rattle.key_set.specs.WithAll.{with_keys}
 use Rattle.key_set.proofs.WithAllLemmas.{with_keys-append}
@@ -17,8 +17,3 @@ pub relative-next : (point : Name) (e : Name × Entry) (es : List (Name × Entry
 relative-next point e es keys =
     sym (with_keys-append (filter_map (as_way point) (e ∷ [])) (filter_map (as_way point) es) keys)
     ∙ ap (λ all. with_keys all keys) (sym (filter_map-append (as_way point) (e ∷ []) es))
-
--- where there is nothing by a test, it fails
-pub none_if : {A : Type 0} (b : Bool) (x : A) → None ≡ cond b (Some x) None → b ≡ false
-none_if true x e = absurd cc
-none_if false x e = refl

@@ -1,35 +1,17 @@
 -- A file holds names relative to its mountpoint, which stands before each of them. (After Elektra's page on mounting.)
-use Rattle.std.specs.Prelude.{Bool, nat_le, length, Option, filter_map, map as over}
+use Rattle.std.specs.Prelude.{Option, filter_map}
 use Rattle.std.specs.FinMap as map
-use Rattle.std.specs.List.{list_all}
 use Rattle.std.specs.Option.{option_map}
-use Rattle.key_name.specs.Joining.{joined, way_to}
+use Rattle.key_name.specs.Joining.{way_to}
+pub use Rattle.key_set.specs.Whole.{all_fit, as_whole, fits, whole}
 use Rattle.key_set.specs.WithAll.{with_keys}
 use Rattle.model_names.specs.Name.{Name}
-use Rattle.model_names.specs.Spelling.{path}
-use Rattle.model_names.specs.Spells.{longest_path}
 use Rattle.model_maps.specs.Entry.{Entry}
 use Rattle.model_maps.specs.KeyMap.{KeyMap, no_keys}
-
--- a key of a file under its whole name
-abbrev pub as_whole : Name → Name × Entry → Name × Entry
-as_whole point key = (joined point key.0, key.1)
-
--- the whole name of a key is short enough to be a name
-abbrev pub fits : Name → Name × Entry → Bool
-fits point key = nat_le (length (path (joined point key.0))) longest_path
 
 -- a key at or below a mountpoint, under the name that leads there
 abbrev pub as_way : Name → Name × Entry → Option (Name × Entry)
 as_way point key = option_map (λ way. (way, key.1)) (way_to point key.0)
-
--- the keys of a file under whole names
-abbrev pub whole : Name → KeyMap → KeyMap
-whole point keys = with_keys (over (as_whole point) (map.entries keys)) no_keys
-
--- each whole name is short enough
-abbrev pub all_fit : Name → KeyMap → Bool
-all_fit point keys = list_all (fits point) (map.entries keys)
 
 -- the keys at or below a mountpoint, under the names that lead there
 abbrev pub relative : Name → KeyMap → KeyMap

@@ -54,7 +54,7 @@ fn holding_of<F: Formats>(
     ensures short { IfOk result IsShortHolding }
 {
     match formats.read(alloc, kind, bytes) {
-        Ok(keys) => match whole(alloc, point, keys)? {
+        Ok(keys) => match whole(point, keys)? {
             Some(keys) => Ok(Holding::Keys { keys }),
             None => Ok(bad_at(0)),
         },

@@ -1,45 +1,23 @@
 //! A file holds names relative to its mountpoint, which stands before each of them.
-ghost use Rattle.std.specs.Prelude.{◌≡◌, ◌∷◌, [], nat_le, if◌then◌else◌, filter_map, IfOk, OnOk, Some, None, length};
-ghost use Rattle.key_name.specs.Joining.{joined};
+ghost use Rattle.std.specs.Prelude.{◌≡◌, ◌∷◌, [], if◌then◌else◌, filter_map, IfOk, OnOk, Some, None};
 ghost use Rattle.key_set.specs.EntryView.{entry_of};
 ghost use Rattle.key_set.specs.WithAll.{with_keys};
-ghost use Rattle.model_names.specs.declared.namespaces.Namespace.TheVariants.{Cascading};
-ghost use Rattle.model_names.specs.Spelling.{path};
-ghost use Rattle.model_names.specs.Spells.{longest_path};
 ghost use Rattle.mounted_files.specs.Sound.{AreCascading, AreSound};
-ghost use Rattle.mounted_files.specs.Whole.{as_way, whole, all_fit, relative};
+ghost use Rattle.key_set.specs.Whole.{all_fit, whole};
+ghost use Rattle.mounted_files.specs.Whole.{as_way, relative};
 
 use crate::adding::put;
 use key_meta::Memory;
-use key_name::{KeyName, NameFault};
+use key_name::KeyName;
 use key_set::{Entry, KeySet};
-use std::alloc::{AllocError, Global};
+use std::alloc::Global;
 
 /// The keys of a file under whole names. There are none where one of these names would be too long.
-pub fn whole(alloc: Global, point: &KeyName, keys: KeySet) -> Result<Option<KeySet>, Memory>
+pub fn whole(point: &KeyName, keys: KeySet) -> Result<Option<KeySet>, Memory>
     requires { AreCascading keys }
     ensures { IfOk result (λ found. found ≡ (if all_fit point.now keys then Some (whole point.now keys) else None)) }
 {
-    let mut all = KeySet::new(alloc);
-    for (name, entry) in keys.into_items()? {
-        let Some(name) = whole_name(point, name)? else {
-            return Ok(None);
-        };
-        all.append(name, entry)?;
-    }
-    Ok(Some(all))
-}
-
-/// A name behind a mountpoint, unless it would be too long.
-fn whole_name(point: &KeyName, name: KeyName) -> Result<Option<KeyName>, Memory>
-    requires { name.namespace ≡ Cascading }
-    ensures { IfOk result (λ found. found ≡ (if nat_le (length (path (joined point.now name))) longest_path then Some (joined point.now name) else None)) }
-{
-    match name.joined_onto(point) {
-        Ok(whole) => Ok(Some(whole)),
-        Err(NameFault::Memory) => Err(AllocError),
-        Err(_) => Ok(None),
-    }
+    keys.behind(point)
 }
 
 /// The keys at or below a mountpoint, under the names that lead there.

@@ -8,7 +8,7 @@ use Rattle.mounted_files.specs.declared.holding.Holding.{Holding}
 use Rattle.model_maps.specs.KeyMap.{KeyMap}
 use Rattle.mounted_files.proofs.LimitLemmas.{cascading-limited, short-limited}
 use Rattle.mounted_files.proofs.ChangeLemmas.{short-whole}
-use Rattle.mounted_files.proofs.WholeLemmas.{none_if}
+use Rattle.key_set.proofs.WholeLemmas.{none_if}
 use Rattle.mounted_files.proofs.holding.holding_of.Goals as goal
 
 pub whole-requires : goal.whole-requires
