@@ -4,8 +4,7 @@ ghost use Rattle.std.specs.FinMap.{is_sorted};
 ghost use Rattle.sorted_map.specs.Merge.{put_all};
 
 use crate::ChunkedMap;
-use crate::items::ChunkedItems;
-use crate::shared::{Chunk, Entries};
+use crate::shared::Chunk;
 use std::alloc::{AllocError, Global};
 
 /// A value that can be copied together with its key, into memory of their own.
@@ -39,33 +38,6 @@ impl<K: Ord + Drop, V: Copied<K> + Drop> ChunkedMap<K, V> {
         *self = all;
         Ok(())
     }
-
-    /// The entries by value, one after another. Those that this map alone has are moved, and those that it shares are copied.
-    pub fn into_items(self) -> Result<ChunkedItems<K, V>, AllocError>
-        ensures all { IfOk result (λ items. items ≡ self) }
-        ensures sorted { T (is_sorted K.cmp self) }
-    {
-        let alloc = self.allocator();
-        let chunks = own_all(alloc, self.chunks)?;
-        Ok(ChunkedItems {
-            rest: Vec::new(alloc).into_iter(),
-            chunks: chunks.into_iter(),
-        })
-    }
-}
-
-/// The entries of chunks by themselves.
-fn own_all<K: Ord + Drop, V: Copied<K> + Drop>(
-    alloc: Global,
-    chunks: Vec<Chunk<K, V>>,
-) -> Result<Vec<Entries<K, V>>, AllocError>
-    ensures { IfOk result (λ owned. owned.items ≡ chunks.items) }
-{
-    let mut owned = Vec::with_capacity(alloc, chunks.len())?;
-    for chunk in chunks {
-        owned.push(chunk.into_entries()?)?;
-    }
-    Ok(owned)
 }
 
 /// Gives each key of some entries the value that it has there, one after another.

@@ -6,7 +6,6 @@ mod chunked_maps;
 mod chunks;
 mod copies;
 mod counted;
-mod items;
 mod iters;
 mod ranges;
 mod renaming;
@@ -16,6 +15,5 @@ mod tests;
 
 pub use chunked_maps::ChunkedMap;
 pub use copies::Copied;
-pub use items::ChunkedItems;
 pub use iters::ChunkedIter;
 pub use renaming::Renames;

@@ -114,23 +114,3 @@ fn a_copy_stays_while_the_map_changes(rt: HostRuntime) -> Result<(), Fail> {
     }
     Ok(())
 }
-
-#[test]
-fn entries_come_by_value_in_order_where_a_copy_has_them_too(rt: HostRuntime) -> Result<(), Fail> {
-    let mut map = ChunkedMap::new(rt.alloc());
-    for key in 0..200 {
-        assert_eq!(rt; map.insert(key, held(key))?, None);
-    }
-    let mut shared = map.copy()?.into_items()?;
-    for key in 0..200 {
-        assert_eq!(rt; shared.next(), Some((key, held(key))));
-    }
-    assert_eq!(rt; shared.next(), None);
-    assert_eq!(rt; map.len(), 200);
-    let mut own = map.into_items()?;
-    for key in 0..200 {
-        assert_eq!(rt; own.next(), Some((key, held(key))));
-    }
-    assert_eq!(rt; own.next(), None);
-    Ok(())
-}

@@ -14,7 +14,7 @@ ghost use Rattle.key_set.specs.WithAll.{with_all};
 use crate::ranges::range_below;
 use crate::same::have_same;
 use crate::weights::weight_of_all;
-use crate::{Entry, KeySetItems, KeySetIter};
+use crate::{Entry, KeySetIter};
 use chunked_map::ChunkedMap;
 use key_meta::Memory;
 use key_name::KeyName;
@@ -129,15 +129,6 @@ impl KeySet {
         KeySetIter {
             rest: self.keys.iter(),
         }
-    }
-
-    /// The keys by value, in name order. Those that this set alone has are moved, and those that it shares are copied.
-    pub fn into_items(self) -> Result<KeySetItems, Memory>
-        ensures { IfOk result (λ items. items ≡ map.entries self) }
-    {
-        Ok(KeySetItems {
-            rest: self.keys.into_items()?,
-        })
     }
 
     /// The same keys again. The two sets share them until one of them changes.

@@ -3,7 +3,6 @@
 
 mod counting;
 mod entries;
-mod items;
 mod iters;
 mod key_sets;
 mod ranges;
@@ -13,7 +12,6 @@ mod wholes;
 
 pub use counting::ten_thousand_keys_take_21_steps;
 pub use entries::Entry;
-pub use items::KeySetItems;
 pub use iters::KeySetIter;
 pub use key_sets::{KeySet, equal_sets_are_the_same_map, the_keys_set_last_are_found};
 pub use weights::{HEAVIEST_MAP, KEY_WEIGHT};
