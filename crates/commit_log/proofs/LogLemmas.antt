@@ -10,7 +10,6 @@ use Rattle.std.specs.Option.{option_map}
 use Rattle.general_words.proofs.Lists.{some_is, at_place, take-next, same_default}
 use Rattle.general_words.proofs.Places.{there_is, before-last, at-last}
 use Rattle.model_maps.specs.KeyMap.{KeyMap}
-use Rattle.model_history.specs.Changes as changes
 use Rattle.model_history.specs.Changes.{changed, changed_by}
 use Rattle.model_history.specs.History.{Commit, replay, touches, is_among, first_after, history_weight, weight_of_commit}
 use Rattle.model_history.proofs.HistoryLemmas.{replay-append, first_after-behind, first_after-within, first_after-there}

@@ -1,15 +1,14 @@
 -- Two commits, one after the other.
-use Rattle.std.proofs.Common.{◌≡◌, ◌≢◌, ℕ, ◌≤◌, Bool, true, false, List, [], ◌∷◌, ◌++◌, length, Option, Some, None, Result, Ok, Err, OnErr, OnOk, inl, inr, refl, sym, subst, ◌∙◌, arith}
-use Rattle.std.proofs.lemmas.List.Elements.{Contains-append_left}
+use Rattle.std.proofs.Common.{◌≡◌, ℕ, ◌≤◌, Bool, true, false, List, [], ◌∷◌, ◌++◌, length, Option, arith}
 use Rattle.kdb_outside.specs.declared.disks.Disk.{Ghosts}
 use Rattle.kdb_outside.specs.Images.{Image, IsImage}
 use Rattle.journal_codec.specs.declared.files.FileText.{FileText}
 use Rattle.intent_journal.specs.Journal.{JournalValue}
 use Rattle.intent_journal.specs.Moments.{LeavesOnly}
 use Rattle.intent_journal.specs.Outcomes.{with_entries, HasOnly, IsEither}
-use Rattle.model_crashes.specs.Runs.{Run, Begun, files_of, IsBegun, IsReached, begun_before, new_run, after_begun, after_commit}
-use Rattle.model_crashes.proofs.Moments.{only_follows, only_both}
-use Rattle.model_crashes.proofs.Reached.{IsBegun-more, IsBegun-before, reached_begun, reached_now}
+use Rattle.model_crashes.specs.Runs.{Run, files_of, IsReached, begun_before, new_run, after_begun}
+use Rattle.model_crashes.proofs.Moments.{only_follows}
+use Rattle.model_crashes.proofs.Reached.{IsBegun-more, IsBegun-before, reached_begun}
 use Rattle.store_phases.specs.Stores.{IsStore}
 use Rattle.disk_tests.specs.TwoCommits.{after_answer, acknowledged, begun_by_two}
 

@@ -1,5 +1,5 @@
 -- What two commits, one after the other, leave. This project's own.
-use Rattle.std.specs.Prelude.{ℕ, Bool, true, false, List, [], ◌∷◌, ◌++◌, length, Option}
+use Rattle.std.specs.Prelude.{Bool, true, false, List, [], ◌∷◌, ◌++◌, length, Option}
 use Rattle.journal_codec.specs.declared.files.FileText.{FileText}
 use Rattle.model_crashes.specs.Runs.{Run, Begun, begun_before, after_begun, after_commit}
 

@@ -2,14 +2,11 @@
 use Rattle.std.proofs.Common.{◌≡◌, ◌≢◌, ◌⊎◌, ℕ, ◌+◌, ◌<◌, ◌≤◌, Bool, true, false, List, ◌∷◌, length, Option, Some, None, refl, sym, ap, subst, ◌∙◌, inl, inr, arith}
 use Rattle.std.specs.FinMap as map
 use Rattle.std.specs.Option.{option_map, is_some}
-use Rattle.std.specs.Ordering.{eq_by_cmp}
-use Rattle.std.proofs.lemmas.Cmp.{eq_by_cmp_equiv, nat_list_cmp_total}
+use Rattle.std.proofs.lemmas.Cmp.{nat_list_cmp_total}
 use Rattle.model_names.specs.Name.{Name}
-use Rattle.model_names.specs.Order.{name_cmp, name_eq}
 use Rattle.model_names.specs.Spelling.{path}
 use Rattle.model_names.specs.Spells.{Spells}
 use Rattle.model_names.proofs.OrderLemmas.{name_cmp_total, name_cmp-IsAntisymmetric}
-use Rattle.key_name.specs.Comparing.{name_ties}
 use Rattle.general_words.specs.Texts.{text_cmp}
 use Rattle.model_maps.specs.Entry.{Entry, plain_entry, IsValue, IsMetaName, with_meta}
 use Rattle.model_maps.specs.KeyMap.{KeyMap, weight, key_weight, heaviest_map}
@@ -18,7 +15,7 @@ use Rattle.dump_storage.specs.declared.progress.Present.{Present}
 use Rattle.dump_storage.specs.declared.progress.Progress as code
 use Rattle.dump_storage.specs.ProgressView.{AddsNothing, HasMetaNames, IsSound, PutsInto, CannotPut, with_present, progress_of}
 use Rattle.general_words.proofs.Maps.{get-insert_same}
-use Rattle.general_words.proofs.Lookups.{get-elsewhere, get-cases, get-apart, tied_or_not}
+use Rattle.general_words.proofs.Lookups.{get-elsewhere, get-cases, get-apart}
 use Rattle.dump_storage.proofs.ProgressLemmas as lemmas
 use Rattle.dump_storage.proofs.ProgressLemmas.{key_record, meta_record, copy_record, HasMetaNames-insert, weight-key, weight-meta, behind_key}
 use Rattle.general_words.proofs.Texts.{text_cmp-IsAntisymmetric}

@@ -1,7 +1,6 @@
 -- Whether a key can be held, by its parts.
-use Rattle.std.proofs.Common.{◌≡◌, ℕ, ◌==◌, ◌&&◌, ◌≤◌, Bool, true, false, List, [], ◌∷◌, length, Option, None, Some, sym, ap, subst, ◌∙◌, inl, inr}
+use Rattle.std.proofs.Common.{◌≡◌, ℕ, ◌==◌, ◌≤◌, Bool, List, [], ◌∷◌, length, Option, None, Some, sym, ap, subst, ◌∙◌, inl, inr}
 use Rattle.std.specs.Bool.{Decides}
-use Rattle.std.specs.Cmp.Lexicographic.{pointwise_decides, bytes_decides}
 use Rattle.std.specs.FinMap as map
 use Rattle.std.specs.List.{AllByRecursion}
 use Rattle.std.specs.Option.{option_map}
@@ -15,7 +14,7 @@ use Rattle.model_names.specs.Name.{Name, Part}
 use Rattle.model_maps.specs.Entry.{Meta, Entry, plain_entry}
 use Rattle.model_maps.specs.KeyMap.{KeyMap}
 use Rattle.model_lines.proofs.MapFacts.{entries-empty}
-use Rattle.key_meta.specs.Same.{same_item, same_meta}
+use Rattle.key_meta.specs.Same.{same_meta}
 use Rattle.model_hosts.specs.Comments.{comments, texts_of}
 use Rattle.model_hosts.specs.Keys.{family, host_name, IsWord, IsOneLine, IsHostsKey}
 use Rattle.hosts_storage.specs.Holding.{HasComments, IsHost, IsAlias}

@@ -1,5 +1,5 @@
 -- A handle's record, as the history that it has seen goes on.
-use Rattle.std.proofs.Common.{◌≡◌, ℕ, ◌≤◌, Bool, true, false, cond, ◌&&◌, ◌||◌, nat_eq, List, [], ◌∷◌, ◌++◌, length, Option, Some, None, refl, sym, ap, ap₂, subst, ◌∙◌, eq-eqb, arith}
+use Rattle.std.proofs.Common.{◌≡◌, ℕ, Bool, true, ◌&&◌, ◌||◌, nat_eq, List, [], ◌∷◌, Option, None, refl, sym, ap, ap₂, subst, ◌∙◌, eq-eqb}
 use mathlib.Core.List.{IsPrefix}
 use Rattle.std.specs.List.{list_all}
 use Rattle.std.specs.Option.{option_eq, option_map}
@@ -8,10 +8,10 @@ use Rattle.model_history.specs.History.{Commit, is_among}
 use Rattle.model_maps.specs.KeyMap.{KeyMap}
 use Rattle.model_names.specs.Name.{Name}
 use Rattle.model_store.specs.Cores.{accepts}
-use Rattle.model_store.specs.Records.{Fronts, Record, Fetched, IsRecord, record_of, no_fronts}
-use Rattle.model_store.specs.Sets.{Prepared, front_in, only, prepared}
-use Rattle.model_store.specs.Store.{Store, points_of}
-use Rattle.model_store.proofs.Kept.{front-of, record-stays, record-whole}
+use Rattle.model_store.specs.Records.{Fronts, Record, Fetched, IsRecord, no_fronts}
+use Rattle.model_store.specs.Sets.{front_in, only, prepared}
+use Rattle.model_store.specs.Store.{Store}
+use Rattle.model_store.proofs.Kept.{front-of, record-stays}
 use Rattle.model_store.proofs.Members.{only-there}
 use Rattle.set_split.specs.Involved.{involved_in}
 use Rattle.general_words.proofs.Tests.{number_itself}

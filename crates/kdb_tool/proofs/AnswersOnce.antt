@@ -23,11 +23,9 @@ use Rattle.tool_commands.specs.Lines.{not_storable}
 use Rattle.kdb_tool.specs.Answer.{refused, tells}
 use Rattle.kdb_tool.specs.Input.{taken}
 use Rattle.mounted_files.specs.Getting.{below, fault_of}
-use Rattle.mounted_files.specs.declared.causes.Cause.{Cause}
 use Rattle.kdb_tool.specs.Answers.{AnswersBelow, AnswersImport, AnswersText, Written, NotHeld, Held, Bad, line_of_get, AnswersChecked, AnswersStep, AnswersGot, AnswersIn, AnswersOpened, AnswersOver, AnswersRequest, Answers, file_told, owner_in}
 use Rattle.all_formats.specs.Meanings as all
 use Rattle.all_formats.specs.Laws as laws
-use Rattle.mounted_files.specs.Files.{Holds}
 use Rattle.mounted_files.specs.Opening.{IsMade}
 use Rattle.mounted_files.proofs.OneOpening.{Opens-once, Holds-once, Holds-not_bad, Cause-once}
 use Rattle.kdb_tool.proofs.SetLemmas.{Set-once}

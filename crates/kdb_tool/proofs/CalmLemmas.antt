@@ -1,8 +1,7 @@
 -- A calm disk is calm with the files that its opening leaves, and with a doubt that stands for no other files.
-use Rattle.std.proofs.Common.{◌≡◌, ◌⊎◌, inl, inr, ℕ, Bool, true, false, cond, bytes_eq, List, [], ◌∷◌, map as over, Option, Some, None, refl, sym, ap, subst, ◌∙◌}
+use Rattle.std.proofs.Common.{◌≡◌, inl, inr, ℕ, true, false, cond, bytes_eq, List, [], ◌∷◌, map as over, Option, Some, None, refl, sym, ap, ◌∙◌}
 use Rattle.std.specs.Option.{option_map, unwrap_or}
 use Rattle.std.proofs.lemmas.Option.{same_Some}
-use Rattle.intent_journal.specs.JournalBytes.{IsOwnFile}
 use Rattle.intent_journal.specs.Outcomes.{content_in, with_entry, SameFiles, IsEither}
 use Rattle.intent_journal.specs.States.{IsCalm}
 use Rattle.journal_codec.specs.declared.files.FileText.{FileText}

@@ -1,5 +1,5 @@
 -- What the commit of a set alone does to a store, and what it answers.
-use Rattle.std.proofs.Common.{◌≡◌, ◌≢◌, ◌⊎◌, inl, inr, ℕ, ◌+◌, ◌≤◌, nat_eq, Bool, T, true, false, cond, ◌&&◌, List, [], ◌∷◌, ◌++◌, length, map as over, Option, Some, None, Result, Ok, Err, refl, sym, ap, ap₂, subst, ◌∙◌, arith}
+use Rattle.std.proofs.Common.{◌≡◌, ◌≢◌, ℕ, nat_eq, Bool, T, true, false, cond, ◌&&◌, List, [], ◌∷◌, length, map as over, Option, Some, None, Result, Ok, Err, refl, sym, ap, ap₂, subst, ◌∙◌, arith}
 use Rattle.std.specs.List.{list_all}
 use Rattle.std.specs.Option.{option_eq}
 use Rattle.std.proofs.lemmas.List.{length-map}
@@ -14,10 +14,10 @@ use Rattle.model_history.specs.History as past
 use Rattle.model_maps.specs.KeyMap.{KeyMap}
 use Rattle.model_names.specs.Name.{Name}
 use Rattle.model_store.specs.Cores as cores
-use Rattle.model_store.specs.Cores.{Made, accepts, first_core}
+use Rattle.model_store.specs.Cores.{accepts, first_core}
 use Rattle.model_store.specs.Events as event
-use Rattle.model_store.specs.Events.{Answer as Told, Commit, Get, Prepare, Judged as IsTold, Failed, put}
-use Rattle.model_store.specs.First.{first_record, first_set}
+use Rattle.model_store.specs.Events.{Answer as Told, Commit, Get, Prepare, put}
+use Rattle.model_store.specs.First.{first_record}
 use Rattle.model_store.specs.Promise.{Stands}
 use Rattle.model_store.specs.Records as model
 use Rattle.model_store.specs.Sets as sets
@@ -35,7 +35,7 @@ use Rattle.mount_table.specs.declared.mounts.Mount.{Mount}
 use Rattle.mounted_files.specs.declared.files.MountedFile.{MountedFile}
 use Rattle.set_split.specs.Involved.{involved_in}
 use Rattle.store_core.specs.Answers.{IsJudged, has_written}
-use Rattle.store_core.specs.Committing.{BeginsSet, RunsOn}
+use Rattle.store_core.specs.Committing.{RunsOn}
 use Rattle.store_core.specs.Cores.{StandsIn, core_with}
 use Rattle.store_core.specs.Frames.{IsUnwritten}
 use Rattle.store_core.specs.Joined.{Belongs, BelongsIn, HasAnswered, IsReady}
@@ -49,7 +49,7 @@ use Rattle.store_core.proofs.MadeLemmas.{belongs_made}
 use Rattle.store_phases.specs.Stores.{IsStore}
 use Rattle.store_verdict.specs.Preparing.{IsMade}
 use Rattle.store_verdict.specs.PreparedView.{prepared_of}
-use Rattle.store_verdict.specs.RecordView.{handle_of, places_of, record_of}
+use Rattle.store_verdict.specs.RecordView.{record_of}
 use Rattle.store_verdict.specs.declared.prepared.Prepared.{Prepared}
 use Rattle.store_verdict.specs.declared.records.Record.{Record}
 use Rattle.tool_commands.specs.Lines.{invalid, database_full, history_full}
@@ -62,7 +62,7 @@ use Rattle.kdb_tool.specs.Refusing.{IsRefusalOf}
 use Rattle.kdb_tool.specs.Serving.{BeginsEntry, FailsToStore, HasFetched, Serves, Serving, run_with}
 use Rattle.kdb_tool.specs.declared.answers.Stop.{Stop}
 use Rattle.kdb_tool.specs.declared.answers.Stop.TheVariants as stops
-use Rattle.kdb_tool.specs.Sets.{AnswersSet, Judged, IsJudgement, formats, set_alone, store_alone, stored_by, the_handle}
+use Rattle.kdb_tool.specs.Sets.{AnswersSet, Judged, formats, set_alone, store_alone, stored_by, the_handle}
 use Rattle.general_words.proofs.Tests.{number_itself}
 
 -- ---- a record accepts what it just made

@@ -1,13 +1,13 @@
 -- What a crash may leave of a run that one command makes, by what it stores.
-use Rattle.std.proofs.Common.{◌≡◌, ◌⊎◌, inl, inr, ℕ, zero, suc, ◌≤◌, ◌<◌, List, [], ◌∷◌, ◌++◌, length, take, Option, Some, None, Contains, refl, sym, ap, subst, ◌∙◌, arith}
-use Rattle.std.proofs.lemmas.Option.{none-some, same_Some}
-use Rattle.intent_journal.specs.Outcomes.{with_entry, with_entries, SameFiles, HasOnly, IsEither, IsOutcome}
+use Rattle.std.proofs.Common.{◌≡◌, ◌⊎◌, inl, inr, ℕ, zero, suc, ◌≤◌, List, [], ◌∷◌, ◌++◌, take, Option, Some, None, Contains, refl, sym, ap, subst, arith}
+use Rattle.std.proofs.lemmas.Option.{none-some}
+use Rattle.intent_journal.specs.Outcomes.{with_entry, with_entries, HasOnly, IsEither}
 use Rattle.journal_codec.specs.declared.files.FileText.{FileText}
 use Rattle.kdb_outside.specs.Images.{Image}
 use Rattle.model_crashes.specs.Runs.{Begun, IsBegun, IsReached, begun_before}
 use Rattle.model_crashes.proofs.Reached.{only_weaker}
-use Rattle.kdb_tool.specs.Answer.{Texts, entry_of, with_stored}
-use Rattle.kdb_tool.specs.Crashing.{MayBeLeft, MayRemain}
+use Rattle.kdb_tool.specs.Answer.{Texts}
+use Rattle.kdb_tool.specs.Crashing.{MayBeLeft}
 
 abbrev Entry : Type 0
 Entry = List FileText

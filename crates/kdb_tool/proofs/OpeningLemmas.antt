@@ -1,5 +1,5 @@
 -- What is told of a store that isn't opened, and what is known of one that is.
-use Rattle.std.proofs.Common.{◌≡◌, ◌≢◌, ◌⊎◌, inl, inr, ℕ, true, false, is_some, List, [], map as over, length, slice_get, Option, Some, None, IfOk, IfErr, Result, Ok, Err, OnOk, refl, sym, ap, subst, ◌∙◌}
+use Rattle.std.proofs.Common.{◌≡◌, ◌≢◌, inl, inr, ℕ, false, List, [], Option, Some, None, IfOk, Result, Ok, Err, OnOk, refl, sym, ap, subst, ◌∙◌}
 use Rattle.all_formats.specs.Meanings as all
 use Rattle.intent_journal.specs.BadJournals.{open_entry, opened_files, opened_doubt, doubt_with}
 use Rattle.intent_journal.specs.Journal.{JournalValue}
@@ -15,7 +15,6 @@ use Rattle.kdb_outside.specs.Images.{Image}
 use Rattle.kdb_outside.specs.declared.disks.Disk.{Ghosts}
 use Rattle.model_crashes.specs.Runs.{new_run}
 use Rattle.mount_table.specs.Table.{own_mount}
-use Rattle.mounted_files.specs.Opening.{Opens}
 use Rattle.mounted_files.specs.declared.refusals.OpenRefusal.TheVariants as refusal
 use Rattle.store_core.specs.Faults.{RefusesStore}
 use Rattle.store_core.specs.Opened.{may_be_of_journal}
@@ -32,7 +31,7 @@ use Rattle.kdb_tool.specs.Lines.{line_of_store}
 use Rattle.kdb_tool.specs.Serving.{MayRefuse, Seeking, Serve}
 use Rattle.kdb_tool.specs.declared.answers.Stop.{Stop}
 use Rattle.kdb_tool.specs.declared.answers.Stop.TheVariants as stops
-use Rattle.kdb_tool.proofs.CalmLemmas.{calm_on, either-same}
+use Rattle.kdb_tool.proofs.CalmLemmas.{calm_on}
 use Rattle.kdb_tool.proofs.ServeLemmas.{HasBegun, refused_served}
 
 -- ---- a store that isn't opened

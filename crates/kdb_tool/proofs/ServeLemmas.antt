@@ -1,5 +1,5 @@
 -- What a command does to a disk, from what it did to the open store and what the opening and the close leave.
-use Rattle.std.proofs.Common.{◌≡◌, ◌≢◌, ◌⊎◌, inl, inr, ℕ, ◌≤◌, true, false, is_some, List, [], ◌∷◌, Option, Some, None, Result, Ok, Err, IfOk, refl, sym, ap, subst, ◌∙◌}
+use Rattle.std.proofs.Common.{◌≡◌, ◌≢◌, ◌⊎◌, inl, inr, ◌≤◌, true, false, is_some, List, [], ◌∷◌, Option, Some, None, Result, Ok, Err, IfOk, refl, sym, ap, subst, ◌∙◌}
 use Rattle.intent_journal.specs.BadJournals.{open_entry, opened_files}
 use Rattle.intent_journal.specs.Journal.{JournalValue}
 use Rattle.intent_journal.specs.Moments.{LeavesOnly}
@@ -12,10 +12,10 @@ use Rattle.journal_codec.specs.declared.files.FileText.{FileText}
 use Rattle.kdb_outside.specs.Crashes.{EveryImage}
 use Rattle.kdb_outside.specs.Faults.{HasRisen}
 use Rattle.kdb_outside.specs.Frames.{GoesOn, OnlyReads}
-use Rattle.kdb_outside.specs.Images.{Image, IsImage}
+use Rattle.kdb_outside.specs.Images.{Image}
 use Rattle.kdb_outside.specs.declared.disks.Disk.{Ghosts}
 use Rattle.kdb_outside.proofs.Rises.{risen_since}
-use Rattle.model_crashes.specs.Runs.{Run, IsOneOf, IsReached, after_begun, files_of, new_run}
+use Rattle.model_crashes.specs.Runs.{Run, IsReached, after_begun, files_of, new_run}
 use Rattle.model_crashes.proofs.Moments.{only_both, only_now}
 use Rattle.model_crashes.proofs.Reached.{only_weaker}
 use Rattle.store_core.specs.Frames.{IsUnwritten}
@@ -25,7 +25,7 @@ use Rattle.tool_commands.specs.Report.{Report}
 use Rattle.tool_commands.specs.StepView.{report_of}
 use Rattle.tool_commands.specs.declared.reports.Report as code
 use Rattle.kdb_tool.specs.Answer.{Answer, Texts, entry_of, tells, with_stored}
-use Rattle.kdb_tool.specs.Crashing.{MayBeLeft, MayRemain, Shows, Alone, Stored}
+use Rattle.kdb_tool.specs.Crashing.{MayBeLeft, MayRemain, Alone, Stored}
 use Rattle.kdb_tool.specs.Serving.{Serves, BeginsEntry, FailsToStore, Serving, MayStore, Served, StoresNothing, Unserved, Failing, Storing, Seeking, Serve, run_with}
 use Rattle.kdb_tool.specs.Stops.{or_memory}
 use Rattle.kdb_tool.specs.declared.answers.Stop.{Stop}

@@ -1,8 +1,6 @@
 -- What a loop has taken of an input, piece by piece.
-use Rattle.std.proofs.Common.{◌≡◌, ℕ, zero, suc, ◌+◌, ◌≤◌, ◌<◌, List, [], ◌∷◌, ◌++◌, length, length-append, take, drop, Option, Some, refl, sym, ap, subst, ◌∙◌, arith}
-use Rattle.std.proofs.lemmas.List.{append_assoc, append-nil, drop-drop, drop_all, take_all}
-use Rattle.backend_files.specs.WholeFile.{longest_file}
-use Rattle.kdb_outside.specs.Bytes.{Takes}
+use Rattle.std.proofs.Common.{◌≡◌, ℕ, zero, suc, ◌+◌, ◌≤◌, List, [], ◌∷◌, ◌++◌, length, take, drop, Option, Some, sym, ap, subst, ◌∙◌, arith}
+use Rattle.std.proofs.lemmas.List.{append-nil, drop-drop, drop_all, take_all}
 use Rattle.kdb_tool.specs.Input.{most_taken, taken, TakesAll, TakesFront, TakesPiece, TakesSome}
 
 -- these bytes were taken, and what stands behind them is left

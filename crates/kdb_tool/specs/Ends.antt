@@ -1,5 +1,5 @@
 -- How a run ends, as the top call says it. (This project's own.)
-use Rattle.std.specs.Prelude.{◌≡◌, ◌⊎◌, ℕ, List, []}
+use Rattle.std.specs.Prelude.{◌≡◌, ◌⊎◌, ℕ, []}
 use Rattle.tool_commands.specs.Lines.{disk_fault, line, read_fault, write_fault}
 use Rattle.tool_words.specs.Lines.{not_writable, out_of_memory}
 use Rattle.tool_commands.specs.Report.{IsAnswered, IsEnd, Report, warned}

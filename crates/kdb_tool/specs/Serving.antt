@@ -1,5 +1,5 @@
 -- What a command does to a store, by how it ended: on the open store, and on the disk from the opening to the close. (This project's own.)
-use Rattle.std.specs.Prelude.{◌≡◌, ◌≢◌, ℕ, List, [], ◌∷◌, length, map as over, Option, None, Result, Ok, Err}
+use Rattle.std.specs.Prelude.{◌≡◌, ◌≢◌, ℕ, List, [], ◌∷◌, length, Option, None, Result, Ok, Err}
 use Rattle.std.specs.List.{AllByRecursion}
 use Rattle.intent_journal.specs.BadJournals.{open_entry, opened_files}
 use Rattle.intent_journal.specs.Journal.{JournalValue}

@@ -1,6 +1,6 @@
 -- What becomes of the keys that a command sets: the verdict of a store on the one set of a handle that got its parent before anything
 -- was committed. (This project's own.)
-use Rattle.std.specs.Prelude.{◌≡◌, ℕ, T, List, [], Option, Some, None, IsSomeAnd}
+use Rattle.std.specs.Prelude.{◌≡◌, ℕ, T, List, [], Some, None, IsSomeAnd}
 use Rattle.std.specs.FinMap as map
 use Rattle.all_formats.specs.Meanings as all
 use Rattle.model_files.specs.Texts.{texts_at}

@@ -1,11 +1,8 @@
 -- Disks without calls, and journals without bytes.
-use Rattle.std.proofs.Common.{◌≡◌, ℕ, ◌≤◌, length, Option, None, sym, subst, arith}
+use Rattle.std.proofs.Common.{◌≡◌, None, sym, subst}
 use Rattle.std.specs.FinMap as map
-use Rattle.disk_memory.specs.DiskState.{DiskState, File, begun}
-use Rattle.intent_journal.specs.JournalBytes.{IsBroken}
 use Rattle.model_maps.specs.KeyMap.{KeyMap, no_keys}
 use Rattle.model_names.specs.Order.{name_cmp}
-use Rattle.store_cases.specs.Disks.{IsAlone}
 use Rattle.store_verdict.specs.ProcKeys.{AreProc}
 
 -- ---- no keys

@@ -1,6 +1,5 @@
 -- What a get of a store gives before any commit is what its files give.
 use Rattle.std.proofs.Common.{◌≡◌, ℕ, Bool, true, false, cond, List, [], ◌∷◌, filter_map, slice_get, Option, Some, None, option_and_then, Ok, Err, refl, sym, ap, ◌∙◌}
-use Rattle.std.specs.FinMap as map
 use Rattle.std.specs.List.{cons_option}
 use Rattle.std.specs.Option.{option_map_or, option_or}
 use Rattle.general_words.specs.Searches.{first_some}

@@ -6,7 +6,7 @@ use Rattle.general_words.proofs.Lists.{some_is}
 use Rattle.model_maps.specs.KeyMap.{KeyMap}
 use Rattle.model_names.specs.Name.{Name}
 use Rattle.model_store.specs.Cores.{keeping}
-use Rattle.model_store.specs.Events.{Get, Bad, Memory, first_bad, if_bad, put}
+use Rattle.model_store.specs.Events.{Bad, Memory, first_bad, if_bad, put}
 use Rattle.model_store.specs.Events as event
 use Rattle.model_store.specs.Records as model
 use Rattle.model_store.specs.Sets as sets

@@ -13,7 +13,6 @@ use Rattle.model_crashes.proofs.Moments.{only_both}
 use Rattle.model_maps.specs.KeyMap.{KeyMap}
 use Rattle.model_files.specs.Texts.{entries_of}
 use Rattle.model_store.specs.Cores as cores
-use Rattle.model_store.specs.Cores.{first_core}
 use Rattle.model_store.specs.Events as event
 use Rattle.model_store.specs.Records as model
 use Rattle.model_store.specs.Sets as sets

@@ -1,13 +1,12 @@
 -- What is got leads to a step, and what can't be got is told.
-use Rattle.std.proofs.Common.{◌≡◌, Ok, Err, Result, refl, sym, ap, subst, ◌∙◌}
+use Rattle.std.proofs.Common.{◌≡◌, Ok, Result, sym, ap, subst, ◌∙◌}
 use Rattle.model_maps.specs.KeyMap.{KeyMap}
 use Rattle.model_names.specs.Name.{Name}
 use Rattle.mounted_files.specs.Getting.{got}
 use Rattle.mounted_files.specs.declared.refusals.GetFault.{GetFault}
 use Rattle.tool_commands.specs.Commands.{parent_of, row_of, step_of}
-use Rattle.tool_commands.specs.Report.{Report}
 use Rattle.tool_commands.specs.Step.{Step}
-use Rattle.tool_commands.specs.StepView.{report_of, seen_step}
+use Rattle.tool_commands.specs.StepView.{report_of}
 use Rattle.tool_words.specs.RequestView.{action_of}
 use Rattle.kdb_tool.specs.Answer.{tells}
 use Rattle.kdb_tool.specs.Answers.{AnswersGot, AnswersStep}

@@ -1,8 +1,7 @@
 -- No keys at all are none outside `proc`.
-use Rattle.std.proofs.Common.{◌≡◌, Some, sym, subst, ◌∙◌}
+use Rattle.std.proofs.Common.{sym, subst, ◌∙◌}
 use Rattle.std.proofs.lemmas.Option.{none-some}
 use Rattle.std.specs.FinMap as map
-use Rattle.model_maps.specs.KeyMap.{KeyMap}
 use Rattle.model_names.specs.Order.{name_cmp}
 use Rattle.store_verdict.specs.ProcKeys.{AreProc}
 use Rattle.kdb_tool.proofs.answering.new_record.Goals as goal

@@ -1,6 +1,5 @@
 -- A step is told, or its keys are set.
 use Rattle.std.proofs.Common.{refl, sym, subst}
-use Rattle.std.specs.Prelude.{string_bytes}
 use Rattle.tool_commands.specs.StepView.{report_of, seen_step}
 use Rattle.tool_commands.specs.declared.steps.Step.{Step}
 use Rattle.kdb_tool.specs.Answers.{AnswersStep}

@@ -1,12 +1,7 @@
 -- The text of what a format holds, or the first key that it doesn't.
-use Rattle.std.proofs.Common.{◌≡◌, sym, ap, subst, ◌∙◌}
 use Rattle.std.proofs.lemmas.Result.{IfOk-weaker}
 use Rattle.all_formats.specs.Meanings as all
-use Rattle.key_name.specs.Joining.{joined}
-use Rattle.model_names.specs.Name.{Name}
-use Rattle.tool_commands.specs.Lines.{not_storable}
-use Rattle.kdb_tool.specs.Answer.{done, refused}
-use Rattle.kdb_tool.specs.Answers.{Written, NotHeld}
+use Rattle.kdb_tool.specs.Answers.{NotHeld}
 use Rattle.kdb_tool.proofs.AnswerLemmas.{key-told, breaks-cascading, breaks-named}
 use Rattle.kdb_tool.proofs.answering.tell_keys.Goals as goal
 

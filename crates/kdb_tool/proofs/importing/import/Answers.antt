@@ -1,12 +1,11 @@
 -- What the input holds as a file would is asked to replace the keys there, or is refused as a file is.
-use Rattle.std.proofs.Common.{◌≡◌, List, ℕ, Err, sym, ap, subst}
+use Rattle.std.proofs.Common.{Err, sym, ap, subst}
 use Rattle.std.proofs.lemmas.Result.{IfOk-weaker}
 use Rattle.all_formats.specs.Meanings as all
 use Rattle.intent_journal.specs.BadJournals.{opened_files}
 use Rattle.kdb_outside.specs.Frames.{OnlyReads}
 use Rattle.kdb_outside.proofs.Frames.{OnlyReads-none}
 use Rattle.mounted_files.specs.Files.{Holds, IsCause}
-use Rattle.mounted_files.specs.Getting.{fault_of}
 use Rattle.mounted_files.specs.Holding.{IsHolding, cause_of}
 use Rattle.mounted_files.specs.declared.holding.Holding.{Holding}
 use Rattle.tool_words.specs.Request.{On, Replace}

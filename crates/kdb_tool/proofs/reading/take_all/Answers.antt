@@ -1,5 +1,5 @@
 -- Each turn takes a piece more, up to the end of the input or to as much as is taken.
-use Rattle.std.proofs.Common.{◌≡◌, ◌≤◌, List, ℕ, arith, length, drop}
+use Rattle.std.proofs.Common.{◌≡◌, arith, length, drop}
 use Rattle.kdb_tool.specs.Input.{most_taken}
 use Rattle.kdb_tool.proofs.TakeLemmas.{HasTaken-more, front-more, taken-end, all-end, taken-full, all-full}
 use Rattle.kdb_tool.proofs.reading.take_all.Goals as goal

@@ -1,5 +1,5 @@
 -- What is prepared was fetched, and what is refused is refused for no mount that wasn't.
-use Rattle.std.proofs.Common.{Ok, sym, subst, ℕ}
+use Rattle.std.proofs.Common.{subst, ℕ}
 use Rattle.std.specs.Prelude.{string_bytes}
 use Rattle.model_maps.specs.KeyMap.{no_keys}
 use Rattle.store_verdict.specs.Preparing.{IsMade}
