@@ -1,8 +1,8 @@
 //! Patterns that are refused at listed calls, for tests.
-ghost use Rattle.std.specs.Prelude.{◌≡◌, ◌≤◌, IfOk};
+ghost use Rattle.std.specs.Prelude.{◌≡◌, ◌≤◌, IfOk, OnErr};
 ghost use Rattle.kdb_outside.specs.Calls.{IsNextListed, next_count, no_calls};
 ghost use Rattle.kdb_outside.specs.Faults.{HasRisen};
-ghost use Rattle.regex_check.specs.Answers.{Answers};
+ghost use Rattle.regex_check.specs.Answers.{Answers, count_after};
 
 use crate::patterns::{Patterns, Search};
 use crate::regexes::RegexPatterns;
@@ -57,6 +57,8 @@ impl Patterns for ListedPatterns {
         ensures listed { IsNextListed self.old → IfOk result (λ search. search ≡ Search.Refused) }
         ensures made { self.new.made ≡ next_count self.old.made }
         ensures same { self.new.failing ≡ self.old.failing }
+        ensures counted { IfOk result (λ search. self.new.faults ≡ count_after search self.old.faults) }
+        ensures err { OnErr result (self.new.faults ≡ self.old.faults) }
         ensures answer { IfOk result (Answers pattern.now value.now) }
         ensures cause { IfOk result (λ search. search ≡ Search.Refused → HasRisen self.old.faults self.new.faults) }
         ensures later { self.old.faults ≤ self.new.faults }
