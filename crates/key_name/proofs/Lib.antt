@@ -10,3 +10,4 @@ pub mod OwnerLemmas
 pub mod NameOfLemmas
 pub mod PartListLemmas
 pub mod PlainLemmas
+pub mod SlashLemmas

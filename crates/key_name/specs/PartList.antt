@@ -1,5 +1,5 @@
 -- The parts of a name in one text: each stands behind a NUL, which no part has. (After Elektra's unescaped names.)
-use Rattle.std.specs.Prelude.{◌≡◌, ℕ, ◌<◌, Bool, true, ◌==◌, List, [], ◌∷◌, drop, string_bytes}
+use Rattle.std.specs.Prelude.{◌≡◌, ℕ, ◌<◌, Bool, true, ◌==◌, if◌then◌else◌, List, [], ◌∷◌, drop, string_bytes}
 use Rattle.std.specs.List.{AllByRecursion, flat_map, slice_split}
 use Rattle.model_names.specs.Name.{Part}
 use Rattle.key_name.specs.declared.part_list.PartList.TheInside.{Inside}
@@ -11,6 +11,14 @@ HasNoNul part = AllByRecursion (λ b. 0 < b) part
 -- parts, each behind a NUL
 abbrev pub behind_nuls : List Part → List ℕ
 behind_nuls parts = flat_map (λ part. 0 ∷ part) parts
+
+-- parts as they are, each behind a slash
+abbrev pub behind_slashes : List Part → List ℕ
+behind_slashes parts = flat_map (λ part. 47 ∷ part) parts
+
+-- a byte of a list of parts as a path has it
+abbrev pub slash_for_nul : ℕ → ℕ
+slash_for_nul b = if b == 0 then 47 else b
 
 -- what stands between the NULs of a text
 abbrev pub between_nuls : List ℕ → List Part

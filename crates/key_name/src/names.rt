@@ -94,6 +94,27 @@ impl KeyName {
         Ok(text)
     }
 
+    /// Appends what stands behind the first slash of its path to some bytes.
+    pub fn push_relative(&self, bytes: &mut Vec<u8>) -> Result<(), Memory>
+        ensures { OnOk result (bytes.new.items ≡ bytes.old.items ++ drop 1 (path self.now)) }
+    {
+        // no part of it is escaped where its path has no more bytes than its parts
+        if self.parts.bytes() == self.path_bytes() {
+            return self.parts.push_between_slashes(bytes);
+        }
+        self.push_escaped(bytes)
+    }
+
+    /// The same for any name.
+    fn push_escaped(&self, bytes: &mut Vec<u8>) -> Result<(), Memory>
+        ensures { OnOk result (bytes.new.items ≡ bytes.old.items ++ drop 1 (path self.now)) }
+    {
+        let mut text = String::with_capacity(self.parts.allocator(), self.path_bytes())?;
+        push_path(&mut text, &self.parts)?;
+        bytes.extend_from_slice(&text.as_bytes()[1..])?;
+        Ok(())
+    }
+
     /// The same name again, in memory of its own.
     pub fn copy(&self) -> Result<KeyName, Memory>
         ensures { IfOk result (λ name. name ≡ self.now) }

@@ -6,7 +6,7 @@ ghost use Rattle.std.specs.Iterator.{YieldsFirstBy, item_count};
 ghost use Rattle.std.specs.List.{AllByRecursion, starts_with};
 ghost use Rattle.std.specs.Option.{option_map, option_map_or};
 ghost use Rattle.std.specs.Ordering.{nat_cmp};
-ghost use Rattle.key_name.specs.PartList.{HasNoNul, begins_part, behind_nuls, between_nuls};
+ghost use Rattle.key_name.specs.PartList.{HasNoNul, begins_part, behind_nuls, behind_slashes, between_nuls, slash_for_nul};
 
 use crate::Memory;
 use crate::cutting::cut_at;
@@ -103,6 +103,23 @@ impl PartList {
         parts.append(self)?;
         parts.push(part)?;
         Ok(parts)
+    }
+
+    /// How many bytes the parts have, with one more for each.
+    pub fn bytes(&self) -> usize
+        ensures { result ≡ length (behind_nuls self.now) }
+    {
+        self.text.len()
+    }
+
+    /// Appends the parts to some bytes, with a slash between each two.
+    pub fn push_between_slashes(&self, bytes: &mut Vec<u8>) -> Result<(), Memory>
+        ensures { OnOk result (bytes.new.items ≡ bytes.old.items ++ drop 1 (behind_slashes self.now)) }
+    {
+        match self.text.as_bytes() {
+            [] => Ok(()),
+            [_, rest @ ..] => push_with_slashes(bytes, rest),
+        }
     }
 
     pub fn copy(&self) -> Result<PartList, Memory>
@@ -280,4 +297,21 @@ fn begins_part(text: &str) -> bool
         Some(b) => *b == 0,
         None => true,
     }
+}
+
+/// Appends some bytes to others, with a slash for each NUL.
+fn push_with_slashes(bytes: &mut Vec<u8>, text: &[u8]) -> Result<(), Memory>
+    ensures { OnOk result (bytes.new.items ≡ bytes.old.items ++ map slash_for_nul text.now) }
+{
+    for b in text {
+        bytes.push(slash_for_nul(*b))?;
+    }
+    Ok(())
+}
+
+/// A byte of a list of parts as a path has it.
+fn slash_for_nul(byte: u8) -> u8
+    ensures { result ≡ slash_for_nul byte }
+{
+    if byte == 0 { b'/' } else { byte }
 }
