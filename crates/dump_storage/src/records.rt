@@ -2,12 +2,15 @@
 ghost use Rattle.std.specs.Prelude.{◌≡◌, [], ◌∷◌, ◌++◌, length, MatchOption, OnOk};
 ghost use Rattle.std.specs.Fmt.{decimal};
 ghost use Rattle.model_dump.specs.Record.{words_of, spelled_record};
+ghost use Rattle.model_dump.specs.Text.{relative_text};
 ghost use Rattle.dump_storage.specs.Pieces.{BeginsWithNoWords, BeginsWithSizes, BeginsWithNoSizes, BeginsWith, BeginsWithNoRecord};
 ghost use Rattle.dump_storage.specs.RecordView.{kind_of, record_of};
+ghost use Rattle.dump_storage.specs.declared.records.Kind.TheVariants as kinds;
 
 use crate::pieces::{behind, size_before, text_before};
 use itoa::Buffer;
 use key_meta::Memory;
+use key_name::KeyName;
 
 /// What a record is for.
 #[derive(Clone, Copy, Debug)]
@@ -89,17 +92,29 @@ pub fn push_record(bytes: &mut Vec<u8>, added: Record<'_>) -> Result<(), Memory>
     ensures { OnOk result (bytes.new.items ≡ bytes.old.items ++ spelled_record (record_of added.entry.kind added.entry.first.now added.entry.second.now)) }
 {
     bytes.extend_from_slice(words(added.kind))?;
-    push_size(bytes, added.first, b' ')?;
-    push_size(bytes, added.second, b'\n')?;
+    push_size(bytes, added.first.len(), b' ')?;
+    push_size(bytes, added.second.len(), b'\n')?;
     push_text(bytes, added.first)?;
     push_text(bytes, added.second)
 }
 
-/// Appends the size of a text, and a byte behind it.
-fn push_size(bytes: &mut Vec<u8>, text: &[u8], last: u8) -> Result<(), Memory>
-    ensures { OnOk result (bytes.new.items ≡ bytes.old.items ++ (decimal (length text.now) ++ last ∷ [])) }
+/// Appends the record of a key without its metadata. The name is spelled in its place.
+pub fn push_key_record(bytes: &mut Vec<u8>, name: &KeyName, value: &[u8]) -> Result<(), Memory>
+    ensures { OnOk result (bytes.new.items ≡ bytes.old.items ++ spelled_record (record_of kinds.Key (relative_text name.now) value.now)) }
 {
-    bytes.extend_from_slice(Buffer::new().format(text.len()).as_bytes())?;
+    bytes.extend_from_slice(words(Kind::Key))?;
+    push_size(bytes, name.path_bytes() - 1, b' ')?;
+    push_size(bytes, value.len(), b'\n')?;
+    name.push_relative(bytes)?;
+    bytes.push(b'\n')?;
+    push_text(bytes, value)
+}
+
+/// Appends the size of a text, and a byte behind it.
+fn push_size(bytes: &mut Vec<u8>, size: usize, last: u8) -> Result<(), Memory>
+    ensures { OnOk result (bytes.new.items ≡ bytes.old.items ++ (decimal size ++ last ∷ [])) }
+{
+    bytes.extend_from_slice(Buffer::new().format(size).as_bytes())?;
     bytes.push(last)?;
     Ok(())
 }

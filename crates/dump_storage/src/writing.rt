@@ -2,13 +2,12 @@
 ghost use Rattle.std.specs.Prelude.{◌≡◌, ◌++◌, IfOk, IfErr, OnOk, map as over};
 ghost use Rattle.std.specs.FinMap as map;
 ghost use Rattle.std.specs.List.{flat_map};
-ghost use Rattle.model_names.specs.Spelling.{spelling};
 ghost use Rattle.model_dump.specs.Record.{spelled_record};
-ghost use Rattle.model_dump.specs.Text.{relative_text, record_of_meta, records_of_key, text};
+ghost use Rattle.model_dump.specs.Text.{record_of_meta, records_of_key, text};
 ghost use Rattle.key_set.specs.EntryView.{entry_of};
 ghost use Rattle.storage_api.specs.declared.refusals.WriteRefusal.TheVariants as refusals;
 
-use crate::records::{Kind, Record, push_record};
+use crate::records::{Kind, Record, push_key_record, push_record};
 use key_meta::{Memory, Meta};
 use key_name::KeyName;
 use key_set::{Entry, KeySet};
@@ -46,13 +45,7 @@ fn push_keys(bytes: &mut Vec<u8>, keys: &KeySet) -> Result<(), Memory>
 fn push_key(bytes: &mut Vec<u8>, name: &KeyName, entry: &Entry) -> Result<(), Memory>
     ensures { OnOk result (bytes.new.items ≡ bytes.old.items ++ flat_map spelled_record (records_of_key (name.now, entry_of entry.now))) }
 {
-    let text = name.text()?;
-    let key = Record {
-        kind: Kind::Key,
-        first: behind_first_slash(name, &text),
-        second: entry.value.as_str().as_bytes(),
-    };
-    push_record(bytes, key)?;
+    push_key_record(bytes, name, entry.value.as_str().as_bytes())?;
     push_metadata(bytes, &entry.meta)
 }
 
@@ -69,13 +62,4 @@ fn push_metadata(bytes: &mut Vec<u8>, meta: &Meta) -> Result<(), Memory>
         push_record(bytes, item)?;
     }
     Ok(())
-}
-
-/// What stands behind the first slash of a name's spelling.
-fn behind_first_slash<'a>(name: &KeyName, spelled: &'a str) -> &'a [u8]
-    requires { spelled.now ≡ spelling name.now }
-    ensures { result.now ≡ relative_text name.now }
-{
-    let word = spelled.len() - name.path_bytes();
-    &spelled.as_bytes()[word + 1..]
 }

@@ -1,5 +1,5 @@
 -- The key's own record, and those of its metadata.
-use Rattle.std.proofs.Common.{◌≡◌, ◌++◌, List, ℕ, ap, ap₂, sym, ◌∙◌}
+use Rattle.std.proofs.Common.{◌≡◌, ◌++◌, List, ℕ, ap, sym, ◌∙◌}
 use Rattle.std.specs.FinMap as map
 use Rattle.std.specs.List.{flat_map}
 use Rattle.model_dump.specs.Record.{KeyKind, Record, spelled_record}
@@ -15,10 +15,10 @@ returns c =
     let items = map.entries c.args.entry.now.meta in
     let metadata = flat_map (λ (item : List ℕ × List ℕ). spelled_record (record_of_meta item)) items in
     let key : Record = record { kind = KeyKind; first = relative_text c.args.name.now; second = c.args.entry.now.value } in
-    let own : c.push_record.new.bytes.items ≡ before ++ spelled_record key =
-    c.in_ok-push_record.ensures ∙ ap₂ (λ (first second : List ℕ). before ++ spelled_record (record { kind = KeyKind; first = first; second = second })) c.behind_first_slash.ensures (c.as_bytes.ensures.value ∙ c.as_str.ensures.bytes) in
+    let own : c.push_key_record.new.bytes.items ≡ before ++ spelled_record key =
+    c.in_ok-push_key_record.ensures ∙ ap (λ (second : List ℕ). before ++ spelled_record (record { kind = KeyKind; first = relative_text c.args.name.now; second = second })) (c.as_bytes.ensures.value ∙ c.as_str.ensures.bytes) in
     OnOk-then c.push_metadata.result
-    (c.push_metadata.new.bytes.items ≡ c.push_record.new.bytes.items ++ metadata)
+    (c.push_metadata.new.bytes.items ≡ c.push_key_record.new.bytes.items ++ metadata)
     (c.push_metadata.new.bytes.items ≡ before ++ flat_map spelled_record (records_of_key (c.args.name.now, entry_of c.args.entry.now)))
-    (λ more. appended before c.push_record.new.bytes.items c.push_metadata.new.bytes.items (spelled_record key) metadata own more ∙ ap (λ x. before ++ (spelled_record key ++ x)) (sym (spelled_metadata items)))
+    (λ more. appended before c.push_key_record.new.bytes.items c.push_metadata.new.bytes.items (spelled_record key) metadata own more ∙ ap (λ x. before ++ (spelled_record key ++ x)) (sym (spelled_metadata items)))
     c.push_metadata.ensures
