@@ -1,5 +1,5 @@
 -- A store from its opening to its close.
-use Rattle.std.proofs.Common.{◌≡◌, ℕ, ◌≤◌, List, [], ◌∷◌, length, Option, Some, None, inl, inr, true, refl, sym, ap, subst, ◌∙◌}
+use Rattle.std.proofs.Common.{◌≡◌, ℕ, ◌≤◌, List, [], ◌∷◌, length, Option, Some, None, ◌≢◌, inl, inr, true, refl, sym, ap, subst, ◌∙◌}
 use Rattle.kdb_outside.specs.Crashes.{EveryImage}
 use Rattle.kdb_outside.specs.Frames.{GoesOn}
 use Rattle.kdb_outside.specs.Images.{Image}
@@ -20,10 +20,14 @@ use Rattle.model_store.specs.Store.{Store, Formats}
 use Rattle.model_store.specs.Verdicts.{Late, Same, Conflict, Invalid, DatabaseFull, HistoryFull, Commits}
 use Rattle.model_store.specs.Worlds.{first_world}
 use Rattle.model_store.proofs.Owning.{one_owner}
+use Rattle.mounted_files.specs.Files.{Reading, Badness}
 use Rattle.mounted_files.specs.declared.files.MountedFile.{MountedFile}
 use Rattle.store_core.specs.Committing.{BeginsSet, RunsOn}
 use Rattle.store_core.specs.Cores.{StandsFor}
+use Rattle.store_core.specs.Faults.{RefusesStore}
 use Rattle.store_core.specs.declared.cores.Core.{Core}
+use Rattle.store_core.specs.declared.faults.OpenFault.{OpenFault}
+use Rattle.store_core.specs.declared.faults.OpenFault.TheVariants.{BadJournal, DiskFault as OfDisk, Memory as OfMemory}
 use Rattle.store_play.specs.Handles.{Holds, AreHandles, AreNew, HoldNothing, procs_at, records_of}
 use Rattle.store_play.specs.Plays.{Does, HasPlayed, Plays}
 use Rattle.store_play.specs.Ran.{HasPlayedNew, HasRun, HasRunOpened, IsNeverBroken, WasOrReached, first_stage, store_with}
@@ -151,3 +155,22 @@ sound_now g disk P every image is = (every image is).not_broken
 
 pub sound_since : {D : Type 0} (g : Ghosts D) (old new : D) (P : Image → Type 0) → g.tells old ≡ true → GoesOn g old new → LeavesOnly g old new (HasOnly P) → IsNeverBroken g new
 sound_since g old new P tells goes only image is = (only.each image (g.counts_now new (g.moment old) image (goes.tells ∙ tells) goes.moment is)).not_broken
+
+-- ---- a run that is refused
+
+module _ (Reads : Reading) (IsBad : Badness) (bytes : List ℕ) where
+  -- want of memory refuses a store whatever its files are, and is none of the other causes
+  pub memory_refuses : (fault : OpenFault) → fault ≡ OfMemory → RefusesStore Reads IsBad bytes fault
+  memory_refuses fault is = subst (RefusesStore Reads IsBad bytes) (sym is) tt
+
+pub memory_is_no_journal : (fault : OpenFault) (at : ℕ) → fault ≡ OfMemory → fault ≢ BadJournal at
+memory_is_no_journal fault at is = λ bad. let e : OfMemory ≡ BadJournal at = sym is ∙ bad in absurd cc
+
+pub memory_is_no_fault : (fault : OpenFault) → fault ≡ OfMemory → fault ≢ OfDisk
+memory_is_no_fault fault is = λ disk. let e : OfMemory ≡ OfDisk = sym is ∙ disk in absurd cc
+
+-- the opening, and then the close of what it opened
+pub reached_behind : {D : Type 0} (g : Ghosts D) (disk opened end : D) (files : Image) (doubt : Option (List FileText)) (run : Run) → g.moment disk ≤ g.moment opened → LeavesOnly g disk opened (HasOnly (IsEither files doubt))
+    → LeavesOnly g opened end (IsReached run.files run.commits run.begun) → LeavesOnly g disk end (WasOrReached files doubt run)
+reached_behind g disk opened end files doubt run later opening reached =
+    only_both g disk opened end (HasOnly (IsEither files doubt)) (IsReached run.files run.commits run.begun) (WasOrReached files doubt run) (λ image held. inl held) (λ image held. inr held) later opening reached

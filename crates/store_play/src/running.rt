@@ -1,21 +1,25 @@
 //! A store from its opening to its close.
-ghost use Rattle.std.specs.Prelude.{◌≡◌, ◌<◌, ◌^◌, ℕ, IfErr, IfOk, List, OnErr, Option, None, length, true};
+ghost use Rattle.std.specs.Prelude.{◌≡◌, ◌≢◌, ◌<◌, ◌^◌, ℕ, IfErr, IfOk, List, OnErr, Option, None, length, true};
 ghost use Rattle.std.specs.List.{AllByRecursion};
+ghost use Rattle.kdb_outside.specs.Faults.{HasRisen};
+ghost use Rattle.kdb_outside.specs.Frames.{GoesOn};
 ghost use Rattle.kdb_outside.specs.Images.{Image};
-ghost use Rattle.intent_journal.specs.BadJournals.{opened_files};
+ghost use Rattle.intent_journal.specs.BadJournals.{opened_doubt, opened_files};
 ghost use Rattle.intent_journal.specs.Moments.{LeavesOnly};
 ghost use Rattle.intent_journal.specs.States.{IsCalm};
 ghost use Rattle.journal_codec.specs.declared.files.FileText.{FileText as Item};
-ghost use Rattle.model_crashes.specs.Runs.{Run};
+ghost use Rattle.model_crashes.specs.Runs.{IsReached, Run, new_run};
 ghost use Rattle.model_maps.specs.KeyMap.{KeyMap};
 ghost use Rattle.model_store.specs.Worlds.{first_world};
+ghost use Rattle.mount_table.specs.Table.{own_mount};
 ghost use Rattle.mounted_files.specs.Opening.{IsOpened};
 ghost use Rattle.mounted_files.specs.Short.{AreShort};
 ghost use Rattle.mounted_files.specs.declared.files.MountedFile.{MountedFile};
 ghost use Rattle.store_core.specs.Cores.{StandsFor};
+ghost use Rattle.store_core.specs.Faults.{RefusesStore};
 ghost use Rattle.store_core.specs.Plans.{store_of};
 ghost use Rattle.store_play.specs.Handles.{procs_at};
-ghost use Rattle.store_play.specs.Ran.{HasPlayedNew, HasRun, HasRunOpened, IsNeverBroken, disk_of};
+ghost use Rattle.store_play.specs.Ran.{HasPlayedNew, HasRun, HasRunOpened, IsNeverBroken, WasOrReached, disk_of};
 ghost use Rattle.store_verdict.specs.Preparing.{IsPlan};
 ghost use Rattle.store_verdict.specs.ProcKeys.{AreProc};
 
@@ -58,6 +62,14 @@ pub fn run<D: Disk, F: Formats + Drop, P: Patterns + Drop>(
     ensures ran { (files : Image) (doubt : Option (List Item)) → IsCalm (D.seen disk) (D.may_leave disk) files doubt
         → IfOk result (λ ran. (mounted : List MountedFile) × IsOpened F.reads F.is_bad_at (opened_files (D.seen disk)) mounted
         × HasRun (record { text = F.text; IsStorable = F.is_storable; BreaksAt = F.breaks_at }) D.Disk mounted procs.now places disk files doubt events.now ran) }
+    ensures refused { (files : Image) (doubt : Option (List Item)) → IsCalm (D.seen disk) (D.may_leave disk) files doubt
+        → IfErr result (λ refused. RefusesStore F.reads F.is_bad_at (opened_files (D.seen disk) own_mount.file) refused.fault) }
+    ensures calm { IfErr result (λ refused. (at : ℕ) → refused.fault ≢ OpenFault.BadJournal at) }
+    ensures any_moment { (files : Image) (doubt : Option (List Item)) → IsCalm (D.seen disk) (D.may_leave disk) files doubt
+        → IfErr result (λ refused. LeavesOnly D.Disk disk refused.disk (WasOrReached files doubt (new_run (opened_files (D.seen disk)) (D.faults disk) (opened_doubt (D.seen disk))))) }
+    ensures patterns { IfErr result (λ refused. refused.patterns ≡ patterns) }
+    ensures goes { IfErr result (λ refused. GoesOn D.Disk disk refused.disk) }
+    ensures cause { IfErr result (λ refused. refused.fault ≡ OpenFault.DiskFault → HasRisen (D.faults disk) (D.faults refused.disk)) }
 {
     match open_store(alloc, disk, formats, patterns) {
         Ok(opened) => run_opened(alloc, opened, procs, places, events),
@@ -81,6 +93,11 @@ fn run_opened<D: Disk, F: Formats + Drop, P: Patterns + Drop>(
     ensures ran { (start : D) (run : Run) → StandsFor (record { text = F.text; IsStorable = F.is_storable; BreaksAt = F.breaks_at }) D.Disk (store_of opened.plan.mounted (procs_at procs.now)) start opened.core (λ r m. None) (λ p. None) first_world run
         → IfOk result (λ ran. HasRunOpened (record { text = F.text; IsStorable = F.is_storable; BreaksAt = F.breaks_at }) D.Disk opened.plan.mounted procs.now places start run events.now ran) }
     ensures sound { IsNeverBroken D.Disk (disk_of result) }
+    ensures refused { IfErr result (λ refused. refused.fault ≡ OpenFault.Memory) }
+    ensures reached { (start : D) (run : Run) → StandsFor (record { text = F.text; IsStorable = F.is_storable; BreaksAt = F.breaks_at }) D.Disk (store_of opened.plan.mounted (procs_at procs.now)) start opened.core (λ r m. None) (λ p. None) first_world run
+        → IfErr result (λ refused. LeavesOnly D.Disk start refused.disk (IsReached run.files run.commits run.begun)) }
+    ensures patterns { IfErr result (λ refused. refused.patterns ≡ opened.core.patterns) }
+    ensures goes { IfErr result (λ refused. GoesOn D.Disk opened.core.journal.disk refused.disk) }
 {
     let plan = opened.plan;
     let mut core = opened.core;
