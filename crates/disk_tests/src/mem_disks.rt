@@ -27,6 +27,22 @@ fn make(disk: &mut MemDisk, file: &FileName, change: Change) -> Result<bool, Fai
     Ok(outcome == Ok(()))
 }
 
+/// A disk with a file of `abcd` that stops after so many calls.
+fn disk_of(alloc: Global, user: &FileName, stop_after: u64) -> Result<MemDisk, Fail> {
+    let files = vec![in alloc; (user.copy()?, b"abcd".to_vec(alloc)?)]?;
+    Ok(MemDisk::new(alloc, files, Vec::new(alloc), Some(stop_after))?)
+}
+
+/// Makes the changes, up to the first that doesn't go through.
+fn make_all(disk: &mut MemDisk, file: &FileName, changes: &[Change]) -> Result<(), Fail> {
+    for change in changes {
+        if !make(disk, file, *change)? {
+            break;
+        }
+    }
+    Ok(())
+}
+
 /// The disk that a crash with this choice leaves of a file of `abcd` after so many of four calls.
 fn left_after(
     alloc: Global,
@@ -34,19 +50,14 @@ fn left_after(
     stop_after: u64,
     choice: u64,
 ) -> Result<MemDisk, Fail> {
-    let files = vec![in alloc; (user.copy()?, b"abcd".to_vec(alloc)?)]?;
-    let mut disk = MemDisk::new(alloc, files, Vec::new(alloc), Some(stop_after))?;
     let changes = [
         Change::Write(1, b"12"),
         Change::Write(2, b"2YZ"),
         Change::Cut(2),
         Change::Sync,
     ];
-    for change in changes {
-        if !make(&mut disk, user, change)? {
-            break;
-        }
-    }
+    let mut disk = disk_of(alloc, user, stop_after)?;
+    make_all(&mut disk, user, &changes)?;
     Ok(disk.crash(choice)?)
 }
 
@@ -111,9 +122,21 @@ fn leaves(
     Ok(disk.bytes(user) == bytes && disk.calls() == 0)
 }
 
+/// Whether a crash of the first choice leaves what was synced, and one of the second all.
+fn leaves_both(
+    alloc: Global,
+    user: &FileName,
+    stop_after: u64,
+    synced: &[u8],
+    whole: &[u8],
+) -> Result<bool, Fail> {
+    Ok(leaves(alloc, user, stop_after, 0, synced)? && leaves(alloc, user, stop_after, 1, whole)?)
+}
+
 #[test]
 fn a_crash_leaves_what_may_be_left(rt: HostRuntime) -> Result<(), Fail> {
-    let user = name(rt.alloc(), "user.ecf")?;
+    let alloc = rt.alloc();
+    let user = name(alloc, "user.ecf")?;
     let rows: [(u64, &[u8], &[u8], usize, usize, &[u8], &[u8]); 5] = [
         (0, b"abcd", b"", 4, 4, b"abcd", b"abcd"),
         (1, b"a", b"d", 4, 4, b"abcd", b"a12d"),
@@ -129,10 +152,8 @@ fn a_crash_leaves_what_may_be_left(rt: HostRuntime) -> Result<(), Fail> {
             least,
             most,
         };
-        let alloc = rt.alloc();
         assert!(rt; every_choice_holds(alloc, &user, row, 10)?);
-        assert!(rt; leaves(alloc, &user, stop_after, 0, synced)?);
-        assert!(rt; leaves(alloc, &user, stop_after, 1, whole)?);
+        assert!(rt; leaves_both(alloc, &user, stop_after, synced, whole)?);
     }
     Ok(())
 }
@@ -140,9 +161,8 @@ fn a_crash_leaves_what_may_be_left(rt: HostRuntime) -> Result<(), Fail> {
 #[test]
 fn choices_leave_different_bytes(rt: HostRuntime) -> Result<(), Fail> {
     let user = name(rt.alloc(), "user.ecf")?;
-    assert!(rt; choices_differ(rt.alloc(), &user, 1, 10)?);
-    assert!(rt; choices_differ(rt.alloc(), &user, 2, 10)?);
-    assert!(rt; choices_differ(rt.alloc(), &user, 3, 10)?);
-    assert!(rt; !choices_differ(rt.alloc(), &user, 4, 10)?);
+    for (stop_after, differ) in [(1, true), (2, true), (3, true), (4, false)] {
+        assert_eq!(rt; choices_differ(rt.alloc(), &user, stop_after, 10)?, differ);
+    }
     Ok(())
 }

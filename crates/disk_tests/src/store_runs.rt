@@ -5,7 +5,7 @@ ghost use Rattle.journal_codec.specs.Entry.{IsEntry};
 use crate::{Ended, two_commits};
 use backend_files::FileRead;
 use disk_memory::MemDisk;
-use intent_journal::State;
+use intent_journal::{Journal, State};
 use journal_codec::{FileText, decode, encode, spells_what_is_read};
 use kdb_outside::{Failed, FileName};
 use key_meta::List;
@@ -45,19 +45,32 @@ fn ended(alloc: Global, failed: u64) -> Result<Ended<MemDisk>, Fail> {
     Ok(two_commits(alloc, disk, first, second))
 }
 
+/// Whether what is told of both entries fits the call that failed. The first call is the opening's; the seventh syncs the open
+/// gate of the first entry, and the sixteenth that of the second.
+fn is_told(failed: u64, one: bool, two: bool) -> bool {
+    one == (failed > 7) && two == (failed > 1 && !(13..17).contains(&failed))
+}
+
+/// A file of a disk, once the disk was opened and closed again.
+fn bytes_again(alloc: Global, disk: MemDisk, text: &str) -> Result<Vec<u8>, Fail> {
+    let Ok(journal) = open(alloc, disk) else {
+        return Err("a crashed disk opens")?;
+    };
+    bytes_behind(alloc, journal, text)
+}
+
+/// A file of a journal's disk, once the journal was closed.
+fn bytes_behind(alloc: Global, journal: Journal<MemDisk>, text: &str) -> Result<Vec<u8>, Fail> {
+    let file = name(alloc, text)?;
+    let disk = close(journal);
+    Ok(disk.bytes(&file).to_vec(alloc)?)
+}
+
 /// Whether what is told fits the call that failed, and what was told stored is there after a crash.
 fn fits(alloc: Global, failed: u64, choice: u64) -> Result<bool, Fail> {
     let Ended { one, two, disk } = ended(alloc, failed)?;
-    // The first call is the opening's; the seventh syncs the open gate of the first entry, and the sixteenth that of the second.
-    if one != (failed > 7) || two != (failed > 1 && !(13..17).contains(&failed)) {
-        return Ok(false);
-    }
-    let Ok(journal) = open(alloc, disk.crash(choice)?) else {
-        return Err("a crashed disk opens")?;
-    };
-    let disk = close(journal);
-    let left = disk.bytes(&name(alloc, "a.ecf")?);
-    Ok(!two || left == b"22".as_slice())
+    let left = bytes_again(alloc, disk.crash(choice)?, "a.ecf")?;
+    Ok(is_told(failed, one, two) && (!two || left.as_slice() == b"22".as_slice()))
 }
 
 fn every_failure_fits(alloc: Global, calls: u64, choices: u64) -> Result<bool, Fail> {
@@ -77,37 +90,91 @@ fn stores_what_it_acknowledges_whichever_call_fails(rt: HostRuntime) -> Result<(
     Ok(())
 }
 
+fn opened(alloc: Global, disk: MemDisk) -> Result<Journal<MemDisk>, Fail> {
+    match open(alloc, disk) {
+        Ok(journal) => Ok(journal),
+        Err(_) => Err("the disk opens")?,
+    }
+}
+
+/// How the journal is made clean, and its state then.
+fn cleaned(journal: &mut Journal<MemDisk>) -> (Result<(), Failed>, State) {
+    let cleaned = make_clean(journal);
+    (cleaned, journal.state())
+}
+
+/// How an entry is begun on a clean journal, and the state then. Nothing where it isn't clean.
+fn begun(
+    alloc: Global,
+    journal: &mut Journal<MemDisk>,
+    body: &[u8],
+) -> Result<Option<(Result<(), Failed>, State)>, Fail> {
+    let files = entry(alloc, body)?;
+    let encoded = encode(alloc, files.as_slice())?;
+    if journal.state() != State::Clean {
+        return Ok(None);
+    }
+    let begun = begin(journal, &encoded, files);
+    Ok(Some((begun, journal.state())))
+}
+
+/// The state once the entry that lags behind was brought in. Nothing where none does.
+fn brought_in(journal: &mut Journal<MemDisk>) -> Option<State> {
+    if journal.state() != State::Lag {
+        return None;
+    }
+    bring_in(journal);
+    Some(journal.state())
+}
+
+/// How an entry is stored.
+fn stored(
+    alloc: Global,
+    journal: &mut Journal<MemDisk>,
+    body: &[u8],
+) -> Result<Result<(), Failed>, Fail> {
+    let files = entry(alloc, body)?;
+    let encoded = encode(alloc, files.as_slice())?;
+    Ok(store(journal, &encoded, files))
+}
+
+/// How an entry is committed.
+fn committed(
+    alloc: Global,
+    journal: &mut Journal<MemDisk>,
+    body: &[u8],
+) -> Result<Result<(), Failed>, Fail> {
+    let files = entry(alloc, body)?;
+    let encoded = encode(alloc, files.as_slice())?;
+    Ok(commit(journal, &encoded, files))
+}
+
+/// The bytes of a file, read by its journal.
+fn bytes_of(alloc: Global, journal: &mut Journal<MemDisk>, text: &str) -> Result<Vec<u8>, Fail> {
+    let file = name(alloc, text)?;
+    match read(journal, alloc, &file) {
+        Ok(FileRead::Bytes(bytes)) => Ok(bytes.into_vec()),
+        _ => Err("the file is read")?,
+    }
+}
+
 #[test]
 fn goes_through_the_phases_of_a_commit(rt: HostRuntime) -> Result<(), Fail> {
     let alloc = rt.alloc();
-    let first = entry(alloc, FIRST)?;
-    let encoded = encode(alloc, first.as_slice())?;
-    let Ok(mut journal) = open(alloc, empty_disk(alloc, Vec::new(alloc))?) else {
-        return Err("an empty disk opens")?;
-    };
-    assert_eq!(rt; make_clean(&mut journal), Ok(()));
-    if journal.state() != State::Clean {
-        return Err("it is clean")?;
-    }
-    assert_eq!(rt; begin(&mut journal, &encoded, first), Ok(()));
-    if journal.state() != State::Lag {
-        return Err("it lags")?;
-    }
-    bring_in(&mut journal);
-    assert_eq!(rt; journal.state(), State::Clean);
-    let second = entry(alloc, SECOND)?;
-    let encoded = encode(alloc, second.as_slice())?;
-    assert_eq!(rt; store(&mut journal, &encoded, second), Ok(()));
-    let Ok(FileRead::Bytes(bytes)) = read(&mut journal, alloc, &name(alloc, "a.ecf")?) else {
-        return Err("the file is read")?;
-    };
+    let mut journal = opened(alloc, empty_disk(alloc, Vec::new(alloc))?)?;
+    assert_eq!(rt; cleaned(&mut journal), (Ok(()), State::Clean));
+    assert_eq!(rt;
+        begun(alloc, &mut journal, FIRST)?,
+        Some((Ok(()), State::Lag))
+    );
+    assert_eq!(rt; brought_in(&mut journal), Some(State::Clean));
+    assert_eq!(rt; stored(alloc, &mut journal, SECOND)?, Ok(()));
+    let bytes = bytes_of(alloc, &mut journal, "a.ecf")?;
     assert_eq!(rt; bytes.as_slice(), b"22".as_slice());
     assert!(rt; !journal.has_recovered());
-    let third = entry(alloc, FIRST)?;
-    let encoded = encode(alloc, third.as_slice())?;
-    assert_eq!(rt; commit(&mut journal, &encoded, third), Ok(()));
-    let disk = close(journal);
-    assert_eq!(rt; disk.bytes(&name(alloc, "a.ecf")?), b"1".as_slice());
+    assert_eq!(rt; committed(alloc, &mut journal, FIRST)?, Ok(()));
+    let bytes = bytes_behind(alloc, journal, "a.ecf")?;
+    assert_eq!(rt; bytes.as_slice(), b"1".as_slice());
     Ok(())
 }
 
@@ -115,11 +182,7 @@ fn goes_through_the_phases_of_a_commit(rt: HostRuntime) -> Result<(), Fail> {
 fn acknowledges_nothing_on_a_disk_that_is_gone(rt: HostRuntime) -> Result<(), Fail> {
     let alloc = rt.alloc();
     let disk = MemDisk::new(alloc, Vec::new(alloc), Vec::new(alloc), Some(3))?;
-    let Ok(mut journal) = open(alloc, disk) else {
-        return Err("the first call goes through")?;
-    };
-    let first = entry(alloc, FIRST)?;
-    let encoded = encode(alloc, first.as_slice())?;
-    assert_eq!(rt; commit(&mut journal, &encoded, first), Err(Failed));
+    let mut journal = opened(alloc, disk)?;
+    assert_eq!(rt; committed(alloc, &mut journal, FIRST)?, Err(Failed));
     Ok(())
 }
