@@ -12,7 +12,7 @@ use Rattle.model_names.specs.Spelling.{spelling}
 use Rattle.model_maps.specs.KeyMap.{KeyMap}
 use Rattle.mount_table.specs.Entries.{Entries, entries_of}
 use Rattle.mount_table.specs.Points.{own_point}
-use Rattle.mount_table.specs.Reading.{mounts_from}
+use Rattle.mount_table.specs.Reading.{◌>>=◌, mounts_from}
 use Rattle.mount_table.specs.declared.faults.TableFault.{TableFault}
 use Rattle.mount_table.specs.declared.faults.TableFault.TheVariants.{TooMany}
 use Rattle.mount_table.specs.declared.mounts.Mount.{Mount}
