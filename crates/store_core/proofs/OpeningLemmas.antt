@@ -36,7 +36,7 @@ use Rattle.mounted_files.specs.Weighed.{own_weight}
 use Rattle.store_phases.specs.Stores.{IsStore}
 use Rattle.store_phases.proofs.Stores.{IsStore-read, IsStore-from_now}
 use Rattle.store_core.specs.Cores.{StandsFor, StandsIn}
-use Rattle.store_core.specs.Faults.{RefusesStore, of_journal}
+use Rattle.store_core.specs.Faults.{RefusesBroken, RefusesStore, of_journal}
 use Rattle.store_core.specs.Frames.{OnlyReadsFiles}
 use Rattle.store_core.specs.Opened.{may_be_of_journal}
 use Rattle.store_core.specs.Plans.{store_of}
@@ -118,6 +118,12 @@ pub journal_refuses : (Reads : Reading) (IsBad : Badness) (bytes : List ℕ) (fa
 journal_refuses Reads IsBad bytes journal_fault.DiskFault = tt
 journal_refuses Reads IsBad bytes (journal_fault.BadJournal at) = tt
 journal_refuses Reads IsBad bytes journal_fault.Memory = tt
+
+-- a journal that is refused for its bytes by this place alone
+pub journal_broken : (place : ℕ) (fault : JournalFault) → ((at : ℕ) → fault ≡ journal_fault.BadJournal at → at ≡ place) → RefusesBroken place (of_journal fault)
+journal_broken place journal_fault.DiskFault here = tt
+journal_broken place (journal_fault.BadJournal at) here = here at refl
+journal_broken place journal_fault.Memory here = tt
 
 -- ---- the first core
 

@@ -1,5 +1,5 @@
 -- Why a store isn't opened, by what was refused on the way, and what each cause tells. (This project's own.)
-use Rattle.std.specs.Prelude.{List, ℕ}
+use Rattle.std.specs.Prelude.{◌≡◌, List, ℕ}
 use Rattle.backend_files.specs.declared.reading.FileFault.{FileFault}
 use Rattle.backend_files.specs.declared.reading.FileFault.TheVariants as file
 use Rattle.intent_journal.specs.declared.faults.JournalFault.{JournalFault}
@@ -34,3 +34,13 @@ RefusesStore Reads IsBad bytes (BadTable fault) = RefusesOpening Reads IsBad byt
 RefusesStore Reads IsBad bytes DiskFault = Unit {0}
 RefusesStore Reads IsBad bytes (BadJournal at) = Unit {0}
 RefusesStore Reads IsBad bytes Memory = Unit {0}
+
+-- why a store isn't opened whose journal's gate is open, and no whole body of an entry stands behind it: for that, by its place, unless the disk failed
+-- or memory was wanting
+abbrev pub RefusesBroken : ℕ → OpenFault → Type 0
+RefusesBroken place DiskFault = Unit {0}
+RefusesBroken place (BadJournal at) = at ≡ place
+RefusesBroken place (BadTable fault) = ⊥
+RefusesBroken place (TooLong bytes) = ⊥
+RefusesBroken place (BadFile line) = ⊥
+RefusesBroken place Memory = Unit {0}

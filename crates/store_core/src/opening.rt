@@ -23,7 +23,7 @@ ghost use Rattle.mounted_files.specs.Getting.{visible_keys};
 ghost use Rattle.mounted_files.specs.Opening.{IsOpened};
 ghost use Rattle.mounted_files.specs.Short.{AreShort};
 ghost use Rattle.store_core.specs.Cores.{StandsFor, StandsIn};
-ghost use Rattle.store_core.specs.Faults.{RefusesStore};
+ghost use Rattle.store_core.specs.Faults.{RefusesBroken, RefusesStore};
 ghost use Rattle.store_core.specs.Frames.{OnlyReadsFiles};
 ghost use Rattle.store_core.specs.Opened.{disk_of, fault_of, may_be_of_journal, patterns_of};
 ghost use Rattle.store_core.specs.Plans.{store_of};
@@ -86,6 +86,7 @@ pub fn open_store<D: Disk, F: Formats + Drop, P: Patterns + Drop>(
     ensures refused { D.tells disk ≡ true → (files : Image) (doubt : Option (List Item)) → IsCalm (D.seen disk) (D.may_leave disk) files doubt
         → IfErr result (λ refused. RefusesStore F.reads F.is_bad_at (opened_files (D.seen disk) own_mount.file) refused.fault) }
     ensures bad { D.tells disk ≡ true → (at : ℕ) → fault_of result ≡ Some (OpenFault.BadJournal at) → bad_place (D.seen disk journal_name) ≡ Some at }
+    ensures broken { D.tells disk ≡ true → (at : ℕ) → bad_place (D.seen disk journal_name) ≡ Some at → MatchResult result (λ _. ⊥) (λ refused. RefusesBroken at refused.fault) }
     ensures calm { D.tells disk ≡ true → (files : Image) (doubt : Option (List Item)) → IsCalm (D.seen disk) (D.may_leave disk) files doubt
         → (at : ℕ) → fault_of result ≡ Some (OpenFault.BadJournal at) → ⊥ }
     ensures any_moment { D.tells disk ≡ true → (files : Image) (doubt : Option (List Item)) → IsCalm (D.seen disk) (D.may_leave disk) files doubt

@@ -1,6 +1,6 @@
 -- The opened journal shows the files that it leaves, and reading them changes nothing.
 use Rattle.std.proofs.Common.{◌≡◌, false, refl, sym, ap, subst, Some, MatchResult, ◌∙◌}
-use Rattle.general_words.proofs.Lists.{some_is}
+use Rattle.general_words.proofs.Lists.{none_is_no_some, some_is}
 use Rattle.kdb_outside.specs.Images.{Image}
 use Rattle.kdb_outside.proofs.Frames.{OnlyReads-then}
 use Rattle.intent_journal.specs.BadJournals.{opened_files, opened_doubt}
@@ -8,11 +8,11 @@ use Rattle.intent_journal.specs.Outcomes.{SameFiles, HasOnly, IsEither}
 use Rattle.model_crashes.specs.Runs.{new_run}
 use Rattle.mount_table.specs.Table.{own_mount}
 use Rattle.mounted_files.specs.Opening.{IsOpened}
-use Rattle.store_core.specs.Faults.{RefusesStore}
+use Rattle.store_core.specs.Faults.{RefusesBroken, RefusesStore}
 use Rattle.store_core.specs.Opened.{disk_of, may_be_of_journal}
 use Rattle.store_core.specs.declared.faults.OpenFault.{OpenFault}
 use Rattle.store_core.specs.declared.faults.OpenFault.TheVariants.{BadJournal}
-use Rattle.store_core.proofs.OpeningLemmas.{told_alike, in_doubt, journal_refuses, of_journal-bad, rests_read, stands_opened, still_only, whatever, unread_files}
+use Rattle.store_core.proofs.OpeningLemmas.{told_alike, in_doubt, journal_broken, journal_refuses, of_journal-bad, rests_read, stands_opened, still_only, whatever, unread_files}
 use Rattle.store_core.proofs.opening.open_store.Goals as goal
 
 pub returns-in-Ok-clause-opened : goal.returns-in-Ok-clause-opened
@@ -75,6 +75,14 @@ returns-in-Err-clause-as_seen g c tells none =
 pub returns-in-Ok-clause-left_alone : goal.returns-in-Ok-clause-left_alone
 returns-in-Ok-clause-left_alone g c tells none =
     OnlyReads-then g.D.Disk c.args.disk c.in-Ok.journal.disk (disk_of c.open_files.result) (c.in-Ok.ensures.reads tells none) c.open_files.ensures.reads
+
+pub returns-in-Ok-clause-broken : goal.returns-in-Ok-clause-broken
+returns-in-Ok-clause-broken g c tells at is = absurd (none_is_no_some at (sym (c.in-Ok.ensures.good tells) ∙ is))
+
+pub returns-in-Err-clause-broken : goal.returns-in-Err-clause-broken
+returns-in-Err-clause-broken g c tells at is =
+    subst (RefusesBroken at) (sym c.into.ensures)
+    (journal_broken at c.in-Err.field-0.fault (λ place told. some_is place at (sym (c.in-Err.ensures.bad tells place (ap Some told)) ∙ is)))
 
 pub returns-in-Ok-clause-rests : goal.returns-in-Ok-clause-rests
 returns-in-Ok-clause-rests g c tells files doubt calm =
