@@ -12,5 +12,6 @@ pub mod CommitLemmas
 pub mod OpeningLemmas
 pub mod InputLemmas
 pub mod EndLemmas
+pub mod BrokenLemmas
 pub mod RunLemmas
 pub mod TakeLemmas

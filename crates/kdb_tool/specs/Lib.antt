@@ -9,6 +9,7 @@ pub mod Serving
 pub mod Outcome
 pub mod Ran
 pub mod Ends
+pub mod Broken
 pub mod Ending
 pub mod Delivery
 pub mod Stops

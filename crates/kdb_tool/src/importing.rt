@@ -1,7 +1,7 @@
 //! The answer to an import: its input is read before the files are looked at.
 ghost use Rattle.std.specs.Prelude.{◌≡◌, ◌≢◌, ◌≤◌, ◌⊎◌, ℕ, List, [], true, Option, Some, None, Err, IfOk, OnOk};
 ghost use Rattle.all_formats.specs.Meanings.{Reads, IsBadAt};
-ghost use Rattle.intent_journal.specs.BadJournals.{open_entry, opened_files};
+ghost use Rattle.intent_journal.specs.BadJournals.{bad_place, open_entry, opened_files};
 ghost use Rattle.intent_journal.specs.States.{IsCalm};
 ghost use Rattle.journal_codec.specs.Entry.{journal_name};
 ghost use Rattle.journal_codec.specs.declared.files.FileText.{FileText as Item};
@@ -11,6 +11,7 @@ ghost use Rattle.kdb_outside.specs.Images.{Image};
 ghost use Rattle.mounted_files.specs.Getting.{fault_of};
 ghost use Rattle.mounted_files.specs.Holding.{IsHolding, cause_of};
 ghost use Rattle.kdb_tool.specs.Answers.{AnswersImport, line_of_get};
+ghost use Rattle.kdb_tool.specs.Broken.{ToldOfImport};
 ghost use Rattle.kdb_tool.specs.Input.{taken, TakesAll, TakesFront};
 ghost use Rattle.kdb_tool.specs.Serving.{MayRefuse, MayStore, Serve, StoresNothing, Unserved};
 ghost use Rattle.tool_commands.specs.Report.{IsAnswered, IsEnd, warned};
@@ -46,6 +47,7 @@ pub fn import<S: Source, D: Disk, P: Patterns + Drop>(
     ensures untouched { D.tells disk ≡ true → open_entry (D.seen disk journal_name) ≡ None → (bytes : List ℕ) → S.left input.old ≡ Some bytes
         → StoresNothing (AnswersImport (MayRefuse result.answer (P.refusals patterns) (P.refusals result.patterns)) name kind (taken bytes) (D.seen disk)) → OnlyReads D.Disk disk result.disk }
     ensures unstored { D.tells disk ≡ true → open_entry (D.seen disk journal_name) ≡ None → ¬ MayStore result.answer → OnlyReads D.Disk disk result.disk }
+    ensures broken { D.tells disk ≡ true → (at : ℕ) → bad_place (D.seen disk journal_name) ≡ Some at → (bytes : List ℕ) → S.left input.old ≡ Some bytes → IfOk result.answer (λ report. ToldOfImport name kind bytes at (report_of report)) }
     ensures status { IfOk result.answer (λ report. IsEnd [] report.status) }
     ensures own { IfOk result.answer (λ report. IsAnswered report.status) }
     ensures front { (bytes : List ℕ) → S.left input.old ≡ Some bytes → TakesFront bytes (S.left input.new) }

@@ -1,6 +1,6 @@
 //! A question to the store: it is opened, answers, and is closed.
 ghost use Rattle.std.specs.Prelude.{◌≡◌, ◌≢◌, ◌≤◌, ℕ, List, [], Option, Some, None, true, false, IfOk, OnOk, Err, is_some, string_bytes, length};
-ghost use Rattle.intent_journal.specs.BadJournals.{open_entry, opened_files};
+ghost use Rattle.intent_journal.specs.BadJournals.{bad_place, open_entry, opened_files};
 ghost use Rattle.intent_journal.specs.States.{IsCalm};
 ghost use Rattle.journal_codec.specs.Entry.{journal_name};
 ghost use Rattle.journal_codec.specs.declared.files.FileText.{FileText as Item};
@@ -12,6 +12,7 @@ ghost use Rattle.kdb_tool.specs.Lines.{line_of_store};
 ghost use Rattle.kdb_tool.specs.Serving.{IsOpen, MayRefuse, MayStore, Serve, StoresNothing};
 ghost use Rattle.kdb_tool.specs.Untold.{IsStatusOf};
 ghost use Rattle.store_core.specs.declared.faults.OpenFault.TheVariants.{DiskFault as OfDisk, Memory as OfMemory};
+ghost use Rattle.tool_commands.specs.Lines.{bad_journal};
 ghost use Rattle.tool_commands.specs.Report.{IsAnswered, warned};
 ghost use Rattle.tool_commands.specs.StepView.{report_of};
 ghost use Rattle.tool_words.specs.Request.{NamesFiles};
@@ -41,6 +42,7 @@ pub fn answer_question<D: Disk, P: Patterns + Drop>(
     ensures untouched { D.tells disk ≡ true → open_entry (D.seen disk journal_name) ≡ None
         → StoresNothing (AnswersOver (MayRefuse result.answer (P.refusals patterns) (P.refusals result.patterns)) (question_of question.entry) (D.seen disk)) → OnlyReads D.Disk disk result.disk }
     ensures unstored { D.tells disk ≡ true → open_entry (D.seen disk journal_name) ≡ None → ¬ MayStore result.answer → OnlyReads D.Disk disk result.disk }
+    ensures broken { D.tells disk ≡ true → (at : ℕ) → bad_place (D.seen disk journal_name) ≡ Some at → IfOk result.answer (λ report. report_of report ≡ warned 5 (bad_journal at)) }
     ensures status { IfOk result.answer (λ report. IsStatusOf (question_of question.entry) report.status) }
     ensures own { IfOk result.answer (λ report. IsAnswered report.status) }
     ensures cause { result.answer ≡ Err Stop.DiskFault → HasRisen (D.faults disk) (D.faults result.disk) }

@@ -1,14 +1,15 @@
 //! The top call. What a command stores is stored as one commit of an open store, once all else that it tells is made.
-ghost use Rattle.std.specs.Prelude.{◌≡◌, ◌≢◌, ◌≤◌, ℕ, List, [], Option, None, true};
+ghost use Rattle.std.specs.Prelude.{◌≡◌, ◌≢◌, ◌≤◌, ℕ, List, [], Option, Some, None, true};
 ghost use Rattle.kdb_outside.specs.Faults.{HasRisen};
 ghost use Rattle.kdb_outside.specs.Frames.{GoesOn, OnlyReads};
 ghost use Rattle.kdb_outside.specs.Images.{Image};
 ghost use Rattle.kdb_outside.specs.SinkChange.{change_of};
-ghost use Rattle.intent_journal.specs.BadJournals.{open_entry, opened_files};
+ghost use Rattle.intent_journal.specs.BadJournals.{bad_place, open_entry, opened_files};
 ghost use Rattle.intent_journal.specs.States.{IsCalm};
 ghost use Rattle.journal_codec.specs.Entry.{journal_name};
 ghost use Rattle.journal_codec.specs.declared.files.FileText.{FileText as Item};
 ghost use Rattle.kdb_tool.specs.Answers.{Answers};
+ghost use Rattle.kdb_tool.specs.Broken.{EndsBroken};
 ghost use Rattle.kdb_tool.specs.Input.{FailsToRead, IsInput, LeavesInput};
 ghost use Rattle.tool_words.specs.Rows.{request};
 ghost use Rattle.tool_commands.specs.Report.{IsAnswered};
@@ -53,6 +54,11 @@ pub fn run<S: Source, K: Sink, E: Sink, D: Disk + Send, P: Patterns + Drop + Sen
     // Words that ask for nothing decide alone, whatever the disk does, and leave the disk and the matcher alone.
     ensures words { EndsByWords (request words.now) result.0 (change_of K.Sink out.old out.new) (change_of E.Sink err.old err.new) }
     ensures unasked { (AsksStore (request words.now) → ⊥) → (result.1 ≡ disk) × (result.2 ≡ patterns) }
+
+    // A journal whose gate is open, and no whole body of an entry behind it, is told in the place of an answer, by its place; an import whose input holds
+    // no keys is told so before that. No crash of this store leaves such a journal, and so no calm disk has one.
+    ensures broken { D.tells disk ≡ true → (at : ℕ) → bad_place (D.seen disk journal_name) ≡ Some at → (given : List ℕ) → IsInput (request words.now) (S.left input.old) given
+        → EndsBroken (request words.now) given at result.0 (change_of K.Sink out.old out.new) (change_of E.Sink err.old err.new) }
 
     // Want of memory puts nothing on out and its line on err.
     ensures memory { EndsWithoutMemory result.0 (change_of K.Sink out.old out.new) (change_of E.Sink err.old err.new) }

@@ -1,6 +1,6 @@
 //! The work that a command line asks for: the words and the input are read, and the store is asked.
-ghost use Rattle.std.specs.Prelude.{◌≡◌, ◌⊎◌, ◌≤◌, ℕ, List, [], Option, None, true, IsOk, IfOk, Err};
-ghost use Rattle.intent_journal.specs.BadJournals.{open_entry, opened_files};
+ghost use Rattle.std.specs.Prelude.{◌≡◌, ◌⊎◌, ◌≤◌, ℕ, List, [], Option, Some, None, true, IsOk, IfOk, Err};
+ghost use Rattle.intent_journal.specs.BadJournals.{bad_place, open_entry, opened_files};
 ghost use Rattle.intent_journal.specs.States.{IsCalm};
 ghost use Rattle.journal_codec.specs.Entry.{journal_name};
 ghost use Rattle.journal_codec.specs.declared.files.FileText.{FileText as Item};
@@ -8,6 +8,7 @@ ghost use Rattle.kdb_outside.specs.Faults.{HasRisen};
 ghost use Rattle.kdb_outside.specs.Frames.{GoesOn, OnlyReads};
 ghost use Rattle.kdb_outside.specs.Images.{Image};
 ghost use Rattle.kdb_tool.specs.Answers.{Answers};
+ghost use Rattle.kdb_tool.specs.Broken.{TellsBroken};
 ghost use Rattle.kdb_tool.specs.Input.{FailsToRead, IsInput, LeavesInput};
 ghost use Rattle.kdb_tool.specs.Serving.{MayRefuse, MayStore, Serve, StoresNothing, Unserved};
 ghost use Rattle.kdb_tool.specs.Stops.{or_memory};
@@ -40,6 +41,8 @@ pub fn carry_out<S: Source, D: Disk, P: Patterns + Drop>(
     ensures untouched { D.tells disk ≡ true → open_entry (D.seen disk journal_name) ≡ None → (given : List ℕ) → IsInput (request words.now) (S.left input.old) given
         → StoresNothing (Answers (MayRefuse result.answer (P.refusals patterns) (P.refusals result.patterns)) words.now given (D.seen disk)) → OnlyReads D.Disk disk result.disk }
     ensures unstored { D.tells disk ≡ true → open_entry (D.seen disk journal_name) ≡ None → ¬ MayStore result.answer → OnlyReads D.Disk disk result.disk }
+    ensures broken { D.tells disk ≡ true → (at : ℕ) → bad_place (D.seen disk journal_name) ≡ Some at → (given : List ℕ) → IsInput (request words.now) (S.left input.old) given
+        → IfOk result.answer (λ report. TellsBroken (request words.now) given at (report_of report)) }
     ensures untold { IfOk result.answer (λ report. ReportsUntold (request words.now) (report_of report)) }
     ensures asked { result.answer ≡ Err Stop.DiskFault → AsksStore (request words.now) }
     ensures unasked { (AsksStore (request words.now) → ⊥) → (result.disk ≡ disk) × (result.patterns ≡ patterns) }

@@ -13,6 +13,7 @@ use Rattle.kdb_tool.specs.Answer.{tells}
 use Rattle.kdb_tool.specs.Answers.{AnswersImport, AnswersOver, Held, Bad}
 use Rattle.kdb_tool.specs.Input.{taken}
 use Rattle.kdb_tool.specs.Serving.{MayRefuse, Unserved}
+use Rattle.kdb_tool.proofs.BrokenLemmas.{told_of_bad, told_of_held}
 use Rattle.kdb_tool.proofs.ServeLemmas.{alone_stopped, alone_unserved, handed_on, serve_unserved, serve_weaker}
 use Rattle.kdb_tool.proofs.importing.import.Goals as goal
 
@@ -68,3 +69,17 @@ returns-in-Err-clause-untouched g c = λ tells none bytes is nothing. OnlyReads-
 
 pub returns-in-Err-clause-unstored : goal.returns-in-Err-clause-unstored
 returns-in-Err-clause-unstored g c = λ tells none not_done. OnlyReads-none g.D.Disk c.args.disk
+
+pub returns-in-Ok-Keys-clause-broken : goal.returns-in-Ok-Keys-clause-broken
+returns-in-Ok-Keys-clause-broken g c = λ tells at broken bytes is.
+    let name = c.args.name in
+    let kind = c.args.kind in
+    let holds : Holds all.Reads name kind (taken bytes) c.in-Ok-Keys.keys = subst (λ (h : Holding). IsHolding all.Reads all.IsBadAt name kind (taken bytes) h) c.in-Ok-Keys.field-0-is (c.in-Ok-Keys.ensures.told bytes is) in
+    told_of_held name kind bytes at c.in-Ok-Keys.keys c.answer_question.result.answer holds (c.answer_question.ensures.broken tells at broken)
+
+pub returns-in-Ok-Bad-clause-broken : goal.returns-in-Ok-Bad-clause-broken
+returns-in-Ok-Bad-clause-broken g c = λ tells at broken bytes is.
+    let name = c.args.name in
+    let kind = c.args.kind in
+    let cause : IsCause all.Reads all.IsBadAt name kind (taken bytes) (cause_of c.in-Ok-Bad.cause) = subst (λ (h : Holding). IsHolding all.Reads all.IsBadAt name kind (taken bytes) h) c.in-Ok-Bad.field-0-is (c.in-Ok-Bad.ensures.told bytes is) in
+    told_of_bad name kind bytes at (cause_of c.in-Ok-Bad.cause) c.refuse_input.result c.without_store.result.answer cause c.without_store.ensures.answer c.refuse_input.ensures.told

@@ -5,6 +5,7 @@ use Rattle.model_maps.specs.KeyMap.{no_keys}
 use Rattle.tool_words.specs.RequestView.{question_of}
 use Rattle.kdb_tool.specs.Answers.{AnswersIn, AnswersOver}
 use Rattle.kdb_tool.specs.Serving.{MayRefuse, Serve}
+use Rattle.kdb_tool.proofs.BrokenLemmas.{broken_told}
 use Rattle.kdb_tool.proofs.OpeningLemmas.{has_begun, refused_serve}
 use Rattle.kdb_tool.proofs.ServeLemmas.{serve, serving_untouched, serving_unstored, serving_weaker}
 use Rattle.kdb_tool.proofs.questions.answer_question.Goals as goal
@@ -77,3 +78,10 @@ returns-in-Err-clause-untouched g c = λ tells none nothing. c.in-Err.ensures.le
 
 pub returns-in-Err-clause-unstored : goal.returns-in-Err-clause-unstored
 returns-in-Err-clause-unstored g c = λ tells none not_done. c.in-Err.ensures.left_alone tells none
+
+pub returns-in-Ok-clause-broken : goal.returns-in-Ok-clause-broken
+returns-in-Ok-clause-broken g c = λ tells at is. absurd (c.in-Ok.ensures.broken tells at is)
+
+pub returns-in-Err-clause-broken : goal.returns-in-Err-clause-broken
+returns-in-Err-clause-broken g c = λ tells at is.
+    broken_told at c.in-Err.field-0.fault c.refuse_opening.result c.refuse_opening.ensures.told c.refuse_opening.ensures.answered (c.in-Err.ensures.broken tells at is)

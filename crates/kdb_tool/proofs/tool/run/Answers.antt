@@ -4,6 +4,7 @@ use Rattle.tool_words.specs.Rows.{request}
 use Rattle.tool_commands.specs.Report.{IsAnswered}
 use Rattle.std.proofs.Common.{inl}
 use Rattle.kdb_tool.proofs.EndLemmas.{by_words, without_memory, in_fault, complete, made_of, not_stored, of_memory}
+use Rattle.kdb_tool.proofs.BrokenLemmas.{ends_broken}
 use Rattle.kdb_tool.proofs.InputLemmas.{leaves_input}
 use Rattle.kdb_tool.proofs.RunLemmas.{allowed, ran}
 use Rattle.kdb_tool.proofs.tool.run.Goals as goal
@@ -46,3 +47,7 @@ returns-clause-unstored g c = λ tells none not_done no_fault.
 pub returns-clause-input : goal.returns-clause-input
 returns-clause-input g c =
     leaves_input g.S.Source (request c.args.words.now) (IsAnswered c.finish-status.result) _ c.args.input.now c.carry_out-answer.new.input (made_of c.carry_out-answer.result.answer c.finish-status.result _ _ c.finish-status.ensures.finished) c.carry_out-answer.ensures.input
+
+pub returns-clause-broken : goal.returns-clause-broken
+returns-clause-broken g c = λ tells at broken given fed.
+    ends_broken c.carry_out-answer.result.answer (request c.args.words.now) given at c.finish-status.result _ _ (c.carry_out-answer.ensures.broken tells at broken given fed) c.finish-status.ensures.finished

@@ -1,5 +1,5 @@
 -- What the words ask for is what the definitions make of them.
-use Rattle.std.proofs.Common.{◌≡◌, ◌∙◌, sym, ap, subst}
+use Rattle.std.proofs.Common.{◌≡◌, IfOk, ◌∙◌, sym, ap, subst}
 use Rattle.std.proofs.lemmas.Result.{IfOk-weaker}
 use Rattle.intent_journal.specs.BadJournals.{opened_files}
 use Rattle.kdb_outside.specs.Frames.{OnlyReads}
@@ -12,8 +12,10 @@ use Rattle.tool_words.specs.declared.requests.Request as code
 use Rattle.tool_words.proofs.RowLemmas.{request-names_files}
 use Rattle.kdb_tool.specs.Answer.{tells}
 use Rattle.kdb_tool.specs.Answers.{AnswersOver, AnswersRequest}
+use Rattle.kdb_tool.specs.Broken.{TellsBroken}
 use Rattle.kdb_tool.specs.Input.{IsInput}
 use Rattle.kdb_tool.specs.Serving.{MayRefuse, Serve, StoresNothing, Unserved}
+use Rattle.kdb_tool.proofs.BrokenLemmas.{told_of_barred, told_of_refused}
 use Rattle.kdb_tool.proofs.InputLemmas.{takes_none}
 use Rattle.kdb_tool.proofs.ServeLemmas.{alone_unserved, handed_on, serve_unserved}
 use Rattle.kdb_tool.proofs.work.carry_out.Goals as goal
@@ -100,3 +102,24 @@ returns-clause-untouched g c = λ tells_disk none given fed nothing. OnlyReads-n
 
 pub returns-clause-unstored : goal.returns-clause-unstored
 returns-clause-unstored g c = λ tells_disk none not_done. OnlyReads-none g.D.Disk c.args.disk
+
+pub returns-in-Ok-Asks-clause-broken : goal.returns-in-Ok-Asks-clause-broken
+returns-in-Ok-Asks-clause-broken g c = λ tells_disk at broken given fed.
+    let asked : request c.args.words.now ≡ Asks (question_of c.in-Ok-Asks.question) = ap request (sym (ap texts_of c.deref.ensures.value ∙ c.in-Ok.ensures)) ∙ subst (λ (r : code.Request). IsSeenAs r (request (texts_of c.deref.result.now))) c.in-Ok-Asks.field-0-is c.in-Ok-Asks.ensures in
+    subst (λ (r : Request). IfOk c.answer_question.result.answer (λ report. TellsBroken r given at (report_of report))) (sym asked) (c.answer_question.ensures.broken tells_disk at broken)
+
+pub returns-in-Ok-Imports-clause-broken : goal.returns-in-Ok-Imports-clause-broken
+returns-in-Ok-Imports-clause-broken g c = λ tells_disk at broken given fed.
+    let asked : request c.args.words.now ≡ Imports c.in-Ok-Imports.name c.in-Ok-Imports.kind = ap request (sym (ap texts_of c.deref.ensures.value ∙ c.in-Ok.ensures)) ∙ subst (λ (r : code.Request). IsSeenAs r (request (texts_of c.deref.result.now))) c.in-Ok-Imports.field-0-is c.in-Ok-Imports.ensures in
+    let told = subst (λ (r : Request). IsInput r (g.S.Source.left c.args.input.now) given) asked fed in
+    subst (λ (r : Request). IfOk c.import.result.answer (λ report. TellsBroken r given at (report_of report))) (sym asked) (c.import.ensures.broken tells_disk at broken given told)
+
+pub returns-in-Ok-Refuses-clause-broken : goal.returns-in-Ok-Refuses-clause-broken
+returns-in-Ok-Refuses-clause-broken g c = λ tells_disk at broken given fed.
+    let asked : request c.args.words.now ≡ Refuses (status_of c.in-Ok-Refuses.refusal) (text_of c.in-Ok-Refuses.refusal) = ap request (sym (ap texts_of c.deref.ensures.value ∙ c.in-Ok.ensures)) ∙ subst (λ (r : code.Request). IsSeenAs r (request (texts_of c.deref.result.now))) c.in-Ok-Refuses.field-0-is c.in-Ok-Refuses.ensures in
+    subst (λ (r : Request). IfOk c.without_store.result.answer (λ report. TellsBroken r given at (report_of report))) (sym asked) (told_of_refused (status_of c.in-Ok-Refuses.refusal) (text_of c.in-Ok-Refuses.refusal) given at c.without_store.result.answer)
+
+pub returns-in-Ok-Bars-clause-broken : goal.returns-in-Ok-Bars-clause-broken
+returns-in-Ok-Bars-clause-broken g c = λ tells_disk at broken given fed.
+    let asked : request c.args.words.now ≡ Bars c.in-Ok-Bars.name = ap request (sym (ap texts_of c.deref.ensures.value ∙ c.in-Ok.ensures)) ∙ subst (λ (r : code.Request). IsSeenAs r (request (texts_of c.deref.result.now))) c.in-Ok-Bars.field-0-is c.in-Ok-Bars.ensures in
+    subst (λ (r : Request). IfOk c.without_store-in-Ok-Bars.result.answer (λ report. TellsBroken r given at (report_of report))) (sym asked) (told_of_barred c.in-Ok-Bars.name given at c.without_store-in-Ok-Bars.result.answer)
