@@ -13,7 +13,7 @@ use Rattle.store_core.specs.Faults.{RefusesBroken}
 use Rattle.store_core.specs.declared.faults.OpenFault.{OpenFault}
 use Rattle.store_core.specs.declared.faults.OpenFault.TheVariants as fault
 use Rattle.tool_commands.specs.Lines.{bad_journal, disk_fault, read_fault}
-use Rattle.tool_commands.specs.Report.{Report, warned}
+use Rattle.tool_commands.specs.Report.{warned}
 use Rattle.tool_commands.specs.StepView.{report_of}
 use Rattle.tool_commands.specs.declared.reports.Report as code
 use Rattle.tool_words.specs.Lines.{out_of_memory}
