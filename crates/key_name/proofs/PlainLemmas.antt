@@ -1,16 +1,16 @@
 -- A plain path: what stands between its slashes are the parts that it leads to, and it is spelled as it is.
-use Rattle.std.proofs.Common.{◌≡◌, ◌≢◌, ℕ, ◌+◌, ◌<◌, nat_lt, inl, inr, Bool, true, false, cond, not, ◌==◌, ◌&&◌, ◌||◌, List, [], ◌∷◌, ◌++◌, length, codes, Some, None, option_and_then, refl, sym, ap, ap₂, subst, ◌∙◌, arith, append_assoc, length-append}
-use Rattle.std.specs.List.{AllByRecursion, flat_map, list_all, onto_first, position, position_or_len}
+use Rattle.std.proofs.Common.{◌≡◌, ◌≢◌, ℕ, ◌+◌, ◌<◌, nat_lt, inl, inr, Bool, true, false, true≢false, cond, not, ◌==◌, ◌&&◌, ◌||◌, List, [], ◌∷◌, ◌++◌, length, drop, codes, Some, None, option_and_then, refl, sym, ap, ap₂, subst, ◌∙◌, arith, append_assoc, length-append}
+use Rattle.std.specs.List.{AllByRecursion, flat_map, onto_first, position, position_or_len}
 use Rattle.std.specs.Option.{option_map}
 use Rattle.std.specs.Str.{IsUtf8}
-use Rattle.std.proofs.lemmas.Bool.{and_left, and_parts, cases_Bool, cond-false, cond_both, eqb-false, le-ltb, lt-ltb, ltb-false, ltb-true, ne_eqb, or_from, or_parts}
+use Rattle.std.proofs.lemmas.Bool.{and_left, and_parts, cases_Bool, cond-false, eqb-false, le-ltb, lt-ltb, ltb-false, ltb-true, ne_eqb, or_from, or_parts}
 use Rattle.std.proofs.lemmas.List.{append-nil}
 use Rattle.std.proofs.lemmas.Str.{IsUtf8-append}
 use Rattle.model_names.specs.declared.namespaces.Namespace.{Namespace}
 use Rattle.model_names.specs.declared.namespaces.Namespace.TheVariants.{Cascading, Spec, Proc, Dir, User, System, Default}
 use Rattle.general_words.specs.Texts.{is_text}
 use Rattle.general_words.proofs.Tests.{not_is}
-use Rattle.general_words.proofs.Lists.{all_append, all_back}
+use Rattle.general_words.proofs.Lists.{all_append}
 use Rattle.model_names.specs.ArrayPart.{is_array_like}
 use Rattle.model_names.specs.Name.{Part}
 use Rattle.model_names.specs.RawParts.{raw_parts, raw_parts_from, put_before}
@@ -20,8 +20,9 @@ use Rattle.model_names.proofs.EscapeLemmas.{IsUnescaped, flat_map-escaped-same}
 use Rattle.model_names.proofs.NameLemmas.{spelled-text}
 use Rattle.model_names.proofs.PartLemmas.{IsText, slashed-raw_parts, text_from_test}
 use Rattle.model_names.proofs.ReadLemmas.{meaning-by_form, unescaped-plain}
-use Rattle.key_name.specs.Plain.{between_slashes, is_ordinary, is_plain, is_plain_byte, plain_parts}
-use Rattle.key_name.specs.PartList.{HasNoNul}
+use Rattle.key_name.specs.Plain.{begins_plainly, fits, is_plain, is_plain_byte, is_plain_from, plain_parts}
+use Rattle.key_name.specs.PartList.{between_slashes}
+use Rattle.key_name.proofs.SlashLemmas.{split_all}
 use Rattle.key_name.specs.Raws.{text_behind}
 
 -- ---- bytes
@@ -31,39 +32,19 @@ pub record IsPlainByte (b : ℕ) : Type 0 where
   pub no_escape : b ≢ 92
   pub some : 0 < b
 
-pub plain_bytes : (bytes : List ℕ) → list_all is_plain_byte bytes ≡ true → AllByRecursion IsPlainByte bytes
-plain_bytes [] h = tt
-plain_bytes (b ∷ bytes) h =
-    let first = and_parts (is_plain_byte b) (list_all is_plain_byte bytes) h in
-    let tests = and_parts (not (b == 92)) (not (b == 0)) first.0 in
+plain_byte : (b : ℕ) → is_plain_byte b ≡ true → IsPlainByte b
+plain_byte b h =
+    let tests = and_parts (not (b == 92)) (not (b == 0)) h in
     let none = eqb-false b 0 (not_is (b == 0) tests.1) in
-    (record { no_escape = eqb-false b 92 (not_is (b == 92) tests.0); some = omega (arith, none) }, plain_bytes bytes first.1)
+    record { no_escape = eqb-false b 92 (not_is (b == 92) tests.0); some = omega (arith, none) }
 
 pub no_nuls : (bytes : List ℕ) → AllByRecursion IsPlainByte bytes → AllByRecursion (λ b. 0 < b) bytes
 no_nuls [] h = tt
 no_nuls (b ∷ bytes) h = (h.0.some, no_nuls bytes h.1)
 
--- what holds of the bytes that are no slash holds of those between the slashes
-onto_all : (P : ℕ → Type 0) (b : ℕ) (parts : List Part) → P b → AllByRecursion (AllByRecursion P) parts → AllByRecursion (AllByRecursion P) (onto_first b parts)
-onto_all P b [] p h = ((p, tt), tt)
-onto_all P b (part ∷ parts) p h = ((p, h.0), h.1)
-
-split_all : (P : ℕ → Type 0) (bytes : List ℕ) → AllByRecursion (λ b. b ≢ 47 → P b) bytes → AllByRecursion (AllByRecursion P) (between_slashes bytes)
-split_all P [] h = (tt, tt)
-split_all P (b ∷ bytes) h =
-    let rest = split_all P bytes h.1 in
-    cond_both (b == 47) ([] ∷ between_slashes bytes) (onto_first b (between_slashes bytes)) (AllByRecursion (AllByRecursion P)) (λ _. (tt, rest)) (λ no. onto_all P b (between_slashes bytes) (h.0 (eqb-false b 47 no)) rest)
-
 unescaped_bytes : (bytes : List ℕ) → AllByRecursion IsPlainByte bytes → AllByRecursion (λ b. b ≢ 47 → IsUnescaped b) bytes
 unescaped_bytes [] h = tt
 unescaped_bytes (b ∷ bytes) h = ((λ no_slash. record { no_backslash = h.0.no_escape; no_slash = no_slash }), unescaped_bytes bytes h.1)
-
-some_bytes : (bytes : List ℕ) → AllByRecursion IsPlainByte bytes → AllByRecursion (λ b. b ≢ 47 → 0 < b) bytes
-some_bytes [] h = tt
-some_bytes (b ∷ bytes) h = ((λ _. h.0.some), some_bytes bytes h.1)
-
-pub NoNuls-slashes : (bytes : List ℕ) → list_all is_plain_byte bytes ≡ true → AllByRecursion HasNoNul (between_slashes bytes)
-NoNuls-slashes bytes h = split_all (λ b. 0 < b) bytes (some_bytes bytes (plain_bytes bytes h))
 
 -- ---- what a raw part means
 
@@ -82,11 +63,18 @@ pub record IsOrdinary (raw : List ℕ) : Type 0 where
   pub no_reserved : is_reserved raw ≡ false
   pub no_array : is_array_like raw ≡ false
 
-pub ordinary : (raw : List ℕ) → is_ordinary raw ≡ true → IsOrdinary raw
-ordinary raw h =
-    let first = and_parts (not (length raw == 0)) (not (is_reserved raw) && not (is_array_like raw)) h in
-    let rest = and_parts (not (is_reserved raw)) (not (is_array_like raw)) first.1 in
-    record { filled = not_is _ first.0; no_reserved = not_is _ rest.0; no_array = not_is _ rest.1 }
+-- by its first byte
+begun_plainly : (b : ℕ) (raw : List ℕ) → begins_plainly b ≡ true → IsOrdinary (b ∷ raw)
+begun_plainly b raw h =
+    let last = and_parts (not (b == 47) && not (b == 46) && not (b == 37)) (not (b == 35)) h in
+    let percent = and_parts (not (b == 47) && not (b == 46)) (not (b == 37)) last.0 in
+    let dot = and_parts (not (b == 47)) (not (b == 46)) percent.0 in
+    let no_dot = not_is (b == 46) dot.1 in
+    record {
+      filled = ne_eqb (length (b ∷ raw)) 0 (omega arith);
+      no_reserved = or_from _ _ (or_from _ _ (and_left (b == 37) _ (not_is (b == 37) percent.1)) (and_left (b == 46) _ no_dot)) (and_left (b == 46) _ no_dot);
+      no_array = and_left (b == 35) _ (not_is (b == 35) last.1);
+    }
 
 no_escape_first : (raw text : List ℕ) → AllByRecursion IsUnescaped raw → is_text raw (92 ∷ text) ≡ false
 no_escape_first [] text h = refl
@@ -106,29 +94,25 @@ meaning-ordinary raw h o =
     ∙ ap (λ text. option_map Adds (option_and_then part_of_text text)) (unescaped-same raw h)
     ∙ ap (option_map Adds) (cond-false _ _ _ o.no_array)
 
-pub all_ordinary : (raws : List Part) → list_all is_ordinary raws ≡ true → AllByRecursion (λ raw. is_ordinary raw ≡ true) raws
-all_ordinary [] h = tt
-all_ordinary (raw ∷ raws) h = let first = and_parts (is_ordinary raw) (list_all is_ordinary raws) h in (first.0, all_ordinary raws first.1)
-
-walked-ordinary : (path raws : List Part) → AllByRecursion (AllByRecursion IsUnescaped) raws → AllByRecursion (λ raw. is_ordinary raw ≡ true) raws → walked path raws ≡ Some (path ++ raws)
+walked-ordinary : (path raws : List Part) → AllByRecursion (AllByRecursion IsUnescaped) raws → AllByRecursion IsOrdinary raws → walked path raws ≡ Some (path ++ raws)
 walked-ordinary path [] h o = ap (λ p. Some p) (sym (append-nil path))
 walked-ordinary path (raw ∷ raws) h o =
-    ap (option_and_then (λ move. walked (moved path move) raws)) (meaning-ordinary raw h.0 (ordinary raw o.0)) ∙ walked-ordinary (path ++ raw ∷ []) raws h.1 o.1 ∙ ap (λ p. Some p) (append_assoc path (raw ∷ []) raws)
+    ap (option_and_then (λ move. walked (moved path move) raws)) (meaning-ordinary raw h.0 o.0) ∙ walked-ordinary (path ++ raw ∷ []) raws h.1 o.1 ∙ ap (λ p. Some p) (append_assoc path (raw ∷ []) raws)
 
 -- ---- how it is spelled
 
 spelled-ordinary : (raw : List ℕ) → AllByRecursion IsUnescaped raw → IsOrdinary raw → spelled raw ≡ raw
 spelled-ordinary raw h o = spelled-text raw o.filled o.no_reserved ∙ flat_map-escaped-same raw h
 
-slashed-ordinary : (raws : List Part) → AllByRecursion (AllByRecursion IsUnescaped) raws → AllByRecursion (λ raw. is_ordinary raw ≡ true) raws → flat_map (λ p. 47 ∷ spelled p) raws ≡ flat_map (λ raw. 47 ∷ raw) raws
+slashed-ordinary : (raws : List Part) → AllByRecursion (AllByRecursion IsUnescaped) raws → AllByRecursion IsOrdinary raws → flat_map (λ p. 47 ∷ spelled p) raws ≡ flat_map (λ raw. 47 ∷ raw) raws
 slashed-ordinary [] h o = refl
-slashed-ordinary (raw ∷ raws) h o = ap₂ (λ a b. (47 ∷ a) ++ b) (spelled-ordinary raw h.0 (ordinary raw o.0)) (slashed-ordinary raws h.1 o.1)
+slashed-ordinary (raw ∷ raws) h o = ap₂ (λ a b. (47 ∷ a) ++ b) (spelled-ordinary raw h.0 o.0) (slashed-ordinary raws h.1 o.1)
 
 path_of_slashed : (parts : List Part) (bytes : List ℕ) → flat_map (λ p. 47 ∷ spelled p) parts ≡ 47 ∷ bytes → path_of_parts parts ≡ 47 ∷ bytes
 path_of_slashed [] bytes h = absurd cc
 path_of_slashed (part ∷ parts) bytes h = h
 
--- ---- the name
+-- ---- behind a namespace's word
 
 text_of_word : (namespace : Namespace) → IsText (word_of namespace ++ 47 ∷ [])
 text_of_word Cascading = text_from_test _ refl
@@ -148,33 +132,60 @@ utf8_behind namespace path h = subst IsUtf8 (joined_word (word_of namespace) pat
 pub no_nul_behind : (namespace : Namespace) (path : List ℕ) → AllByRecursion (λ b. 0 < b) path → AllByRecursion (λ b. 0 < b) (text_behind namespace path)
 no_nul_behind namespace path h = subst (AllByRecursion (λ b. 0 < b)) (joined_word (word_of namespace) path) (all_append (λ b. 0 < b) (word_of namespace ++ 47 ∷ []) path (text_of_word namespace).no_nul h)
 
+-- ---- what one pass over the bytes tells
+
+-- the parts of a path; the first part of what is left of one behind the first byte of a part is looked at already
+abbrev AreOrdinary : Bool → List Part → Type 0
+AreOrdinary true parts = AllByRecursion IsOrdinary parts
+AreOrdinary false parts = AllByRecursion IsOrdinary (drop 1 parts)
+
+begun : (is_first is_slash : Bool) (b : ℕ) (parts : List Part) → (is_slash ≡ true → (b == 47) ≡ true) → (not is_first || begins_plainly b) ≡ true → AreOrdinary is_slash parts → AreOrdinary is_first (cond is_slash ([] ∷ parts) (onto_first b parts))
+begun true true b parts slash h o =
+    let last = and_parts (not (b == 47) && not (b == 46) && not (b == 37)) (not (b == 35)) h in
+    let percent = and_parts (not (b == 47) && not (b == 46)) (not (b == 37)) last.0 in
+    let dot = and_parts (not (b == 47)) (not (b == 46)) percent.0 in
+    absurd (true≢false (sym (slash refl) ∙ not_is (b == 47) dot.0))
+begun true false b [] slash h o = (begun_plainly b [] h, tt)
+begun true false b (part ∷ parts) slash h o = (begun_plainly b part h, o)
+begun false true b parts slash h o = o
+begun false false b [] slash h o = tt
+begun false false b (part ∷ parts) slash h o = o
+
+plain_from : (is_first : Bool) (bytes : List ℕ) → is_plain_from is_first bytes ≡ true → AllByRecursion IsPlainByte bytes × AreOrdinary is_first (between_slashes bytes)
+plain_from true [] h = absurd cc
+plain_from false [] h = (tt, tt)
+plain_from is_first (b ∷ bytes) h =
+    let tests = and_parts (fits is_first b) (is_plain_from (b == 47) bytes) h in
+    let byte = and_parts (is_plain_byte b) (not is_first || begins_plainly b) tests.0 in
+    let rest = plain_from (b == 47) bytes tests.1 in
+    ((plain_byte b byte.0, rest.0), begun is_first (b == 47) b (between_slashes bytes) (λ e. e) byte.1 rest.1)
+
+pub no_nul_in : (path : List ℕ) → is_plain path ≡ true → AllByRecursion (λ b. 0 < b) path
+no_nul_in path h = no_nuls path (plain_from true path h).0
+
+-- ---- the name
+
 pub path-plain : (path : List ℕ) → is_plain path ≡ true → path_of_parts (between_slashes path) ≡ 47 ∷ path
 path-plain path h =
-    let tests = and_parts (list_all is_plain_byte path) (list_all is_ordinary (between_slashes path)) h in
-    let bytes = plain_bytes path tests.0 in
+    let tests = plain_from true path h in
+    let bytes = tests.0 in
     let raws = split_all IsUnescaped path (unescaped_bytes path bytes) in
-    path_of_slashed (between_slashes path) path (slashed-ordinary (between_slashes path) raws (all_ordinary _ tests.1) ∙ ap (flat_map (λ raw. 47 ∷ raw)) (sym (raw_parts-plain path bytes)) ∙ slashed-raw_parts false path)
+    path_of_slashed (between_slashes path) path (slashed-ordinary (between_slashes path) raws tests.1 ∙ ap (flat_map (λ raw. 47 ∷ raw)) (sym (raw_parts-plain path bytes)) ∙ slashed-raw_parts false path)
 
 pub Spells-plain : (namespace : Namespace) (path : List ℕ) → IsUtf8 path → is_plain path ≡ true → length path < longest_path → Spells (text_behind namespace path) (record { namespace = namespace; parts = between_slashes path })
 Spells-plain namespace path utf8 h short =
-    let tests = and_parts (list_all is_plain_byte path) (list_all is_ordinary (between_slashes path)) h in
-    let bytes = plain_bytes path tests.0 in
+    let tests = plain_from true path h in
+    let bytes = tests.0 in
     let raws = split_all IsUnescaped path (unescaped_bytes path bytes) in
     let long = ap length (path-plain path h) in
     record {
       rest = path;
       cut = refl;
-      leads = ap (walked []) (raw_parts-plain path bytes) ∙ walked-ordinary [] (between_slashes path) raws (all_ordinary _ tests.1);
+      leads = ap (walked []) (raw_parts-plain path bytes) ∙ walked-ordinary [] (between_slashes path) raws tests.1;
       utf8 = utf8_behind namespace path utf8;
       no_nul = no_nul_behind namespace path (no_nuls path bytes);
       limit = omega (arith, long, short);
     }
-
--- ---- one part after another
-
--- a part between the slashes has no NUL
-pub no_nul_between : (path : List ℕ) (front : List Part) (part : Part) (rest : List Part) → list_all is_plain_byte path ≡ true → front ++ part ∷ rest ≡ between_slashes path → HasNoNul part
-no_nul_between path front part rest h e = (all_back HasNoNul front (part ∷ rest) (subst (AllByRecursion HasNoNul) (sym e) (NoNuls-slashes path h))).0
 
 -- ---- the first NUL of a text is that of its path
 

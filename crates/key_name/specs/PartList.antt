@@ -20,6 +20,14 @@ behind_slashes parts = flat_map (λ part. 47 ∷ part) parts
 abbrev pub slash_for_nul : ℕ → ℕ
 slash_for_nul b = if b == 0 then 47 else b
 
+-- and a byte of a path as a list of parts has it
+abbrev pub nul_for_slash : ℕ → ℕ
+nul_for_slash b = if b == 47 then 0 else b
+
+-- what stands between the slashes of a path
+abbrev pub between_slashes : List ℕ → List Part
+between_slashes path = slice_split (λ b. b == 47) path
+
 -- what stands between the NULs of a text
 abbrev pub between_nuls : List ℕ → List Part
 between_nuls bytes = slice_split (λ b. b == 0) bytes

@@ -1,25 +1,28 @@
--- Paths that are cut at their slashes and taken as they are. (This project's own.)
-use Rattle.std.specs.Prelude.{ℕ, Bool, not, ◌&&◌, ◌==◌, if◌then◌else◌, List, length, Option, Some, None}
-use Rattle.std.specs.List.{list_all, slice_split}
-use Rattle.model_names.specs.ArrayPart.{is_array_like}
+-- Paths that are taken as they are, seen in one pass over their bytes. (This project's own.)
+use Rattle.std.specs.Prelude.{ℕ, Bool, true, not, ◌&&◌, ◌||◌, ◌==◌, if◌then◌else◌, List, [], ◌∷◌, Option, Some, None}
 use Rattle.model_names.specs.Name.{Part}
-use Rattle.model_names.specs.Spelling.{is_reserved}
+use Rattle.key_name.specs.PartList.{between_slashes}
 
 -- a byte that escapes nothing, and no NUL
 abbrev pub is_plain_byte : ℕ → Bool
 is_plain_byte b = not (b == 92) && not (b == 0)
 
--- a raw part of such bytes stands for itself: it isn't empty or reserved, and doesn't look like an array's
-abbrev pub is_ordinary : Part → Bool
-is_ordinary part = not (length part == 0) && (not (is_reserved part) && not (is_array_like part))
+-- a byte with which no part begins that is empty, reserved or like an array's: no slash, dot, `%` or `#`
+abbrev pub begins_plainly : ℕ → Bool
+begins_plainly b = not (b == 47) && not (b == 46) && not (b == 37) && not (b == 35)
 
--- what stands between the slashes of a path
-abbrev pub between_slashes : List ℕ → List Part
-between_slashes path = slice_split (λ b. b == 47) path
+-- a byte that may stand in a plain path, as the first one of a part or as another
+abbrev pub fits : Bool → ℕ → Bool
+fits is_first b = is_plain_byte b && (not is_first || begins_plainly b)
+
+-- each byte fits, and no part is empty
+abbrev pub is_plain_from : Bool → List ℕ → Bool
+is_plain_from is_first [] = not is_first
+is_plain_from is_first (b ∷ bytes) = fits is_first b && is_plain_from (b == 47) bytes
 
 -- a path that is taken as it is
 abbrev pub is_plain : List ℕ → Bool
-is_plain path = list_all is_plain_byte path && list_all is_ordinary (between_slashes path)
+is_plain path = is_plain_from true path
 
 -- its parts
 abbrev pub plain_parts : List ℕ → Option (List Part)

@@ -1,7 +1,5 @@
 //! Names with holes: `_` stands for any part, `#` for any item of an array.
-ghost use Rattle.std.specs.Prelude.{◌≡◌, ◌&&◌};
 ghost use Rattle.std.specs.Bool.{Decides};
-ghost use Rattle.model_names.specs.ArrayPart.{is_array_like, is_canonical};
 ghost use Rattle.model_names.specs.Glob.{FitsPart, HasGlob, IsHole, MatchesGlob};
 
 use crate::arrays::is_array_part;

@@ -6,7 +6,7 @@ ghost use Rattle.std.specs.Iterator.{YieldsFirstBy, item_count};
 ghost use Rattle.std.specs.List.{AllByRecursion, starts_with};
 ghost use Rattle.std.specs.Option.{option_map, option_map_or};
 ghost use Rattle.std.specs.Ordering.{nat_cmp};
-ghost use Rattle.key_name.specs.PartList.{HasNoNul, begins_part, behind_nuls, behind_slashes, between_nuls, slash_for_nul};
+ghost use Rattle.key_name.specs.PartList.{HasNoNul, begins_part, behind_nuls, behind_slashes, between_nuls, between_slashes, nul_for_slash, slash_for_nul};
 
 use crate::Memory;
 use crate::cutting::cut_at;
@@ -63,6 +63,18 @@ impl PartList {
             parts.push(text)?;
         }
         Ok(parts)
+    }
+
+    /// What stands between the slashes of a path without NUL.
+    pub fn between_slashes(alloc: Global, path: &str) -> Result<PartList, Memory>
+        requires { HasNoNul path.now }
+        ensures { IfOk result (λ parts. parts ≡ between_slashes path.now) }
+    {
+        let bytes = behind_nuls(alloc, path.as_bytes())?;
+        Ok(PartList {
+            // it stays a text, since a slash and a NUL are letters of one byte each
+            text: unsafe { String::from_utf8_unchecked(bytes) },
+        })
     }
 
     /// A part behind the others. Where memory is wanted, nothing is said of the list.
@@ -307,6 +319,33 @@ fn push_with_slashes(bytes: &mut Vec<u8>, text: &[u8]) -> Result<(), Memory>
         bytes.push(slash_for_nul(*b))?;
     }
     Ok(())
+}
+
+/// A path behind a NUL, with one for each of its slashes.
+fn behind_nuls(alloc: Global, path: &[u8]) -> Result<Vec<u8>, Memory>
+    ensures { IfOk result (λ bytes. bytes.items ≡ 0 ∷ map nul_for_slash path.now) }
+{
+    let mut bytes = Vec::with_capacity(alloc, path.len().saturating_add(1))?;
+    bytes.push(0)?;
+    bytes.extend_from_slice(path)?;
+    put_nuls_for_slashes(&mut bytes);
+    Ok(bytes)
+}
+
+/// Puts a NUL for each slash.
+fn put_nuls_for_slashes(bytes: &mut [u8])
+    ensures { bytes.new ≡ map nul_for_slash bytes.old }
+{
+    for b in bytes.iter_mut() {
+        *b = nul_for_slash(*b);
+    }
+}
+
+/// A byte of a path as a list of parts has it.
+fn nul_for_slash(byte: u8) -> u8
+    ensures { result ≡ nul_for_slash byte }
+{
+    if byte == b'/' { 0 } else { byte }
 }
 
 /// A byte of a list of parts as a path has it.

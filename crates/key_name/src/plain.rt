@@ -1,11 +1,8 @@
-//! Paths that are cut at their slashes and taken as they are.
-ghost use Rattle.std.specs.Prelude.{◌≡◌, ◌&&◌, ◌||◌, ◌==◌, IfOk, length, not};
-ghost use Rattle.std.specs.List.{list_all};
-ghost use Rattle.key_name.specs.Plain.{is_ordinary, is_plain_byte, plain_parts};
+//! Paths that are taken as they are.
+ghost use Rattle.std.specs.Prelude.{◌≡◌, IfOk};
+ghost use Rattle.key_name.specs.Plain.{begins_plainly, fits, is_plain, plain_parts};
 
 use crate::Memory;
-use crate::arrays::array_digits;
-use crate::cutting::cut_at;
 use crate::part_list::PartList;
 use std::alloc::Global;
 
@@ -13,35 +10,37 @@ use std::alloc::Global;
 pub fn plain_parts(alloc: Global, path: &str) -> Result<Option<PartList>, Memory>
     ensures { IfOk result (λ found. found ≡ plain_parts path.now) }
 {
-    if !has_plain_bytes(path) {
-        return Ok(None);
+    if is_plain(path) {
+        Ok(Some(PartList::between_slashes(alloc, path)?))
+    } else {
+        Ok(None)
     }
-    let mut parts = PartList::with_room(alloc, path.len().saturating_add(1))?;
-    let mut rest = Some(path);
-    while let Some(left) = rest {
-        let (part, behind) = cut_at(left, '/');
-        if !is_ordinary(part) {
-            return Ok(None);
+}
+
+/// Whether a path is taken as it is.
+fn is_plain(path: &str) -> bool
+    ensures { result ≡ is_plain path.now }
+{
+    let mut is_first = true;
+    for b in path.as_bytes() {
+        if !fits(is_first, *b) {
+            return false;
         }
-        parts.push(part)?;
-        rest = behind;
+        is_first = *b == b'/';
     }
-    Ok(Some(parts))
+    !is_first
 }
 
-/// Whether no byte is a backslash or a NUL.
-fn has_plain_bytes(path: &str) -> bool
-    ensures { result ≡ list_all is_plain_byte path.now }
+/// Whether a byte may stand in a plain path, as the first one of a part or as another.
+fn fits(is_first: bool, byte: u8) -> bool
+    ensures { result ≡ fits is_first byte }
 {
-    path.as_bytes().iter().all(|b| *b != b'\\' && *b != 0)
+    byte != b'\\' && byte != 0 && (!is_first || begins_plainly(byte))
 }
 
-/// Whether a raw part without escapes stands for itself.
-fn is_ordinary(part: &str) -> bool
-    ensures { result ≡ is_ordinary part.now }
+/// Whether no part begins with a byte that is empty, reserved or like an array's.
+fn begins_plainly(byte: u8) -> bool
+    ensures { result ≡ begins_plainly byte }
 {
-    match part {
-        "" | "%" | "." | ".." => false,
-        _ => array_digits(part).is_none(),
-    }
+    byte != b'/' && byte != b'.' && byte != b'%' && byte != b'#'
 }

@@ -1,9 +1,8 @@
 //! What is wrong with raw parts, each kind of fault in a pass of its own.
-ghost use Rattle.std.specs.Prelude.{◌≡◌, ◌+◌, ◌^◌, ◌<◌, length, ◌&&◌, ◌||◌, ◌==◌, not, false, is_none};
+ghost use Rattle.std.specs.Prelude.{◌≡◌, ◌+◌, ◌^◌, ◌<◌, length, ◌&&◌, ◌||◌, ◌==◌, not, false};
 ghost use Rattle.std.specs.List.{position};
 ghost use Rattle.std.specs.Option.{option_map};
 ghost use Rattle.std.specs.Result.{result_err};
-ghost use Rattle.model_names.specs.ArrayPart.{is_array_like, canonical_part};
 ghost use Rattle.general_words.specs.Searches.{first_some};
 ghost use Rattle.model_names.specs.Refuses.{bad_escape, bad_array};
 ghost use Rattle.model_names.specs.Spells.{read_letters};

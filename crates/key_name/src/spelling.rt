@@ -1,5 +1,5 @@
 //! From a namespace and parts to their canonical spelling.
-ghost use Rattle.std.specs.Prelude.{◌≡◌, ◌++◌, OnOk, map, string_bytes, encode_utf8};
+ghost use Rattle.std.specs.Prelude.{◌≡◌, ◌++◌, OnOk, string_bytes, encode_utf8};
 ghost use Rattle.std.specs.List.{flat_map};
 ghost use Rattle.model_names.specs.Spelling.{word_of, escaped, spelled, path_of_parts};
 
