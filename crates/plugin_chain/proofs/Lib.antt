@@ -1,3 +1,4 @@
+pub mod BareLemmas
 pub mod LayingLemmas
 pub mod SpecLemmas
 pub mod SetLemmas

@@ -80,6 +80,10 @@ fn check_value<P: Patterns>(
     ensures ok { OnOk result (Adds (HasRisen (P.refusals patterns.old) (P.refusals patterns.new)) (name.now, record { value = value.now; meta = meta.now }) list.old.items list.new.items) }
     ensures later { P.refusals patterns.old ≤ P.refusals patterns.new }
 {
+    // most keys have no metadata
+    if meta.is_empty() {
+        return Ok(());
+    }
     add(list, name, check_type(alloc, value, meta)?)?;
     add(list, name, check_range(alloc, value, meta)?)?;
     add(list, name, check_enum(alloc, value, meta)?)?;
