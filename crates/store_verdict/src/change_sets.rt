@@ -1,5 +1,5 @@
 //! Changes of different names, over one sorted vector. No contract speaks of the vector.
-ghost use Rattle.std.specs.Prelude.{◌≡◌, IfOk, OnOk, map as over};
+ghost use Rattle.std.specs.Prelude.{◌≡◌, IfOk, OnErr, OnOk, map as over};
 ghost use Rattle.std.specs.FinMap as map;
 ghost use Rattle.std.specs.Option.{option_map};
 ghost use Rattle.key_set.specs.EntryView.{entry_of};
@@ -43,7 +43,8 @@ impl ChangeSet {
 
     /// Gives a name a change, in place of the one that it had.
     pub fn put(&mut self, name: KeyName, entry: Option<Entry>) -> Result<(), Memory>
-        ensures { OnOk result (self.new ≡ map.insert self.old name (option_map entry_of entry)) }
+        ensures ok { OnOk result (self.new ≡ map.insert self.old name (option_map entry_of entry)) }
+        ensures err { OnErr result (self.new ≡ self.old) }
     {
         let _former = self.changes.insert(name, entry)?;
         Ok(())
