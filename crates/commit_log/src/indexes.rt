@@ -1,5 +1,5 @@
 //! The index of the last commits by mount.
-ghost use Rattle.std.specs.Prelude.{◌≡◌, ◌<◌, ◌≤◌, ℕ, All, OnOk, IfOk, if◌then◌else◌, vec_len, length};
+ghost use Rattle.std.specs.Prelude.{◌≡◌, ◌<◌, ◌≤◌, ℕ, All, OnOk, if◌then◌else◌, vec_len, length};
 ghost use Rattle.model_history.specs.History.{is_among};
 ghost use Rattle.commit_log.specs.Index.{last_of};
 

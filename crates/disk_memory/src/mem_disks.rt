@@ -8,7 +8,7 @@ ghost use Rattle.kdb_outside.specs.Files.{written, ChangesTo, KeepsOthers, IsTor
 ghost use Rattle.kdb_outside.specs.Images.{IsImage, Only, IsTornWrite, IsTornCut, KeepsImages, KeepsOtherImages, Touches, Elapses};
 ghost use Rattle.disk_memory.specs.declared.changes.Step.{Step};
 ghost use Rattle.disk_memory.specs.declared.changes.Step.TheVariants.{Wrote, Cut, Synced};
-ghost use Rattle.disk_memory.specs.DiskState.{file_of, HaveDistinctNames, bytes_of, begun, IsNextFailing, after_call, after_change, after_failure, seen_of, left_of, left_by, synced_of, moment_of, left_since_of};
+ghost use Rattle.disk_memory.specs.DiskState.{file_of, HaveDistinctNames, begun, IsNextFailing, after_call, after_change, after_failure, seen_of, left_of, left_by, synced_of, moment_of, left_since_of};
 ghost use Rattle.disk_memory.specs.DiskLaws.{reads_are_images, counts_at_present, only_at_present};
 
 use crate::changes::{Change, Piece, Step};

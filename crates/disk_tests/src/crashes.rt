@@ -1,5 +1,5 @@
 //! Two commits in a row on a calm disk, with a crash at any moment from the opening to the close.
-ghost use Rattle.std.specs.Prelude.{◌≡◌, ◌++◌, ℕ, List, Option, true};
+ghost use Rattle.std.specs.Prelude.{◌≡◌, ◌++◌, List, Option, true};
 ghost use Rattle.kdb_outside.specs.Crashes.{EveryImage};
 ghost use Rattle.kdb_outside.specs.Images.{Image};
 ghost use Rattle.journal_codec.specs.declared.files.FileText.{FileText as Item};

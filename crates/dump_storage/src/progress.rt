@@ -5,7 +5,7 @@ ghost use Rattle.model_maps.specs.Entry.{longest_meta_name};
 ghost use Rattle.model_maps.specs.KeyMap.{heaviest_map};
 ghost use Rattle.model_dump.specs.Adds.{start};
 ghost use Rattle.dump_storage.specs.RecordView.{record_of};
-ghost use Rattle.dump_storage.specs.ProgressView.{IsSound, Steps, PutsInto, CannotPut, progress_of, with_present};
+ghost use Rattle.dump_storage.specs.ProgressView.{IsSound, Steps, PutsInto, CannotPut, progress_of};
 ghost use Rattle.dump_storage.specs.declared.records.Kind.TheVariants as kinds;
 
 use crate::entry_so_far::EntrySoFar;

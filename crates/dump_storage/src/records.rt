@@ -1,5 +1,5 @@
 //! A record at the front of some bytes: a line that tells its kind and two sizes, and then its two texts.
-ghost use Rattle.std.specs.Prelude.{◌≡◌, [], ◌∷◌, ◌++◌, length, MatchOption, OnOk};
+ghost use Rattle.std.specs.Prelude.{◌≡◌, [], ◌∷◌, ◌++◌, MatchOption, OnOk};
 ghost use Rattle.std.specs.Fmt.{decimal};
 ghost use Rattle.model_dump.specs.Record.{words_of, spelled_record};
 ghost use Rattle.model_dump.specs.Text.{relative_text};

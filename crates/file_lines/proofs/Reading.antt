@@ -1,5 +1,5 @@
 -- How far a file was read: lines that led to the progress so far, and the bytes that are left.
-use Rattle.std.proofs.Common.{◌≡◌, ℕ, ◌+◌, List, [], ◌∷◌, ◌++◌, length, refl, sym, ap, subst, ◌∙◌, arith, append_assoc, append-nil, length-append}
+use Rattle.std.proofs.Common.{◌≡◌, ℕ, ◌+◌, List, [], ◌∷◌, ◌++◌, length, refl, sym, ap, ◌∙◌, arith, append_assoc, length-append}
 use Rattle.model_lines.specs.Lines.{lines}
 use Rattle.model_lines.specs.Reading.{Leads, StopsAt}
 use Rattle.model_lines.proofs.Leading.{Leads-append}

@@ -1,7 +1,6 @@
 -- The first answer of a list.
-use Rattle.std.proofs.Common.{◌≡◌, ℕ, zero, suc, ◌+◌, ◌<◌, ◌≤◌, List, [], ◌∷◌, ◌++◌, length, map, take, slice_get, Option, Some, None, refl, sym, ap, ap₂, ◌∙◌, arith}
+use Rattle.std.proofs.Common.{◌≡◌, ℕ, zero, suc, ◌+◌, ◌<◌, List, [], ◌∷◌, ◌++◌, map, take, slice_get, Option, Some, None, refl, sym, ap, ap₂, ◌∙◌, arith}
 use Rattle.std.specs.Option.{option_or}
-use Rattle.std.proofs.lemmas.List.{take_all}
 use Rattle.general_words.specs.Searches.{first_some, IsFirstAnswer}
 use Rattle.general_words.proofs.Lists.{some_is, take-next}
 
@@ -62,9 +61,6 @@ first_some-next f xs i x there none this = ap (first_some f) (take-next xs i x t
 -- and where something is told of the next, that is told of the whole
 pub first_some-found : {A B : Type 0} (f : A → Option B) (xs : List A) (i : ℕ) (x : A) (b : B) → Some x ≡ slice_get xs i → first_some f (take i xs) ≡ None → f x ≡ Some b → first_some f xs ≡ Some b
 first_some-found f xs i x b there none this = first_some-front f (i + 1) xs b (first_some-next f xs i x there none this)
-
-pub first_some-all : {A B : Type 0} (f : A → Option B) (xs : List A) (n : ℕ) → length xs ≤ n → first_some f (take n xs) ≡ None → first_some f xs ≡ None
-first_some-all f xs n le none = ap (first_some f) (sym (take_all n xs le)) ∙ none
 
 -- the first of which something is told through a function
 pub first_some-map : {A B C : Type 0} (f : B → Option C) (g : A → B) (xs : List A) → first_some f (map g xs) ≡ first_some (λ x. f (g x)) xs

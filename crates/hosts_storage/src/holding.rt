@@ -1,10 +1,9 @@
 //! Which keys a hosts file can hold.
-ghost use Rattle.std.specs.Prelude.{◌≡◌, ◌≢◌, ◌==◌, ◌≤◌, ◌∷◌, [], Some, IfOk};
+ghost use Rattle.std.specs.Prelude.{◌≡◌, ◌==◌, [], Some, IfOk};
 ghost use Rattle.std.specs.FinMap as map;
 ghost use Rattle.std.specs.Bool.{Decides};
 ghost use Rattle.std.specs.List.{AllByRecursion};
 ghost use Rattle.model_names.specs.declared.namespaces.Namespace.TheVariants.{Cascading};
-ghost use Rattle.model_names.specs.ArrayPart.{last_index};
 ghost use Rattle.model_maps.specs.Entry as model;
 ghost use Rattle.model_maps.specs.Entry.{plain_entry};
 ghost use Rattle.model_hosts.specs.Keys.{family, host_name as name_of_host, IsHostsKey, IsWordByte, IsWord, IsOneLine};

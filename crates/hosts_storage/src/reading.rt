@@ -1,5 +1,5 @@
 //! Reads a file line by line: its keys, or the first line that has no reading.
-ghost use Rattle.std.specs.Prelude.{◌≡◌, MatchResult};
+ghost use Rattle.std.specs.Prelude.{MatchResult};
 ghost use Rattle.storage_api.specs.Formats.{RefusesToRead};
 ghost use Rattle.model_hosts.specs.Hosts.{Reads, IsBadAt};
 

@@ -1,5 +1,5 @@
 //! Writes a map as its text.
-ghost use Rattle.std.specs.Prelude.{◌≡◌, ◌∷◌, [], ◌++◌, OnOk, IfOk, List, MatchResult, map as over, length};
+ghost use Rattle.std.specs.Prelude.{◌≡◌, ◌∷◌, [], ◌++◌, OnOk, IfOk, List, MatchResult, map as over};
 ghost use Rattle.std.specs.FinMap as finite;
 ghost use Rattle.model_names.specs.Name.{Name};
 ghost use Rattle.model_maps.specs.Entry as model;

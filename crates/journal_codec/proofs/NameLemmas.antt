@@ -1,5 +1,5 @@
 -- The tests of a name say what a file's name is, and that names ascend.
-use Rattle.std.proofs.Common.{◌≡◌, ℕ, ◌<◌, ◌≤◌, true, false, not, eqb, leb, List, [], ◌∷◌, length, slice_index, IsAscii, IsUtf8, Option, Some, None, Result, Ok, Err, IfOk, SomeIff, refl, sym, ap, subst, ◌∙◌, arith, inl, inr}
+use Rattle.std.proofs.Common.{◌≡◌, ℕ, ◌<◌, ◌≤◌, true, false, not, List, [], ◌∷◌, length, slice_index, IsAscii, IsUtf8, Option, Some, None, Result, Ok, Err, IfOk, SomeIff, refl, sym, ap, subst, ◌∙◌, arith, inl, inr}
 use Rattle.std.specs.List.{AllByRecursion}
 use Rattle.std.specs.List.Sorted.{IsStrictlySortedBy}
 use Rattle.std.specs.Ordering.{nat_cmp, is_lt}

@@ -1,5 +1,5 @@
 //! Which names an entry can hold, one behind the other.
-ghost use Rattle.std.specs.Prelude.{◌≡◌, List, IfOk, SomeIff, IsTrue};
+ghost use Rattle.std.specs.Prelude.{◌≡◌, IfOk, SomeIff, IsTrue};
 ghost use Rattle.journal_codec.specs.Reading.{is_next_name};
 ghost use Rattle.journal_codec.specs.Stops.{last_name as name_of_last};
 

@@ -1,12 +1,13 @@
 -- In its turn a handle's record and its set belong to the core.
-use Rattle.std.proofs.Common.{◌≡◌, ℕ, true, cond, List, map as over, Option, Some, None, refl, sym, ap, ap₂, subst, ◌∙◌, eq-eqb, arith}
+use Rattle.std.proofs.Common.{◌≡◌, ℕ, true, List, map as over, Option, Some, None, refl, sym, ap, ap₂, subst, ◌∙◌, arith}
 use Rattle.std.proofs.lemmas.List.{length-map}
 use Rattle.std.specs.Coded.{Coded}
 use Rattle.kdb_outside.specs.declared.disks.Disk.{Ghosts}
 use Rattle.kdb_handle.specs.Opened.{store_at}
 use Rattle.kdb_handle.specs.Story.{Told, commits_of}
 use Rattle.kdb_handle.specs.Turns.{MayCommit}
-use Rattle.kdb_handle.proofs.RecordLemmas.{record-none, accepts-own}
+use Rattle.kdb_handle.proofs.RecordLemmas.{record-none}
+use Rattle.model_store.proofs.Accepting.{accepts-own, put-here}
 use Rattle.model_files.specs.Files.{HaveFiles}
 use Rattle.model_history.specs.History.{Commit, replay}
 use Rattle.model_store.specs.Cores.{accepts}
@@ -29,9 +30,6 @@ use Rattle.store_verdict.specs.PreparedView.{prepared_of}
 use Rattle.store_verdict.specs.RecordView.{handle_of, record_of}
 use Rattle.store_verdict.specs.declared.prepared.Prepared.{Prepared}
 use Rattle.store_verdict.specs.declared.records.Record.{Record}
-
-pub put-here : {A : Type 0} (n : ℕ) (a : A) (f : ℕ → A) → put n a f n ≡ a
-put-here n a f = ap (λ b. cond b a (f n)) (eq-eqb n n refl)
 
 module _ (formats : Formats) {D P : Type 0} (g : Ghosts D) (code : Coded D) (refused : P → ℕ) (files : List MountedFile) (core : Core D P) (entries : ℕ) (log : List Told) (rec : Record) (set : Prepared) (may : MayCommit formats g code refused files core entries log rec set) where
   abbrev pub history : List Commit

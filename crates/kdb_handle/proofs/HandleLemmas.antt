@@ -12,7 +12,7 @@ use Rattle.kdb_handle.specs.Story.{Told, Opening, Committed, Failed, Refused, ma
 use Rattle.kdb_handle.specs.Stores.{IsHandle}
 use Rattle.kdb_handle.specs.Sets.{IsDone}
 use Rattle.kdb_handle.specs.Turns.{IsPrepared, MayCommit, told_by, is_refusal, record_by}
-use Rattle.kdb_handle.proofs.BelongLemmas.{put-here}
+use Rattle.model_store.proofs.Accepting.{put-here}
 use Rattle.kdb_handle.proofs.RecordLemmas.{own_fronts, record-seen}
 use Rattle.kdb_handle.proofs.StoryLemmas.{commits-prefix, one_opening, prefix-both}
 use Rattle.model_history.specs.History as past

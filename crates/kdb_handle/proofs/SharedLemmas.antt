@@ -13,7 +13,8 @@ use Rattle.kdb_handle.specs.Runs.{RunsBy}
 use Rattle.kdb_handle.specs.Shares.{IsShared}
 use Rattle.kdb_handle.specs.Story.{Told, Opened, Committed, Failed, Refused, commits_of, failures_in, refusals_in}
 use Rattle.kdb_handle.specs.Turns.{MayCommit, told_by, is_refusal, record_by}
-use Rattle.kdb_handle.proofs.BelongLemmas.{put-here, records, known, world, rest_is, stands_in, belongs_in}
+use Rattle.model_store.proofs.Accepting.{put-here}
+use Rattle.kdb_handle.proofs.BelongLemmas.{records, known, world, rest_is, stands_in, belongs_in}
 use Rattle.kdb_handle.proofs.RecordLemmas.{own_fronts}
 use Rattle.kdb_handle.proofs.RunLemmas.{runs-committed, runs-failed, runs-refused, risen-once, risen-still}
 use Rattle.kdb_handle.proofs.StoryLemmas.{commits-append, failures-append, refusals-append}

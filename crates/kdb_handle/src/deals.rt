@@ -1,5 +1,5 @@
 //! The seats of a shared store that no handle has yet.
-ghost use Rattle.std.specs.Prelude.{◌≡◌, ◌+◌, ◌-◌, [], IfErr, IfOk, OnErr, OnOk, None, ℕ, length};
+ghost use Rattle.std.specs.Prelude.{◌≡◌, ◌+◌, ◌-◌, [], IfOk, OnErr, OnOk, None, ℕ, length};
 ghost use Rattle.std.specs.Vec.{vec_capacity};
 ghost use Rattle.kdb_handle.specs.Stores.{AreFree, IsHandle, IsStarted};
 ghost use Rattle.store_verdict.specs.ProcKeys.{AreProc};

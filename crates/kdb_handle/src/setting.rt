@@ -1,13 +1,11 @@
 //! A handle's sets: prepared by the handle alone, and committed in one turn.
-ghost use Rattle.std.specs.Prelude.{◌≡◌, ℕ, IfErr, IfOk, true};
+ghost use Rattle.std.specs.Prelude.{◌≡◌, IfErr, IfOk};
 ghost use Rattle.general_words.specs.Memory.{UnlessMemory};
 ghost use Rattle.kdb_handle.specs.Opened.{store_at};
 ghost use Rattle.kdb_handle.specs.Sets.{IsDone, IsSet};
 ghost use Rattle.kdb_handle.specs.Stores.{IsHandle};
 ghost use Rattle.kdb_handle.specs.Turns.{IsPrepared};
-ghost use Rattle.model_store.specs.Cores.{accepts};
 ghost use Rattle.store_verdict.specs.Preparing.{IsMade, IsRefused};
-ghost use Rattle.store_verdict.specs.PreparedView.{prepared_of};
 ghost use Rattle.store_verdict.specs.RecordView.{proc_of, record_of};
 ghost use Rattle.store_verdict.specs.declared.faults.PrepareFault.TheVariants as fault;
 

@@ -1,5 +1,5 @@
 -- The test of files' names decides which texts are files' names.
-use Rattle.std.proofs.Common.{◌≡◌, ◌≢◌, ℕ, ◌≤◌, Bool, not, ◌&&◌, ◌||◌, ◌==◌, nat_le, length, All, slice_index, List, refl}
+use Rattle.std.proofs.Common.{◌≢◌, ℕ, ◌≤◌, not, ◌&&◌, ◌||◌, ◌==◌, nat_le, length, All, slice_index, List, refl}
 use Rattle.std.specs.Bool.{Decides}
 use Rattle.std.specs.Char.{is_ascii_alphanumeric, IsAsciiAlphanumeric}
 use Rattle.std.specs.Int.{is_in_range, IsInRange}

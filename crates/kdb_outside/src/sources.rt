@@ -1,5 +1,5 @@
 //! Where input comes from.
-ghost use Rattle.std.specs.Prelude.{◌≡◌, ℕ, ◌≤◌, List, length, Option, Some, None, IfOk, OnErr, IfSome};
+ghost use Rattle.std.specs.Prelude.{◌≡◌, ℕ, ◌≤◌, List, length, Option, None, IfOk, OnErr, IfSome};
 ghost use Rattle.kdb_outside.specs.Faults.{HasCause};
 ghost use Rattle.kdb_outside.specs.Bytes.{Takes};
 

@@ -1,9 +1,6 @@
 -- What the commit of a set alone does to a store, and what it answers.
-use Rattle.std.proofs.Common.{◌≡◌, ◌≢◌, ℕ, nat_eq, Bool, T, true, false, cond, ◌&&◌, List, [], ◌∷◌, length, map as over, Option, Some, None, Result, Ok, Err, refl, sym, ap, ap₂, subst, ◌∙◌, arith}
-use Rattle.std.specs.List.{list_all}
-use Rattle.std.specs.Option.{option_eq}
+use Rattle.std.proofs.Common.{◌≡◌, ◌≢◌, ℕ, Bool, T, false, List, [], ◌∷◌, length, map as over, Option, Some, None, Result, Ok, Err, refl, sym, ap, ap₂, subst, ◌∙◌, arith}
 use Rattle.std.proofs.lemmas.List.{length-map}
-use Rattle.std.proofs.lemmas.Bool.{and_from}
 use Rattle.kdb_outside.specs.declared.disks.Disk.{Ghosts}
 use Rattle.journal_codec.specs.Entry.{IsEntry}
 use Rattle.journal_codec.specs.declared.files.FileText.{FileText}
@@ -21,19 +18,17 @@ use Rattle.model_store.specs.First.{first_record}
 use Rattle.model_store.specs.Promise.{Stands}
 use Rattle.model_store.specs.Records as model
 use Rattle.model_store.specs.Sets as sets
-use Rattle.model_store.specs.Sets.{front_in, only, prepared}
+use Rattle.model_store.specs.Sets.{prepared}
 use Rattle.model_specified.specs.declared.violations.Violation.{Violation}
 use Rattle.model_store.specs.Store.{Store, points_at, points_of}
 use Rattle.model_store.specs.Verdicts as late
 use Rattle.model_store.specs.Verdicts.{Late, IsEarly, IsLate, commit_of}
 use Rattle.model_store.specs.Worlds.{World, first_world}
-use Rattle.model_history.specs.History.{is_among}
+use Rattle.model_store.proofs.Accepting.{accepts-own}
 use Rattle.model_store.proofs.FirstSets.{never-blocked}
-use Rattle.model_store.proofs.Members.{among-first, among-rest, itself_number}
 use Rattle.model_store.proofs.Owning.{Goes, first_stands, follows}
 use Rattle.mount_table.specs.declared.mounts.Mount.{Mount}
 use Rattle.mounted_files.specs.declared.files.MountedFile.{MountedFile}
-use Rattle.set_split.specs.Involved.{involved_in}
 use Rattle.store_core.specs.Answers.{IsJudged, has_written}
 use Rattle.store_core.specs.Committing.{RunsOn}
 use Rattle.store_core.specs.Cores.{StandsIn, core_with}
@@ -63,24 +58,6 @@ use Rattle.kdb_tool.specs.Serving.{BeginsEntry, FailsToStore, HasFetched, Serves
 use Rattle.kdb_tool.specs.declared.answers.Stop.{Stop}
 use Rattle.kdb_tool.specs.declared.answers.Stop.TheVariants as stops
 use Rattle.kdb_tool.specs.Sets.{AnswersSet, Judged, formats, set_alone, store_alone, stored_by, the_handle}
-use Rattle.general_words.proofs.Tests.{number_itself}
-
--- ---- a record accepts what it just made
-
-all_fronts : (rec : model.Record) (involved ms : List ℕ) → ((m : ℕ) → is_among ms m ≡ true → is_among involved m ≡ true) → list_all (λ m. option_eq nat_eq (front_in rec m) (front_in (only involved rec) m)) ms ≡ true
-all_fronts rec involved [] there = refl
-all_fronts rec involved (m ∷ ms) there =
-    and_from _ _ (ap (λ b. option_eq nat_eq (front_in rec m) (front_of (cond b (rec m) None))) (there m (among-first m ms)) ∙ number_itself (front_in rec m))
-    (all_fronts rec involved ms (λ k among. there k (among-rest m k ms among)))
-  where
-    front_of : Option model.Fetched → Option ℕ
-    front_of o = front_in (λ k. o) m
-
-pub accepts-made : (points : List Name) (handle : ℕ) (rec : model.Record) (parent : Name) (keys : KeyMap) → accepts rec handle (prepared points handle rec parent keys) ≡ true
-accepts-made points handle rec parent keys =
-    let involved = involved_in points parent in
-    let each = all_fronts rec involved involved (λ m among. among) in
-    ap (λ b. b && list_all (λ m. option_eq nat_eq (front_in rec m) (front_in (only involved rec) m)) involved) (itself_number handle) ∙ each
 
 -- ---- where nothing was committed before
 
@@ -147,7 +124,7 @@ module _ {D P : Type 0} (g : Ghosts D) (files : List MountedFile) (core : Core D
       (ap (λ h. put the_handle (record_of rec) no_records h) fetched.handle)
       (omega (arith, fetched.places, length-map files (λ (file : MountedFile). file.mount)))
       refl
-      (ap₂ (λ (h : ℕ) (s : sets.Prepared). accepts (record_of rec) h s) fetched.handle is_made.is ∙ accepts-made (points_of store) the_handle (record_of rec) parent keys)
+      (ap₂ (λ (h : ℕ) (s : sets.Prepared). accepts (record_of rec) h s) fetched.handle is_made.is ∙ accepts-own (points_of store) the_handle (record_of rec) parent keys)
       is_made
 
   pub ready : IsReady formats mounts core rec set

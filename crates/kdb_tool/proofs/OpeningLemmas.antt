@@ -1,5 +1,5 @@
 -- What is told of a store that isn't opened, and what is known of one that is.
-use Rattle.std.proofs.Common.{◌≡◌, ◌≢◌, inl, inr, ℕ, false, List, [], Option, Some, None, IfOk, Result, Ok, Err, OnOk, refl, sym, ap, subst, ◌∙◌}
+use Rattle.std.proofs.Common.{◌≡◌, ◌≢◌, inl, inr, ℕ, false, List, Option, Some, None, IfOk, Result, Ok, Err, OnOk, refl, sym, ap, subst, ◌∙◌}
 use Rattle.all_formats.specs.Meanings as all
 use Rattle.intent_journal.specs.BadJournals.{open_entry, opened_files, opened_doubt, doubt_with}
 use Rattle.intent_journal.specs.Journal.{JournalValue}

@@ -1,5 +1,5 @@
 //! A question to the store: it is opened, answers, and is closed.
-ghost use Rattle.std.specs.Prelude.{◌≡◌, ◌≢◌, ◌≤◌, ℕ, List, [], Option, Some, None, true, false, IfOk, OnOk, Err, is_some, string_bytes, length};
+ghost use Rattle.std.specs.Prelude.{◌≡◌, ◌≢◌, ◌≤◌, ℕ, List, Option, Some, None, true, IfOk, OnOk, Err, string_bytes};
 ghost use Rattle.intent_journal.specs.BadJournals.{bad_place, open_entry, opened_files};
 ghost use Rattle.intent_journal.specs.States.{IsCalm};
 ghost use Rattle.journal_codec.specs.Entry.{journal_name};
@@ -9,7 +9,7 @@ ghost use Rattle.kdb_outside.specs.Frames.{GoesOn, OnlyReads};
 ghost use Rattle.kdb_outside.specs.Images.{Image};
 ghost use Rattle.kdb_tool.specs.Answers.{AnswersOver};
 ghost use Rattle.kdb_tool.specs.Lines.{line_of_store};
-ghost use Rattle.kdb_tool.specs.Serving.{IsOpen, MayRefuse, MayStore, Serve, StoresNothing};
+ghost use Rattle.kdb_tool.specs.Serving.{MayRefuse, MayStore, Serve, StoresNothing};
 ghost use Rattle.kdb_tool.specs.Untold.{IsStatusOf};
 ghost use Rattle.store_core.specs.declared.faults.OpenFault.TheVariants.{DiskFault as OfDisk, Memory as OfMemory};
 ghost use Rattle.tool_commands.specs.Lines.{bad_journal};

@@ -1,5 +1,5 @@
 //! The input, taken to its end or to one byte more than an import may have.
-ghost use Rattle.std.specs.Prelude.{◌≡◌, ◌≢◌, ◌+◌, ◌<◌, ◌≤◌, ℕ, List, [], ◌++◌, length, drop, Some, Err, IfOk, OnOk};
+ghost use Rattle.std.specs.Prelude.{◌≡◌, ◌≢◌, ◌+◌, ◌<◌, ◌≤◌, ℕ, List, length, Some, Err, IfOk, OnOk};
 ghost use Rattle.backend_files.specs.WholeFile.{IsWhole};
 ghost use Rattle.kdb_outside.specs.Faults.{HasRisen};
 ghost use Rattle.kdb_tool.specs.Input.{most_taken, taken, TakesAll, TakesFront, TakesPiece, TakesSome};

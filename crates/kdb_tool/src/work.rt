@@ -1,5 +1,5 @@
 //! The work that a command line asks for: the words and the input are read, and the store is asked.
-ghost use Rattle.std.specs.Prelude.{◌≡◌, ◌⊎◌, ◌≤◌, ℕ, List, [], Option, Some, None, true, IsOk, IfOk, Err};
+ghost use Rattle.std.specs.Prelude.{◌≡◌, ◌⊎◌, ◌≤◌, ℕ, List, Option, Some, None, true, IsOk, IfOk, Err};
 ghost use Rattle.intent_journal.specs.BadJournals.{bad_place, open_entry, opened_files};
 ghost use Rattle.intent_journal.specs.States.{IsCalm};
 ghost use Rattle.journal_codec.specs.Entry.{journal_name};

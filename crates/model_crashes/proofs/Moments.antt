@@ -1,5 +1,5 @@
 -- What a crash might have left while calls went on, one after the other.
-use Rattle.std.proofs.Common.{◌≡◌, ◌-◌, ◌^◌, ◌<◌, ◌≤◌, List, true, inl, inr, arith}
+use Rattle.std.proofs.Common.{◌≡◌, ◌≤◌, true, inl, inr, arith}
 use Rattle.kdb_outside.specs.declared.disks.Disk.{Ghosts}
 use Rattle.kdb_outside.specs.Frames.{OnlyReads}
 use Rattle.kdb_outside.specs.Images.{Image, IsImage}

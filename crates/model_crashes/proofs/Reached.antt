@@ -1,12 +1,12 @@
 -- What a run may have left, while it goes on.
-use Rattle.std.proofs.Common.{◌≡◌, ℕ, ◌+◌, ◌≤◌, List, [], ◌∷◌, ◌++◌, length, take, inl, inr, Option, Some, None, refl, sym, ap, ◌∙◌, subst, arith, rules, length-append}
+use Rattle.std.proofs.Common.{◌≡◌, ℕ, ◌+◌, List, [], ◌∷◌, ◌++◌, length, inl, inr, Option, Some, None, refl, sym, subst, arith, rules, length-append}
 use Rattle.std.specs.Prelude.{Contains}
 use Rattle.std.proofs.lemmas.List.{take-append-le, take_all}
 use Rattle.std.proofs.lemmas.List.Elements.{Contains-append_left, Contains-append_right}
 use Rattle.kdb_outside.specs.Images.{Image}
 use Rattle.journal_codec.specs.declared.files.FileText.{FileText}
-use Rattle.intent_journal.specs.Outcomes.{with_entry, with_entries, HasOnly, IsOutcome, IsEither}
-use Rattle.model_crashes.specs.Runs.{Run, Begun, files_of, IsBegun, IsReached, IsAmid, begun_before, after_begun, after_commit}
+use Rattle.intent_journal.specs.Outcomes.{with_entry, with_entries, HasOnly, IsEither}
+use Rattle.model_crashes.specs.Runs.{Run, Begun, files_of, IsBegun, IsReached, IsAmid, begun_before, after_commit}
 
 -- entries one after the other
 pub with_entries-append : (files : Image) (first second : List (List FileText)) → with_entries files (first ++ second) ≡ with_entries (with_entries files first) second

@@ -1,10 +1,9 @@
 //! A few dumps, worked: the definitions at concrete bytes.
-ghost use Rattle.std.specs.Prelude.{◌≡◌, List, ℕ, [], ◌∷◌, codes};
+ghost use Rattle.std.specs.Prelude.{◌≡◌, [], ◌∷◌, codes};
 ghost use Rattle.std.specs.FinMap as map;
 ghost use Rattle.model_names.specs.declared.namespaces.Namespace.TheVariants.{Cascading};
-ghost use Rattle.model_names.specs.Name.{Name};
 ghost use Rattle.model_maps.specs.Entry.{plain_entry, with_meta};
-ghost use Rattle.model_maps.specs.KeyMap.{KeyMap, no_keys};
+ghost use Rattle.model_maps.specs.KeyMap.{no_keys};
 ghost use Rattle.model_dump.specs.Adds.{Adds};
 ghost use Rattle.model_dump.specs.Dump.{Reads, Stops, line_at};
 ghost use Rattle.model_dump.specs.Text.{text};

@@ -6,7 +6,7 @@ ghost use Rattle.std.specs.Prelude.{◌≡◌, ◌⊎◌, [], ◌∷◌, codes};
 ghost use Rattle.std.specs.FinMap as map;
 ghost use Rattle.model_names.specs.declared.namespaces.Namespace.TheVariants.{Cascading};
 ghost use Rattle.model_names.specs.Name.{Name};
-ghost use Rattle.model_maps.specs.Entry.{Entry, plain_entry};
+ghost use Rattle.model_maps.specs.Entry.{plain_entry};
 ghost use Rattle.model_maps.specs.KeyMap.{KeyMap, no_keys};
 ghost use Rattle.model_formats.specs.Holding.{EachHas, LacksFirst};
 

@@ -1,9 +1,8 @@
 //! Worked examples.
 ghost use Rattle.std.specs.Prelude.{◌≡◌, [], ◌∷◌, codes, Some, None};
 ghost use Rattle.model_names.specs.declared.namespaces.Namespace.TheVariants.{User};
-ghost use Rattle.model_names.specs.Name.{Name};
 ghost use Rattle.model_maps.specs.Entry.{plain_entry};
-ghost use Rattle.model_history.specs.History.{Commit, first_after, history_weight, weight_of_commit};
+ghost use Rattle.model_history.specs.History.{first_after, history_weight, weight_of_commit};
 
 /// A commit weighs 64; a change 16, the bytes of its name's canonical spelling and those of its new entry; a removal has no
 /// entry. The name `user:/a` has 7 bytes.

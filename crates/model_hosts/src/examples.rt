@@ -1,8 +1,8 @@
 //! A few lines, worked: the definitions at concrete bytes.
-ghost use Rattle.std.specs.Prelude.{◌≡◌, ℕ, List, [], ◌∷◌, ◌++◌, Some, None, codes};
+ghost use Rattle.std.specs.Prelude.{◌≡◌, [], ◌∷◌, ◌++◌, Some, None, codes};
 ghost use Rattle.std.specs.FinMap as map;
 ghost use Rattle.model_maps.specs.Entry.{plain_entry};
-ghost use Rattle.model_maps.specs.KeyMap.{KeyMap, no_keys};
+ghost use Rattle.model_maps.specs.KeyMap.{no_keys};
 ghost use Rattle.model_hosts.specs.Line.{Skipped, Comment, Gives, Unreadable, meaning};
 ghost use Rattle.model_hosts.specs.Comments.{comment_name, comments};
 ghost use Rattle.model_hosts.specs.Keys.{family, host_name, alias_name, IsStorable, BreaksAt};

@@ -5,6 +5,7 @@ use Rattle.std.specs.List.{flat_map}
 use Rattle.std.specs.Str.{IsUtf8}
 use Rattle.std.proofs.lemmas.Bool.{eqb-true, or_cases}
 use Rattle.std.proofs.lemmas.Str.{IsUtf8-append}
+use Rattle.general_words.proofs.Lists.{some_is}
 use Rattle.general_words.proofs.Tests.{cond_some}
 use Rattle.model_names.proofs.PartLemmas.{IsUtf8-cons}
 use Rattle.model_names.proofs.RefusesLemmas.{from_map, from_and_then, branch_taken}
@@ -15,9 +16,6 @@ use Rattle.model_ini.specs.Signs.{spelled_sign, escape, byte_of, text_of}
 use Rattle.model_ini.specs.Text.{value_signs, name_signs, line_of}
 use Rattle.model_ini.proofs.WrittenLines.{text_of-value_signs, text_of-name_signs}
 
-same_some : (a b : ℕ) → ◌≡◌ {A = Option ℕ} (Some a) (Some b) → a ≡ b
-same_some a b e = cc
-
 -- an escape's letter and what it stands for are ASCII
 abbrev AreAscii : ℕ → ℕ → Type 0
 AreAscii c e = (c < 128) × (e < 128)
@@ -25,13 +23,13 @@ AreAscii c e = (c < 128) × (e < 128)
 by_letter : (c letter byte e : ℕ) → letter < 128 → byte < 128 → (c == letter) ≡ true → ◌≡◌ {A = Option ℕ} (Some byte) (Some e) → AreAscii c e
 by_letter c letter byte e p q is same =
     let at : c ≡ letter = eqb-true c letter is in
-    let stands : byte ≡ e = same_some byte e same in
+    let stands : byte ≡ e = some_is byte e same in
     (omega arith, omega arith)
 
 by_mark : (c mark e : ℕ) → mark < 128 → (c == mark) ≡ true → ◌≡◌ {A = Option ℕ} (Some c) (Some e) → AreAscii c e
 by_mark c mark e p is same =
     let at : c ≡ mark = eqb-true c mark is in
-    let stands : c ≡ e = same_some c e same in
+    let stands : c ≡ e = some_is c e same in
     (omega arith, omega arith)
 
 marks : (c e : ℕ) → ((c == 61) || (c == 35) || (c == 59) || (c == 91)) ≡ true → ◌≡◌ {A = Option ℕ} (Some c) (Some e) → AreAscii c e
@@ -62,15 +60,12 @@ split s ss text h =
 
 -- a bare sign stands for its own byte
 bare : (b c : ℕ) → byte_of (Plain b) ≡ Some c → c ≡ b
-bare b c h = branch_taken (b == 92) None (Some b) (Some c) h (λ is none. absurd cc) (λ same. sym (same_some b c same))
+bare b c h = branch_taken (b == 92) None (Some b) (Some c) h (λ is none. absurd cc) (λ same. sym (some_is b c same))
 
 -- signs are spelled in UTF-8 where the text that they stand for is, behind any bytes: those carry the bytes of a letter that is
 -- spelled half
 utf8-signs : (ss : List Sign) (front text : List ℕ) → text_of ss ≡ Some text → IsUtf8 (front ++ text) → IsUtf8 (front ++ flat_map spelled_sign ss)
-utf8-signs [] front text h utf8 = let none : [] ≡ text = same_texts [] text h in subst (λ (t : List ℕ). IsUtf8 (front ++ t)) (sym none) utf8
-  where
-    same_texts : (s t : List ℕ) → ◌≡◌ {A = Option (List ℕ)} (Some s) (Some t) → s ≡ t
-    same_texts s t e = cc
+utf8-signs [] front text h utf8 = let none : [] ≡ text = some_is [] text h in subst (λ (t : List ℕ). IsUtf8 (front ++ t)) (sym none) utf8
 utf8-signs (Plain b ∷ ss) front text h utf8 =
     let at = split (Plain b) ss text h in
     let byte : at.0 ≡ b = bare b at.0 at.1 in

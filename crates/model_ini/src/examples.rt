@@ -1,9 +1,8 @@
 //! A few lines, worked: the definitions at concrete bytes.
-ghost use Rattle.std.specs.Prelude.{◌≡◌, ℕ, List, [], ◌∷◌, ◌++◌, codes};
+ghost use Rattle.std.specs.Prelude.{◌≡◌, [], ◌∷◌, codes};
 ghost use Rattle.std.specs.FinMap as map;
 ghost use Rattle.model_names.specs.declared.namespaces.Namespace.TheVariants.{Cascading};
-ghost use Rattle.model_names.specs.Name.{Name};
-ghost use Rattle.model_maps.specs.Entry.{Entry, plain_entry};
+ghost use Rattle.model_maps.specs.Entry.{plain_entry};
 ghost use Rattle.model_maps.specs.KeyMap.{no_keys};
 ghost use Rattle.model_ini.specs.Line.{Skipped, Pair, Unreadable, meaning};
 ghost use Rattle.model_ini.specs.Ini.{Reads, IsBadAt, BreaksAt};

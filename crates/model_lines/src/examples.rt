@@ -1,5 +1,5 @@
 //! A few lines, worked: the definitions at concrete bytes.
-ghost use Rattle.std.specs.Prelude.{◌≡◌, List, ℕ, [], ◌∷◌, codes};
+ghost use Rattle.std.specs.Prelude.{◌≡◌, [], ◌∷◌, codes};
 ghost use Rattle.model_lines.specs.Lines.{lines, ended, without_return};
 
 /// A file is cut at each line feed, an empty line is a line, and the last line needs no line feed.

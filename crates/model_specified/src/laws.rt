@@ -1,5 +1,5 @@
 //! The laws of specified sets.
-ghost use Rattle.std.specs.Prelude.{◌≡◌, ◌≤◌, Bool, List, [], ◌∷◌, ◌++◌, length, Option, Some, None, ℕ};
+ghost use Rattle.std.specs.Prelude.{◌≡◌, ◌≤◌, Bool, List, [], ◌∷◌, ◌++◌, length, Option, Some, ℕ};
 ghost use Rattle.std.specs.Bool.{Decides};
 ghost use Rattle.std.specs.FinMap as map;
 ghost use Rattle.std.specs.Option.{option_map, option_or};
@@ -9,7 +9,7 @@ ghost use Rattle.model_maps.specs.KeyMap.{KeyMap};
 ghost use Rattle.model_names.specs.Glob.{HasGlob, MatchesGlob};
 ghost use Rattle.model_names.specs.Name.{Name, Part};
 ghost use Rattle.model_specified.specs.Globs.{has_glob, matches_glob};
-ghost use Rattle.model_specified.specs.SpecMeta.{laid_over, spec_keys, spec_meta, specs_of};
+ghost use Rattle.model_specified.specs.SpecMeta.{spec_keys, spec_meta, specs_of};
 ghost use Rattle.model_rules.specs.Rules.{longest_pattern};
 ghost use Rattle.model_specified.specs.Violations.{AreOfKeys, AreViolations, BeginWith, IsFirstViolation, checked_keys};
 ghost use Rattle.model_specified.specs.declared.violations.Violation.{Violation};

@@ -136,11 +136,11 @@ checked_off : (bad : Late → Bool) (points : List Name) (keys : KeyMap) (set : 
 checked_off bad points keys set late P off behind (inl breaks) = ap bad breaks.is ∙ off breaks.violation breaks.risen
 checked_off bad points keys set late P off behind (inr kept) = behind kept.1
 
-limited : (bad : Late → Bool) (b : Bool) (one told : Late) → bad one ≡ false → cond b (Some one) None ≡ Some told → bad told ≡ false
+pub limited : (bad : Late → Bool) (b : Bool) (one told : Late) → bad one ≡ false → cond b (Some one) None ≡ Some told → bad told ≡ false
 limited bad true one told off is = ap bad (sym (some_is one told is)) ∙ off
 limited bad false one told off is = absurd cc
 
-same_off : (bad : Late → Bool) (touched : List ℕ) (aside : ℕ) (told : Late) → bad (Same aside) ≡ false → if_untouched touched aside ≡ Some told → bad told ≡ false
+pub same_off : (bad : Late → Bool) (touched : List ℕ) (aside : ℕ) (told : Late) → bad (Same aside) ≡ false → if_untouched touched aside ≡ Some told → bad told ≡ false
 same_off bad [] aside told off is = ap bad (sym (some_is (Same aside) told is)) ∙ off
 same_off bad (m ∷ touched) aside told off is = absurd cc
 

@@ -15,7 +15,8 @@ use Rattle.model_store.specs.Store.{Store, Formats}
 use Rattle.model_store.specs.Fitting.{Fits, too_heavy, too_long, bad_table, IsStorableAt}
 use Rattle.model_store.specs.Rules.{FirstBreach, KeepRules}
 use Rattle.model_store.specs.Sets.{Prepared}
-use Rattle.model_store.specs.Verdicts.{Late, Same, Conflict, Invalid, DatabaseFull, HistoryFull, Commits, Follows, Checks, IsEarly, IsLate, FromFormats, wanted_in, if_unseen, not_fetched, long_value, before_formats, blocking, conflict_at, conflict, commit_of, if_untouched, if_heavy, if_full}
+use Rattle.model_store.specs.Verdicts.{Late, Conflict, Invalid, DatabaseFull, HistoryFull, Commits, Follows, Checks, IsEarly, IsLate, FromFormats, wanted_in, if_unseen, not_fetched, long_value, before_formats, blocking, conflict_at, conflict, commit_of, if_untouched, if_heavy, if_full}
+use Rattle.model_store.proofs.FirstSets.{limited, same_off}
 use Rattle.model_store.proofs.Members.{from_all, nothing_at}
 
 -- where an answer is nothing, no step tells anything
@@ -79,20 +80,12 @@ is_commit late = false
 
 -- an answer that a step tells is not of some other kind
 module _ (is_kind : Late → Bool) where
-  no_same : (touched : List ℕ) (n : ℕ) (late : Late) → is_kind (Same n) ≡ false → if_untouched touched n ≡ Some late → is_kind late ≡ false
-  no_same [] n late off e = ap is_kind (sym (some_is (Same n) late e)) ∙ off
-  no_same (m ∷ touched) n late off e = absurd cc
-
   no_conflict : (history : List past.Commit) (fronts : ℕ → Option ℕ) (ms : List ℕ) (late : Late) → ((m by : ℕ) → is_kind (Conflict m by) ≡ false) → first_some (conflict_at history fronts) ms ≡ Some late → is_kind late ≡ false
   no_conflict history fronts [] late off e = absurd cc
   no_conflict history fronts (m ∷ ms) late off e = elim (blocking history fronts m) as (λ (o : Option ℕ). option_or (option_map (Conflict m) o) (first_some (conflict_at history fronts) ms) ≡ Some late → is_kind late ≡ false) [
     | None ↦ λ h. no_conflict history fronts ms late off h
     | Some by ↦ λ h. ap is_kind (sym (some_is (Conflict m by) late h)) ∙ off m by
   ] e
-
-  no_limit : (b : Bool) (told late : Late) → is_kind told ≡ false → cond b (Some told) None ≡ Some late → is_kind late ≡ false
-  no_limit true told late off e = ap is_kind (sym (some_is told late e)) ∙ off
-  no_limit false told late off e = absurd cc
 
 within : (n limit : ℕ) (told : Late) → cond (nat_lt limit n) (Some told) None ≡ None → n ≤ limit
 within n limit told e = elim (nat_lt limit n) as (λ b. nat_lt limit n ≡ b → cond b (Some told) None ≡ None → n ≤ limit) [
@@ -103,13 +96,13 @@ within n limit told e = elim (nat_lt limit n) as (λ b. nat_lt limit n ≡ b →
 pub is_committed : (points : List Name) (history : List past.Commit) (keys : KeyMap) (set : Prepared) (commit : past.Commit) (aside : ℕ) → IsLate points history keys set (Commits commit aside) → IsCommitted points history keys set commit
 is_committed points history keys set commit aside late =
     let is : Late = Commits commit aside in
-    let touched = rest-follows (if_untouched set.touched set.aside) is _ (λ e. let off : is_commit is ≡ false = no_same is_commit set.touched set.aside is refl e in absurd cc) late in
+    let touched = rest-follows (if_untouched set.touched set.aside) is _ (λ e. let off : is_commit is ≡ false = same_off is_commit set.touched set.aside is refl e in absurd cc) late in
     let free = rest-follows (conflict history set) is _ (λ e. let off : is_commit is ≡ false = no_conflict is_commit history set.fronts set.touched is (λ m by. refl) e in absurd cc) touched.1 in
     let valid = rest-checked points keys set is _ (λ violation risen e. let off : is_commit is ≡ false = ap is_commit e in absurd cc) free.1 in
     let w : ℕ = weight (after keys set.changes) in
-    let light = rest-follows (if_heavy w) is _ (λ e. let off : is_commit is ≡ false = no_limit is_commit (nat_lt heaviest_map w) (DatabaseFull (saturated w)) is refl e in absurd cc) valid.1 in
+    let light = rest-follows (if_heavy w) is _ (λ e. let off : is_commit is ≡ false = limited is_commit (nat_lt heaviest_map w) (DatabaseFull (saturated w)) is refl e in absurd cc) valid.1 in
     let h : ℕ = history_weight (history ++ commit_of set ∷ []) in
-    let full = rest-follows (if_full h) is _ (λ e. let off : is_commit is ≡ false = no_limit is_commit (nat_lt heaviest_history h) (HistoryFull (saturated h)) is refl e in absurd cc) light.1 in
+    let full = rest-follows (if_full h) is _ (λ e. let off : is_commit is ≡ false = limited is_commit (nat_lt heaviest_history h) (HistoryFull (saturated h)) is refl e in absurd cc) light.1 in
     record {
       free = free.0;
       valid = valid.0;
@@ -129,7 +122,7 @@ is_invalid late = false
 pub is_breach : (points : List Name) (history : List past.Commit) (keys : KeyMap) (set : Prepared) (violation : Violation) (risen : Bool) → IsLate points history keys set (Invalid violation risen) → FirstBreach points set.touched (after keys set.changes) violation risen
 is_breach points history keys set violation risen late =
     let is : Late = Invalid violation risen in
-    let touched = rest-follows (if_untouched set.touched set.aside) is _ (λ e. let off : is_invalid is ≡ false = no_same is_invalid set.touched set.aside is refl e in absurd cc) late in
+    let touched = rest-follows (if_untouched set.touched set.aside) is _ (λ e. let off : is_invalid is ≡ false = same_off is_invalid set.touched set.aside is refl e in absurd cc) late in
     let free = rest-follows (conflict history set) is _ (λ e. let off : is_invalid is ≡ false = no_conflict is_invalid history set.fronts set.touched is (λ m by. refl) e in absurd cc) touched.1 in
     by free.1
   where
@@ -149,8 +142,8 @@ is_breach points history keys set violation risen late =
     by : Checks points keys set (Invalid violation risen) (Follows (if_heavy w) (Some is) (Follows (if_full h) (Some is) (is ≡ Commits (commit_of set) set.aside))) → FirstBreach points set.touched (after keys set.changes) violation risen
     by (inl breaks) = of breaks.violation breaks.risen breaks.is breaks.first
     by (inr kept) =
-        let light = rest-follows (if_heavy w) is _ (λ e. let off : is_invalid is ≡ false = no_limit is_invalid (nat_lt heaviest_map w) (DatabaseFull (saturated w)) is refl e in absurd cc) kept.1 in
-        let full = rest-follows (if_full h) is _ (λ e. let off : is_invalid is ≡ false = no_limit is_invalid (nat_lt heaviest_history h) (HistoryFull (saturated h)) is refl e in absurd cc) light.1 in
+        let light = rest-follows (if_heavy w) is _ (λ e. let off : is_invalid is ≡ false = limited is_invalid (nat_lt heaviest_map w) (DatabaseFull (saturated w)) is refl e in absurd cc) kept.1 in
+        let full = rest-follows (if_full h) is _ (λ e. let off : is_invalid is ≡ false = limited is_invalid (nat_lt heaviest_history h) (HistoryFull (saturated h)) is refl e in absurd cc) light.1 in
         let off : is_invalid is ≡ false = ap is_invalid full.1 in
         absurd cc
 

@@ -1,7 +1,9 @@
 pub mod Members
+pub mod Accepting
 pub mod Owners
 pub mod Histories
 pub mod Touched
+pub mod FirstSets
 mod Judged
 pub mod Kept
 mod Committing
@@ -10,4 +12,3 @@ mod Others
 pub mod OneVerdict
 pub mod Risen
 mod Weights
-pub mod FirstSets

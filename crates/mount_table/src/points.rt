@@ -1,5 +1,5 @@
 //! Which texts are mountpoints, and which name files of mounts.
-ghost use Rattle.std.specs.Prelude.{◌≡◌, if◌then◌else◌, IfOk, Some, None};
+ghost use Rattle.std.specs.Prelude.{◌≡◌, IfOk, Some, None};
 ghost use Rattle.model_names.specs.Below.{is_at_or_below};
 ghost use Rattle.model_names.specs.NameOf.{name_of};
 ghost use Rattle.mount_table.specs.Points.{is_point, point_of, file_of, own_point};

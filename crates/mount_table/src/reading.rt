@@ -1,6 +1,6 @@
 //! From the entries to their mounts, up to the first entry that is faulty.
 ghost use Rattle.std.specs.Prelude.{◌≡◌, ◌||◌, ◌∷◌, ◌++◌, [], ℕ, List, IfOk, IfErr, OnOk, Ok, is_some};
-ghost use Rattle.std.specs.FinMap.{find, is_sorted};
+ghost use Rattle.std.specs.FinMap.{find};
 ghost use Rattle.general_words.specs.Texts.{is_text, text_cmp};
 ghost use Rattle.mount_table.specs.Answers.{Gives, IsFault};
 ghost use Rattle.mount_table.specs.Reading.{kind_said, mount_of, next_mount, is_taken, mounts_from};

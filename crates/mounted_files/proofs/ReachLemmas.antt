@@ -1,5 +1,5 @@
 -- What a get gives are all visible keys that some involved mount owns, since each file shows only keys that its mount owns.
-use Rattle.std.proofs.Common.{◌≡◌, ℕ, zero, suc, ◌+◌, ◌<◌, ◌≤◌, Bool, true, false, cond, ◌||◌, nat_eq, nat_lt, List, [], ◌∷◌, length, slice_get, filter, filter_map, map as over, Option, Some, None, Result, Ok, Err, refl, sym, ap, subst, ◌∙◌, arith, eqb-true, eq-eqb, ne_eqb, false-eqb}
+use Rattle.std.proofs.Common.{◌≡◌, ℕ, zero, suc, ◌+◌, ◌<◌, ◌≤◌, Bool, true, false, cond, ◌||◌, nat_eq, nat_lt, List, [], ◌∷◌, length, slice_get, filter, filter_map, map as over, Option, Some, None, Ok, refl, sym, ap, subst, ◌∙◌, arith, eqb-true, eq-eqb, ne_eqb, false-eqb}
 use Rattle.std.specs.FinMap as map
 use Rattle.std.specs.List.{cons_option, fold, list_any, range_with_len}
 use Rattle.std.specs.Option.{option_eq, option_or}
@@ -7,7 +7,6 @@ use Rattle.std.proofs.lemmas.Bool.{cond-false}
 use Rattle.std.proofs.lemmas.List.{length-map}
 use Rattle.std.proofs.lemmas.Option.{none-some, same_Some}
 use Rattle.general_words.specs.Saturated.{saturated}
-use Rattle.general_words.specs.Searches.{first_some}
 use Rattle.general_words.proofs.Maps.{get-retain, retain-empty}
 use Rattle.general_words.proofs.Tests.{is_number}
 use Rattle.key_name.specs.Owner.{owner_of}
@@ -21,15 +20,14 @@ use Rattle.mount_table.specs.declared.mounts.Mount.{Mount}
 use Rattle.set_split.specs.Involved.{involved_in, is_involved, owns}
 use Rattle.set_split.specs.Parts.{in_reach, is_reached, owned_by}
 use Rattle.mounted_files.specs.Files.{Badness, IsState, Reading, points_of}
-use Rattle.mounted_files.specs.Getting.{fault_in, got, involved_files, visible_keys, visible_of}
+use Rattle.mounted_files.specs.Getting.{got, involved_files, visible_keys, visible_of}
 use Rattle.mounted_files.specs.Opening.{IsOpened}
 use Rattle.mounted_files.specs.Weighed.{added_weight, is_own, own_weight, weighed, weighed_behind, weighed_file, weighed_from}
 use Rattle.mounted_files.specs.declared.causes.Cause.TheVariants.{TooHeavy}
 use Rattle.mounted_files.specs.declared.files.FileState.{FileState}
 use Rattle.mounted_files.specs.declared.files.FileState.TheVariants.{Good, Bad}
 use Rattle.mounted_files.specs.declared.files.MountedFile.{MountedFile}
-use Rattle.mounted_files.specs.declared.refusals.GetFault.{GetFault}
-use Rattle.mounted_files.proofs.GetLemmas.{got-good, got-bad}
+use Rattle.mounted_files.proofs.LightLemmas.{got-visible}
 use Rattle.mounted_files.proofs.MapLemmas.{each-none}
 use Rattle.mounted_files.proofs.PointLemmas.{points-of_mounts}
 use Rattle.mounted_files.proofs.WeighLemmas.{mounts-from}
@@ -184,19 +182,6 @@ involved-show files parent shows =
     ∙ (ap (λ k. fold adds k (filter_map (slice_get files) (filter (is_involved points parent) (range_with_len 0 (length files))))) (retain-empty name_cmp_total name_cmp-IsAntisymmetric reached)
     ∙ ap (λ n. fold adds no_keys (filter_map (slice_get files) (filter (is_involved points parent) (range_with_len 0 n)))) (sym long)))
 
-got-keys : (files : List MountedFile) (parent : Name) (keys : KeyMap) → got files parent ≡ Ok keys → keys ≡ visible_keys (involved_files files parent)
-got-keys files parent keys is = by (first_some fault_in (involved_files files parent)) refl
-  where
-    same : (a b : KeyMap) → ◌≡◌ {A = Result KeyMap GetFault} (Ok a) (Ok b) → a ≡ b
-    same a b e = cc
-
-    apart : (a : KeyMap) (why : GetFault) → ◌≡◌ {A = Result KeyMap GetFault} (Ok a) (Err why) → ⊥
-    apart a why e = absurd cc
-
-    by : (o : Option GetFault) → first_some fault_in (involved_files files parent) ≡ o → keys ≡ visible_keys (involved_files files parent)
-    by None none = same keys _ (sym is ∙ got-good files parent none)
-    by (Some why) found = absurd (apart keys why (sym is ∙ got-bad files parent why found))
-
 -- what is got are the visible keys in reach
 pub got-in_reach : (Reads : Reading) (IsBad : Badness) (bytes_of : List ℕ → List ℕ) (files : List MountedFile) (parent : Name) (keys : KeyMap) → IsOpened Reads IsBad bytes_of files → got files parent ≡ Ok keys → keys ≡ in_reach (points_of files) parent (visible_keys files)
-got-in_reach Reads IsBad bytes_of files parent keys opened is = got-keys files parent keys is ∙ involved-show files parent (opened-show Reads IsBad bytes_of files opened)
+got-in_reach Reads IsBad bytes_of files parent keys opened is = sym (got-visible files parent keys is) ∙ involved-show files parent (opened-show Reads IsBad bytes_of files opened)

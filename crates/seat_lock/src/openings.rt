@@ -1,5 +1,5 @@
 //! How a table is made, and how it ends.
-ghost use Rattle.std.specs.Prelude.{◌≡◌, ◌+◌, ◌<◌, ◌≤◌, ℕ, [], ◌∷◌, length, vec_capacity, slice_get, Some, All, IfOk, IfErr};
+ghost use Rattle.std.specs.Prelude.{◌≡◌, ◌+◌, ◌<◌, ◌≤◌, ℕ, [], length, vec_capacity, slice_get, Some, All, IfOk, IfErr};
 ghost use Rattle.seat_lock.specs.Known.{knowledge};
 ghost use Rattle.seat_lock.specs.Views.{first_view};
 ghost use Rattle.seat_lock.specs.Story.{HasNoMaker};

@@ -1,5 +1,5 @@
 //! The steps on the table, one function each.
-ghost use Rattle.std.specs.Prelude.{◌≡◌, ◌%◌, ◌^◌, ◌<◌, ℕ, false, true, [], ◌∷◌, ◌++◌, length, Some, None, MatchBool};
+ghost use Rattle.std.specs.Prelude.{◌≡◌, ◌%◌, ◌^◌, ◌<◌, ℕ, true, [], ◌∷◌, ◌++◌, length, Some, None, MatchBool};
 ghost use mathlib.Core.List.{IsPrefix};
 ghost use Rattle.seat_lock.specs.Views.{with_ticket, ended_view, compared_view, rest_view, dealt_view, joint_view};
 ghost use Rattle.seat_lock.specs.Boards.{IsBoard, IsOutside, IsWaiting, HasEntered, CanGain};

@@ -1,7 +1,7 @@
 //! The names that a cascading name stands for.
 ghost use Rattle.std.specs.Prelude.{◌≡◌, ◌++◌, [], ◌∷◌, IfOk, OnOk, Some, ◌==◌};
 ghost use Rattle.std.specs.List.{flat_map};
-ghost use Rattle.std.specs.Option.{option_map, option_to_list};
+ghost use Rattle.std.specs.Option.{option_to_list};
 ghost use Rattle.model_names.specs.declared.namespaces.Namespace.TheVariants.{Cascading};
 ghost use Rattle.model_names.specs.Name.{rank};
 ghost use Rattle.spec_cascade.specs.Candidates.{candidates, names_for, names_of, paths_by, paths_in, searched, texts_of, usual};

@@ -3,7 +3,6 @@ ghost use Rattle.std.specs.Prelude.{◌≡◌, IfOk, None, if◌then◌else◌};
 ghost use Rattle.std.specs.FinMap as finite;
 ghost use Rattle.std.specs.Option.{option_map};
 ghost use Rattle.general_words.specs.Searches.{first_some};
-ghost use Rattle.model_names.specs.Order.{name_eq};
 ghost use Rattle.model_specified.specs.SpecMeta.{spec_meta};
 ghost use Rattle.spec_cascade.specs.Found.{default_said, first_present, found, found_at, present};
 

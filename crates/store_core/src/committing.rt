@@ -1,5 +1,5 @@
 //! A commit of a handle's prepared set: the history and the rules decide, then memory is taken, then the disk is written, and then the record moves.
-ghost use Rattle.std.specs.Prelude.{◌≡◌, ◌≢◌, ◌≤◌, ◌<◌, ◌+◌, ◌++◌, ◌∷◌, ℕ, [], true, false, All, List, Option, Some, Err, IfOk, IfErr, OnOk, OnErr, ◌⊎◌, length, map as over};
+ghost use Rattle.std.specs.Prelude.{◌≡◌, ◌≤◌, ◌<◌, ◌+◌, ◌++◌, ◌∷◌, ℕ, [], true, false, All, List, Option, Some, Err, IfOk, IfErr, OnOk, OnErr, ◌⊎◌, length, map as over};
 ghost use Rattle.kdb_outside.specs.Faults.{HasRisen};
 ghost use Rattle.kdb_outside.specs.Frames.{GoesOn};
 ghost use Rattle.commit_log.specs.CommitView as log;

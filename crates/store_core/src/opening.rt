@@ -15,8 +15,6 @@ ghost use Rattle.intent_journal.specs.States.{IsCalm};
 ghost use Rattle.model_crashes.specs.Runs.{new_run};
 ghost use Rattle.model_files.specs.Files.{HaveFiles};
 ghost use Rattle.model_maps.specs.KeyMap.{KeyMap};
-ghost use Rattle.model_store.specs.Records.{Record};
-ghost use Rattle.model_store.specs.Sets.{Prepared};
 ghost use Rattle.model_store.specs.Worlds.{first_world};
 ghost use Rattle.mount_table.specs.Table.{own_mount};
 ghost use Rattle.mounted_files.specs.Getting.{visible_keys};

@@ -1,5 +1,5 @@
 //! Which rules a set of keys breaks, by the matcher of an open store.
-ghost use Rattle.std.specs.Prelude.{◌≡◌, ◌≤◌, IfOk};
+ghost use Rattle.std.specs.Prelude.{◌≤◌, IfOk};
 ghost use Rattle.kdb_outside.specs.Faults.{HasRisen};
 ghost use Rattle.model_specified.specs.Violations.{AreViolations, is_within};
 ghost use Rattle.store_core.specs.Frames.{IsUnwritten};

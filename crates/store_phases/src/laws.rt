@@ -1,5 +1,4 @@
 //! Facts about a journal that stands for a run. Nothing here runs: each function stands for its contract.
-ghost use Rattle.std.specs.Prelude.{◌≡◌};
 ghost use Rattle.kdb_outside.specs.Crashes.{EveryImage};
 ghost use Rattle.kdb_outside.specs.Faults.{HasRisen};
 ghost use Rattle.intent_journal.specs.Outcomes.{HasOnly, IsEither};

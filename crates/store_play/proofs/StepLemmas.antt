@@ -1,6 +1,5 @@
 -- What each event leaves, from the clause of its call.
-use Rattle.std.proofs.Common.{◌≡◌, ◌≢◌, inl, inr, ℕ, ◌<◌, ◌≤◌, Bool, true, false, cond, nat_eq, List, length, slice_get, Option, Some, None, option_and_then, Result, Ok, Err, IfOk, IfErr, OnErr, get_or, refl, sym, ap, ap₂, subst, ◌∙◌, eqb-true, eq-eqb, arith}
-use Rattle.std.proofs.lemmas.Bool.{cond-true}
+use Rattle.std.proofs.Common.{◌≡◌, ◌≢◌, inl, inr, ℕ, ◌<◌, ◌≤◌, Bool, true, false, cond, nat_eq, List, length, slice_get, Option, Some, None, option_and_then, Result, Ok, Err, IfOk, IfErr, OnErr, get_or, refl, sym, ap, ap₂, subst, ◌∙◌, eqb-true, arith}
 use Rattle.std.proofs.lemmas.List.{length-map, length-set, set-get_or}
 use Rattle.std.proofs.lemmas.Option.{slice_get-get_or}
 use Rattle.std.proofs.Math.ListN.{set}
@@ -11,6 +10,7 @@ use Rattle.kdb_outside.specs.declared.disks.Disk.{Ghosts}
 use Rattle.model_crashes.specs.Runs.{Run}
 use Rattle.model_maps.specs.KeyMap.{KeyMap}
 use Rattle.model_names.specs.Name.{Name}
+use Rattle.model_store.proofs.Accepting.{put-here}
 use Rattle.model_store.specs.Cores as cores
 use Rattle.model_store.specs.Cores.{Made, accepts, set_made}
 use Rattle.model_store.specs.Events as event
@@ -68,9 +68,6 @@ reads_on formats store core next run r parent (event.Refused why) made = absurd 
 reads_on formats store core next run r parent event.Ready made = absurd made
 reads_on formats store core next run r parent (event.Judged front late) made = absurd made
 reads_on formats store core next run r parent (event.Failed front) made = absurd made
-
-put-at : (n : ℕ) (o : Option sets.Prepared) (f : ℕ → Option sets.Prepared) → put n o f n ≡ o
-put-at n o f = cond-true (nat_eq n n) o (f n) (eq-eqb n n refl)
 
 put-other : (n m : ℕ) (o : Option sets.Prepared) (f : ℕ → Option sets.Prepared) → m ≢ n → put n o f m ≡ f m
 put-other n m o f ne = elim (nat_eq m n) as (λ b. nat_eq m n ≡ b → cond b o (f m) ≡ f m) [
@@ -167,7 +164,7 @@ module _ (formats : Formats) {D P : Type 0} (g : Ghosts D) (files : List Mounted
             tells = refl;
             made = made;
             runs_on = refl;
-            held = sym (held_in-set places p (Some new) lt) ∙ ap (λ (o : Option sets.Prepared). put p o (held_in places)) (sym (put-at p (Some (prepared_of new)) known));
+            held = sym (held_in-set places p (Some new) lt) ∙ ap (λ (o : Option sets.Prepared). put p o (held_in places)) (sym (put-here p (Some (prepared_of new)) known));
             handles = refl;
             places = length-set places p (Some new);
           };
@@ -182,7 +179,7 @@ module _ (formats : Formats) {D P : Type 0} (g : Ghosts D) (files : List Mounted
         held_with new lt is_made n one =
             set-cases (λ (o : Option (Option Prepared)). option_and_then (λ s. s) o ≡ Some one → IsHeld formats store (put p (Some (prepared_of new)) known n) one) places p n (Some new) lt
             (λ same e. subst (λ (x : Prepared). IsHeld formats store (put p (Some (prepared_of new)) known n) x) (some_is new one e) (record {
-              is = ap (put p (Some (prepared_of new)) known) same ∙ put-at p (Some (prepared_of new)) known;
+              is = ap (put p (Some (prepared_of new)) known) same ∙ put-here p (Some (prepared_of new)) known;
               was_made = record { handle = handle_of rec; before = record_of rec; parent = parent; keys = keys; made = is_made };
             }))
             (λ other e. subst (λ (o : Option sets.Prepared). IsHeld formats store o one) (sym (put-other p n (Some (prepared_of new)) known other)) (h.held n one e))

@@ -1,6 +1,5 @@
 //! A commit that is played.
-ghost use Rattle.std.specs.Prelude.{◌≡◌, ◌<◌, ℕ, IfErr, IfOk, List, OnErr, OnOk, Option, Some, None, false, length, true};
-ghost use Rattle.kdb_outside.specs.Frames.{GoesOn};
+ghost use Rattle.std.specs.Prelude.{◌≡◌, ◌<◌, ℕ, IfErr, IfOk, OnErr, OnOk, Option, Some, None, true};
 ghost use Rattle.model_crashes.specs.Runs.{Run};
 ghost use Rattle.model_maps.specs.KeyMap.{KeyMap};
 ghost use Rattle.model_store.specs.Cores.{accepts};

@@ -1,5 +1,5 @@
 //! What the handles of a store keep.
-ghost use Rattle.std.specs.Prelude.{◌≡◌, ◌<◌, ◌≤◌, ◌^◌, ℕ, IfOk, length};
+ghost use Rattle.std.specs.Prelude.{◌≡◌, ◌<◌, ◌^◌, IfOk, length};
 ghost use Rattle.std.specs.List.{AllByRecursion};
 ghost use Rattle.store_play.specs.Handles.{AreHandles, AreHandlesOf, AreNew, HoldNothing, places_in, procs_at, records_in};
 ghost use Rattle.store_verdict.specs.ProcKeys.{AreProc};

@@ -1,5 +1,5 @@
 //! A prepare that is played.
-ghost use Rattle.std.specs.Prelude.{◌≡◌, ◌<◌, ℕ, IfErr, IfOk, List, OnErr, Option, Some, length, slice_get, slice_set};
+ghost use Rattle.std.specs.Prelude.{◌≡◌, ◌<◌, ℕ, IfErr, IfOk, OnErr, Option, Some};
 ghost use Rattle.std.specs.List.{AllByRecursion};
 ghost use Rattle.general_words.specs.Memory.{UnlessMemory};
 ghost use Rattle.model_crashes.specs.Runs.{Run};

@@ -1,6 +1,6 @@
 //! A set of keys that was prepared.
 ghost use Rattle.std.specs.Prelude.{◌≡◌};
-ghost use Rattle.store_verdict.specs.PreparedView.{front_of, prepared_of};
+ghost use Rattle.store_verdict.specs.PreparedView.{front_of};
 
 use crate::ChangeSet;
 use journal_codec::FileText;

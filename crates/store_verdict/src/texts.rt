@@ -1,10 +1,8 @@
 //! The texts of touched files.
 ghost use Rattle.std.specs.Prelude.{◌≡◌, IfErr, IfOk, IfSome, None, filter_map, map as over};
 ghost use Rattle.std.specs.List.{AllByRecursion};
-ghost use Rattle.std.specs.List.Sorted.{IsStrictlySortedBy};
 ghost use Rattle.general_words.specs.Memory.{UnlessMemory};
 ghost use Rattle.model_files.specs.Texts.{as_file};
-ghost use Rattle.model_names.specs.Order.{name_cmp};
 ghost use Rattle.mounted_files.specs.Setting.{first_long_in};
 ghost use Rattle.mounted_files.specs.Short.{AreShort};
 ghost use Rattle.mounted_files.specs.Sound.{AreSound, AreSoundChanges};

@@ -1,5 +1,5 @@
 //! Texts as numbers of 128 bits.
-ghost use Rattle.std.specs.Prelude.{◌≡◌, ◌<◌, ◌^◌, ℤ, MatchOption, SomeIff};
+ghost use Rattle.std.specs.Prelude.{◌<◌, ◌^◌, ℤ, MatchOption, SomeIff};
 ghost use Rattle.std.specs.Str.Parse.{IsNumeral, digits_value};
 ghost use Rattle.model_rules.specs.Number.{AreDigitsOf, IsNumber};
 
