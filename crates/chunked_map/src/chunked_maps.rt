@@ -58,6 +58,14 @@ impl<K: Ord, V> ChunkedMap<K, V> {
         count_in(&self.chunks)
     }
 
+    /// How many chunks the entries stand in. Each has 1 to 64 of them.
+    pub fn chunk_count(&self) -> usize
+        ensures some { result ≤ length self.now }
+        ensures few { length self.now ≤ 64 * result }
+    {
+        self.chunks.as_slice().len()
+    }
+
     /// The key and the value at a place in the order of the keys.
     pub fn at(&self, i: usize) -> Option<(&K, &V)>
         ensures at { option_map (λ entry. (entry.0.now, entry.1.now)) result ≡ slice_get self.now i }

@@ -10,8 +10,6 @@ mod iters;
 mod ranges;
 mod renaming;
 mod shared;
-#[cfg(test)]
-mod tests;
 
 pub use chunked_maps::ChunkedMap;
 pub use copies::Copied;

@@ -298,4 +298,8 @@ impl Disk for MemDisk {
     {
         self.call(file, Ok(Step::Synced))
     }
+
+    fn release(&mut self)
+        ensures { self.new ≡ self.old }
+    {}
 }

@@ -310,6 +310,14 @@ impl Disk for RealDisk {
         let outcome = self.keep(file);
         self.counted(outcome)
     }
+
+    /// The lock goes with its file, and what was found without one is found anew.
+    fn release(&mut self)
+        ensures { self.new ≡ self.old }
+    {
+        self.lock = None;
+        self.unlocked = Unlocked::Nothing;
+    }
 }
 
 #[cfg(test)]

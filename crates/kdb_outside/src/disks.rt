@@ -112,4 +112,9 @@ pub trait Disk {
         ensures tells { tells self.new ≡ tells self.old }
         ensures cause { HasCause (faults self.old) (faults self.new) result }
         ensures later { faults self.old ≤ faults self.new };
+
+    /// Says that the disk is done with for now, so that others may use what it stands for: a disk over a folder gives its lock back, and takes it
+    /// again at its next call. Nothing that a contract sees changes.
+    fn release(&mut self)
+        ensures { self.new ≡ self.old };
 }
