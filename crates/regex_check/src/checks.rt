@@ -1,5 +1,5 @@
 //! The check of a value under its metadata.
-ghost use Rattle.std.specs.Prelude.{◌≡◌, ◌≤◌, IfOk, MatchOption};
+ghost use Rattle.std.specs.Prelude.{◌≡◌, ◌≤◌, IfOk, MatchOption, OnErr};
 ghost use Rattle.kdb_outside.specs.Faults.{HasRisen};
 ghost use Rattle.model_rules.specs.Rules.{BreaksPattern, KeepsPattern};
 ghost use Rattle.regex_check.specs.Answers.{HandsNothingOn, Refutes};
@@ -14,7 +14,7 @@ use std::alloc::Global;
 const LONGEST_PATTERN: usize = 1024;
 
 /// The breach of rule 6 or 7, if there is one: `check/validation` is too long or is refused as a pattern, or it matches
-/// nowhere in the value. A pattern that is too long is not handed to the matcher.
+/// nowhere in the value. A pattern that is too long is not handed to the matcher. Want of memory leaves the count of refusals.
 pub fn check_pattern<P: Patterns>(
     alloc: Global,
     patterns: &mut P,
@@ -25,6 +25,7 @@ pub fn check_pattern<P: Patterns>(
         (KeepsPattern Matches value.now meta.now)
         (BreaksPattern (λ _. HasRisen (P.refusals patterns.old) (P.refusals patterns.new)) Misses value.now meta.now)) }
     ensures later { P.refusals patterns.old ≤ P.refusals patterns.new }
+    ensures err { OnErr result (P.refusals patterns.new ≡ P.refusals patterns.old) }
     ensures alone { HandsNothingOn meta.now → patterns.new ≡ patterns.old }
 {
     let Some(pattern) = meta.get("check/validation") else {
@@ -48,15 +49,17 @@ fn breach_of<P: Patterns>(
         (Matches pattern.now value.now)
         (Refutes (HasRisen (P.refusals patterns.old) (P.refusals patterns.new)) pattern.now value.now)) }
     ensures later { P.refusals patterns.old ≤ P.refusals patterns.new }
+    ensures err { OnErr result (P.refusals patterns.new ≡ P.refusals patterns.old) }
 {
-    // Room for a refusal is taken before the search: so want of memory hides no refused pattern.
+    // Room for either breach is taken before the search: so want of memory hides no refused pattern, and counts none.
     let refused = Text::new(alloc, pattern)?;
+    let missed = Text::new(alloc, value)?;
     match patterns.search(alloc, pattern, value)? {
         Search::Found => Ok(None),
-        Search::Missing => {
-            let given = Text::new(alloc, value)?;
-            Ok(Some(Broken { rule: 7, given }))
-        }
+        Search::Missing => Ok(Some(Broken {
+            rule: 7,
+            given: missed,
+        })),
         Search::Refused => Ok(Some(Broken {
             rule: 6,
             given: refused,

@@ -1,5 +1,5 @@
 //! What matches patterns, with its written meaning.
-ghost use Rattle.std.specs.Prelude.{◌≡◌, ◌≤◌, ℕ, IfOk};
+ghost use Rattle.std.specs.Prelude.{◌≡◌, ◌≤◌, ℕ, IfOk, OnErr};
 ghost use Rattle.kdb_outside.specs.Faults.{HasRisen};
 ghost use Rattle.regex_check.specs.Answers.{Answers};
 
@@ -21,9 +21,11 @@ pub enum Search {
 pub trait Patterns {
     ghost refusals: { Self → ℕ };
 
-    /// Searches for a pattern anywhere in a value. It is refused only where the count of refusals rose in this call.
+    /// Searches for a pattern anywhere in a value. It is refused only where the count of refusals rose in this call. Want of
+    /// memory is no refusal: it leaves the count as it was.
     fn search(&mut self, alloc: Global, pattern: &str, value: &str) -> Result<Search, Memory>
         ensures answer { IfOk result (Answers pattern.now value.now) }
         ensures cause { IfOk result (λ search. search ≡ Search.Refused → HasRisen (refusals self.old) (refusals self.new)) }
-        ensures later { refusals self.old ≤ refusals self.new };
+        ensures later { refusals self.old ≤ refusals self.new }
+        ensures err { OnErr result (refusals self.new ≡ refusals self.old) };
 }
