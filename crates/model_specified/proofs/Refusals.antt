@@ -1,16 +1,17 @@
--- What a refused pattern can have to do with violations: with none, with rule 6 of a short pattern, and with whether there is a list at all.
-use Rattle.std.proofs.Common.{◌≡◌, ℕ, ◌≤◌, true, false, nat_le, List, [], ◌∷◌, ◌++◌, map, length, Option, Some, None, refl, sym, ap, subst, ◌∙◌, arith, append-nil, codes}
+-- What a refused pattern can have to do with violations: with none, with rule 6 of a short pattern, and with whether there is a list at all;
+-- and what a text has that is no pattern.
+use Rattle.std.proofs.Common.{◌≡◌, ℕ, ◌≤◌, Bool, true, false, nat_le, List, [], ◌∷◌, ◌++◌, map, length, Option, Some, None, refl, sym, ap, subst, ◌∙◌, arith, append-nil, codes}
 use Rattle.std.specs.FinMap as finite
 use Rattle.std.specs.List.{AllByRecursion}
 use Rattle.std.specs.Option.{option_to_list}
 use Rattle.std.proofs.lemmas.Bool.{leb-true, leb-false}
-use Rattle.general_words.proofs.Lists.{all_append, all_map}
+use Rattle.general_words.proofs.Lists.{all_append, all_map, found_once}
 use Rattle.model_names.specs.Name.{Name}
 use Rattle.model_maps.specs.Entry.{Entry, Meta}
 use Rattle.model_rules.specs.Rules.{BreaksType, UnknownType, WrongType, BreaksRange, BadRange, OutOfRange, BreaksEnum, BreaksPattern, LongPattern, BadPattern, Mismatch, Tells, breach, longest_pattern}
 use Rattle.model_rules.specs.declared.breaches.Broken.{Broken}
-use Rattle.regex_check.specs.Grammar.{Misses}
-use Rattle.model_specified.specs.Violations.{AreBreaches, AreOfKey, AreOfKeys, BeginWith, TellsPattern, violation_at}
+use Rattle.regex_check.specs.Grammar.{IsInGrammar, Matches, Misses, matches_in}
+use Rattle.model_specified.specs.Violations.{AreBreaches, AreOfKey, AreOfKeyBy, AreOfKeys, AreOfKeysBy, BeginWith, IsNoPattern, TellsPattern, TellsPatternBy, violation_at}
 use Rattle.model_specified.specs.declared.violations.Violation.{Violation}
 
 -- ---- no violations
@@ -111,32 +112,49 @@ first-caused M keys violation h = (AreOfKeys-caused M h.front (violation ∷ h.m
 some_told : (Breaks : Broken → Type 0) → ((o : Option Broken) → Tells Breaks o → ⊥) → ⊥
 some_told Breaks off = off None (λ broken breaks. off (Some broken) breaks)
 
-some_pattern : (M : Type 0) → M → (value : List ℕ) (meta : Meta) → ((o : Option Broken) → TellsPattern M value meta o → ⊥) → ⊥
-some_pattern M may value meta off = by (finite.get meta (codes "check/validation")) refl
-  where
-    by : (o : Option (List ℕ)) → finite.get meta (codes "check/validation") ≡ o → ⊥
-    by None none = off None (λ pattern get. absurd (let both : None ≡ Some pattern = sym none ∙ get in cc))
-    by (Some pattern) is = elim (nat_le (length pattern) longest_pattern) as (λ b. nat_le (length pattern) longest_pattern ≡ b → ⊥) [
-      | true ↦ λ short. off (Some (breach 6 pattern)) (BadPattern pattern is (leb-true (length pattern) longest_pattern short) may refl)
-      | false ↦ λ long. off (Some (breach 6 pattern)) (LongPattern pattern is (leb-false (length pattern) longest_pattern long) refl)
-    ] refl
+-- each text that is no pattern may be refused
+abbrev pub RefusesEach : (List ℕ → Type 0) → Type 0
+RefusesEach MayRefuse = (pattern : List ℕ) → IsNoPattern pattern → MayRefuse pattern
 
-some_of_key : (M : Type 0) → M → (key : Name × Entry) → ((violations : List Violation) → AreOfKey M key violations → ⊥) → ⊥
-some_of_key M may key off =
-    some_told (BreaksType key.1.value key.1.meta) (λ t of_type.
-    some_told (BreaksRange key.1.value key.1.meta) (λ r of_range.
-    some_told (BreaksEnum key.1.value key.1.meta) (λ e of_enum.
-    some_pattern M may key.1.value key.1.meta (λ p of_pattern.
-    off (map (violation_at key.0) (option_to_list t ++ (option_to_list r ++ (option_to_list e ++ option_to_list p))))
-    (record {
-      breaches = option_to_list t ++ (option_to_list r ++ (option_to_list e ++ option_to_list p));
-      are = record { by_type = t; by_range = r; by_enum = e; by_pattern = p; of_type = of_type; of_range = of_range; of_enum = of_enum; of_pattern = of_pattern; all = refl };
-      all = refl;
-    })))))
+module _ (MayRefuse : List ℕ → Type 0) (each : RefusesEach MayRefuse) where
+  -- a short text is a pattern that matches, or one that doesn't, or none
+  some_short : (value : List ℕ) (meta : Meta) (pattern : List ℕ) → finite.get meta (codes "check/validation") ≡ Some pattern → length pattern ≤ longest_pattern → ((o : Option Broken) → TellsPatternBy MayRefuse value meta o → ⊥) → ⊥
+  some_short value meta pattern is short off =
+      off (Some (breach 6 pattern)) (BadPattern pattern is short (each pattern (λ grammar. by grammar (matches_in pattern value) refl)) refl)
+    where
+      by : IsInGrammar pattern → (b : Bool) → matches_in pattern value ≡ b → ⊥
+      by grammar true found = off None (λ other get. subst (λ p. (length p ≤ longest_pattern) × Matches p value) (found_once pattern other is get) (short, record { grammar = grammar; is = found }))
+      by grammar false missing = off (Some (breach 7 value)) (Mismatch pattern is short (record { grammar = grammar; is = missing }) refl)
+
+  some_pattern : (value : List ℕ) (meta : Meta) → ((o : Option Broken) → TellsPatternBy MayRefuse value meta o → ⊥) → ⊥
+  some_pattern value meta off = by (finite.get meta (codes "check/validation")) refl
+    where
+      by : (o : Option (List ℕ)) → finite.get meta (codes "check/validation") ≡ o → ⊥
+      by None none = off None (λ pattern get. absurd (let both : None ≡ Some pattern = sym none ∙ get in cc))
+      by (Some pattern) is = elim (nat_le (length pattern) longest_pattern) as (λ b. nat_le (length pattern) longest_pattern ≡ b → ⊥) [
+        | true ↦ λ short. some_short value meta pattern is (leb-true (length pattern) longest_pattern short) off
+        | false ↦ λ long. off (Some (breach 6 pattern)) (LongPattern pattern is (leb-false (length pattern) longest_pattern long) refl)
+      ] refl
+
+  some_of_key : (key : Name × Entry) → ((violations : List Violation) → AreOfKeyBy MayRefuse key violations → ⊥) → ⊥
+  some_of_key key off =
+      some_told (BreaksType key.1.value key.1.meta) (λ t of_type.
+      some_told (BreaksRange key.1.value key.1.meta) (λ r of_range.
+      some_told (BreaksEnum key.1.value key.1.meta) (λ e of_enum.
+      some_pattern key.1.value key.1.meta (λ p of_pattern.
+      off (map (violation_at key.0) (option_to_list t ++ (option_to_list r ++ (option_to_list e ++ option_to_list p))))
+      (record {
+        breaches = option_to_list t ++ (option_to_list r ++ (option_to_list e ++ option_to_list p));
+        are = record { by_type = t; by_range = r; by_enum = e; by_pattern = p; of_type = of_type; of_range = of_range; of_enum = of_enum; of_pattern = of_pattern; all = refl };
+        all = refl;
+      })))))
+
+  pub some_by_keys : (keys : List (Name × Entry)) → ((violations : List Violation) → AreOfKeysBy MayRefuse keys violations → ⊥) → ⊥
+  some_by_keys [] off = off [] refl
+  some_by_keys (key ∷ keys) off = some_of_key key (λ own of_key. some_by_keys keys (λ rest of_rest. off (own ++ rest) (own, rest, of_key, of_rest, refl)))
 
 pub some_of_keys : (M : Type 0) → M → (keys : List (Name × Entry)) → ((violations : List Violation) → AreOfKeys M keys violations → ⊥) → ⊥
-some_of_keys M may [] off = off [] refl
-some_of_keys M may (key ∷ keys) off = some_of_key M may key (λ own of_key. some_of_keys M may keys (λ rest of_rest. off (own ++ rest) (own, rest, of_key, of_rest, refl)))
+some_of_keys M may keys = some_by_keys (λ _. M) (λ pattern off. may) keys
 
 -- where a pattern may be refused it is absurd that some keys have neither a first violation nor none
 pub first_or_none : (M : Type 0) → M → (keys : List (Name × Entry)) → ((violation : Violation) → BeginWith M keys violation → ⊥) → (AreOfKeys M keys [] → ⊥) → ⊥
@@ -145,3 +163,13 @@ first_or_none M may keys some none = some_of_keys M may keys by
     by : (violations : List Violation) → AreOfKeys M keys violations → ⊥
     by [] h = none h
     by (violation ∷ more) h = some violation (record { front = keys; behind = []; all = sym (append-nil keys); more = more; violations = h })
+
+-- ---- a text that is no pattern
+
+-- it breaks rule 6, whatever else may be refused
+pub no_pattern-breaks : (M : Type 0) (value : List ℕ) (meta : Meta) (pattern : List ℕ) (answer : Option Broken) → finite.get meta (codes "check/validation") ≡ Some pattern → length pattern ≤ longest_pattern → IsNoPattern pattern → TellsPattern M value meta answer → answer ≡ Some (breach 6 pattern)
+no_pattern-breaks M value meta pattern None get short off keeps = absurd (off (keeps pattern get).1.grammar)
+no_pattern-breaks M value meta pattern (Some broken) get short off (LongPattern other got long is) =
+    absurd (let small : length other ≤ longest_pattern = subst (λ p. length p ≤ longest_pattern) (found_once pattern other get got) short in omega (arith, long, small))
+no_pattern-breaks M value meta pattern (Some broken) get short off (BadPattern other got small may is) = ap Some (is ∙ ap (breach 6) (found_once other pattern got get))
+no_pattern-breaks M value meta pattern (Some broken) get short off (Mismatch other got small misses is) = absurd (off (subst (λ p. Misses p value) (found_once other pattern got get) misses).grammar)

@@ -1,16 +1,17 @@
 //! A few sets, worked: the definitions at concrete keys.
 ghost use Rattle.std.specs.Prelude.{◌≡◌, [], ◌∷◌, true, false, None, Some, codes};
 ghost use Rattle.std.specs.FinMap as map;
+ghost use Rattle.std.specs.List.{AllByRecursion};
 ghost use Rattle.model_maps.specs.Entry.{plain_entry, with_meta};
 ghost use Rattle.model_maps.specs.KeyMap.{no_keys};
 ghost use Rattle.model_specified.specs.SpecMeta.{is_pattern_of, spec_meta, spec_name};
 ghost use Rattle.model_specified.specs.Specified.{bit_of, default_name, default_of};
 
-/// A boolean's words are 1 and 0; any other value stays as it is.
+/// Four words stand for 1 and four for 0; any other value stays as it is, also one in great letters.
 pub fn words_stand_for_bits()
-    ensures one { bit_of (codes "yes") ≡ Some (codes "1") }
-    ensures zero { bit_of (codes "disabled") ≡ Some (codes "0") }
-    ensures other { bit_of (codes "maybe") ≡ None }
+    ensures one { AllByRecursion (λ word. bit_of word ≡ Some (codes "1")) (codes "true" ∷ codes "yes" ∷ codes "on" ∷ codes "enabled" ∷ []) }
+    ensures zero { AllByRecursion (λ word. bit_of word ≡ Some (codes "0")) (codes "false" ∷ codes "no" ∷ codes "off" ∷ codes "disabled" ∷ []) }
+    ensures other { AllByRecursion (λ word. bit_of word ≡ None) (codes "maybe" ∷ codes "True" ∷ codes "1" ∷ [] ∷ []) }
 {}
 
 /// `_` stands for any part and `#` for an item of an array, in paths that are as long; a path's own name is no pattern of it.

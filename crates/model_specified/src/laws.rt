@@ -1,17 +1,19 @@
 //! The laws of specified sets.
-ghost use Rattle.std.specs.Prelude.{◌≡◌, ◌≤◌, Bool, List, [], ◌∷◌, ◌++◌, length, Option, Some, ℕ};
+ghost use Rattle.std.specs.Prelude.{◌≡◌, ◌≤◌, Bool, List, [], ◌∷◌, ◌++◌, length, Option, Some, ℕ, codes};
 ghost use Rattle.std.specs.Bool.{Decides};
 ghost use Rattle.std.specs.FinMap as map;
 ghost use Rattle.std.specs.Option.{option_map, option_or};
 ghost use Rattle.general_words.specs.Searches.{first_some};
 ghost use Rattle.kdb_outside.specs.Faults.{HasRisen};
+ghost use Rattle.model_maps.specs.Entry.{Meta};
 ghost use Rattle.model_maps.specs.KeyMap.{KeyMap};
 ghost use Rattle.model_names.specs.Glob.{HasGlob, MatchesGlob};
 ghost use Rattle.model_names.specs.Name.{Name, Part};
 ghost use Rattle.model_specified.specs.Globs.{has_glob, matches_glob};
 ghost use Rattle.model_specified.specs.SpecMeta.{spec_keys, spec_meta, specs_of};
-ghost use Rattle.model_rules.specs.Rules.{longest_pattern};
-ghost use Rattle.model_specified.specs.Violations.{AreOfKeys, AreViolations, BeginWith, IsFirstViolation, checked_keys};
+ghost use Rattle.model_rules.specs.Rules.{breach, longest_pattern};
+ghost use Rattle.model_rules.specs.declared.breaches.Broken.{Broken};
+ghost use Rattle.model_specified.specs.Violations.{AreOfKeys, AreViolations, AreViolationsBy, BeginWith, IsFirstViolation, IsNoPattern, MayBeRefused, TellsPattern, checked_keys};
 ghost use Rattle.model_specified.specs.declared.violations.Violation.{Violation};
 ghost use Rattle.model_specified.specs.Specified.{default_at, specified, specified_entry, with_defaults};
 
@@ -39,6 +41,21 @@ pub fn a_default_stands_in_place_of_what_was_there()
 /// Where no pattern may be refused, a set has one list of violations at most.
 pub fn without_refusals_a_set_has_one_list_of_violations()
     ensures { (is_chosen : Name → Bool) (keys : KeyMap) (a b : List Violation) → AreViolations ⊥ is_chosen keys a → AreViolations ⊥ is_chosen keys b → a ≡ b }
+{}
+
+/// A text that is no pattern breaks rule 6 freely, and a pattern only where the count of refusals rose (`MayBeRefused`). Read so, it is
+/// absurd that a set has no list of violations, and it has one alone where the count didn't rise. The lists that a call tells are among
+/// these, and all of them where the count rose.
+pub fn by_the_grammar_a_set_has_its_lists_of_violations()
+    ensures some { (before now : ℕ) (is_chosen : Name → Bool) (keys : KeyMap) → ((violations : List Violation) → AreViolationsBy (MayBeRefused (HasRisen before now)) is_chosen keys violations → ⊥) → ⊥ }
+    ensures one { (before now : ℕ) (is_chosen : Name → Bool) (keys : KeyMap) (a b : List Violation) → (HasRisen before now → ⊥) → AreViolationsBy (MayBeRefused (HasRisen before now)) is_chosen keys a → AreViolationsBy (MayBeRefused (HasRisen before now)) is_chosen keys b → a ≡ b }
+    ensures told { (before now : ℕ) (is_chosen : Name → Bool) (keys : KeyMap) (violations : List Violation) → AreViolations (HasRisen before now) is_chosen keys violations → AreViolationsBy (MayBeRefused (HasRisen before now)) is_chosen keys violations }
+    ensures all { (before now : ℕ) (is_chosen : Name → Bool) (keys : KeyMap) (violations : List Violation) → HasRisen before now → AreViolationsBy (MayBeRefused (HasRisen before now)) is_chosen keys violations → AreViolations (HasRisen before now) is_chosen keys violations }
+{}
+
+/// A text of at most 1,024 bytes that is no pattern breaks rule 6, whatever the matcher does with patterns.
+pub fn a_text_that_is_no_pattern_breaks_its_rule()
+    ensures { (before now : ℕ) (value : List ℕ) (meta : Meta) (pattern : List ℕ) (answer : Option Broken) → map.get meta (codes "check/validation") ≡ Some pattern → length pattern ≤ longest_pattern → IsNoPattern pattern → TellsPattern (HasRisen before now) value meta answer → answer ≡ Some (breach 6 pattern) }
 {}
 
 /// The first violation stands first in each list of all violations that goes on from those of the keys up to it.

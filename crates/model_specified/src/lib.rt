@@ -12,7 +12,8 @@ pub use examples::{
 };
 pub use laws::{
     a_default_stands_in_place_of_what_was_there, a_set_has_a_first_violation_or_none,
-    a_short_pattern_is_refused_by_the_matcher, each_key_is_specified_by_itself,
+    a_short_pattern_is_refused_by_the_matcher, a_text_that_is_no_pattern_breaks_its_rule,
+    by_the_grammar_a_set_has_its_lists_of_violations, each_key_is_specified_by_itself,
     the_first_specification_key_with_a_name_gives_its_text, the_first_violation_begins_a_list,
     the_tests_of_globs_decide, to_find_no_violations_needs_no_refusals,
     without_refusals_a_set_has_one_first_violation,
