@@ -1,3 +1,4 @@
+pub mod ChoiceLemmas
 pub mod LowestLemmas
 pub mod FrontLemmas
 pub mod StandsLemmas

@@ -3,9 +3,11 @@
 
 mod choices;
 mod fronts;
+mod laws;
 mod merging;
 mod strategies;
 mod walks;
 
+pub use laws::the_side_that_changed_a_name_gives_it;
 pub use merging::{Merge3Fault, merge3};
 pub use strategies::Strategy;
