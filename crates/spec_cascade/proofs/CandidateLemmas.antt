@@ -8,7 +8,7 @@ use Rattle.model_maps.specs.Entry.{Meta, IsArray, item_name}
 use Rattle.model_maps.specs.KeyMap.{KeyMap}
 use Rattle.model_specified.specs.SpecMeta.{spec_meta}
 use Rattle.model_specified.specs.Specified.{default_name}
-use Rattle.spec_cascade.specs.Candidates.{candidates, names_of, paths_by, texts_from, texts_of}
+use Rattle.spec_cascade.specs.Candidates.{candidates, candidates_by, names_of, paths_by, texts_from, texts_of}
 use Rattle.spec_cascade.specs.Found.{first_present, present}
 use Rattle.spec_cascade.specs.declared.founds.Found.{Found}
 use Rattle.general_words.specs.Searches.{first_some}
@@ -54,6 +54,10 @@ pub four_kinds : (path : List Part) (said : Meta) (overrides words fallbacks : L
 four_kinds path said overrides words fallbacks l0 l1 l2 l3 l4 os ws fs none e1 e2 e3 e4 =
     appended_four l0 l1 l2 l3 l4 (flat_map names_of overrides) (paths_by path words) (flat_map names_of fallbacks) (default_name path ∷ []) e1 e2 e3 e4
     ∙ (λ i. none i ++ (flat_map names_of (os i) ++ (paths_by path (ws i) ++ (flat_map names_of (fs i) ++ default_name path ∷ []))))
+
+-- by what the three arrays hold
+pub candidates-by : (path : List Part) (said : Meta) (overrides words fallbacks : List (List ℕ)) → texts_of said (codes "override") ≡ overrides → texts_of said (codes "namespace") ≡ words → texts_of said (codes "fallback") ≡ fallbacks → candidates path said ≡ candidates_by path overrides words fallbacks
+candidates-by path said overrides words fallbacks os ws fs = λ i. candidates_by path (os i) (ws i) (fs i)
 
 -- the first that is present of a path's candidates
 pub first_found : {E : Type 0} (keys : KeyMap) (path : List Part) (said : Meta) (default : Name) (names : List Name) (r : Result (Option Found) E) → said ≡ spec_meta keys path → default ≡ default_name path → names ≡ candidates path said

@@ -53,7 +53,11 @@ texts_from (suc more) meta prefix index =
 unfoldable pub texts_of : Meta → List ℕ → List (List ℕ)
 texts_of meta prefix = texts_from (2 ^ 64) meta prefix 0
 
--- all names that a path stands for, by what its specification metadata says
+-- all names that a path stands for: those in `override`, its path in the namespaces that words ask for, those in `fallback`, and its default
+abbrev pub candidates_by : List Part → List (List ℕ) → List (List ℕ) → List (List ℕ) → List Name
+candidates_by path overrides words fallbacks =
+    flat_map names_of overrides ++ (paths_by path words ++ (flat_map names_of fallbacks ++ default_name path ∷ []))
+
+-- by what its specification metadata says
 abbrev pub candidates : List Part → Meta → List Name
-candidates path said =
-    flat_map names_of (texts_of said (codes "override")) ++ (paths_by path (texts_of said (codes "namespace")) ++ (flat_map names_of (texts_of said (codes "fallback")) ++ default_name path ∷ []))
+candidates path said = candidates_by path (texts_of said (codes "override")) (texts_of said (codes "namespace")) (texts_of said (codes "fallback"))

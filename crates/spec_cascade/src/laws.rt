@@ -1,8 +1,8 @@
-//! A law of lookups, and a few candidates, worked.
+//! A law of arrays, and a few candidates, worked.
 ghost use Rattle.std.specs.Prelude.{◌≡◌, ◌≤◌, ◌^◌, ℕ, List, [], ◌∷◌, length, codes};
-ghost use Rattle.model_names.specs.declared.namespaces.Namespace.TheVariants.{Dir, Proc, System, User};
+ghost use Rattle.model_names.specs.declared.namespaces.Namespace.TheVariants.{Default, Dir, Proc, System, User};
 ghost use Rattle.model_maps.specs.Entry.{IsArray, Meta};
-ghost use Rattle.spec_cascade.specs.Candidates.{paths_by, texts_of};
+ghost use Rattle.spec_cascade.specs.Candidates.{candidates, paths_by, texts_of};
 
 /// The texts of `override`, `namespace` and `fallback` are those of an array of metadata, up to the first item that is missing.
 pub fn texts_are_those_of_an_array()
@@ -14,4 +14,13 @@ pub fn words_name_namespaces()
     ensures some { paths_by (codes "a" ∷ []) (codes "system" ∷ codes "spec" ∷ codes "dir" ∷ []) ≡ record { namespace = System; parts = codes "a" ∷ [] } ∷ record { namespace = Dir; parts = codes "a" ∷ [] } ∷ [] }
     ensures none { paths_by (codes "a" ∷ []) (codes "spec" ∷ []) ≡ [] }
     ensures usual { paths_by (codes "a" ∷ []) [] ≡ record { namespace = Proc; parts = codes "a" ∷ [] } ∷ record { namespace = Dir; parts = codes "a" ∷ [] } ∷ record { namespace = User; parts = codes "a" ∷ [] } ∷ record { namespace = System; parts = codes "a" ∷ [] } ∷ [] }
+{}
+
+/// All candidates of `/a`, where `override` has `user:/b`, `namespace` has `system`, and `fallback` has a text that is no name and `/c`; and
+/// where it has none of these.
+pub fn a_path_has_its_candidates()
+    ensures all { (said : Meta) → texts_of said (codes "override") ≡ codes "user:/b" ∷ [] → texts_of said (codes "namespace") ≡ codes "system" ∷ [] → texts_of said (codes "fallback") ≡ codes "b" ∷ codes "/c" ∷ []
+        → candidates (codes "a" ∷ []) said ≡ record { namespace = User; parts = codes "b" ∷ [] } ∷ record { namespace = System; parts = codes "a" ∷ [] } ∷ record { namespace = Proc; parts = codes "c" ∷ [] } ∷ record { namespace = Dir; parts = codes "c" ∷ [] } ∷ record { namespace = User; parts = codes "c" ∷ [] } ∷ record { namespace = System; parts = codes "c" ∷ [] } ∷ record { namespace = Default; parts = codes "a" ∷ [] } ∷ [] }
+    ensures bare { (said : Meta) → texts_of said (codes "override") ≡ [] → texts_of said (codes "namespace") ≡ [] → texts_of said (codes "fallback") ≡ []
+        → candidates (codes "a" ∷ []) said ≡ record { namespace = Proc; parts = codes "a" ∷ [] } ∷ record { namespace = Dir; parts = codes "a" ∷ [] } ∷ record { namespace = User; parts = codes "a" ∷ [] } ∷ record { namespace = System; parts = codes "a" ∷ [] } ∷ record { namespace = Default; parts = codes "a" ∷ [] } ∷ [] }
 {}
