@@ -2,6 +2,9 @@
 ghost use Rattle.std.specs.Prelude.{◌≡◌, [], ◌∷◌, true, false, None, Some, codes};
 ghost use Rattle.std.specs.FinMap as map;
 ghost use Rattle.std.specs.List.{AllByRecursion};
+ghost use Rattle.std.specs.declared.cmp.Ordering.TheVariants.{Less};
+ghost use Rattle.model_names.specs.declared.namespaces.Namespace.TheVariants.{Proc, Dir, User, System, Default};
+ghost use Rattle.model_names.specs.Order.{name_cmp};
 ghost use Rattle.model_maps.specs.Entry.{plain_entry, with_meta};
 ghost use Rattle.model_maps.specs.KeyMap.{no_keys};
 ghost use Rattle.model_specified.specs.SpecMeta.{is_pattern_of, spec_meta, spec_name};
@@ -12,6 +15,14 @@ pub fn words_stand_for_bits()
     ensures one { AllByRecursion (λ word. bit_of word ≡ Some (codes "1")) (codes "true" ∷ codes "yes" ∷ codes "on" ∷ codes "enabled" ∷ []) }
     ensures zero { AllByRecursion (λ word. bit_of word ≡ Some (codes "0")) (codes "false" ∷ codes "no" ∷ codes "off" ∷ codes "disabled" ∷ []) }
     ensures other { AllByRecursion (λ word. bit_of word ≡ None) (codes "maybe" ∷ codes "True" ∷ codes "1" ∷ [] ∷ []) }
+{}
+
+/// Violations are told by key in order: those of `dir:` before those of `user:`, which stand before those of `system:`.
+pub fn keys_come_by_namespace()
+    ensures proc { name_cmp (record { namespace = Proc; parts = codes "z" ∷ [] }) (record { namespace = Dir; parts = codes "a" ∷ [] }) ≡ Less }
+    ensures dir { name_cmp (record { namespace = Dir; parts = codes "z" ∷ [] }) (record { namespace = User; parts = codes "a" ∷ [] }) ≡ Less }
+    ensures user { name_cmp (record { namespace = User; parts = codes "z" ∷ [] }) (record { namespace = System; parts = codes "a" ∷ [] }) ≡ Less }
+    ensures system { name_cmp (record { namespace = System; parts = codes "z" ∷ [] }) (record { namespace = Default; parts = codes "a" ∷ [] }) ≡ Less }
 {}
 
 /// `_` stands for any part and `#` for an item of an array, in paths that are as long; a path's own name is no pattern of it.

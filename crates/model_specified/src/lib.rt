@@ -7,7 +7,7 @@ mod laws;
 mod violations;
 
 pub use examples::{
-    a_plain_name_makes_a_default, patterns_match_paths_part_by_part,
+    a_plain_name_makes_a_default, keys_come_by_namespace, patterns_match_paths_part_by_part,
     the_path_itself_comes_before_its_patterns, words_stand_for_bits,
 };
 pub use laws::{
