@@ -47,15 +47,31 @@ pub fn without_refusals_a_set_has_one_list_of_violations()
 /// absurd that a set has no list of violations, and it has one alone where the count didn't rise. The lists that a call tells are among
 /// these, and all of them where the count rose.
 pub fn by_the_grammar_a_set_has_its_lists_of_violations()
-    ensures some { (before now : ℕ) (is_chosen : Name → Bool) (keys : KeyMap) → ((violations : List Violation) → AreViolationsBy (MayBeRefused (HasRisen before now)) is_chosen keys violations → ⊥) → ⊥ }
-    ensures one { (before now : ℕ) (is_chosen : Name → Bool) (keys : KeyMap) (a b : List Violation) → (HasRisen before now → ⊥) → AreViolationsBy (MayBeRefused (HasRisen before now)) is_chosen keys a → AreViolationsBy (MayBeRefused (HasRisen before now)) is_chosen keys b → a ≡ b }
-    ensures told { (before now : ℕ) (is_chosen : Name → Bool) (keys : KeyMap) (violations : List Violation) → AreViolations (HasRisen before now) is_chosen keys violations → AreViolationsBy (MayBeRefused (HasRisen before now)) is_chosen keys violations }
-    ensures all { (before now : ℕ) (is_chosen : Name → Bool) (keys : KeyMap) (violations : List Violation) → HasRisen before now → AreViolationsBy (MayBeRefused (HasRisen before now)) is_chosen keys violations → AreViolations (HasRisen before now) is_chosen keys violations }
+    ensures some { (before now : ℕ) (is_chosen : Name → Bool) (keys : KeyMap)
+        → ((violations : List Violation) → AreViolationsBy (MayBeRefused (HasRisen before now)) is_chosen keys violations → ⊥)
+        → ⊥ }
+    ensures one { (before now : ℕ) (is_chosen : Name → Bool) (keys : KeyMap) (a b : List Violation)
+        → (HasRisen before now → ⊥)
+        → AreViolationsBy (MayBeRefused (HasRisen before now)) is_chosen keys a
+        → AreViolationsBy (MayBeRefused (HasRisen before now)) is_chosen keys b
+        → a ≡ b }
+    ensures told { (before now : ℕ) (is_chosen : Name → Bool) (keys : KeyMap) (violations : List Violation)
+        → AreViolations (HasRisen before now) is_chosen keys violations
+        → AreViolationsBy (MayBeRefused (HasRisen before now)) is_chosen keys violations }
+    ensures all { (before now : ℕ) (is_chosen : Name → Bool) (keys : KeyMap) (violations : List Violation)
+        → HasRisen before now
+        → AreViolationsBy (MayBeRefused (HasRisen before now)) is_chosen keys violations
+        → AreViolations (HasRisen before now) is_chosen keys violations }
 {}
 
 /// A text of at most 1,024 bytes that is no pattern breaks rule 6, whatever the matcher does with patterns.
 pub fn a_text_that_is_no_pattern_breaks_its_rule()
-    ensures { (before now : ℕ) (value : List ℕ) (meta : Meta) (pattern : List ℕ) (answer : Option Broken) → map.get meta (codes "check/validation") ≡ Some pattern → length pattern ≤ longest_pattern → IsNoPattern pattern → TellsPattern (HasRisen before now) value meta answer → answer ≡ Some (breach 6 pattern) }
+    ensures { (before now : ℕ) (value : List ℕ) (meta : Meta) (pattern : List ℕ) (answer : Option Broken)
+        → map.get meta (codes "check/validation") ≡ Some pattern
+        → length pattern ≤ longest_pattern
+        → IsNoPattern pattern
+        → TellsPattern (HasRisen before now) value meta answer
+        → answer ≡ Some (breach 6 pattern) }
 {}
 
 /// The first violation stands first in each list of all violations that goes on from those of the keys up to it.
