@@ -1,7 +1,7 @@
 pub mod WordCuts
 pub mod PartLemmas
 pub mod CommentUtf8
-pub mod CommentWalk
+pub mod NulBytes
 pub mod ChildNames
 pub mod WeighedLemmas
 pub mod HostLemmas

@@ -19,18 +19,10 @@ pub fn metadata(alloc: Global, texts: Vec<Text>) -> Result<Meta, Memory>
 }
 
 /// The texts of the array `comment`, which ends at the first item that is missing.
-pub fn texts_of(alloc: Global, meta: &Meta) -> Result<Vec<Text>, Memory>
+pub fn texts_of(meta: &Meta) -> Result<Vec<Text>, Memory>
     ensures { IfOk result (λ texts. texts.items ≡ texts_of_meta meta.now) }
 {
-    let mut texts = Vec::new(alloc);
-    for index in 0..meta.len() {
-        let name = comment_name(alloc, index)?;
-        let Some(text) = meta.get(&name) else {
-            break;
-        };
-        texts.push(Text::new(alloc, text)?)?;
-    }
-    Ok(texts)
+    Ok(meta.array("comment")?.into_vec())
 }
 
 /// The metadata name of a comment. One underscore less than the index has digits stands before them.

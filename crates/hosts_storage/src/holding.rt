@@ -60,7 +60,7 @@ fn is_host(alloc: Global, of_family: &str, host: &str, entry: &Entry) -> Result<
 fn are_comments(alloc: Global, meta: &Meta) -> Result<bool, Memory>
     ensures { IfOk result (λ are. Decides are (HasComments meta.now)) }
 {
-    let texts = texts_of(alloc, meta)?;
+    let texts = texts_of(meta)?;
     if !are_lines(&texts) {
         return Ok(false);
     }

@@ -43,26 +43,25 @@ fn text_of(alloc: Global, keys: &KeySet) -> Result<Vec<u8>, Memory>
     ensures { IfOk result (λ bytes. bytes.items ≡ text keys.now) }
 {
     let mut bytes = Vec::new(alloc);
-    if push_keys(alloc, &mut bytes, keys)? {
+    if push_keys(&mut bytes, keys)? {
         bytes.push(b'\n')?;
     }
     Ok(bytes)
 }
 
 /// Appends the lines of all keys in name order, and answers whether the last one is open: aliases and a line feed may follow.
-fn push_keys(alloc: Global, bytes: &mut Vec<u8>, keys: &KeySet) -> Result<bool, Memory>
+fn push_keys(bytes: &mut Vec<u8>, keys: &KeySet) -> Result<bool, Memory>
     ensures { IfOk result (λ is_open. bytes.new.items ++ tail_of is_open ([], []) ≡ bytes.old.items ++ text keys.now) }
 {
     let mut is_open = false;
     for (name, entry) in keys.iter() {
-        is_open = push_key(alloc, bytes, is_open, name, entry)?;
+        is_open = push_key(bytes, is_open, name, entry)?;
     }
     Ok(is_open)
 }
 
 /// Appends a host's comments and the front of its line, or an alias to an open line, and answers whether a line is open then.
 fn push_key(
-    alloc: Global,
     bytes: &mut Vec<u8>,
     is_open: bool,
     name: &KeyName,
@@ -75,7 +74,7 @@ fn push_key(
         if is_open {
             bytes.push(b'\n')?;
         }
-        push_host(alloc, bytes, last, entry)?;
+        push_host(bytes, last, entry)?;
         return Ok(true);
     }
     if is_open {
@@ -96,10 +95,10 @@ fn last_part_of(name: &KeyName) -> &[u8]
 }
 
 /// Appends a host's comments, its address and its name.
-fn push_host(alloc: Global, bytes: &mut Vec<u8>, host: &[u8], entry: &Entry) -> Result<(), Memory>
+fn push_host(bytes: &mut Vec<u8>, host: &[u8], entry: &Entry) -> Result<(), Memory>
     ensures { OnOk result (bytes.new.items ≡ bytes.old.items ++ (ended (over (λ text. 35 ∷ text) (texts_of_meta entry.now.meta)) ++ (entry.now.value ++ 9 ∷ host.now))) }
 {
-    push_comments(alloc, bytes, &entry.meta)?;
+    push_comments(bytes, &entry.meta)?;
     bytes.extend_from_slice(entry.value.as_str().as_bytes())?;
     bytes.push(b'\t')?;
     bytes.extend_from_slice(host)?;
@@ -107,10 +106,10 @@ fn push_host(alloc: Global, bytes: &mut Vec<u8>, host: &[u8], entry: &Entry) -> 
 }
 
 /// Appends the lines of comments.
-fn push_comments(alloc: Global, bytes: &mut Vec<u8>, meta: &Meta) -> Result<(), Memory>
+fn push_comments(bytes: &mut Vec<u8>, meta: &Meta) -> Result<(), Memory>
     ensures { OnOk result (bytes.new.items ≡ bytes.old.items ++ ended (over (λ text. 35 ∷ text) (texts_of_meta meta.now))) }
 {
-    let texts = texts_of(alloc, meta)?;
+    let texts = texts_of(meta)?;
     push_lines(bytes, &texts)?;
     Ok(())
 }

@@ -5,7 +5,7 @@ ghost use Rattle.std.specs.FinMap as map;
 ghost use Rattle.std.specs.FinMap.{is_sorted};
 ghost use Rattle.general_words.specs.Saturated.{saturated};
 ghost use Rattle.general_words.specs.Texts.{text_cmp};
-ghost use Rattle.model_maps.specs.Entry.{IsArray, longest_meta_name, meta_bytes};
+ghost use Rattle.model_maps.specs.Entry.{array_texts, longest_meta_name, meta_bytes};
 ghost use Rattle.sorted_map.specs.Place.{IsPlace, IsGap};
 ghost use Rattle.std.specs.Cmp.{partial_equiv_from_equiv};
 ghost use Rattle.key_meta.specs.MetaView.{AreItems, AreTexts};
@@ -120,7 +120,7 @@ impl Meta {
 
     /// The texts of an array, which ends at the first place that is missing.
     pub fn array(&self, prefix: &str) -> Result<List<Text>, Memory>
-        ensures texts { IfOk result (λ texts. IsArray self.now prefix.now texts) }
+        ensures texts { IfOk result (λ texts. texts ≡ array_texts self.now prefix.now) }
         ensures count { IfOk result (λ texts. length texts < 2 ^ 64) }
     {
         let alloc = self.items.allocator();

@@ -1,5 +1,5 @@
 -- Texts that became metadata are read back from it.
-use Rattle.std.specs.Prelude.{◌≡◌, ◌≢◌, ℕ, zero, suc, ◌+◌, ◌-◌, ◌^◌, ◌<◌, ◌≤◌, false, List, [], ◌∷◌, length, drop, replicate, Option, None, Some, codes, is_some}
+use Rattle.std.specs.Prelude.{◌≡◌, ◌≢◌, ℕ, zero, suc, ◌+◌, ◌-◌, ◌^◌, ◌<◌, ◌≤◌, false, List, [], ◌∷◌, length, drop, replicate, Option, None, Some, codes, slice_get}
 use Rattle.std.proofs.Common.{cond, refl, sym, ap, subst, ◌∙◌, arith, inl, inr, length-append}
 use Rattle.std.specs.FinMap as finite
 use Rattle.std.specs.Fmt.{decimal}
@@ -19,9 +19,10 @@ use Rattle.model_names.proofs.PartLemmas.{text_from_ascii, text_from_test}
 use Rattle.general_words.specs.Texts.{text_cmp}
 use Rattle.general_words.proofs.Texts.{text_cmp-IsAntisymmetric}
 use Rattle.model_maps.specs.Entry.{Meta, IsValue, IsMetaName}
+use Rattle.model_maps.proofs.ArrayLemmas.{array_texts-items, array_texts-all}
 use Rattle.model_maps.specs.Limits.{IsLimitedMeta}
 use Rattle.model_lines.proofs.MapFacts.{found_in_insert, get-insert_same}
-use Rattle.model_hosts.specs.Comments.{comment_name, comments_from, comments, texts_from, texts_of}
+use Rattle.model_hosts.specs.Comments.{comment_name, comments_from, comments, texts_of}
 
 -- ---- the names of comments
 
@@ -74,13 +75,14 @@ HasFrom-comments index (text ∷ texts) few = (
   HasFrom-insert (index + 1) texts (comments_from (index + 1) texts) index text (omega arith) (omega arith) (HasFrom-comments (index + 1) texts (omega arith)),
 )
 
-texts_from-has : (index : ℕ) (texts : List (List ℕ)) (meta : Meta) → HasFrom index texts meta → texts_from (length texts) index meta ≡ texts
-texts_from-has index [] meta has = refl
-texts_from-has index (text ∷ texts) meta has =
-    ap (λ (o : Option (List ℕ)). elim o [ None ↦ [] | Some t ↦ t ∷ texts_from (length texts) (index + 1) meta ]) has.0
-    ∙ ap (λ rest. text ∷ rest) (texts_from-has (index + 1) texts meta has.1)
+HasFrom-at : (index : ℕ) (texts : List (List ℕ)) (meta : Meta) (i : ℕ) → HasFrom index texts meta → i < length texts → finite.get meta (comment_name (index + i)) ≡ slice_get texts i
+HasFrom-at index [] meta i has within = absurd (omega (arith, within))
+HasFrom-at index (text ∷ texts) meta zero has within = let here : index + 0 ≡ index = omega arith in ap (λ n. finite.get meta (comment_name n)) here ∙ has.0
+HasFrom-at index (text ∷ texts) meta (suc i) has within =
+    let moved : index + suc i ≡ index + 1 + i = omega arith in
+    ap (λ n. finite.get meta (comment_name n)) moved ∙ HasFrom-at (index + 1) texts meta i has.1 (omega (arith, within))
 
--- ---- how many there are
+-- ---- indexes without a comment
 
 pub comments_from-none : (index : ℕ) (texts : List (List ℕ)) (i : ℕ) → i < index → index + length texts ≤ last_index + 1 → finite.get (comments_from index texts) (comment_name i) ≡ None
 comments_from-none index [] i below few = finite.get-empty text_cmp (comment_name i)
@@ -89,34 +91,27 @@ comments_from-none index (text ∷ texts) i below few =
     let high : index ≤ last_index = omega arith in
     get-other (comments_from (index + 1) texts) index i text high low (λ (e : i ≡ index). absurd (omega arith)) ∙ comments_from-none (index + 1) texts i (omega arith) (omega arith)
 
-length-comments : (index : ℕ) (texts : List (List ℕ)) → index + length texts ≤ last_index + 1 → finite.len (comments_from index texts) ≡ length texts
-length-comments index [] few = finite.len-empty text_cmp (List ℕ)
-length-comments index (text ∷ texts) few =
-    let rest = comments_from (index + 1) texts in
-    let new : is_some (finite.get rest (comment_name index)) ≡ false = ap is_some (comments_from-none (index + 1) texts index (omega arith) (omega arith)) in
-    let shorter = length-comments (index + 1) texts (omega arith) in
-    finite.len-insert nat_list_cmp_total rest (comment_name index) text ∙ ap (λ t. cond t (finite.len rest) (finite.len rest + 1)) new ∙ (omega (arith, shorter))
+comments_from-ends : (index : ℕ) (texts : List (List ℕ)) (i : ℕ) → index + length texts ≤ i → i ≤ last_index → finite.get (comments_from index texts) (comment_name i) ≡ None
+comments_from-ends index [] i behind within = finite.get-empty text_cmp (comment_name i)
+comments_from-ends index (text ∷ texts) i behind within =
+    let low : index ≤ last_index = omega arith in
+    get-other (comments_from (index + 1) texts) index i text low within (λ (e : i ≡ index). absurd (omega arith)) ∙ comments_from-ends (index + 1) texts i (omega arith) within
 
 -- texts that became metadata are read back
 pub texts_of-comments : (texts : List (List ℕ)) → length texts ≤ last_index → texts_of (comments texts) ≡ texts
 texts_of-comments texts few =
     let room : 0 + length texts ≤ last_index + 1 = omega arith in
-    ap (λ most. texts_from most 0 (comments texts)) (sym (finite.len-entries (comments texts)) ∙ length-comments 0 texts room)
-    ∙ texts_from-has 0 texts (comments texts) (HasFrom-comments 0 texts room)
+    let from : (i : ℕ) → 0 + i ≡ i = λ i. omega arith in
+    array_texts-items (comments texts) (codes "comment") texts
+    (λ i within. ap (λ n. finite.get (comments texts) (comment_name n)) (sym (from i)) ∙ HasFrom-at 0 texts (comments texts) i (HasFrom-comments 0 texts room) within)
+    (comments_from-ends 0 texts (length texts) (omega arith) few)
+    (omega (arith, few))
 
 -- ---- what holds of the texts
 
 -- of the texts of metadata holds what holds of each of its texts
 pub texts_of-all : (P : List ℕ → Type 0) (meta : Meta) → ((name text : List ℕ) → finite.get meta name ≡ Some text → P text) → AllByRecursion P (texts_of meta)
-texts_of-all P meta each = from (length (finite.entries meta)) 0
-  where
-    from : (most index : ℕ) → AllByRecursion P (texts_from most index meta)
-    from zero index = tt
-    from (suc most) index = by (from most (index + 1)) (finite.get meta (comment_name index)) refl
-      where
-        by : AllByRecursion P (texts_from most (index + 1) meta) → (o : Option (List ℕ)) → finite.get meta (comment_name index) ≡ o → AllByRecursion P (elim o [ None ↦ [] | Some t ↦ t ∷ texts_from most (index + 1) meta ])
-        by rest None e = tt
-        by rest (Some t) e = (each (comment_name index) t e, rest)
+texts_of-all P meta each = array_texts-all P meta (codes "comment") each
 
 pub comment_name-IsMetaName : (index : ℕ) → index ≤ last_index → IsMetaName (comment_name index)
 comment_name-IsMetaName index within =

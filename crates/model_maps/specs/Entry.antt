@@ -1,6 +1,6 @@
 -- What a key holds: a value, and metadata by name. (Elektra's API documentation: a key has a value and metadata.)
 use Rattle.std.specs.Coded.{Coded, code_by, coded×, coded_list, coded_ℕ}
-use Rattle.std.specs.Prelude.{◌≡◌, refl, ℕ, ◌+◌, ◌<◌, ◌≤◌, List, ◌∷◌, ◌++◌, length, sum_by, slice_get, None}
+use Rattle.std.specs.Prelude.{refl, ℕ, zero, suc, ◌+◌, ◌^◌, ◌<◌, ◌≤◌, List, [], ◌∷◌, ◌++◌, length, sum_by, None, Some}
 use Rattle.std.specs.FinMap as map
 use Rattle.std.specs.FinMap.{FinMap}
 use Rattle.std.specs.Str.{IsUtf8}
@@ -55,10 +55,15 @@ meta_bytes meta = sum_by (λ m. length m.0 + length m.1) (map.entries meta)
 abbrev pub item_name : List ℕ → ℕ → List ℕ
 item_name prefix index = prefix ++ (47 ∷ array_part index)
 
--- the texts of an array of metadata, which ends at the first item that is missing
-pub record IsArray (meta : Meta) (prefix : List ℕ) (texts : List (List ℕ)) : Type 0 where
-  pub items : (i : ℕ) → i < length texts → map.get meta (item_name prefix i) ≡ slice_get texts i
-  pub ends : map.get meta (item_name prefix (length texts)) ≡ None
+-- the texts of an array of metadata from an index on, at most so many: it ends at the first item that is missing
+abbrev pub texts_from : ℕ → Meta → List ℕ → ℕ → List (List ℕ)
+texts_from zero meta prefix index = []
+texts_from (suc more) meta prefix index =
+    elim (map.get meta (item_name prefix index)) [ None ↦ [] | Some text ↦ text ∷ texts_from more meta prefix (index + 1) ]
+
+-- all texts of an array of metadata. No list in memory is longer than this count
+unfoldable pub array_texts : Meta → List ℕ → List (List ℕ)
+array_texts meta prefix = texts_from (2 ^ 64) meta prefix 0
 
 -- how a proof tells entries apart
 abbrev pub coded_entry : Coded Entry

@@ -3,7 +3,7 @@
 use Rattle.std.specs.Prelude.{◌≡◌, ◌≢◌, ℕ, ◌<◌, ◌≤◌, List, [], length, Option, None, Some, ℤ, MatchOption, codes}
 use Rattle.std.specs.FinMap as map
 use Rattle.std.specs.List.{Contains}
-use Rattle.model_maps.specs.Entry.{Meta, IsArray}
+use Rattle.model_maps.specs.Entry.{Meta, array_texts}
 use Rattle.model_rules.specs.Number.{IsNumber}
 use Rattle.model_rules.specs.Range.{IsRange, LiesIn}
 use Rattle.model_rules.specs.Types.{IsOfKind, kind_of}
@@ -27,10 +27,8 @@ pub data BreaksRange (value : List ℕ) (meta : Meta) (broken : Broken) : Type 0
 
 -- 5 where the array `check/enum` has an item and none is the value
 pub record BreaksEnum (value : List ℕ) (meta : Meta) (broken : Broken) : Type 0 where
-  pub items : List (List ℕ)
-  pub array : IsArray meta (codes "check/enum") items
-  pub some : items ≢ []
-  pub none : Contains items value → ⊥
+  pub some : array_texts meta (codes "check/enum") ≢ []
+  pub none : Contains (array_texts meta (codes "check/enum")) value → ⊥
   pub is : broken ≡ breach 5 value
 
 -- the most bytes of a pattern

@@ -1,6 +1,6 @@
 //! The laws of the check rules: a text is read in one way at most, and a check has one answer at most.
 ghost use Rattle.std.specs.Prelude.{◌≡◌, List, ℕ, ℤ};
-ghost use Rattle.model_maps.specs.Entry.{Meta, IsArray};
+ghost use Rattle.model_maps.specs.Entry.{Meta};
 ghost use Rattle.model_rules.specs.Number.{IsNumber};
 ghost use Rattle.model_rules.specs.Range.{IsItem, IsRange};
 ghost use Rattle.model_rules.specs.Rules.{BreaksEnum, BreaksRange, BreaksType};
@@ -20,11 +20,6 @@ pub fn one_item_one_interval()
 /// A text is a range of at most one list of intervals.
 pub fn one_range_one_list()
     ensures { (text : List ℕ) (a b : List Interval) → IsRange text a → IsRange text b → a ≡ b }
-{}
-
-/// Metadata has at most one array under a name.
-pub fn one_prefix_one_array()
-    ensures { (meta : Meta) (prefix : List ℕ) (a b : List (List ℕ)) → IsArray meta prefix a → IsArray meta prefix b → a ≡ b }
 {}
 
 /// A value breaks the rules on types in at most one way.

@@ -17,5 +17,5 @@ pub use intervals::Interval;
 pub use kinds::Kind;
 pub use laws::{
     a_value_breaks_enum_once, a_value_breaks_range_once, a_value_breaks_type_once,
-    one_item_one_interval, one_prefix_one_array, one_range_one_list, one_text_one_number,
+    one_item_one_interval, one_range_one_list, one_text_one_number,
 };

@@ -1,7 +1,6 @@
 -- The names that a cascading name stands for, in the order in which they are searched. (After Elektra's page on cascading; the search of cascading
 -- names in `override` and `fallback` is this project's own.)
-use Rattle.std.specs.Prelude.{ℕ, suc, zero, ◌+◌, ◌^◌, ◌==◌, if◌then◌else◌, List, [], ◌∷◌, ◌++◌, map, length, Option, Some, None, codes}
-use Rattle.std.specs.FinMap as finite
+use Rattle.std.specs.Prelude.{ℕ, ◌==◌, if◌then◌else◌, List, [], ◌∷◌, ◌++◌, map, length, Option, Some, None, codes}
 use Rattle.std.specs.List.{flat_map}
 use Rattle.std.specs.Option.{option_to_list}
 use Rattle.general_words.specs.Texts.{is_text}
@@ -9,7 +8,7 @@ use Rattle.model_names.specs.declared.namespaces.Namespace.{Namespace}
 use Rattle.model_names.specs.declared.namespaces.Namespace.TheVariants.{Cascading, Proc, Dir, User, System, Default}
 use Rattle.model_names.specs.Name.{Name, Part, rank}
 use Rattle.model_names.specs.NameOf.{name_of}
-use Rattle.model_maps.specs.Entry.{Meta, item_name}
+use Rattle.model_maps.specs.Entry.{Meta, array_texts}
 use Rattle.model_specified.specs.Specified.{default_name}
 
 -- a path in some namespaces
@@ -43,16 +42,6 @@ abbrev pub paths_by : List Part → List (List ℕ) → List Name
 paths_by path words =
     if length words == 0 then paths_in path usual else flat_map (λ word. paths_in path (option_to_list (searched word))) words
 
--- the texts of an array of metadata from a place on, at most so many: it ends at the first item that is missing
-abbrev pub texts_from : ℕ → Meta → List ℕ → ℕ → List (List ℕ)
-texts_from zero meta prefix index = []
-texts_from (suc more) meta prefix index =
-    elim (finite.get meta (item_name prefix index)) [ None ↦ [] | Some text ↦ text ∷ texts_from more meta prefix (index + 1) ]
-
--- all texts of an array. No list in memory is longer than this count
-unfoldable pub texts_of : Meta → List ℕ → List (List ℕ)
-texts_of meta prefix = texts_from (2 ^ 64) meta prefix 0
-
 -- all names that a path stands for: those in `override`, its path in the namespaces that words ask for, those in `fallback`, and its default
 abbrev pub candidates_by : List Part → List (List ℕ) → List (List ℕ) → List (List ℕ) → List Name
 candidates_by path overrides words fallbacks =
@@ -60,4 +49,4 @@ candidates_by path overrides words fallbacks =
 
 -- by what its specification metadata says
 abbrev pub candidates : List Part → Meta → List Name
-candidates path said = candidates_by path (texts_of said (codes "override")) (texts_of said (codes "namespace")) (texts_of said (codes "fallback"))
+candidates path said = candidates_by path (array_texts said (codes "override")) (array_texts said (codes "namespace")) (array_texts said (codes "fallback"))

@@ -4,9 +4,9 @@ ghost use Rattle.std.specs.List.{flat_map};
 ghost use Rattle.std.specs.Option.{option_to_list};
 ghost use Rattle.model_names.specs.declared.namespaces.Namespace.TheVariants.{Cascading};
 ghost use Rattle.model_names.specs.Name.{rank};
-ghost use Rattle.spec_cascade.specs.Candidates.{candidates, names_for, names_of, paths_by, paths_in, searched, texts_of, usual};
+ghost use Rattle.spec_cascade.specs.Candidates.{candidates, names_for, names_of, paths_by, paths_in, searched, usual};
 
-use key_meta::{List, Memory, Meta, Text};
+use key_meta::{Memory, Meta, Text};
 use key_name::{KeyName, NameFault, Namespace};
 use std::alloc::{AllocError, Global};
 
@@ -14,22 +14,15 @@ use std::alloc::{AllocError, Global};
 pub fn candidates(alloc: Global, path: &KeyName, said: &Meta) -> Result<Vec<KeyName>, Memory>
     ensures { IfOk result (λ names. names.items ≡ candidates path.now.parts said.now) }
 {
-    let overrides = texts_of(said, "override")?;
-    let words = texts_of(said, "namespace")?;
-    let fallbacks = texts_of(said, "fallback")?;
+    let overrides = said.array("override")?;
+    let words = said.array("namespace")?;
+    let fallbacks = said.array("fallback")?;
     let mut names = Vec::new(alloc);
     push_texts(alloc, &mut names, overrides.as_slice())?;
     push_words(&mut names, path, words.as_slice())?;
     push_texts(alloc, &mut names, fallbacks.as_slice())?;
     push_in(&mut names, path, Namespace::Default)?;
     Ok(names)
-}
-
-/// The texts of an array.
-fn texts_of(said: &Meta, prefix: &str) -> Result<List<Text>, Memory>
-    ensures { IfOk result (λ texts. texts ≡ texts_of said.now prefix.now) }
-{
-    said.array(prefix)
 }
 
 /// Adds the names that some texts stand for.

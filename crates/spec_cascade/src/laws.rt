@@ -1,13 +1,8 @@
-//! A law of arrays, and a few candidates, worked.
-ghost use Rattle.std.specs.Prelude.{◌≡◌, ◌≤◌, ◌^◌, ℕ, List, [], ◌∷◌, length, codes};
+//! A few candidates, worked.
+ghost use Rattle.std.specs.Prelude.{◌≡◌, [], ◌∷◌, codes};
 ghost use Rattle.model_names.specs.declared.namespaces.Namespace.TheVariants.{Default, Dir, Proc, System, User};
-ghost use Rattle.model_maps.specs.Entry.{IsArray, Meta};
-ghost use Rattle.spec_cascade.specs.Candidates.{candidates, paths_by, texts_of};
-
-/// The texts of `override`, `namespace` and `fallback` are those of an array of metadata, up to the first item that is missing.
-pub fn texts_are_those_of_an_array()
-    ensures { (meta : Meta) (prefix : List ℕ) (texts : List (List ℕ)) → IsArray meta prefix texts → length texts ≤ 2 ^ 64 → texts_of meta prefix ≡ texts }
-{}
+ghost use Rattle.model_maps.specs.Entry.{Meta, array_texts};
+ghost use Rattle.spec_cascade.specs.Candidates.{candidates, paths_by};
 
 /// The words that are no namespace to be searched are skipped; without a word the usual four are searched.
 pub fn words_name_namespaces()
@@ -19,8 +14,28 @@ pub fn words_name_namespaces()
 /// All candidates of `/a`, where `override` has `user:/b`, `namespace` has `system`, and `fallback` has a text that is no name and `/c`; and
 /// where it has none of these.
 pub fn a_path_has_its_candidates()
-    ensures all { (said : Meta) → texts_of said (codes "override") ≡ codes "user:/b" ∷ [] → texts_of said (codes "namespace") ≡ codes "system" ∷ [] → texts_of said (codes "fallback") ≡ codes "b" ∷ codes "/c" ∷ []
-        → candidates (codes "a" ∷ []) said ≡ record { namespace = User; parts = codes "b" ∷ [] } ∷ record { namespace = System; parts = codes "a" ∷ [] } ∷ record { namespace = Proc; parts = codes "c" ∷ [] } ∷ record { namespace = Dir; parts = codes "c" ∷ [] } ∷ record { namespace = User; parts = codes "c" ∷ [] } ∷ record { namespace = System; parts = codes "c" ∷ [] } ∷ record { namespace = Default; parts = codes "a" ∷ [] } ∷ [] }
-    ensures bare { (said : Meta) → texts_of said (codes "override") ≡ [] → texts_of said (codes "namespace") ≡ [] → texts_of said (codes "fallback") ≡ []
-        → candidates (codes "a" ∷ []) said ≡ record { namespace = Proc; parts = codes "a" ∷ [] } ∷ record { namespace = Dir; parts = codes "a" ∷ [] } ∷ record { namespace = User; parts = codes "a" ∷ [] } ∷ record { namespace = System; parts = codes "a" ∷ [] } ∷ record { namespace = Default; parts = codes "a" ∷ [] } ∷ [] }
+    ensures all { (said : Meta)
+        → array_texts said (codes "override") ≡ codes "user:/b" ∷ []
+        → array_texts said (codes "namespace") ≡ codes "system" ∷ []
+        → array_texts said (codes "fallback") ≡ codes "b" ∷ codes "/c" ∷ []
+        → candidates (codes "a" ∷ []) said ≡
+        record { namespace = User; parts = codes "b" ∷ [] }
+        ∷ record { namespace = System; parts = codes "a" ∷ [] }
+        ∷ record { namespace = Proc; parts = codes "c" ∷ [] }
+        ∷ record { namespace = Dir; parts = codes "c" ∷ [] }
+        ∷ record { namespace = User; parts = codes "c" ∷ [] }
+        ∷ record { namespace = System; parts = codes "c" ∷ [] }
+        ∷ record { namespace = Default; parts = codes "a" ∷ [] }
+        ∷ [] }
+    ensures bare { (said : Meta)
+        → array_texts said (codes "override") ≡ []
+        → array_texts said (codes "namespace") ≡ []
+        → array_texts said (codes "fallback") ≡ []
+        → candidates (codes "a" ∷ []) said ≡
+        record { namespace = Proc; parts = codes "a" ∷ [] }
+        ∷ record { namespace = Dir; parts = codes "a" ∷ [] }
+        ∷ record { namespace = User; parts = codes "a" ∷ [] }
+        ∷ record { namespace = System; parts = codes "a" ∷ [] }
+        ∷ record { namespace = Default; parts = codes "a" ∷ [] }
+        ∷ [] }
 {}

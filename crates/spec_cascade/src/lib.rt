@@ -7,5 +7,5 @@ mod laws;
 mod lookups;
 
 pub use founds::Found;
-pub use laws::{a_path_has_its_candidates, texts_are_those_of_an_array, words_name_namespaces};
+pub use laws::{a_path_has_its_candidates, words_name_namespaces};
 pub use lookups::lookup;

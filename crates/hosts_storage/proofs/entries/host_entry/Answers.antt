@@ -1,6 +1,6 @@
 -- An address without NUL is the value of its entry.
 use Rattle.std.proofs.Common.{sym, ◌∙◌}
-use Rattle.hosts_storage.proofs.CommentWalk.{nul-found, nul-nowhere}
+use Rattle.hosts_storage.proofs.NulBytes.{nul-found, nul-nowhere}
 use Rattle.hosts_storage.proofs.entries.host_entry.Goals as goal
 
 pub returns-then-has_nul : goal.returns-then-has_nul
