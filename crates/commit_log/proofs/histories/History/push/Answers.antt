@@ -10,9 +10,13 @@ use Rattle.commit_log.proofs.histories.History.push.Goals as goal
 pub invariant_of-self : goal.invariant_of-self
 invariant_of-self c =
     let commits : List past.Commit = map commit_of c.self.inside.commits.items in
-    let pushed : map commit_of c.push_reserved.new.self.items ≡ commits ++ commit_of c.args.commit ∷ [] = ap (map commit_of) c.push_reserved.ensures.items ∙ map-pushed c.self.inside.commits.items c.args.commit in
-    let light : history_weight (commits ++ commit_of c.args.commit ∷ []) ≤ heaviest_history = subst (λ log. history_weight (log.commits ++ commit_of c.args.commit ∷ []) ≤ heaviest_history) (sym c.self.view_is) c.requires.light in
-    let weighed = added (history_weight commits) (weight_of_commit (commit_of c.args.commit)) c.self.inside.weight c.weight.result (history_weight (commits ++ commit_of c.args.commit ∷ [])) heaviest_history (history_weight-snoc commits (commit_of c.args.commit)) c.weight.ensures c.self.invariant.0 light (omega arith) in
+    let commit : past.Commit = commit_of c.args.commit in
+    let longer : List past.Commit = commits ++ commit ∷ [] in
+    let pushed : map commit_of c.push_reserved.new.self.items ≡ longer = ap (map commit_of) c.push_reserved.ensures.items ∙ map-pushed c.self.inside.commits.items c.args.commit in
+    let light : history_weight longer ≤ heaviest_history = subst (λ log. history_weight (log.commits ++ commit ∷ []) ≤ heaviest_history) (sym c.self.view_is) c.requires.light in
+    let sum = history_weight-snoc commits commit in
+    let weighed = added (history_weight commits) (weight_of_commit commit) c.self.inside.weight c.weight.result (history_weight longer)
+    heaviest_history sum c.weight.ensures c.self.invariant.0 light (omega arith) in
     let long : length c.mark.new.last ≡ length c.self.inside.last.items = omega (arith, ap length c.deref_mut.ensures.value) in
     let back = written-back c.self.inside.last.items c.mark.new.last c.self.inside.last.len long (omega arith) in
     let number : c.len.result + 1 ≡ length commits + 1 = omega (arith, length-map c.self.inside.commits.items commit_of) in
@@ -21,5 +25,5 @@ invariant_of-self c =
     ∙ ap (λ touched. cond (is_among touched m) (c.len.result + 1) (last_of c.deref_mut.result.now m)) c.as_slice.ensures
     ∙ ap (λ n. cond (is_among c.args.commit.touched m) n (last_of c.deref_mut.result.now m)) number
     ∙ ap (λ last. cond (is_among c.args.commit.touched m) (length commits + 1) (last_of last m)) c.deref_mut.ensures.value in
-    let index = index-pushed commits (commit_of c.args.commit) c.self.inside.last.items c.mark.new.last c.self.invariant.2 marked in
+    let index = index-pushed commits commit c.self.inside.last.items c.mark.new.last c.self.invariant.2 marked in
     (weighed.0 ∙ ap history_weight (sym pushed), weighed.1, subst (λ last. IsIndex (map commit_of c.push_reserved.new.self.items) last) (sym back) (subst (λ all. IsIndex all c.mark.new.last) (sym pushed) index))
