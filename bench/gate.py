@@ -223,18 +223,21 @@ def main():
     spent = meter.spent
     rows, sums = table(spent)
     kept = sum(" is kept: an earlier run " in it for it in lines)
+    done = re.findall(r"every proof and must-fail edit was done in this run|done in this run: [^;]*", "".join(lines)) or [f"{kept} crates are kept from earlier runs"]
     version = subprocess.run(["rt", "version"], capture_output=True, text=True, check=False).stdout.split("\n")[0].strip()
     memory = int(re.search(r"MemTotal:\s+(\d+)", text_of("/proc/meminfo"))[1]) / 2**20
+    own, short = (spent["", it] / TICKS / 60 for it in ("rt", "short"))
     said = [
-        f"`{' '.join(command)}` took {minutes:.1f} processor minutes in {machine['minutes']:.1f} minutes on {datetime.date.today()}, with `{version}`, on {len(os.sched_getaffinity(0))} processors and {memory:.0f} GiB of memory,",
-        f"at a mean load of {machine['load']:.1f}; other programs took {max(machine['others'], 0):.1f} processor minutes meanwhile. "
-        + (f"{kept} crates were kept from earlier runs, and cost nothing here." if kept else "No crate was kept from an earlier run."),
+        f"`{' '.join(command)}` took {minutes:.1f} processor minutes in {machine['minutes']:.1f} minutes on {datetime.date.today()}, with `{version}`,",
+        f"on {len(os.sched_getaffinity(0))} processors and {memory:.0f} GiB of memory, at a mean load of {machine['load']:.1f};"
+        f" other programs took {max(machine['others'], 0):.1f} processor minutes meanwhile.",
+        f"{done[-1][0].upper()}{done[-1][1:]}{'; what was kept cost nothing here' if kept else ''}.",
         *([f"It ended with status {status}, so it is no whole gate."] if status else []),
         "",
         *rows,
         "",
-        f"Proofs {sums[0]:.1f}, tests {sums[1]:.1f}, wrong bodies {sums[2]:.1f}, runs {sums[3]:.1f}, `rt` itself {(spent['', 'rt']) / TICKS / 60:.1f}, and {spent['', 'short'] / TICKS / 60:.1f} of processes that no sample saw:",
-        f"{(sum(spent.values())) / TICKS / 60:.1f} together.",
+        f"Proofs {sums[0]:.1f}, tests {sums[1]:.1f}, wrong bodies {sums[2]:.1f}, runs {sums[3]:.1f}, `rt` itself {own:.1f},"
+        f" and {short:.1f} of processes that no sample saw: {sum(spent.values()) / TICKS / 60:.1f} together.",
     ]
     if lists:
         slow = functions(meter.proofs, spent)
