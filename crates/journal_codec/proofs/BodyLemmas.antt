@@ -20,7 +20,7 @@ pub record TakesCount (body : List ℕ) (count : ℕ) (rest : List ℕ) : Type 0
 abbrev pub checked_count : List ℕ → ℕ × List ℕ → Field ℕ
 checked_count body count = checked (is_count count.0) body count
 
-count_takes : (body : List ℕ) (x : ℕ × List ℕ) → count_at body ≡ Ok x → TakesCount body x.0 x.1
+pub count_takes : (body : List ℕ) (x : ℕ × List ℕ) → count_at body ≡ Ok x → TakesCount body x.0 x.1
 unfolding count_at
 count_takes body x e =
     let b = bind_ok (byte_at body) (checked_count body) x e in
@@ -29,7 +29,7 @@ count_takes body x e =
     let taken : TakesCount body b.0.0 b.0.1 = record { parts = byte_takes body b.0 b.1; not_empty = leb-true 1 b.0.0 both.0; not_many = leb-true b.0.0 most_files both.1 } in
     subst (λ (p : ℕ × List ℕ). TakesCount body p.0 p.1) c.1 taken
 
-count_again : (count : ℕ) (rest : List ℕ) → 1 ≤ count → count ≤ most_files → count_at (count ∷ rest) ≡ Ok (count, rest)
+pub count_again : (count : ℕ) (rest : List ℕ) → 1 ≤ count → count ≤ most_files → count_at (count ∷ rest) ≡ Ok (count, rest)
 unfolding count_at
 count_again count rest some few = rw (and_from (leb 1 count) (leb count most_files) (le-leb 1 count some) (le-leb count most_files few)) refl
 
@@ -75,7 +75,7 @@ all_takes body files e =
     } in
     subst (IsRead body) nothing.1 read
 
-some_names : (files : List FileText) → AllByRecursion IsEntryFile files → AllByRecursion (λ name. 1 ≤ length name) (names_of files)
+pub some_names : (files : List FileText) → AllByRecursion IsEntryFile files → AllByRecursion (λ name. 1 ≤ length name) (names_of files)
 some_names [] fits = tt
 some_names (f ∷ files) fits = (fits.0.is_name.not_empty, some_names files fits.1)
 

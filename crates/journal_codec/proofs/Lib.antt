@@ -3,3 +3,4 @@ pub mod NameLemmas
 pub mod FileLemmas
 pub mod BodyLemmas
 pub mod LoopLemmas
+pub mod PlaceLemmas

@@ -10,6 +10,8 @@ mod writing;
 
 pub use faults::DecodeFault;
 pub use files::FileText;
-pub use laws::{reads_what_is_spelled, spells_what_is_read};
+pub use laws::{
+    a_body_fails_behind_its_longest_beginning, reads_what_is_spelled, spells_what_is_read,
+};
 pub use reading::decode;
 pub use writing::encode;

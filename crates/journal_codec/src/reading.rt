@@ -2,6 +2,7 @@
 ghost use Rattle.std.specs.Prelude.{◌≡◌, ℕ, [], length, IfOk, Err};
 ghost use Rattle.journal_codec.specs.Entry.{IsEntry, spelled};
 ghost use Rattle.journal_codec.specs.Reading.{Reads, Fails, read_body, byte_at, count_at, number_at, bytes_at, is_next_name, is_content, file_at, files_at, all_of};
+ghost use Rattle.journal_codec.specs.Places.{IsPlace};
 ghost use Rattle.journal_codec.specs.Stops.{Gives};
 
 use crate::faults::Stop;
@@ -15,11 +16,13 @@ use std::alloc::Global;
 /// The most files of an entry.
 const MOST_FILES: u8 = 64;
 
-/// The files of the entry that this body spells, or the place of the first field that has no reading.
+/// The files of the entry that this body spells, or the place of the first field that has no reading: it is behind the longest beginning that the
+/// body of an entry can have, and behind the length that comes next, if that is whole.
 pub fn decode(alloc: Global, body: &[u8]) -> Result<List<FileText>, DecodeFault>
     ensures found { IfOk result (λ files. IsEntry files × (spelled files ≡ body.now)) }
     ensures reads { IfOk result (λ files. read_body body.now ≡ Reads files) }
     ensures bad { (at : ℕ) → result ≡ Err (DecodeFault.BadJournal at) → read_body body.now ≡ Fails at }
+    ensures place { (at : ℕ) → result ≡ Err (DecodeFault.BadJournal at) → IsPlace body.now at }
 {
     match read_all(alloc, body) {
         Ok(files) => Ok(List::from_vec(files)),

@@ -3,6 +3,7 @@ use Rattle.journal_codec.specs.declared.files.FileText.{FileText}
 use Rattle.journal_codec.specs.Entry.{IsEntry, spelled}
 use Rattle.journal_codec.specs.Reading.{Reads, Fails, reading_of, read_body}
 use Rattle.journal_codec.proofs.BodyLemmas.{all_takes}
+use Rattle.journal_codec.proofs.PlaceLemmas.{place_of}
 use Rattle.journal_codec.proofs.reading.decode.Goals as goal
 
 pub returns-in-Ok-clause-reads : goal.returns-in-Ok-clause-reads
@@ -21,3 +22,7 @@ returns-in-Err-Before-clause-bad c = λ at e.
     let all = (rw c.in-Err-Before.field-0-is at c.in-Err-Before.ensures) (λ is. absurd cc) in
     let place : c.saturating_sub.result ≡ at = cc in
     ap (reading_of (length c.args.body.now)) all ∙ ap Fails (sym c.saturating_sub.ensures ∙ place)
+
+pub returns-in-Err-Before-clause-place : goal.returns-in-Err-Before-clause-place
+returns-in-Err-Before-clause-place c = λ at e.
+    place_of c.args.body.now at (λ i. omega (arith, c.type_inv.body i)) (returns-in-Err-Before-clause-bad c at e)
