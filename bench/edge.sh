@@ -1,8 +1,9 @@
 #!/usr/bin/env bash
-# Tries on the real program what no contract can say of files and streams: closed streams, held locks, runs at one time, a
-# folder that is made twice, rights, fifos, devices, sockets and folders in the place of files, and what hostile files cost. Prints
-# a line for each, and ends with 1 where one isn't as it must be. Wants build/kdb (first-use.sh makes it), flock and setpriv (util-linux),
-# and python3 for a socket; what is tried as another user wants root. It takes about a minute. Not part of the gate.
+# Tries on the real program what no contract can say of files and streams: closed streams, held and removed locks, runs at one time, a
+# folder that is made twice, rights, links, folders of others, full and read-only file systems, fifos, devices, sockets and folders in
+# the place of files, and what hostile files cost. Prints a line for each and how many there are, and ends with 1 where one isn't as it
+# must be. Wants build/kdb (first-use.sh makes it), flock and setpriv (util-linux), python3, and strace where it is installed; what is
+# tried as another user wants root. It takes some two minutes. Not part of the gate.
 set -u
 cd "$(dirname "$0")/.."
 kdb=${KDB:-$PWD/build/kdb}
@@ -14,9 +15,12 @@ cp "$kdb" "$work/kdb"
 chmod 755 "$work/kdb"
 kdb=$work/kdb
 wrong=0
+tried=0
+unset KDB_DIR
 
 # told WHAT IS WANTED: compares, and prints a line
 told() {
+  tried=$((tried + 1))
   if [ "$2" = "$3" ]; then
     printf 'as it must be  %s: %s\n' "$1" "$2"
   else
@@ -167,6 +171,183 @@ else
   echo 'not tried       rights, since this isn'"'"'t root'
 fi
 
+# Removed locks: what is acknowledged stays, though someone takes the lock's file away again and again.
+fresh
+(while :; do rm -f .kdb/.lock; sleep 0.01; done) & remover=$!
+worker() {
+  local i
+  for i in $(seq 60); do
+    "$kdb" set "user:/w$1/k$i" "$i" >/dev/null 2>&1 && echo "user:/w$1/k$i $i" >>"$work/acknowledged.$1"
+  done
+}
+rm -f "$work"/acknowledged.*
+workers=
+for i in 1 2 3 4; do worker $i & workers="$workers $!"; done
+# shellcheck disable=SC2086
+wait $workers
+kill $remover
+wait $remover 2>/dev/null
+lost=0
+while read -r name value; do [ "$("$kdb" get "$name")" = "$value" ] || lost=$((lost + 1)); done < <(cat "$work"/acknowledged.*)
+told "240 sets of four workers, with the lock removed 100 times a second ($(cat "$work"/acknowledged.* | wc -l) acknowledged)" "$lost lost" '0 lost'
+
+# A reader that takes nothing, as a pager does, keeps no other run out.
+fresh
+for i in $(seq 3000); do printf '$key string 35 1\nlong/name/of/a/key/number/%010d\nv\n' "$i"; done >"$work/records"
+{ printf 'kdbOpen 2\n$key string 4 1\nsw/a\n1\n'; sed 's/^\$key string 35/$key string 36/' "$work/records"; printf '$end\n'; } >.kdb/user.ecf
+"$kdb" ls user:/ | { sleep 3; cat >/dev/null; } & pager=$!
+sleep 0.5
+begun=$(date +%s%N)
+"$kdb" get user:/sw/a >/dev/null
+status=$?
+told 'a get while another run waits for its reader' "$status, $([ $((($(date +%s%N) - begun) / 1000000)) -lt 1500 ] && echo 'at once')" '0, at once'
+wait $pager
+
+# The folder that a variable names.
+fresh
+mkdir "$work/run/elsewhere"
+told 'a get with KDB_DIR' "$(cd / && KDB_DIR=$work/run "$kdb" get user:/sw/a)" 1
+told 'a get with an empty KDB_DIR' "$(KDB_DIR='' "$kdb" get user:/sw/a)" 1
+KDB_DIR=$work/run/elsewhere "$kdb" get user:/sw/a 2>"$work/err"
+told 'a get in a folder without a store' "$(err_of $?)" '11 kdb: not found: user:/sw/a'
+KDB_DIR=$work/run/elsewhere "$kdb" set user:/b 2 >/dev/null
+told 'a first set there' "$?, $(KDB_DIR=$work/run/elsewhere "$kdb" get user:/b)" '0, 2'
+KDB_DIR=$work/run/nowhere "$kdb" get user:/sw/a 2>"$work/err"
+told 'a get where KDB_DIR is not there' "$(err_of $?)" "$disk_fault"
+KDB_DIR=$work/run/nowhere "$kdb" set user:/sw/a 1 2>"$work/err"
+told 'a set where KDB_DIR is not there' "$(err_of $?), $(ls "$work/run")" "$disk_fault, elsewhere"
+KDB_DIR=$work/run/nowhere "$kdb" frob 2>"$work/err"
+told 'an unknown command where KDB_DIR is not there' "$(err_of $?)" '4 kdb: unknown command frob'
+
+# open_gate FOLDER TEXT: a journal there whose gate is open, with an entry by which user.ecf holds the text
+open_gate() {
+  python3 -c '
+import sys
+text = sys.argv[2].encode()
+body = bytes([1, 8]) + b"user.ecf" + len(text).to_bytes(4, "little") + text
+open(f"{sys.argv[1]}/journal", "wb").write(bytes([1]) + len(body).to_bytes(4, "little") + body)' "$1" "$2"
+}
+entry=$(printf 'kdbOpen 2\n$key string 4 1\nsw/a\n7\n$end\n.')
+entry=${entry%.}
+
+if [ "$(id -u)" = 0 ]; then
+  # Links that lead elsewhere, in the folder of another user.
+  theirs() {
+    rm -rf "$work/run" "$work/target"
+    mkdir "$work/run" "$work/run/.kdb"
+    chown 65534:65534 "$work/run" "$work/run/.kdb"
+    cd "$work/run" || exit 1
+    echo mine >"$work/target"
+  }
+  theirs
+  other ln -s "$work/target" .kdb/user.ecf
+  open_gate .kdb "$entry"
+  "$kdb" get user:/nothing 2>"$work/err"
+  told "a get of root over another's link in the place of a file" "$(err_of $?), $(cat "$work/target")" "$disk_fault, mine"
+  if command -v strace >/dev/null; then
+    strace -f -o "$work/calls" "$kdb" get user:/nothing 2>/dev/null
+    told 'its calls that write, cut or make something' "$(grep -c '^[0-9]* *\(pwrite64\|ftruncate\|fchmod\|fchown\)(' "$work/calls")" 0
+  else
+    echo 'not tried       the calls over a refused link, since strace is not installed'
+  fi
+  theirs
+  other ln -s "$work/target" .kdb/journal
+  "$kdb" set user:/sw/a 1 2>"$work/err"
+  told "a set of root over another's link in the place of the journal" "$(err_of $?), $(cat "$work/target")" "$disk_fault, mine"
+  theirs
+  other ln -s "$work/made" .kdb/user.ecf
+  "$kdb" set user:/sw/a 1 >/dev/null 2>"$work/err"
+  told "a set of root over another's link that leads nowhere" "$(err_of $?)$([ -e "$work/made" ] && echo made)" '0 '
+  "$kdb" get user:/sw/a 2>"$work/err"
+  told 'a get behind that, while the link is there' "$(err_of $?)" "$disk_fault"
+  rm .kdb/user.ecf
+  told 'a get once it is gone' "$("$kdb" get user:/sw/a)" 1
+  theirs
+  rm -rf .kdb "$work/mine"
+  mkdir "$work/mine"
+  other ln -s "$work/mine" .kdb
+  "$kdb" set user:/sw/a 1 2>"$work/err"
+  told "a set of root over another's link in the place of the folder" "$(err_of $?), $(ls "$work/mine" | grep -v lock)" "$disk_fault, "
+  theirs
+  other touch "$work/run/file"
+  other ln -s "$work/run/file" .kdb/user.ecf
+  "$kdb" set user:/sw/a 1 >/dev/null 2>"$work/err"
+  told "a set of root over another's link to a file of theirs" "$(err_of $?), $(head -n 1 "$work/run/file")" '0 , kdbOpen 2'
+  theirs
+  ln -s "$work/target" .kdb/user.ecf
+  printf '' >"$work/target"
+  "$kdb" set user:/sw/a 1 >/dev/null 2>"$work/err"
+  told 'a set of root over a link of its own' "$(err_of $?), $(head -n 1 "$work/target")" '0 , kdbOpen 2'
+
+  # Root in the folder of another user, and several users of one group.
+  rm -rf "$work/run"
+  mkdir "$work/run"
+  chown 65534:65534 "$work/run"
+  cd "$work/run" || exit 1
+  "$kdb" set user:/sw/a 1 >/dev/null
+  told 'the owners of what root made there' "$(stat -c %u .kdb .kdb/* | sort -u)" 65534
+  other "$kdb" set user:/sw/a 2 >/dev/null 2>"$work/err"
+  told 'a set of the owner behind the first one of root' "$(err_of $?), $("$kdb" get user:/sw/a)" '0 , 2'
+  member() { setpriv --reuid="$1" --regid=60000 --clear-groups "${@:2}"; }
+  rm -rf "$work/run"
+  mkdir "$work/run"
+  chgrp 60000 "$work/run"
+  chmod 2775 "$work/run"
+  cd "$work/run" || exit 1
+  (umask 022 && member 60001 "$kdb" set user:/sw/a 1 >/dev/null)
+  member 60002 "$kdb" set user:/sw/a 2 >/dev/null 2>"$work/err"
+  told 'a set of the second member of a group' "$(err_of $?), $("$kdb" get user:/sw/a)" '0 , 2'
+
+  # Who may only read, where the gate is open.
+  fresh
+  chmod 755 .kdb
+  open_gate .kdb "$entry"
+  told 'a get of another user over an open gate' "$(other "$kdb" get user:/sw/a)" 7
+  other "$kdb" set user:/sw/a 8 2>"$work/err"
+  told 'a set of that user' "$(err_of $?)" "$disk_fault"
+  told 'the file and the gate behind that' "$(sed -n 4p .kdb/user.ecf) $(head -c 1 .kdb/journal | od -An -tu1)" '1    1'
+  told 'a get of the owner then' "$("$kdb" get user:/sw/a)$(sed -n 4p .kdb/user.ecf)" 77
+  mkdir "$work/seen"
+  if mount --bind "$work/run" "$work/seen" 2>/dev/null && mount -o remount,bind,ro "$work/seen" 2>/dev/null; then
+    open_gate .kdb "$(printf 'kdbOpen 2\n$key string 4 1\nsw/a\n9\n$end\n.' | head -c -1; echo)"
+    told 'a get on a read-only mount over an open gate' "$(cd "$work/seen" && "$kdb" get user:/sw/a)" 9
+    (cd "$work/seen" && "$kdb" set user:/sw/a 8 2>"$work/err")
+    told 'a set there' "$(err_of $?)" "$disk_fault"
+    umount "$work/seen"
+  else
+    echo 'not tried       a read-only mount, since none can be made here'
+  fi
+
+  # Secrets: nobody reads the journal who may not read the folder.
+  fresh
+  rm -rf .kdb
+  mkdir .kdb
+  chmod 711 .kdb
+  "$kdb" set user:/secret/pw hunter2 >/dev/null
+  other cat .kdb/journal >/dev/null 2>&1
+  told "another user's look at the journal of a folder that only its owner may read" $? 1
+
+  # A file system of 64 KiB.
+  rm -rf "$work/small"
+  mkdir "$work/small"
+  if mount -t tmpfs -o size=64k tmpfs "$work/small" 2>/dev/null; then
+    cd "$work/small" || exit 1
+    "$kdb" set user:/keep "$(head -c 3000 /dev/zero | tr '\0' v)" >/dev/null
+    head -c 100000 /dev/zero >filler 2>/dev/null
+    "$kdb" set system:/a 1 >/dev/null 2>"$work/err"
+    said=$?
+    rm filler
+    told "what a full file system leaves of a set that ended with $said, once there is room" \
+      "$("$kdb" get system:/a 2>/dev/null), $("$kdb" get user:/keep | wc -c)" "$([ $said = 0 ] && echo 1), 3001"
+    cd / || exit 1
+    umount "$work/small"
+  else
+    echo 'not tried       a small file system, since none can be made here'
+  fi
+else
+  echo 'not tried       links and folders of others, since this isn'"'"'t root'
+fi
+
 # Hostile files: what is too heavy is not kept, and metadata may stand in any order.
 # cost WORDS: runs the program; its processor milliseconds and the most MiB of memory that it took
 cost() {
@@ -199,4 +380,5 @@ with open(".kdb/user.ecf", "w") as f:
 done
 told "55,000 metadata in falling order ($taken ms, rising $rising ms) take" "$([ "$taken" -le $((5 * rising + 10)) ] && echo 'at most 5 times as much')" 'at most 5 times as much'
 
-if [ $wrong = 0 ]; then echo 'all is as it must be'; else echo "$wrong wrong"; exit 1; fi
+echo "$((tried - wrong)) of $tried as it must be"
+[ $wrong = 0 ]

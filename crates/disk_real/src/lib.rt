@@ -3,7 +3,9 @@
 
 mod files;
 mod locking;
+mod making;
 mod opening;
+mod overlay;
 mod real_disks;
 
 pub use real_disks::RealDisk;

@@ -1,9 +1,8 @@
 //! The lock of a folder: the file that is locked, and the wait for it.
-use crate::opening::{found_at, is_denied, is_missing, open_regular};
-use std::fs::{File, OpenOptions, Permissions, TryLockError};
+use crate::making::{folder_above, folder_at, give};
+use crate::opening::{found_at, is_denied, is_same, metadata_of, open_regular};
+use std::fs::{File, OpenOptions, TryLockError};
 use std::io::ErrorKind;
-use std::os::unix::fs::PermissionsExt;
-use std::path::Path;
 use std::time::Duration;
 use std::{fs, io, thread};
 
@@ -16,8 +15,8 @@ const RIGHTS: u32 = 0o666;
 /// How long a try to lock is from the next, in milliseconds.
 const PAUSE: u64 = 5;
 
-/// The tries of ten seconds.
-pub(crate) const TEN_SECONDS: u64 = 2000;
+/// How many tries there are, so that they take ten seconds.
+pub(crate) const MOST_TRIES: u64 = 2000;
 
 /// What came of asking for a folder's lock.
 #[derive(Drop)]
@@ -30,16 +29,36 @@ pub(crate) enum Asked {
     NoLock,
 }
 
-/// Locks a folder. Where its lock is held, it is tried so often, and then the call fails.
+/// Locks a folder. Where its lock is held, it is tried so often, and then the call fails. Each try opens the file that stands there then: a file
+/// that was taken away may be locked for good by one who doesn't know.
 pub(crate) fn lock(rt: HostRuntime, folder: &str, tries: u64) -> io::Result<Asked> {
     let path = path_of_lock(rt, folder)?;
-    match open_or_make(rt, folder, path.as_str())? {
-        Asked::Locked(file) => {
-            wait_for(rt, &file, tries)?;
-            Ok(Asked::Locked(file))
+    for _ in 0..tries {
+        let file = match open_or_make(rt, folder, path.as_str())? {
+            Asked::Locked(file) => file,
+            asked => return Ok(asked),
+        };
+        match file.try_lock() {
+            Ok(()) if is_named(rt, path.as_str(), &file)? => return Ok(Asked::Locked(file)),
+            Ok(()) => {}
+            Err(TryLockError::WouldBlock) => thread::sleep(&rt, Duration::from_millis(PAUSE)),
+            Err(TryLockError::Error(error)) if error.kind() == ErrorKind::Interrupted => {}
+            Err(TryLockError::Error(error)) => return Err(error),
         }
-        asked => Ok(asked),
     }
+    Err(io::Error::from(ErrorKind::WouldBlock))
+}
+
+/// Whether an open file is the one that a path leads to.
+fn is_named(rt: HostRuntime, path: &str, file: &File) -> io::Result<bool> {
+    let opened = metadata_of(file)?;
+    Ok(found_at(rt, path)?.is_some_and(|found| is_same(&found, &opened)))
+}
+
+/// Whether the file that a folder was locked by still is the one that locks it. It isn't once someone took it away, and then others may have
+/// locked the folder too.
+pub(crate) fn still_locks(rt: HostRuntime, folder: &str, file: &File) -> io::Result<bool> {
+    is_named(rt, path_of_lock(rt, folder)?.as_str(), file)
 }
 
 /// Whether a folder has the file that is locked.
@@ -80,10 +99,12 @@ fn open_or_make(rt: HostRuntime, folder: &str, path: &str) -> io::Result<Asked> 
             return Ok(Asked::Locked(file));
         }
         if found_at(rt, folder)?.is_none() {
+            // A store can be made in a folder that is there, and nowhere else.
+            folder_at(rt, folder_above(folder))?;
             return Ok(Asked::NoFolder);
         }
         keep_name(rt, folder)?;
-        match make(rt, path) {
+        match make(rt, folder, path) {
             Ok(file) => return Ok(Asked::Locked(file)),
             Err(error) if is_denied(&error) => return Ok(Asked::NoLock),
             Err(error) if error.kind() == ErrorKind::AlreadyExists => {}
@@ -108,37 +129,19 @@ fn open_made(rt: HostRuntime, path: &str) -> io::Result<Option<File>> {
 }
 
 /// Makes the file. Its rights go beyond what the process gives to new files, where the system has such rights.
-fn make(rt: HostRuntime, path: &str) -> io::Result<File> {
+fn make(rt: HostRuntime, folder: &str, path: &str) -> io::Result<File> {
     let mut how = OpenOptions::new();
     how.read(true).write(true).create_new(true);
     let file = how.open(&rt, path)?;
-    match file.set_permissions(Permissions::from_mode(RIGHTS)) {
-        Err(error) if !is_denied(&error) => Err(error),
-        _ => Ok(file),
-    }
+    give(&file, &folder_at(rt, folder)?, RIGHTS)?;
+    Ok(file)
 }
 
 /// Syncs the folder that a folder stands in, so that its name outlasts a crash. Who may not open that one can't.
 fn keep_name(rt: HostRuntime, folder: &str) -> io::Result<()> {
-    let above = match Path::new(folder).parent() {
-        Some(above) if !above.as_str().is_empty() => above.as_str(),
-        _ => ".",
-    };
-    match File::open(&rt, above) {
+    match File::open(&rt, folder_above(folder)) {
         Ok(opened) => opened.sync_all(),
         Err(error) if is_denied(&error) => Ok(()),
         Err(error) => Err(error),
     }
-}
-
-/// Takes the lock, and waits while another one holds it.
-fn wait_for(rt: HostRuntime, file: &File, tries: u64) -> io::Result<()> {
-    for _ in 0..tries {
-        match file.try_lock() {
-            Ok(()) => return Ok(()),
-            Err(TryLockError::WouldBlock) => thread::sleep(&rt, Duration::from_millis(PAUSE)),
-            Err(TryLockError::Error(error)) => return Err(error),
-        }
-    }
-    Err(io::Error::from(ErrorKind::WouldBlock))
 }

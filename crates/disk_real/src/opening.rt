@@ -1,6 +1,7 @@
 //! Opening the files of a folder: regular files alone, and what is told of them.
 use std::fs::{File, Metadata, OpenOptions};
 use std::io::ErrorKind;
+use std::os::unix::fs::MetadataExt;
 use std::{fs, io};
 
 /// Whether an error says that nothing is at a path.
@@ -29,10 +30,10 @@ pub(crate) fn found_at(rt: HostRuntime, path: &str) -> io::Result<Option<Metadat
     Err(io::Error::from(ErrorKind::Interrupted))
 }
 
-/// What an open file is. A call that a signal interrupts is made again.
-pub(crate) fn metadata_of(file: &File) -> io::Result<Metadata> {
+/// What is at a path itself: a link where there is one. A call that a signal interrupts is made again.
+pub(crate) fn standing_at(rt: HostRuntime, path: &str) -> io::Result<Metadata> {
     for _ in 0..u64::MAX {
-        match file.metadata() {
+        match fs::symlink_metadata(&rt, path) {
             Err(error) if error.kind() == ErrorKind::Interrupted => {}
             answer => return answer,
         }
@@ -40,11 +41,27 @@ pub(crate) fn metadata_of(file: &File) -> io::Result<Metadata> {
     Err(io::Error::from(ErrorKind::Interrupted))
 }
 
-/// Makes a folder, unless something has its name. A call that a signal interrupts is made again.
-pub(crate) fn make_folder(rt: HostRuntime, path: &str) -> io::Result<()> {
+/// Whether two looks saw one and the same file.
+pub(crate) fn is_same(one: &Metadata, other: &Metadata) -> bool {
+    one.dev() == other.dev() && one.ino() == other.ino()
+}
+
+/// Whether what was opened may be changed by way of a path. It may where it stands there itself, and by a link only where the link is the
+/// running user's, or of the owner of what it leads to: else whoever may make links in a folder would have the files of others changed.
+/// What was opened is asked for, so that a path which is changed in between gains nothing.
+pub(crate) fn may_change(rt: HostRuntime, path: &str, opened: &Metadata) -> io::Result<bool> {
+    let standing = standing_at(rt, path)?;
+    if standing.is_symlink() {
+        let user = libc::geteuid();
+        return Ok(standing.uid() == user || standing.uid() == opened.uid());
+    }
+    Ok(is_same(&standing, opened))
+}
+
+/// What an open file is. A call that a signal interrupts is made again.
+pub(crate) fn metadata_of(file: &File) -> io::Result<Metadata> {
     for _ in 0..u64::MAX {
-        match fs::create_dir(&rt, path) {
-            Err(error) if error.kind() == ErrorKind::AlreadyExists => return Ok(()),
+        match file.metadata() {
             Err(error) if error.kind() == ErrorKind::Interrupted => {}
             answer => return answer,
         }

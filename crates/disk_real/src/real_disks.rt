@@ -4,8 +4,10 @@ ghost use Rattle.kdb_outside.specs.Faults.{HasCause};
 ghost use Rattle.kdb_outside.specs.Edge.{CountsFault};
 
 use crate::files::{fill, write_whole};
-use crate::locking::{Asked, TEN_SECONDS, has_lock, is_fresh, lock};
-use crate::opening::{make_folder, metadata_of, open_regular};
+use crate::locking::{Asked, MOST_TRIES, has_lock, is_fresh, lock, still_locks};
+use crate::making::{make_file, make_folder};
+use crate::opening::{found_at, is_denied, may_change, metadata_of, open_regular, standing_at};
+use crate::overlay::{Overlay, copy_from, cut_to, is_journal, may_hold, with_piece};
 use kdb_outside::{Disk, Failed, FileName, Memory};
 use std::fs::{File, OpenOptions};
 use std::io;
@@ -37,7 +39,20 @@ pub struct RealDisk {
     tries: u64,
     lock: Option<File>,
     unlocked: Unlocked,
+    found: Found,
+    overlay: Option<Overlay>,
     faults: u64,
+}
+
+/// What the calls so far have met with in the folder.
+#[derive(Clone, Copy, PartialEq, Eq)]
+enum Found {
+    /// Nothing was changed, and no open gate was read.
+    Nothing,
+    /// The journal's gate was read as open, and nothing was changed.
+    OpenGate,
+    /// A file was changed.
+    Changed,
 }
 
 impl Model for RealDisk {
@@ -54,7 +69,7 @@ impl RealDisk {
     pub fn new(rt: HostRuntime, folder: &str) -> Result<RealDisk, Memory>
         ensures { IfOk result (λ disk. disk ≡ record { inner = folder.now; faults = 0 }) }
     {
-        RealDisk::trying(rt, folder, TEN_SECONDS)
+        RealDisk::trying(rt, folder, MOST_TRIES)
     }
 
     /// A disk over a folder that tries so often to take a lock that is held.
@@ -67,15 +82,21 @@ impl RealDisk {
             tries,
             lock: None,
             unlocked: Unlocked::Nothing,
+            found: Found::Nothing,
+            overlay: None,
             faults: 0,
         })
     }
 
+    /// The path of a file of the folder.
+    fn path_of(&self, name: &str) -> io::Result<String> {
+        let folder = self.folder.as_str();
+        Ok(format!(in self.rt.alloc(); "{folder}/{name}")?)
+    }
+
     /// Opens a file of the folder. None where it isn't there.
     fn open(&self, name: &str, how: &OpenOptions) -> io::Result<Option<File>> {
-        let folder = self.folder.as_str();
-        let path = format!(in self.rt.alloc(); "{folder}/{name}")?;
-        open_regular(self.rt, path.as_str(), how)
+        open_regular(self.rt, self.path_of(name)?.as_str(), how)
     }
 
     /// Takes the folder's lock at the first call, if the folder is there.
@@ -147,19 +168,88 @@ impl RealDisk {
         }
     }
 
-    /// Opens a file to change it, which needs the lock. None where it isn't there.
-    fn open_to_change(&mut self, file: &FileName, how: &OpenOptions) -> io::Result<Option<File>>
+    /// Opens a file to change it, which needs the lock, and a path that leads nowhere else. None where it isn't there.
+    fn open_to_change(&mut self, file: &FileName) -> io::Result<Option<File>>
         ensures { self.new ≡ self.old }
     {
-        match self.open_locked(file, how)? {
-            Some(_) if self.lock.is_none() => Err(io::Error::from(ErrorKind::PermissionDenied)),
-            opened => Ok(opened),
+        let mut how = OpenOptions::new();
+        how.read(true).write(true);
+        let Some(opened) = self.open_locked(file, &how)? else {
+            return Ok(None);
+        };
+        if self.lock.is_none() {
+            return Err(io::Error::from(ErrorKind::PermissionDenied));
         }
+        let path = self.path_of(file.text())?;
+        if !may_change(self.rt, path.as_str(), &metadata_of(&opened)?)? {
+            return Err(io::Error::from(ErrorKind::InvalidInput));
+        }
+        self.look_at_folder()?;
+        Ok(Some(opened))
+    }
+
+    /// A change of a file needs a folder that stands there itself, or one that a link of the running user or of the folder's owner leads to; and
+    /// a lock that still is the folder's.
+    fn look_at_folder(&self) -> io::Result<()> {
+        let folder = self.folder.as_str();
+        if standing_at(self.rt, folder)?.is_symlink() {
+            match found_at(self.rt, folder)? {
+                Some(found) if may_change(self.rt, folder, &found)? => {}
+                _ => return Err(io::Error::from(ErrorKind::InvalidInput)),
+            }
+        }
+        match &self.lock {
+            Some(lock) if still_locks(self.rt, folder, lock)? => Ok(()),
+            _ => Err(io::Error::from(ErrorKind::ResourceBusy)),
+        }
+    }
+
+    /// The bytes of a file as a read gives them.
+    fn bytes_of(&mut self, file: &FileName) -> io::Result<Vec<u8>>
+        ensures { self.new ≡ self.old }
+    {
+        let alloc = self.rt.alloc();
+        if let Some(overlay) = &self.overlay {
+            if let Some(bytes) = overlay.bytes_of(file) {
+                return cut_to(alloc, bytes, u64::MAX);
+            }
+        }
+        let length = self.length_of(file)?;
+        let Ok(length) = usize::try_from(length) else {
+            return Err(io::Error::from(ErrorKind::InvalidInput));
+        };
+        let mut bytes = vec![in alloc; 0; length]?;
+        let count = self.read(file, 0, &mut bytes)?;
+        bytes.truncate(count);
+        Ok(bytes)
+    }
+
+    /// Has a file hold these bytes for this disk alone.
+    fn hold(&mut self, file: &FileName, bytes: Vec<u8>) -> io::Result<()>
+        ensures { self.new ≡ self.old }
+    {
+        let mut overlay = match self.overlay.take() {
+            Some(overlay) => overlay,
+            None => Overlay::new(self.rt.alloc()),
+        };
+        let held = overlay.hold(file, bytes);
+        self.overlay = Some(overlay);
+        Ok(held?)
+    }
+
+    /// Whether changes are kept in memory from now on: the first one is denied, and it brings the entry of an open journal in.
+    fn holds_from(&self, error: &io::Error) -> bool {
+        self.found == Found::OpenGate && is_denied(error)
     }
 
     fn length_of(&mut self, file: &FileName) -> io::Result<u64>
         ensures { self.new ≡ self.old }
     {
+        if let Some(overlay) = &self.overlay {
+            if let Some(bytes) = overlay.bytes_of(file) {
+                return Ok(bytes.len() as u64);
+            }
+        }
         let mut how = OpenOptions::new();
         how.read(true);
         let length = match self.open_locked(file, &how)? {
@@ -174,6 +264,11 @@ impl RealDisk {
         ensures same { self.new ≡ self.old }
         ensures within { IfOk result (λ count. count ≤ length buf.old) }
     {
+        if let Some(overlay) = &self.overlay {
+            if let Some(bytes) = overlay.bytes_of(file) {
+                return Ok(copy_from(bytes, at, buf));
+            }
+        }
         let mut how = OpenOptions::new();
         how.read(true);
         let count = match self.open_locked(file, &how)? {
@@ -181,37 +276,90 @@ impl RealDisk {
             None => 0,
         };
         self.look_again()?;
+        self.note_gate(file, at, &buf[..count]);
         Ok(count)
+    }
+
+    /// Keeps in mind that the gate of the journal was read as open.
+    fn note_gate(&mut self, file: &FileName, at: u64, bytes: &[u8])
+        ensures { self.new ≡ self.old }
+    {
+        let is_open = bytes.first().is_some_and(|gate| *gate != 0);
+        if self.found == Found::Nothing && at == 0 && is_open && is_journal(file) {
+            self.found = Found::OpenGate;
+        }
     }
 
     fn write(&mut self, file: &FileName, at: u64, piece: &[u8]) -> io::Result<()>
         ensures { self.new ≡ self.old }
     {
-        self.take_lock_to_write()?;
-        let mut how = OpenOptions::new();
-        how.read(true).write(true).create(true);
-        match self.open_to_change(file, &how)? {
-            Some(opened) => write_whole(&opened, at, piece),
-            None => Err(io::Error::from(ErrorKind::NotFound)),
+        if self.overlay.is_none() {
+            match self.write_through(file, at, piece) {
+                Err(error) if self.holds_from(&error) => {}
+                answer => return answer,
+            }
         }
+        if !may_hold(file, at, piece) {
+            return Err(io::Error::from(ErrorKind::PermissionDenied));
+        }
+        let bytes = self.bytes_of(file)?;
+        let written = with_piece(self.rt.alloc(), &bytes, at, piece)?;
+        self.hold(file, written)
+    }
+
+    fn write_through(&mut self, file: &FileName, at: u64, piece: &[u8]) -> io::Result<()>
+        ensures { self.new ≡ self.old }
+    {
+        self.take_lock_to_write()?;
+        let opened = match self.open_to_change(file)? {
+            Some(opened) => opened,
+            None => self.make(file)?,
+        };
+        self.found = Found::Changed;
+        write_whole(&opened, at, piece)
+    }
+
+    /// Makes a file that isn't there.
+    fn make(&self, file: &FileName) -> io::Result<File> {
+        self.look_at_folder()?;
+        let path = self.path_of(file.text())?;
+        make_file(self.rt, self.folder.as_str(), path.as_str())
     }
 
     fn shorten(&mut self, file: &FileName, to: u64) -> io::Result<()>
         ensures { self.new ≡ self.old }
     {
-        let mut how = OpenOptions::new();
-        how.read(true).write(true);
-        match self.open_to_change(file, &how)? {
-            Some(opened) => opened.set_len(to),
+        if self.overlay.is_none() {
+            match self.shorten_through(file, to) {
+                Err(error) if self.holds_from(&error) => {}
+                answer => return answer,
+            }
+        }
+        let bytes = self.bytes_of(file)?;
+        let kept = cut_to(self.rt.alloc(), &bytes, to)?;
+        self.hold(file, kept)
+    }
+
+    fn shorten_through(&mut self, file: &FileName, to: u64) -> io::Result<()>
+        ensures { self.new ≡ self.old }
+    {
+        match self.open_to_change(file)? {
+            Some(opened) => {
+                self.found = Found::Changed;
+                opened.set_len(to)
+            }
             None if to == 0 => Ok(()),
             None => Err(io::Error::from(ErrorKind::NotFound)),
         }
     }
 
-    /// Syncs a file, and then the folder, which has the file's name.
+    /// Syncs a file, and then the folder, which has the file's name. What is in memory alone has no more to be kept by.
     fn keep(&mut self, file: &FileName) -> io::Result<()>
         ensures { self.new ≡ self.old }
     {
+        if self.overlay.is_some() {
+            return Ok(());
+        }
         let mut how = OpenOptions::new();
         how.read(true);
         if let Some(opened) = self.open_locked(file, &how)? {
@@ -317,6 +465,8 @@ impl Disk for RealDisk {
     {
         self.lock = None;
         self.unlocked = Unlocked::Nothing;
+        self.found = Found::Nothing;
+        self.overlay = None;
     }
 }
 

@@ -10,12 +10,26 @@ use kdb_outside::{OpenGate, ReaderSource, Sink, WriterSink};
 use kdb_tool::run;
 use key_meta::Text;
 use regex_check::RegexPatterns;
+use std::env::VarError;
 use std::io::ErrorKind;
 use std::process::ExitCode;
 use std::{env, io};
 
-/// The folder of the store, in the folder that the program runs in.
+/// The folder of the store.
 const FOLDER: &str = ".kdb";
+
+/// The variable that names the folder which it stands in.
+const ABOVE: &str = "KDB_DIR";
+
+/// The path of the store's folder: in the folder that the variable names, or in the one that the program runs in where it names none.
+fn folder(rt: HostRuntime) -> io::Result<String> {
+    match env::var(&rt, ABOVE) {
+        Ok(above) if !above.is_empty() => Ok(format!(in rt.alloc(); "{above}/{FOLDER}")?),
+        Ok(_) | Err(VarError::NotPresent) => Ok(String::from_str(rt.alloc(), FOLDER)?),
+        Err(VarError::NotUnicode) => Err(io::Error::from(ErrorKind::InvalidInput)),
+        Err(VarError::OutOfMemory) => Err(io::Error::from(ErrorKind::OutOfMemory)),
+    }
+}
 
 /// The words of the command line, without the program's name.
 fn words(rt: HostRuntime) -> io::Result<Vec<Text>> {
@@ -26,8 +40,8 @@ fn words(rt: HostRuntime) -> io::Result<Vec<Text>> {
     Ok(words)
 }
 
-/// Runs the tool with the words of the command line over the files of `.kdb`, in the folder that the program was started in, and
-/// answers the status that it is to end with.
+/// Runs the tool with the words of the command line over the files of `.kdb`, in the folder that `KDB_DIR` names or else in the one that the
+/// program was started in, and answers the status that it is to end with.
 pub fn start(rt: HostRuntime) -> ExitCode {
     let mut err = WriterSink::new(rt.stderr());
     match taken_streams(rt) {
@@ -43,7 +57,10 @@ pub fn start(rt: HostRuntime) -> ExitCode {
 /// Runs the tool with the words of the command line.
 fn run_words<E: Sink>(rt: HostRuntime, err: &mut E) -> ExitCode {
     match words(rt) {
-        Ok(words) => run_in(rt, FOLDER, &words, err),
+        Ok(words) => match folder(rt) {
+            Ok(folder) => run_in(rt, folder.as_str(), &words, err),
+            Err(error) => refuse_to_start(error, err),
+        },
         Err(error) => refuse_words(error, err),
     }
 }
@@ -68,7 +85,7 @@ fn run_in<E: Sink>(rt: HostRuntime, folder: &str, words: &[Text], err: &mut E) -
     ExitCode::from(status.code())
 }
 
-/// Nothing can be opened, not even what takes the place of a closed stream, or memory is wanting.
+/// Nothing can be opened, not even what takes the place of a closed stream, the store's folder has no name, or memory is wanting.
 fn refuse_to_start<E: Sink>(error: io::Error, err: &mut E) -> ExitCode {
     match error.kind() {
         ErrorKind::OutOfMemory => end(70, "kdb: C01110 out of memory\n", err),
