@@ -46,14 +46,21 @@ pub(crate) fn is_same(one: &Metadata, other: &Metadata) -> bool {
     one.dev() == other.dev() && one.ino() == other.ino()
 }
 
+/// The running process, as the system shows it: it belongs to the user that the process acts for.
+const RUNNING: &str = "/proc/self";
+
+/// Whether something belongs to the running user. Where the system shows no processes, it doesn't.
+fn is_of_user(rt: HostRuntime, found: &Metadata) -> io::Result<bool> {
+    Ok(found_at(rt, RUNNING)?.is_some_and(|running| running.uid() == found.uid()))
+}
+
 /// Whether what was opened may be changed by way of a path. It may where it stands there itself, and by a link only where the link is the
 /// running user's, or of the owner of what it leads to: else whoever may make links in a folder would have the files of others changed.
 /// What was opened is asked for, so that a path which is changed in between gains nothing.
 pub(crate) fn may_change(rt: HostRuntime, path: &str, opened: &Metadata) -> io::Result<bool> {
     let standing = standing_at(rt, path)?;
     if standing.is_symlink() {
-        let user = libc::geteuid();
-        return Ok(standing.uid() == user || standing.uid() == opened.uid());
+        return Ok(standing.uid() == opened.uid() || is_of_user(rt, &standing)?);
     }
     Ok(is_same(&standing, opened))
 }
