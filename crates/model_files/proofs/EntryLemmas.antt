@@ -1,4 +1,4 @@
--- The texts of a legal commit that touches a mount are an entry of a journal.
+-- The texts of a legal commit are an entry of a journal.
 use Rattle.std.proofs.Common.{◌≡◌, ◌≢◌, ◌⊎◌, inl, inr, ℕ, suc, ◌+◌, ◌<◌, ◌≤◌, true, false, cond, nat_lt, List, [], ◌∷◌, length, map as over, slice_get, Option, Some, None, refl, sym, ap, subst, ◌∙◌, arith, T, ltb-false}
 use Rattle.std.specs.FinMap as map
 use Rattle.std.specs.FinMap.{find, is_sorted}
@@ -134,8 +134,8 @@ module _ (formats : Formats) (store : Store) (have : HaveFiles store.mounts) (be
       some_entry (map.entries texts) found.0.file (text_of formats store (changed_by commit.changes before) m found.0)
       (sym (map.get-entries texts found.0.file) ∙ get-texts formats store (changed_by commit.changes before) have.own (m ∷ ms) m found.0 found.1 ∙ ap (λ b. cond b (Some (text_of formats store (changed_by commit.changes before) m found.0)) None) (among-first m ms))
 
-  pub is_entry : commit.touched ≢ [] → IsEntry (entry_of formats store before commit)
-  is_entry some =
+  pub is_entry : IsEntry (entry_of formats store before commit)
+  is_entry =
       let texts = texts_at formats store (changed_by commit.changes before) commit.touched in
       let mounts = all_mounts commit.touched legal.each in
       let size = length-over as_file (map.entries texts) in
@@ -143,7 +143,7 @@ module _ (formats : Formats) (store : Store) (have : HaveFiles store.mounts) (be
       let few = few_texts formats store (changed_by commit.changes before) commit.touched in
       let most = length-le_from_below (length store.mounts) commit.touched legal.ascending (All-from_recursion (λ m. m < length store.mounts) commit.touched mounts) in
       let table = have.few in
-      let one = some_text commit.touched some mounts in
+      let one = some_text commit.touched legal.some mounts in
       record {
         not_empty = omega (arith, size, one);
         not_many = omega (arith, size, count, few, most, table);

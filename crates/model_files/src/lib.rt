@@ -2,7 +2,7 @@
 //! their laws.
 #![tactic(auto)]
 
-ghost use Rattle.std.specs.Prelude.{◌≢◌, [], ◌≡◌, ◌≤◌, ℕ, List, length, take, Option};
+ghost use Rattle.std.specs.Prelude.{◌≡◌, ◌≤◌, ℕ, List, length, take, Option};
 ghost use Rattle.intent_journal.specs.Outcomes.{with_entries, HasOnly, IsEither};
 ghost use Rattle.journal_codec.specs.Entry.{IsEntry};
 ghost use Rattle.model_maps.specs.KeyMap.{KeyMap};
@@ -40,7 +40,8 @@ pub fn a_crash_leaves_a_prefix_of_the_history<F: Formats>(_formats: &F)
         → (number : ℕ) × (doubt : Option (List Item)) × (number ≤ length history) × (IsBegun begun number doubt) × HasOnly (IsEither (files_after (record { text = F.text; IsStorable = F.is_storable; BreaksAt = F.breaks_at }) store files (take number history)) doubt) image }
 {}
 
-/// The texts of a legal commit that touches a mount are an entry that a journal can hold, where the mounts have files for it.
+/// The texts of a legal commit are an entry that a journal can hold, where the mounts have files for it.
 pub fn a_legal_commit_is_an_entry<F: Formats>(_formats: &F)
-    ensures { (store : Store) (before : KeyMap) (commit : Commit) → HaveFiles store.mounts → IsLegalCommit (record { text = F.text; IsStorable = F.is_storable; BreaksAt = F.breaks_at }) store before commit → commit.touched ≢ [] → IsEntry (entry_of (record { text = F.text; IsStorable = F.is_storable; BreaksAt = F.breaks_at }) store before commit) }
+    ensures { (store : Store) (before : KeyMap) (commit : Commit) → HaveFiles store.mounts → IsLegalCommit (record { text = F.text; IsStorable = F.is_storable; BreaksAt = F.breaks_at }) store before commit
+        → IsEntry (entry_of (record { text = F.text; IsStorable = F.is_storable; BreaksAt = F.breaks_at }) store before commit) }
 {}

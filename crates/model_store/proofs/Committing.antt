@@ -104,6 +104,7 @@ module _ (formats : Formats) (store : Store) (history : List Commit) (handle : �
 
     pub legal_commit : IsLegalCommit formats store present (commit_of set)
     legal_commit = record {
+      some = done.some;
       good = all_among (λ m. store.is_bad m ≡ false) set.touched good_at;
       ascending = IsStrictlySortedBy-filter nat_cmp (differs before wanted) involved (IsStrictlySortedBy-filter nat_cmp (is_involved points parent) (range_with_len 0 (length points)) (range-ascends 0 (length points)));
       names = true_of _ (map.entries_sorted set.changes);

@@ -28,6 +28,7 @@ use Rattle.model_store.specs.Verdicts.{Late, Same, Conflict, Invalid, DatabaseFu
 use Rattle.model_store.proofs.Members.{among-first, among-rest, among-filter}
 use Rattle.model_store.proofs.Owners.{get-other}
 use Rattle.model_store.proofs.Touched.{AreOwned, change-differs}
+use Rattle.model_store.proofs.VerdictLemmas.{is_conflict, not_limited, not_same}
 use Rattle.model_store.proofs.Weights.{changes_light}
 use Rattle.set_split.specs.Involved.{involved_in, owns}
 use Rattle.set_split.specs.Parts.{owned_by}
@@ -136,22 +137,6 @@ checked_off : (bad : Late → Bool) (points : List Name) (keys : KeyMap) (set : 
 checked_off bad points keys set late P off behind (inl breaks) = ap bad breaks.is ∙ off breaks.violation breaks.risen
 checked_off bad points keys set late P off behind (inr kept) = behind kept.1
 
-pub limited : (bad : Late → Bool) (b : Bool) (one told : Late) → bad one ≡ false → cond b (Some one) None ≡ Some told → bad told ≡ false
-limited bad true one told off is = ap bad (sym (some_is one told is)) ∙ off
-limited bad false one told off is = absurd cc
-
-pub same_off : (bad : Late → Bool) (touched : List ℕ) (aside : ℕ) (told : Late) → bad (Same aside) ≡ false → if_untouched touched aside ≡ Some told → bad told ≡ false
-same_off bad [] aside told off is = ap bad (sym (some_is (Same aside) told is)) ∙ off
-same_off bad (m ∷ touched) aside told off is = absurd cc
-
-abbrev is_conflict : Late → Bool
-is_conflict (Same aside) = false
-is_conflict (Conflict m by) = true
-is_conflict (Invalid violation risen) = false
-is_conflict (DatabaseFull n) = false
-is_conflict (HistoryFull n) = false
-is_conflict (Commits commit aside) = false
-
 abbrev is_full : Late → Bool
 is_full (Same aside) = false
 is_full (Conflict m by) = false
@@ -172,19 +157,19 @@ module _ (points : List Name) (history : List Commit) (start : KeyMap) (set : Pr
 
   never_blocked : (late : Late) → IsLate points history start set late → is_conflict late ≡ false
   never_blocked late is =
-      told_off is_conflict (if_untouched set.touched set.aside) late _ (λ told e. same_off is_conflict set.touched set.aside told refl e)
+      told_off is_conflict (if_untouched set.touched set.aside) late _ (λ told e. not_same is_conflict set.touched set.aside told refl e)
       (λ _ p. told_off is_conflict (conflict history set) late _ (λ told e. no_conflict told is_conflict e)
       (λ _ c. checked_off is_conflict points start set late _ (λ violation risen. refl)
-      (λ q. told_off is_conflict (if_heavy w) late _ (λ told e. limited is_conflict (nat_lt heaviest_map w) (DatabaseFull (saturated w)) told refl e)
-      (λ _ r. told_off is_conflict (if_full h) late _ (λ told e. limited is_conflict (nat_lt heaviest_history h) (HistoryFull (saturated h)) told refl e)
+      (λ q. told_off is_conflict (if_heavy w) late _ (λ told e. not_limited is_conflict (nat_lt heaviest_map w) (DatabaseFull (saturated w)) told refl e)
+      (λ _ r. told_off is_conflict (if_full h) late _ (λ told e. not_limited is_conflict (nat_lt heaviest_history h) (HistoryFull (saturated h)) told refl e)
       (λ _ s. ap is_conflict s) r) q) c) p) is
 
   never_full : (w ≤ heaviest_map → h ≤ heaviest_history) → (late : Late) → IsLate points history start set late → is_full late ≡ false
   never_full room late is =
-      told_off is_full (if_untouched set.touched set.aside) late _ (λ told e. same_off is_full set.touched set.aside told refl e)
+      told_off is_full (if_untouched set.touched set.aside) late _ (λ told e. not_same is_full set.touched set.aside told refl e)
       (λ _ p. told_off is_full (conflict history set) late _ (λ told e. no_conflict told is_full e)
       (λ _ c. checked_off is_full points start set late _ (λ violation risen. refl)
-      (λ q. told_off is_full (if_heavy w) late _ (λ told e. limited is_full (nat_lt heaviest_map w) (DatabaseFull (saturated w)) told refl e)
+      (λ q. told_off is_full (if_heavy w) late _ (λ told e. not_limited is_full (nat_lt heaviest_map w) (DatabaseFull (saturated w)) told refl e)
       (λ light r. told_off is_full (if_full h) late _ (λ told e. absurd (full_off told (room (ltb-false heaviest_map w (cond_off _ (DatabaseFull (saturated w)) light))) e))
       (λ _ s. ap is_full s) r) q) c) p) is
     where

@@ -1,10 +1,9 @@
 -- What follows from a verdict: a set that passed has fronts and fits its files; a set that commits is blocked by nothing and is light.
-use Rattle.std.proofs.Common.{◌≡◌, ℕ, ◌≤◌, Bool, true, false, cond, nat_lt, List, [], ◌∷◌, ◌++◌, Option, Some, None, refl, sym, ap, subst, ◌∙◌, inl, inr, ltb-false}
+use Rattle.std.proofs.Common.{◌≡◌, ◌≢◌, ℕ, ◌≤◌, Bool, true, false, cond, nat_lt, List, [], ◌∷◌, ◌++◌, Option, Some, None, refl, sym, ap, subst, ◌∙◌, inl, inr, ltb-false}
 use Rattle.std.specs.Option.{option_map, option_or, option_and_then}
 use Rattle.general_words.specs.Saturated.{saturated}
 use Rattle.general_words.specs.Searches.{first_some}
 use Rattle.general_words.proofs.Searches.{none_before, none_behind}
-use Rattle.general_words.proofs.Lists.{some_is}
 use Rattle.model_names.specs.Name.{Name}
 use Rattle.model_maps.specs.KeyMap.{KeyMap, weight, heaviest_map}
 use Rattle.model_history.specs.Changes.{after}
@@ -15,25 +14,14 @@ use Rattle.model_store.specs.Store.{Store, Formats}
 use Rattle.model_store.specs.Fitting.{Fits, too_heavy, too_long, bad_table, IsStorableAt}
 use Rattle.model_store.specs.Rules.{FirstBreach, KeepRules}
 use Rattle.model_store.specs.Sets.{Prepared}
-use Rattle.model_store.specs.Verdicts.{Late, Conflict, Invalid, DatabaseFull, HistoryFull, Commits, Follows, Checks, IsEarly, IsLate, FromFormats, wanted_in, if_unseen, not_fetched, long_value, before_formats, blocking, conflict_at, conflict, commit_of, if_untouched, if_heavy, if_full}
-use Rattle.model_store.proofs.FirstSets.{limited, same_off}
+use Rattle.model_store.specs.Verdicts.{Late, Conflict, Invalid, DatabaseFull, HistoryFull, Commits, Follows, Checks, IsEarly, IsLate, FromFormats, wanted_in, if_unseen, not_fetched, long_value, before_formats, conflict_at, conflict, commit_of, if_untouched, if_heavy, if_full}
 use Rattle.model_store.proofs.Members.{from_all, nothing_at}
+use Rattle.model_store.proofs.VerdictLemmas.{skipped, unruled, some_touched, not_same, not_conflict, not_limited}
 
 -- where an answer is nothing, no step tells anything
 nothing-follows : {A : Type 0} (o : Option A) (P : Type 0) → Follows o None P → (o ≡ None) × P
 nothing-follows None P h = (refl, h)
 nothing-follows (Some told) P h = absurd cc
-
--- where no step tells an answer, the rest holds of it
-rest-follows : {A : Type 0} (o : Option A) (answer : A) (P : Type 0) → (o ≡ Some answer → ⊥) → Follows o (Some answer) P → (o ≡ None) × P
-rest-follows None answer P off h = (refl, h)
-rest-follows (Some told) answer P off h = absurd (off (sym h))
-
--- where the rules tell no answer, they are kept and the rest holds of it
-rest-checked : (points : List Name) (keys : KeyMap) (set : Prepared) (answer : Late) (P : Type 0) → ((violation : Violation) (risen : Bool) → answer ≡ Invalid violation risen → ⊥) → Checks points keys set answer P
-    → KeepRules points set.touched (after keys set.changes) × P
-rest-checked points keys set answer P off (inl breaks) = absurd (off breaks.violation breaks.risen breaks.is)
-rest-checked points keys set answer P off (inr kept) = (kept.0, kept.1)
 
 -- ---- before the history
 
@@ -68,6 +56,7 @@ has_passed formats store set early =
 -- ---- by the history
 
 pub record IsCommitted (points : List Name) (history : List past.Commit) (keys : KeyMap) (set : Prepared) (commit : past.Commit) : Type 0 where
+  pub some : set.touched ≢ []
   pub free : conflict history set ≡ None
   pub valid : KeepRules points set.touched (after keys set.changes)
   pub light : weight (after keys set.changes) ≤ heaviest_map
@@ -78,15 +67,6 @@ abbrev is_commit : Late → Bool
 is_commit (Commits commit aside) = true
 is_commit late = false
 
--- an answer that a step tells is not of some other kind
-module _ (is_kind : Late → Bool) where
-  no_conflict : (history : List past.Commit) (fronts : ℕ → Option ℕ) (ms : List ℕ) (late : Late) → ((m by : ℕ) → is_kind (Conflict m by) ≡ false) → first_some (conflict_at history fronts) ms ≡ Some late → is_kind late ≡ false
-  no_conflict history fronts [] late off e = absurd cc
-  no_conflict history fronts (m ∷ ms) late off e = elim (blocking history fronts m) as (λ (o : Option ℕ). option_or (option_map (Conflict m) o) (first_some (conflict_at history fronts) ms) ≡ Some late → is_kind late ≡ false) [
-    | None ↦ λ h. no_conflict history fronts ms late off h
-    | Some by ↦ λ h. ap is_kind (sym (some_is (Conflict m by) late h)) ∙ off m by
-  ] e
-
 within : (n limit : ℕ) (told : Late) → cond (nat_lt limit n) (Some told) None ≡ None → n ≤ limit
 within n limit told e = elim (nat_lt limit n) as (λ b. nat_lt limit n ≡ b → cond b (Some told) None ≡ None → n ≤ limit) [
   | true ↦ λ is h. absurd cc
@@ -96,14 +76,15 @@ within n limit told e = elim (nat_lt limit n) as (λ b. nat_lt limit n ≡ b →
 pub is_committed : (points : List Name) (history : List past.Commit) (keys : KeyMap) (set : Prepared) (commit : past.Commit) (aside : ℕ) → IsLate points history keys set (Commits commit aside) → IsCommitted points history keys set commit
 is_committed points history keys set commit aside late =
     let is : Late = Commits commit aside in
-    let touched = rest-follows (if_untouched set.touched set.aside) is _ (λ e. let off : is_commit is ≡ false = same_off is_commit set.touched set.aside is refl e in absurd cc) late in
-    let free = rest-follows (conflict history set) is _ (λ e. let off : is_commit is ≡ false = no_conflict is_commit history set.fronts set.touched is (λ m by. refl) e in absurd cc) touched.1 in
-    let valid = rest-checked points keys set is _ (λ violation risen e. let off : is_commit is ≡ false = ap is_commit e in absurd cc) free.1 in
+    let touched = skipped (if_untouched set.touched set.aside) is _ (λ e. let off : is_commit is ≡ false = not_same is_commit set.touched set.aside is refl e in absurd cc) late in
+    let free = skipped (conflict history set) is _ (λ e. let off : is_commit is ≡ false = not_conflict is_commit history set.fronts set.touched is (λ m by. refl) e in absurd cc) touched.1 in
+    let valid = unruled points keys set is _ (λ violation risen e. let off : is_commit is ≡ false = ap is_commit e in absurd cc) free.1 in
     let w : ℕ = weight (after keys set.changes) in
-    let light = rest-follows (if_heavy w) is _ (λ e. let off : is_commit is ≡ false = limited is_commit (nat_lt heaviest_map w) (DatabaseFull (saturated w)) is refl e in absurd cc) valid.1 in
+    let light = skipped (if_heavy w) is _ (λ e. let off : is_commit is ≡ false = not_limited is_commit (nat_lt heaviest_map w) (DatabaseFull (saturated w)) is refl e in absurd cc) valid.1 in
     let h : ℕ = history_weight (history ++ commit_of set ∷ []) in
-    let full = rest-follows (if_full h) is _ (λ e. let off : is_commit is ≡ false = limited is_commit (nat_lt heaviest_history h) (HistoryFull (saturated h)) is refl e in absurd cc) light.1 in
+    let full = skipped (if_full h) is _ (λ e. let off : is_commit is ≡ false = not_limited is_commit (nat_lt heaviest_history h) (HistoryFull (saturated h)) is refl e in absurd cc) light.1 in
     record {
+      some = some_touched set.touched set.aside touched.0;
       free = free.0;
       valid = valid.0;
       light = within w heaviest_map (DatabaseFull (saturated w)) light.0;
@@ -122,8 +103,8 @@ is_invalid late = false
 pub is_breach : (points : List Name) (history : List past.Commit) (keys : KeyMap) (set : Prepared) (violation : Violation) (risen : Bool) → IsLate points history keys set (Invalid violation risen) → FirstBreach points set.touched (after keys set.changes) violation risen
 is_breach points history keys set violation risen late =
     let is : Late = Invalid violation risen in
-    let touched = rest-follows (if_untouched set.touched set.aside) is _ (λ e. let off : is_invalid is ≡ false = same_off is_invalid set.touched set.aside is refl e in absurd cc) late in
-    let free = rest-follows (conflict history set) is _ (λ e. let off : is_invalid is ≡ false = no_conflict is_invalid history set.fronts set.touched is (λ m by. refl) e in absurd cc) touched.1 in
+    let touched = skipped (if_untouched set.touched set.aside) is _ (λ e. let off : is_invalid is ≡ false = not_same is_invalid set.touched set.aside is refl e in absurd cc) late in
+    let free = skipped (conflict history set) is _ (λ e. let off : is_invalid is ≡ false = not_conflict is_invalid history set.fronts set.touched is (λ m by. refl) e in absurd cc) touched.1 in
     by free.1
   where
     is : Late
@@ -142,8 +123,8 @@ is_breach points history keys set violation risen late =
     by : Checks points keys set (Invalid violation risen) (Follows (if_heavy w) (Some is) (Follows (if_full h) (Some is) (is ≡ Commits (commit_of set) set.aside))) → FirstBreach points set.touched (after keys set.changes) violation risen
     by (inl breaks) = of breaks.violation breaks.risen breaks.is breaks.first
     by (inr kept) =
-        let light = rest-follows (if_heavy w) is _ (λ e. let off : is_invalid is ≡ false = limited is_invalid (nat_lt heaviest_map w) (DatabaseFull (saturated w)) is refl e in absurd cc) kept.1 in
-        let full = rest-follows (if_full h) is _ (λ e. let off : is_invalid is ≡ false = limited is_invalid (nat_lt heaviest_history h) (HistoryFull (saturated h)) is refl e in absurd cc) light.1 in
+        let light = skipped (if_heavy w) is _ (λ e. let off : is_invalid is ≡ false = not_limited is_invalid (nat_lt heaviest_map w) (DatabaseFull (saturated w)) is refl e in absurd cc) kept.1 in
+        let full = skipped (if_full h) is _ (λ e. let off : is_invalid is ≡ false = not_limited is_invalid (nat_lt heaviest_history h) (HistoryFull (saturated h)) is refl e in absurd cc) light.1 in
         let off : is_invalid is ≡ false = ap is_invalid full.1 in
         absurd cc
 

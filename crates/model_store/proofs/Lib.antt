@@ -3,8 +3,9 @@ pub mod Accepting
 pub mod Owners
 pub mod Histories
 pub mod Touched
+pub mod VerdictLemmas
 pub mod FirstSets
-mod Judged
+pub mod Judged
 pub mod Kept
 mod Committing
 pub mod Owning

@@ -21,6 +21,7 @@ use Rattle.model_store.specs.Sets.{wants}
 use Rattle.model_store.specs.Store.{Store, Formats, points_at, points_of}
 use Rattle.model_store.specs.Verdicts.{Late, Conflict, Commits, IsLate, commit_of}
 use Rattle.model_store.specs.Worlds.{World}
+use Rattle.model_store.proofs.VerdictLemmas.{conflict_touched}
 use Rattle.mount_table.specs.declared.mounts.Mount.{Mount}
 use Rattle.set_split.specs.Seen.{numbered}
 use Rattle.set_split.specs.declared.parts.Part.{Part}
@@ -35,7 +36,6 @@ use Rattle.store_core.specs.declared.committing.Done.{Done}
 use Rattle.store_core.specs.declared.committing.Done.TheVariants as done
 use Rattle.store_core.specs.declared.cores.Core.{Core}
 use Rattle.store_core.proofs.EnteringLemmas.{judgement, light, entry, entry_is, commit_is_set, within}
-use Rattle.store_core.proofs.VerdictLemmas.{conflict_touched}
 use Rattle.store_phases.specs.Stores.{IsStore}
 use Rattle.store_verdict.specs.PreparedView.{prepared_of}
 use Rattle.store_verdict.specs.RecordView.{handle_of, places_of, record_of}

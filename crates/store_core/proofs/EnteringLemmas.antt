@@ -1,5 +1,5 @@
 -- A set that is a commit joins a history that stays legal, and its texts are an entry that the journal can hold.
-use Rattle.std.proofs.Common.{◌≡◌, ◌≢◌, ℕ, ◌+◌, ◌<◌, ◌≤◌, true, nat_eq, List, [], ◌∷◌, ◌++◌, length, slice_get, Option, Some, None, refl, sym, ap, ap₂, subst, ◌∙◌, arith, length-append}
+use Rattle.std.proofs.Common.{◌≡◌, ℕ, ◌+◌, ◌<◌, ◌≤◌, true, nat_eq, List, [], ◌∷◌, ◌++◌, length, slice_get, Option, Some, None, refl, sym, ap, ap₂, subst, ◌∙◌, arith, length-append}
 use Rattle.std.specs.List.{AllByRecursion}
 use Rattle.std.specs.Option.{option_map}
 use Rattle.std.proofs.lemmas.Bool.{cond-true}
@@ -22,8 +22,9 @@ use Rattle.model_store.specs.Promise.{IsSet}
 use Rattle.model_store.specs.Records.{Record, Fetched, fetched_at}
 use Rattle.model_store.specs.Sets.{Prepared, wants}
 use Rattle.model_store.specs.Store.{Store, Formats, points_of, contents}
-use Rattle.model_store.specs.Verdicts.{Late, Commits, Follows, IsLate, commit_of, if_untouched}
+use Rattle.model_store.specs.Verdicts.{Late, Commits, IsLate, commit_of}
 use Rattle.model_store.specs.Worlds.{World, Asked}
+use Rattle.model_store.proofs.Judged.{is_committed}
 use Rattle.model_store.proofs.Members.{among-first, among-rest, itself_number}
 use Rattle.model_store.proofs.Owning.{Goes, follows}
 use Rattle.mount_table.specs.declared.mounts.Mount.{Mount}
@@ -31,7 +32,6 @@ use Rattle.set_split.specs.Involved.{involved_in}
 use Rattle.set_split.specs.Parts.{owned_by}
 use Rattle.store_core.specs.Cores.{StandsIn, core_with}
 use Rattle.store_core.specs.declared.cores.Core.{Core}
-use Rattle.store_core.proofs.VerdictLemmas.{commit_is}
 use Rattle.store_verdict.proofs.SetLemmas.{filter-within, involved-within}
 
 -- ---- texts
@@ -56,11 +56,6 @@ module _ (formats : Formats) (store : Store) (keys other : KeyMap) where
 last_legal : (formats : Formats) (store : Store) (before : KeyMap) (history : List past.Commit) (commit : past.Commit) → AreLegal formats store before (history ++ commit ∷ []) → IsLegalCommit formats store (replay before history) commit
 last_legal formats store before [] commit legal = legal.0
 last_legal formats store before (first ∷ history) commit legal = last_legal formats store (changed_by first.changes before) history commit legal.1
-
--- a set that is a commit touches a mount
-some_touched : (touched : List ℕ) (aside left : ℕ) (commit : past.Commit) (P : Type 0) → Follows (if_untouched touched aside) (Some (Commits commit left)) P → touched ≢ []
-some_touched [] aside left commit P h = absurd cc
-some_touched (m ∷ touched) aside left commit P h = λ e. absurd cc
 
 -- a prepared set touches mounts of the table alone
 set-within : (formats : Formats) (store : Store) (history : List past.Commit) (asked : Option Asked) (set : Prepared) → IsSet formats store history asked (Some set) → AllByRecursion (λ m. m < length store.mounts) set.touched
@@ -128,14 +123,14 @@ module _ (formats : Formats) {D P : Type 0} (store : Store) (core : Core D P) (r
             ∙ sym (ap (λ (x : Fetched). x.kept) is)
 
     pub commit_is_set : commit ≡ commit_of set
-    commit_is_set = (commit_is commit aside (points_of store) core.history.commits core.keys set late).0
+    commit_is_set = (is_committed (points_of store) core.history.commits core.keys set commit aside late).is
 
     pub entry_is : as_entry (texts_at formats store set.keys set.touched) ≡ entry_of formats store core.keys (commit_of set)
     entry_is = ap as_entry (texts-alike formats store set.keys (after core.keys set.changes) set.touched (λ m among. sym (stored m among)))
 
     pub entry : IsEntry (as_entry (texts_at formats store set.keys set.touched))
     entry = subst IsEntry (sym entry_is)
-        (is_entry formats store st.files core.keys (commit_of set) (subst (λ c. IsLegalCommit formats store core.keys c) commit_is_set legal) (some_touched set.touched set.aside aside commit _ late))
+        (is_entry formats store st.files core.keys (commit_of set) (subst (λ c. IsLegalCommit formats store core.keys c) commit_is_set legal))
 
   -- each touched mount is one of the table
   pub within : AllByRecursion (λ m. m < length store.mounts) set.touched

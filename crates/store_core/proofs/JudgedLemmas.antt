@@ -9,6 +9,7 @@ use Rattle.model_specified.specs.declared.violations.Violation.{Violation}
 use Rattle.model_store.specs.Rules.{has_risen}
 use Rattle.model_store.specs.Sets.{Prepared}
 use Rattle.model_store.specs.Store.{points_at}
+use Rattle.model_store.proofs.Judged.{is_committed}
 use Rattle.model_store.proofs.OneVerdict.{breach-caused}
 use Rattle.model_store.proofs.Risen.{has_risen-Decides}
 use Rattle.model_store.specs.Verdicts as late
@@ -19,7 +20,6 @@ use Rattle.store_core.specs.declared.committing.CommitFault.{CommitFault}
 use Rattle.store_core.specs.declared.committing.CommitFault.TheVariants as fault
 use Rattle.store_core.specs.declared.committing.Done.{Done}
 use Rattle.store_core.specs.declared.committing.Done.TheVariants as done
-use Rattle.store_core.proofs.VerdictLemmas.{commit_is}
 use Rattle.store_verdict.specs.LateView.{late_of}
 use Rattle.store_verdict.specs.declared.judging.Late as code
 
@@ -34,7 +34,7 @@ module _ (mounts : List Mount) (risen : Bool) (history : List Commit) (keys : Ke
 
   module _ (commit : Commit) (aside : ℕ) (is : IsLate (points_at mounts) history keys set (late.Commits commit aside)) where
     own : IsLate (points_at mounts) history keys set (late.Commits (commit_of set) aside)
-    own = subst (λ (c : Commit). IsLate (points_at mounts) history keys set (late.Commits c aside)) (commit_is commit aside (points_at mounts) history keys set is).0 is
+    own = subst (λ (c : Commit). IsLate (points_at mounts) history keys set (late.Commits c aside)) (is_committed (points_at mounts) history keys set commit aside is).is is
 
     pub judged_commit : (result : Result Done CommitFault) → IfOk result (λ m. m ≡ done.Committed (length history + 1) aside) → IfErr result (λ why. (why ≡ fault.Memory) ⊎ (why ≡ fault.DiskFault (length history))) → IsJudged mounts risen history keys set result
     judged_commit (Ok m) ok err = subst (λ (d : Done). IsJudged mounts risen history keys set (Ok d)) (sym ok) (refl, own)

@@ -2,7 +2,6 @@ pub mod ReadingLemmas
 pub mod OpeningLemmas
 pub mod VisibleLemmas
 pub mod CommitLemmas
-pub mod VerdictLemmas
 pub mod EnteringLemmas
 pub mod AnswerLemmas
 pub mod JudgedLemmas
