@@ -7,6 +7,7 @@ ghost use Rattle.journal_codec.specs.declared.files.FileText.{FileText as Item};
 ghost use Rattle.journal_codec.specs.Entry.{IsEntry};
 ghost use Rattle.intent_journal.specs.Moments.{LeavesOnly};
 ghost use Rattle.model_crashes.specs.Runs.{Run, files_of, IsAmid, IsOneOf, after_begun, after_commit};
+ghost use Rattle.model_files.specs.Texts.{entry_of};
 ghost use Rattle.model_history.specs.Changes.{after};
 ghost use Rattle.model_history.specs.History.{history_weight, heaviest_history};
 ghost use Rattle.model_maps.specs.KeyMap.{KeyMap};
@@ -17,7 +18,7 @@ ghost use Rattle.model_store.specs.Records as model;
 ghost use Rattle.model_store.specs.Rules.{has_risen};
 ghost use Rattle.model_store.specs.Sets as sets;
 ghost use Rattle.model_store.specs.Store.{Store, points_at};
-ghost use Rattle.model_store.specs.Verdicts.{IsLate};
+ghost use Rattle.model_store.specs.Verdicts.{IsLate, commit_of};
 ghost use Rattle.model_store.specs.Worlds.{World};
 ghost use Rattle.set_split.specs.Seen.{numbered};
 ghost use Rattle.store_core.specs.Answers.{IsConflict, IsJudged, has_written};
@@ -86,7 +87,7 @@ struct Judged {
 
 impl<D: Disk, P: Patterns + Drop> Core<D, P> {
     /// Commits a set that the record of its handle accepts. Nothing to do, a conflict, a broken rule and want of room are found before the disk is touched, and
-    /// so is want of memory. From `Committed` on every crash leaves the commit; and the record has then the commit's number and what was wanted for each touched
+    /// so is want of memory. Amid it a crash leaves the files, with the former doubt or with the entry that the history gives of the set. From `Committed` on every crash leaves the commit; and the record has then the commit's number and what was wanted for each touched
     /// mount. After every other answer the keys, the history and the record are as before.
     pub fn commit<F: Formats + Drop>(
         &mut self,
@@ -103,8 +104,9 @@ impl<D: Disk, P: Patterns + Drop> Core<D, P> {
         ensures committed { (store : Store) (opened : D) (records : ℕ → model.Record) (made : ℕ → Option sets.Prepared) (world : World) (run : Run) (p : ℕ)
             → Belongs (record { text = F.text; IsStorable = F.is_storable; BreaksAt = F.breaks_at }) D.Disk (over (λ file. file.mount) plan.now.mounted) store opened self.old records made world run p rec.old prepared
             → HasAnswered (record { text = F.text; IsStorable = F.is_storable; BreaksAt = F.breaks_at }) D.Disk (over (λ file. file.mount) plan.now.mounted) store opened self.old self.new records made run p rec.old rec.new prepared (has_risen (P.refusals self.old.patterns) (P.refusals self.new.patterns)) result }
-        ensures any_moment { (opened : D) (run : Run) → IsStore D.Disk opened self.old.journal run
-            → LeavesOnly D.Disk self.old.journal.disk self.new.journal.disk (IsAmid (files_of run) run.doubt prepared.texts) }
+        ensures any_moment { (store : Store) (opened : D) (records : ℕ → model.Record) (made : ℕ → Option sets.Prepared) (world : World) (run : Run) (p : ℕ)
+            → Belongs (record { text = F.text; IsStorable = F.is_storable; BreaksAt = F.breaks_at }) D.Disk (over (λ file. file.mount) plan.now.mounted) store opened self.old records made world run p rec.old prepared
+            → LeavesOnly D.Disk self.old.journal.disk self.new.journal.disk (IsAmid (files_of run) run.doubt (entry_of (record { text = F.text; IsStorable = F.is_storable; BreaksAt = F.breaks_at }) store self.old.keys (commit_of (prepared_of prepared)))) }
         ensures goes { GoesOn D.Disk self.old.journal.disk self.new.journal.disk }
         ensures cause { (front : ℕ) → result ≡ Err (fault.DiskFault front) → HasRisen (D.faults self.old.journal.disk) (D.faults self.new.journal.disk) }
         ensures refused { (violation : Broken) (front : ℕ) → result ≡ Err (fault.Invalid violation front) → violation.rule ≡ 6 → length violation.given ≤ longest_pattern → HasRisen (P.refusals self.old.patterns) (P.refusals self.new.patterns) }

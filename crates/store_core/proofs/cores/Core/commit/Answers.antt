@@ -1,17 +1,21 @@
 -- Each exit is an answer of the definitions.
 use Rattle.std.proofs.Common.{◌≡◌, ◌<◌, List, length, map as over, Ok, Err, refl, sym, ap, subst}
 use Rattle.commit_log.specs.CommitView as log
+use Rattle.intent_journal.specs.Moments.{LeavesOnly}
+use Rattle.journal_codec.specs.declared.files.FileText.{FileText}
+use Rattle.model_crashes.specs.Runs.{IsAmid, files_of}
+use Rattle.model_files.specs.Texts.{entry_of}
 use Rattle.model_store.specs.Events.{Judged}
 use Rattle.model_store.specs.Rules.{has_risen}
 use Rattle.model_store.specs.Store.{points_at}
-use Rattle.model_store.specs.Verdicts.{IsLate}
+use Rattle.model_store.specs.Verdicts.{IsLate, commit_of}
 use Rattle.model_store.specs.Verdicts as verdicts
 use Rattle.mount_table.specs.declared.mounts.Mount.{Mount}
 use Rattle.mounted_files.specs.declared.files.MountedFile.{MountedFile}
 use Rattle.store_core.specs.Answers.{IsConflict, has_written}
 use Rattle.store_core.specs.declared.committing.CommitFault.TheVariants as fault
 use Rattle.store_core.specs.declared.committing.Done.TheVariants as done
-use Rattle.store_core.proofs.AnswerLemmas.{matched, told, wanting, conflicting, conflict_within, parts_within, not_full, is_entry, answered}
+use Rattle.store_core.proofs.AnswerLemmas.{matched, told, wanting, conflicting, conflict_within, parts_within, not_full, is_entry, texts_are, answered}
 use Rattle.store_core.proofs.CommitLemmas.{nothing_stored}
 use Rattle.store_core.proofs.MadeAnswers.{made_told, made_wanting, made_conflicting, made_answered}
 use Rattle.store_core.proofs.JudgedLemmas.{judged_commit, judged_conflict, judged_late, pattern_refused, conflict_valid, entered_valid}
@@ -24,7 +28,8 @@ pub returns-in-Err-clause-committed : goal.returns-in-Err-clause-committed
 returns-in-Err-clause-committed g c store opened records made world run p b = wanting (record { text = g.F.Formats.text; IsStorable = g.F.Formats.is_storable; BreaksAt = g.F.Formats.breaks_at }) g.D.Disk (over (λ (file : MountedFile). file.mount) c.args.plan.now.mounted) store opened c.args.self.now records made world run p c.args.rec.now c.args.prepared b _ (matched c.args.self.now c.judge_set.new.patterns) (has_risen (g.P.Patterns.refusals c.args.self.now.patterns) (g.P.Patterns.refusals c.judge_set.new.patterns))
 
 pub returns-in-Err-clause-any_moment : goal.returns-in-Err-clause-any_moment
-returns-in-Err-clause-any_moment g c opened run store = nothing_stored g.D.Disk opened c.args.self.now.journal run c.args.prepared.texts store
+returns-in-Err-clause-any_moment g c store opened records made world run p b =
+    nothing_stored g.D.Disk opened c.args.self.now.journal run (entry_of (record { text = g.F.Formats.text; IsStorable = g.F.Formats.is_storable; BreaksAt = g.F.Formats.breaks_at }) store c.args.self.now.keys (commit_of (prepared_of c.args.prepared))) b.on_disk
 
 pub conflict-requires : goal.conflict-requires
 conflict-requires g c =
@@ -54,7 +59,8 @@ returns-in-Same-clause-committed g c store opened records made world run p b =
     told (record { text = g.F.Formats.text; IsStorable = g.F.Formats.is_storable; BreaksAt = g.F.Formats.breaks_at }) g.D.Disk (over (λ (file : MountedFile). file.mount) c.args.plan.now.mounted) store opened c.args.self.now records made world run p c.args.rec.now c.args.prepared b _ (matched c.args.self.now c.judge_set.new.patterns) (has_risen (g.P.Patterns.refusals c.args.self.now.patterns) (g.P.Patterns.refusals c.judge_set.new.patterns)) (Ok (done.Same c.len-front.result c.in-Same.left_aside)) (verdicts.Same c.in-Same.left_aside) late refl refl (ap (λ n. Judged n (verdicts.Same c.in-Same.left_aside)) (sym c.len-front.ensures))
 
 pub returns-in-Same-clause-any_moment : goal.returns-in-Same-clause-any_moment
-returns-in-Same-clause-any_moment g c opened run store = nothing_stored g.D.Disk opened c.args.self.now.journal run c.args.prepared.texts store
+returns-in-Same-clause-any_moment g c store opened records made world run p b =
+    nothing_stored g.D.Disk opened c.args.self.now.journal run (entry_of (record { text = g.F.Formats.text; IsStorable = g.F.Formats.is_storable; BreaksAt = g.F.Formats.breaks_at }) store c.args.self.now.keys (commit_of (prepared_of c.args.prepared))) b.on_disk
 
 pub returns-in-DatabaseFull-clause-committed : goal.returns-in-DatabaseFull-clause-committed
 returns-in-DatabaseFull-clause-committed g c store opened records made world run p b =
@@ -63,7 +69,8 @@ returns-in-DatabaseFull-clause-committed g c store opened records made world run
     told (record { text = g.F.Formats.text; IsStorable = g.F.Formats.is_storable; BreaksAt = g.F.Formats.breaks_at }) g.D.Disk (over (λ (file : MountedFile). file.mount) c.args.plan.now.mounted) store opened c.args.self.now records made world run p c.args.rec.now c.args.prepared b _ (matched c.args.self.now c.judge_set.new.patterns) (has_risen (g.P.Patterns.refusals c.args.self.now.patterns) (g.P.Patterns.refusals c.judge_set.new.patterns)) (Err (fault.DatabaseFull c.in-DatabaseFull.weight c.len-front.result)) (verdicts.DatabaseFull c.in-DatabaseFull.weight) late refl refl (ap (λ n. Judged n (verdicts.DatabaseFull c.in-DatabaseFull.weight)) (sym c.len-front.ensures))
 
 pub returns-in-DatabaseFull-clause-any_moment : goal.returns-in-DatabaseFull-clause-any_moment
-returns-in-DatabaseFull-clause-any_moment g c opened run store = nothing_stored g.D.Disk opened c.args.self.now.journal run c.args.prepared.texts store
+returns-in-DatabaseFull-clause-any_moment g c store opened records made world run p b =
+    nothing_stored g.D.Disk opened c.args.self.now.journal run (entry_of (record { text = g.F.Formats.text; IsStorable = g.F.Formats.is_storable; BreaksAt = g.F.Formats.breaks_at }) store c.args.self.now.keys (commit_of (prepared_of c.args.prepared))) b.on_disk
 
 pub returns-in-HistoryFull-clause-committed : goal.returns-in-HistoryFull-clause-committed
 returns-in-HistoryFull-clause-committed g c store opened records made world run p b =
@@ -72,7 +79,8 @@ returns-in-HistoryFull-clause-committed g c store opened records made world run 
     told (record { text = g.F.Formats.text; IsStorable = g.F.Formats.is_storable; BreaksAt = g.F.Formats.breaks_at }) g.D.Disk (over (λ (file : MountedFile). file.mount) c.args.plan.now.mounted) store opened c.args.self.now records made world run p c.args.rec.now c.args.prepared b _ (matched c.args.self.now c.judge_set.new.patterns) (has_risen (g.P.Patterns.refusals c.args.self.now.patterns) (g.P.Patterns.refusals c.judge_set.new.patterns)) (Err (fault.HistoryFull c.in-HistoryFull.weight c.len-front.result)) (verdicts.HistoryFull c.in-HistoryFull.weight) late refl refl (ap (λ n. Judged n (verdicts.HistoryFull c.in-HistoryFull.weight)) (sym c.len-front.ensures))
 
 pub returns-in-HistoryFull-clause-any_moment : goal.returns-in-HistoryFull-clause-any_moment
-returns-in-HistoryFull-clause-any_moment g c opened run store = nothing_stored g.D.Disk opened c.args.self.now.journal run c.args.prepared.texts store
+returns-in-HistoryFull-clause-any_moment g c store opened records made world run p b =
+    nothing_stored g.D.Disk opened c.args.self.now.journal run (entry_of (record { text = g.F.Formats.text; IsStorable = g.F.Formats.is_storable; BreaksAt = g.F.Formats.breaks_at }) store c.args.self.now.keys (commit_of (prepared_of c.args.prepared))) b.on_disk
 
 pub returns-in-Conflict-clause-committed : goal.returns-in-Conflict-clause-committed
 returns-in-Conflict-clause-committed g c store opened records made world run p b =
@@ -83,7 +91,8 @@ returns-in-Conflict-clause-committed g c store opened records made world run p b
     (subst (λ n. IsConflict c.table-table.result.now c.in-Conflict.mount c.in-Conflict.by n c.conflict.result) c.len-front.ensures c.conflict.ensures))
 
 pub returns-in-Conflict-clause-any_moment : goal.returns-in-Conflict-clause-any_moment
-returns-in-Conflict-clause-any_moment g c opened run store = nothing_stored g.D.Disk opened c.args.self.now.journal run c.args.prepared.texts store
+returns-in-Conflict-clause-any_moment g c store opened records made world run p b =
+    nothing_stored g.D.Disk opened c.args.self.now.journal run (entry_of (record { text = g.F.Formats.text; IsStorable = g.F.Formats.is_storable; BreaksAt = g.F.Formats.breaks_at }) store c.args.self.now.keys (commit_of (prepared_of c.args.prepared))) b.on_disk
 
 pub returns-in-Commits-clause-committed : goal.returns-in-Commits-clause-committed
 returns-in-Commits-clause-committed g c store opened records made world run p b =
@@ -92,6 +101,14 @@ returns-in-Commits-clause-committed g c store opened records made world run p b 
     answered (record { text = g.F.Formats.text; IsStorable = g.F.Formats.is_storable; BreaksAt = g.F.Formats.breaks_at }) g.D.Disk (over (λ (file : MountedFile). file.mount) c.args.plan.now.mounted) store opened c.args.self.now records made world run p c.args.rec.now c.args.prepared b (has_risen (g.P.Patterns.refusals c.args.self.now.patterns) (g.P.Patterns.refusals c.enter.new.self.patterns)) (log.commit_of c.in-Commits.commit) c.in-Commits.left_aside late c.enter.new.self c.enter.new.rec c.in-Ok.judged.keys c.in-Ok.ensures.keys c.enter.result
     c.enter.ensures.ok c.enter.ensures.err c.enter.ensures.history c.enter.ensures.keys c.enter.ensures.kept c.enter.ensures.same c.enter.ensures.fetched (λ is. (c.enter.ensures.unwritten (ap has_written is)).journal)
     (c.enter.ensures.committed opened run b.on_disk) (λ front. c.enter.ensures.failed opened run front b.on_disk)
+
+pub returns-in-Commits-clause-any_moment : goal.returns-in-Commits-clause-any_moment
+returns-in-Commits-clause-any_moment g c store opened records made world run p b =
+    let late : IsLate (points_at (over (λ (file : MountedFile). file.mount) c.args.plan.now.mounted)) c.args.self.now.history.commits c.args.self.now.keys (prepared_of c.args.prepared) (late_of (has_risen (g.P.Patterns.refusals c.args.self.now.patterns) (g.P.Patterns.refusals c.judge_set.new.patterns)) (code.Commits c.in-Commits.commit c.in-Commits.left_aside)) =
+    judged_late c.table-table.result.now (over (λ (file : MountedFile). file.mount) c.args.plan.now.mounted) c.args.self.now.history.commits c.args.self.now.keys (prepared_of c.args.prepared) (has_risen (g.P.Patterns.refusals c.args.self.now.patterns) (g.P.Patterns.refusals c.judge_set.new.patterns)) c.in-Ok.judged.late (code.Commits c.in-Commits.commit c.in-Commits.left_aside) c.table-table.ensures c.in-Commits.is c.in-Ok.ensures.late in
+    subst (λ (entry : List FileText). LeavesOnly g.D.Disk c.args.self.now.journal.disk c.enter.new.self.journal.disk (IsAmid (files_of run) run.doubt entry))
+    (texts_are (record { text = g.F.Formats.text; IsStorable = g.F.Formats.is_storable; BreaksAt = g.F.Formats.breaks_at }) (over (λ (file : MountedFile). file.mount) c.args.plan.now.mounted) store c.args.self.now records made world p c.args.rec.now c.args.prepared b.here (log.commit_of c.in-Commits.commit) c.in-Commits.left_aside late)
+    (c.enter.ensures.any_moment opened run b.on_disk)
 
 pub returns-in-Same-clause-judged : goal.returns-in-Same-clause-judged
 returns-in-Same-clause-judged g c =
@@ -168,7 +185,8 @@ returns-in-Invalid-clause-committed g c store opened records made world run p b 
     told (record { text = g.F.Formats.text; IsStorable = g.F.Formats.is_storable; BreaksAt = g.F.Formats.breaks_at }) g.D.Disk (over (λ (file : MountedFile). file.mount) c.args.plan.now.mounted) store opened c.args.self.now records made world run p c.args.rec.now c.args.prepared b _ (matched c.args.self.now c.judge_set.new.patterns) (has_risen (g.P.Patterns.refusals c.args.self.now.patterns) (g.P.Patterns.refusals c.judge_set.new.patterns)) (Err (fault.Invalid c.in-Invalid.violation c.len-front.result)) (verdicts.Invalid c.in-Invalid.violation (has_risen (g.P.Patterns.refusals c.args.self.now.patterns) (g.P.Patterns.refusals c.judge_set.new.patterns))) late refl refl (ap (λ n. Judged n (verdicts.Invalid c.in-Invalid.violation (has_risen (g.P.Patterns.refusals c.args.self.now.patterns) (g.P.Patterns.refusals c.judge_set.new.patterns)))) (sym c.len-front.ensures))
 
 pub returns-in-Invalid-clause-any_moment : goal.returns-in-Invalid-clause-any_moment
-returns-in-Invalid-clause-any_moment g c opened run store = nothing_stored g.D.Disk opened c.args.self.now.journal run c.args.prepared.texts store
+returns-in-Invalid-clause-any_moment g c store opened records made world run p b =
+    nothing_stored g.D.Disk opened c.args.self.now.journal run (entry_of (record { text = g.F.Formats.text; IsStorable = g.F.Formats.is_storable; BreaksAt = g.F.Formats.breaks_at }) store c.args.self.now.keys (commit_of (prepared_of c.args.prepared))) b.on_disk
 
 pub returns-in-Invalid-clause-judged : goal.returns-in-Invalid-clause-judged
 returns-in-Invalid-clause-judged g c =
