@@ -15,7 +15,7 @@ on_err P (Ok x) p = tt
 on_err P (Err e) p = p
 
 -- what one image leaves
-abbrev only_image : Image → List ℕ → List ℕ → Type 0
+abbrev pub only_image : Image → List ℕ → List ℕ → Type 0
 only_image image file c = c ≡ image file
 
 -- on a disk that was left alone nothing else happened
@@ -32,7 +32,8 @@ journal_step name Step old new named touches =
     let at_journal = subst (λ (n : List ℕ). Touches n Step old new) named touches in
     record { others = λ other ne c is. (at_journal.others other ne).no_more c is; this = at_journal.this }
 
-image_step : (name : List ℕ) (Step : List ℕ → List ℕ → Type 0) (old : List ℕ → List ℕ → Type 0) (image : Image) → name ≡ journal_name → IsStepOf name Step old image → IsJournalStep Step old (only_image image)
+-- and one of its image
+pub image_step : (name : List ℕ) (Step : List ℕ → List ℕ → Type 0) (old : List ℕ → List ℕ → Type 0) (image : Image) → name ≡ journal_name → IsStepOf name Step old image → IsJournalStep Step old (only_image image)
 image_step name Step old image named step =
     let at_journal = subst (λ (n : List ℕ). IsStepOf n Step old image) named step in
     record {

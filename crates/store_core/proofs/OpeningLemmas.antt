@@ -1,12 +1,15 @@
 -- What the files of a store mean at its opening, and what the reading of them leaves.
-use Rattle.std.proofs.Common.{◌≡◌, ℕ, true, false, true≢false, List, [], map as over, Some, None, Result, Ok, Err, IfOk, IfErr, MatchResult, codes, nat_eq, refl, sym, ap, ap₂, subst, ◌∙◌}
+use Rattle.std.proofs.Common.{◌≡◌, ℕ, true, false, true≢false, List, [], map as over, Option, Some, None, Result, Ok, Err, IfOk, IfErr, MatchResult, codes, nat_eq, refl, sym, ap, ap₂, subst, ◌∙◌}
 use Rattle.std.specs.List.{starts_with}
 use Rattle.std.specs.Option.{option_map}
 use Rattle.std.proofs.lemmas.Option.{slice_get-map}
 use Rattle.kdb_outside.specs.declared.disks.Disk.{Ghosts}
 use Rattle.kdb_outside.specs.Crashes.{EveryImage}
+use Rattle.kdb_outside.specs.Faults.{HasRisen}
 use Rattle.kdb_outside.specs.Frames.{GoesOn, OnlyReads}
 use Rattle.kdb_outside.specs.Images.{Image}
+use Rattle.kdb_outside.proofs.Rises.{risen_still}
+use Rattle.journal_codec.specs.declared.files.FileText.{FileText}
 use Rattle.intent_journal.specs.declared.faults.JournalFault.{JournalFault}
 use Rattle.intent_journal.specs.declared.faults.JournalFault.TheVariants as journal_fault
 use Rattle.intent_journal.specs.declared.states.State.TheVariants.{Doubt as IsDoubt}
@@ -14,6 +17,8 @@ use Rattle.intent_journal.specs.JournalBytes.{IsOwnFile}
 use Rattle.intent_journal.specs.Journal.{JournalValue}
 use Rattle.intent_journal.specs.Moments.{LeavesOnly}
 use Rattle.intent_journal.specs.Outcomes.{SameFiles}
+use Rattle.intent_journal.specs.States.{IsCalm}
+use Rattle.intent_journal.proofs.Calm.{calm_kept}
 use Rattle.model_crashes.specs.Runs.{Run}
 use Rattle.model_crashes.proofs.Moments.{only_both, only_read}
 use Rattle.model_files.specs.Files.{HaveFiles}
@@ -100,6 +105,15 @@ store_read g opened old new run reads store = IsStore-from_now g opened new run 
 -- what each crash left before the reading, it leaves behind it
 pub rests_read : {D : Type 0} (g : Ghosts D) (old new : D) (P : Image → Type 0) → g.tells old ≡ true → OnlyReads g old new → EveryImage (g.may_leave old) P → EveryImage (g.may_leave new) P
 rests_read g old new P tells reads every image is = every image (λ file. (reads.images tells file).no_more (image file) (is file))
+
+-- without a fault the disk is as calm behind the reading as before
+pub calm_read : {D : Type 0} (g : Ghosts D) (disk mid new : D) (files : Image) (doubt : Option (List FileText)) → g.tells disk ≡ true → GoesOn g disk mid → OnlyReads g mid new
+    → (¬ HasRisen (g.faults disk) (g.faults mid) → IsCalm (g.seen mid) (g.may_leave mid) files doubt)
+    → ¬ HasRisen (g.faults disk) (g.faults new) → IsCalm (g.seen new) (g.may_leave new) files doubt
+calm_read g disk mid new files doubt tells goes reads calm still =
+    let told = goes.tells ∙ tells in
+    calm_kept (g.seen mid) (g.seen new) (g.may_leave mid) (g.may_leave new) files doubt (reads.same told) (reads.images told)
+    (calm (λ risen. still (risen_still (g.faults disk) (g.faults mid) (g.faults new) goes.later reads.later risen)))
 
 -- the gate stays in doubt
 pub in_doubt : {D F P : Type 0} (g : Ghosts D) (journal : JournalValue D) (result : Result (Opened D F P) (OpenRefused D P)) → journal.state ≡ IsDoubt → IfOk result (λ o. OnlyReadsFiles g journal o.core.journal) → IfOk result (λ o. o.core.journal.state ≡ IsDoubt)

@@ -6,7 +6,7 @@ ghost use Rattle.kdb_outside.specs.Frames.{GoesOn};
 ghost use Rattle.intent_journal.specs.declared.states.State.TheVariants.{Doubt as IsDoubt};
 ghost use Rattle.intent_journal.specs.Moments.{LeavesOnly};
 ghost use Rattle.intent_journal.specs.Outcomes.{SameFiles, HasOnly, IsEither};
-ghost use Rattle.intent_journal.specs.States.{IsSettled};
+ghost use Rattle.intent_journal.specs.States.{IsSettled, IsCalm};
 ghost use Rattle.model_crashes.specs.Runs.{Run, files_of, IsReached};
 ghost use Rattle.store_phases.specs.Stores.{IsStore};
 
@@ -36,6 +36,8 @@ impl<D: Disk, P: Patterns + Drop> Core<D, P> {
             → SameFiles (D.seen result.disk) (files_of run) }
         ensures settled { (opened : D) (run : Run) → IsStore D.Disk opened self.journal run → ¬ HasRisen (D.faults self.journal.disk) (D.faults result.disk)
             → (self.wrote ≡ true) ⊎ (self.journal.state ≢ IsDoubt) → IsSettled (D.may_leave result.disk) (files_of run) }
+        ensures calm { (opened : D) (run : Run) → IsStore D.Disk opened self.journal run → ¬ HasRisen run.faults (D.faults result.disk)
+            → IsCalm (D.seen result.disk) (D.may_leave result.disk) (files_of run) run.doubt }
         ensures always { (opened : D) (run : Run) → IsStore D.Disk opened self.journal run
             → LeavesOnly D.Disk opened result.disk (IsReached run.files run.commits run.begun) }
         ensures now { (opened : D) (run : Run) → IsStore D.Disk opened self.journal run

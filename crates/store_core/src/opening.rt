@@ -87,6 +87,8 @@ pub fn open_store<D: Disk, F: Formats + Drop, P: Patterns + Drop>(
     ensures broken { D.tells disk ≡ true → (at : ℕ) → bad_place (D.seen disk journal_name) ≡ Some at → MatchResult result (λ _. ⊥) (λ refused. RefusesBroken at refused.fault) }
     ensures calm { D.tells disk ≡ true → (files : Image) (doubt : Option (List Item)) → IsCalm (D.seen disk) (D.may_leave disk) files doubt
         → (at : ℕ) → fault_of result ≡ Some (OpenFault.BadJournal at) → ⊥ }
+    ensures calm_still { D.tells disk ≡ true → (files : Image) (doubt : Option (List Item)) → IsCalm (D.seen disk) (D.may_leave disk) files doubt → ¬ HasRisen (D.faults disk) (D.faults (disk_of result))
+        → IsCalm (D.seen (disk_of result)) (D.may_leave (disk_of result)) files doubt }
     ensures any_moment { D.tells disk ≡ true → (files : Image) (doubt : Option (List Item)) → IsCalm (D.seen disk) (D.may_leave disk) files doubt
         → LeavesOnly D.Disk disk (disk_of result) (HasOnly (IsEither files doubt)) }
     ensures rests { D.tells disk ≡ true → (files : Image) (doubt : Option (List Item)) → IsCalm (D.seen disk) (D.may_leave disk) files doubt

@@ -1,23 +1,25 @@
 -- The run that an opening begins.
-use Rattle.std.proofs.Common.{◌≡◌, List, Bool, true, false, inl, Option, Result, Ok, Err, refl, sym, ◌∙◌}
-use Rattle.std.specs.Prelude.{IfOk, is_some}
+use Rattle.std.proofs.Common.{◌≡◌, ◌≢◌, List, Bool, true, false, inl, Option, Some, Result, Ok, Err, refl, sym, ap, ◌∙◌}
+use Rattle.std.specs.Prelude.{IfOk, IfErr, is_some}
 use Rattle.general_words.proofs.Lists.{none_by_test}
 use Rattle.kdb_outside.specs.declared.disks.Disk.{Ghosts}
 use Rattle.kdb_outside.specs.Crashes.{EveryImage}
+use Rattle.kdb_outside.specs.Faults.{HasRisen}
 use Rattle.kdb_outside.specs.Frames.{GoesOn, OnlyReads}
 use Rattle.kdb_outside.specs.Images.{Image}
 use Rattle.journal_codec.specs.declared.files.FileText.{FileText}
 use Rattle.journal_codec.specs.Entry.{journal_name}
+use Rattle.intent_journal.specs.declared.faults.JournalFault.TheVariants.{DiskFault}
 use Rattle.intent_journal.specs.declared.faults.JournalRefused.{JournalRefused}
 use Rattle.intent_journal.specs.declared.states.State.TheVariants.{Doubt}
 use Rattle.intent_journal.specs.BadJournals.{open_entry, opened_files, opened_doubt}
 use Rattle.intent_journal.specs.Journal.{JournalValue}
 use Rattle.intent_journal.specs.Moments.{LeavesOnly}
-use Rattle.intent_journal.specs.Opened.{disk_of}
+use Rattle.intent_journal.specs.Opened.{disk_of, fault_of}
 use Rattle.intent_journal.specs.Outcomes.{SameFiles}
 use Rattle.intent_journal.specs.States.{IsSettled, IsDoubtful, IsCalm}
 use Rattle.model_crashes.specs.Runs.{new_run}
-use Rattle.intent_journal.proofs.Calm.{calm_at_read, settled_calm}
+use Rattle.intent_journal.proofs.Calm.{calm_at_read, calm_kept, settled_calm}
 use Rattle.store_phases.specs.Stores.{IsStore}
 use Rattle.store_phases.proofs.Resting.{rests_in_doubt}
 use Rattle.store_phases.proofs.Stores.{IsStore-new}
@@ -67,3 +69,13 @@ opened_in_doubt (Err refused) state = tt
 -- what held of each crash since a moment holds of each that comes now
 pub rests_since : {D : Type 0} (g : Ghosts D) (old new : D) (P : Image → Type 0) → g.tells old ≡ true → GoesOn g old new → LeavesOnly g old new P → EveryImage (g.may_leave new) P
 rests_since g old new P tells goes only image is = only.each image (g.counts_now new (g.moment old) image (goes.tells ∙ tells) goes.moment is)
+
+-- without a fault the disk that is given back is as calm as the one that was handed in
+pub given_back_calm : {D : Type 0} (g : Ghosts D) (disk : D) (result : Result (JournalValue D) (JournalRefused D)) (files : Image) (doubt : Option (List FileText)) → g.tells disk ≡ true
+    → IsCalm (g.seen disk) (g.may_leave disk) files doubt → IfOk result (λ j. IsCalm (g.seen j.disk) (g.may_leave j.disk) files doubt)
+    → IfErr result (λ refused. refused.fault ≢ DiskFault → OnlyReads g disk refused.disk) → (fault_of result ≡ Some DiskFault → HasRisen (g.faults disk) (g.faults (disk_of result)))
+    → ¬ HasRisen (g.faults disk) (g.faults (disk_of result)) → IsCalm (g.seen (disk_of result)) (g.may_leave (disk_of result)) files doubt
+given_back_calm g disk (Ok j) files doubt tells calm opened kept cause still = opened
+given_back_calm g disk (Err refused) files doubt tells calm opened kept cause still =
+    let reads = kept (λ is. still (cause (ap Some is))) in
+    calm_kept (g.seen disk) (g.seen refused.disk) (g.may_leave disk) (g.may_leave refused.disk) files doubt (reads.same tells) (reads.images tells) calm

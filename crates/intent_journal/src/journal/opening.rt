@@ -2,7 +2,7 @@
 ghost use Rattle.std.specs.Prelude.{◌≡◌, ◌≢◌, ℕ, List, Option, Some, None, true, false, is_some, Err, IfOk, IfErr, IfSome, OnOk};
 ghost use Rattle.kdb_outside.specs.Faults.{HasRisen};
 ghost use Rattle.kdb_outside.specs.Frames.{GoesOn, OnlyReads};
-ghost use Rattle.kdb_outside.specs.Images.{Image, KeepsImages};
+ghost use Rattle.kdb_outside.specs.Images.{Image};
 ghost use Rattle.journal_codec.specs.declared.files.FileText.{FileText as Item};
 ghost use Rattle.journal_codec.specs.Entry.{IsEntry, journal_name};
 ghost use Rattle.intent_journal.specs.BadJournals.{bad_place, open_entry, opened_files, opened_doubt};
@@ -44,7 +44,7 @@ impl<D: Disk> Journal<D> {
             → IfOk result (λ journal. IsCalm (D.seen journal.disk) (D.may_leave journal.disk) files doubt) }
         ensures any_moment { D.tells disk ≡ true → (files : Image) (doubt : Option (List Item)) → IsCalm (D.seen disk) (D.may_leave disk) files doubt
             → LeavesOnly D.Disk disk (disk_of result) (HasOnly (IsEither files doubt)) }
-        ensures kept { D.tells disk ≡ true → IfErr result (λ refused. refused.fault ≢ JournalFault.DiskFault → KeepsImages (D.may_leave disk) (D.may_leave refused.disk)) }
+        ensures kept { IfErr result (λ refused. refused.fault ≢ JournalFault.DiskFault → OnlyReads D.Disk disk refused.disk) }
         ensures goes { GoesOn D.Disk disk (disk_of result) }
         ensures cause { fault_of result ≡ Some JournalFault.DiskFault → HasRisen (D.faults disk) (D.faults (disk_of result)) }
     {

@@ -12,7 +12,7 @@ use Rattle.store_core.specs.Faults.{RefusesBroken, RefusesStore}
 use Rattle.store_core.specs.Opened.{disk_of, may_be_of_journal}
 use Rattle.store_core.specs.declared.faults.OpenFault.{OpenFault}
 use Rattle.store_core.specs.declared.faults.OpenFault.TheVariants.{BadJournal}
-use Rattle.store_core.proofs.OpeningLemmas.{told_alike, in_doubt, journal_broken, journal_refuses, of_journal-bad, rests_read, stands_opened, still_only, whatever, unread_files}
+use Rattle.store_core.proofs.OpeningLemmas.{calm_read, told_alike, in_doubt, journal_broken, journal_refuses, of_journal-bad, rests_read, stands_opened, still_only, whatever, unread_files}
 use Rattle.store_core.proofs.opening.open_store.Goals as goal
 
 pub returns-in-Ok-clause-opened : goal.returns-in-Ok-clause-opened
@@ -91,3 +91,8 @@ returns-in-Ok-clause-rests g c tells files doubt calm =
 pub returns-in-Err-clause-calm : goal.returns-in-Err-clause-calm
 returns-in-Err-clause-calm g c tells files doubt calm at is =
     c.in-Err.ensures.calm tells files doubt calm at (ap Some (of_journal-bad c.in-Err.field-0.fault at (sym c.into.ensures ∙ some_is c.into.result (BadJournal at) is)))
+
+pub returns-in-Ok-clause-calm_still : goal.returns-in-Ok-clause-calm_still
+returns-in-Ok-clause-calm_still g c tells files doubt calm still =
+    calm_read g.D.Disk c.args.disk c.in-Ok.journal.disk (disk_of c.open_files.result) files doubt tells c.in-Ok.ensures.goes c.open_files.ensures.reads
+    (c.in-Ok.ensures.calm_still tells files doubt calm) still

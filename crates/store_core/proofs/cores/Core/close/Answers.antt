@@ -1,7 +1,12 @@
 -- A journal that is left alone is at rest, and one that is made clean holds the run's files.
-use Rattle.std.proofs.Common.{sym, subst, ◌∙◌}
+use Rattle.std.proofs.Common.{◌≡◌, inl, refl, sym, subst, ◌∙◌, rules}
+use Rattle.kdb_outside.specs.Faults.{HasRisen}
 use Rattle.kdb_outside.specs.Images.{Image, IsImage}
+use Rattle.kdb_outside.proofs.Rises.{risen_since}
+use Rattle.intent_journal.specs.declared.states.State.TheVariants.{Doubt}
 use Rattle.intent_journal.specs.Outcomes.{HasOnly, IsEither}
+use Rattle.intent_journal.specs.States.{IsCalm}
+use Rattle.intent_journal.proofs.Calm.{settled_calm}
 use Rattle.model_crashes.specs.Runs.{files_of}
 use Rattle.store_phases.proofs.Resting.{resting_only}
 use Rattle.store_core.proofs.cores.Core.close.Goals as goal
@@ -17,3 +22,15 @@ returns-clause-shown g c opened run store still file own =
 
 pub returns-clause-settled : goal.returns-clause-settled
 returns-clause-settled g c opened run store still wrote = c.close.ensures.settled opened run store still
+
+pub returns-then-eq-clause-calm : goal.returns-then-eq-clause-calm
+returns-then-eq-clause-calm g c opened run store still =
+    let doubtful : c.args.self.journal.state ≡ Doubt = search rules in
+    subst (λ d. ¬ HasRisen run.faults (g.D.Disk.faults d) → IsCalm (g.D.Disk.seen d) (g.D.Disk.may_leave d) (files_of run) run.doubt) (sym c.into_disk.ensures) (store.calm doubtful) still
+
+pub returns-clause-calm : goal.returns-clause-calm
+returns-clause-calm g c opened run store still =
+    let disk = c.close.result in
+    let settled = c.close.ensures.settled opened run store (λ risen. still (risen_since run.faults (g.D.Disk.faults c.args.self.journal.disk) (g.D.Disk.faults disk) store.risen risen)) in
+    settled_calm (g.D.Disk.seen disk) (g.D.Disk.may_leave disk) (files_of run) (files_of run) run.doubt settled
+    (g.D.Disk.read_is_image disk (c.close.ensures.goes.tells ∙ store.rests.tells)) (inl (λ file own. refl))
