@@ -1,5 +1,6 @@
 pub mod PlaceLemmas
 pub mod HandleLemmas
 pub mod StepLemmas
+pub mod CauseLemmas
 pub mod PlayLemmas
 pub mod RunLemmas

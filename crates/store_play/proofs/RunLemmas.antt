@@ -1,14 +1,18 @@
 -- A store from its opening to its close.
-use Rattle.std.proofs.Common.{◌≡◌, ℕ, ◌≤◌, List, [], ◌∷◌, length, Option, Some, None, ◌≢◌, inl, inr, true, refl, sym, ap, subst, ◌∙◌}
+use Rattle.std.proofs.Common.{◌≡◌, ℕ, ◌≤◌, Bool, List, [], ◌∷◌, length, Option, Some, None, Result, Ok, Err, ◌≢◌, inl, inr, true, false, refl, sym, ap, subst, ◌∙◌}
+use Rattle.std.specs.Prelude.{IfErr}
 use Rattle.kdb_outside.specs.Crashes.{EveryImage}
+use Rattle.kdb_outside.specs.Faults.{HasRisen}
 use Rattle.kdb_outside.specs.Frames.{GoesOn}
 use Rattle.kdb_outside.specs.Images.{Image}
 use Rattle.kdb_outside.specs.declared.disks.Disk.{Ghosts}
-use Rattle.intent_journal.specs.BadJournals.{opened_files, opened_doubt}
+use Rattle.kdb_outside.proofs.Rises.{risen_since, risen_still}
 use Rattle.intent_journal.specs.Moments.{LeavesOnly}
 use Rattle.intent_journal.specs.Outcomes.{HasOnly, IsEither}
+use Rattle.intent_journal.specs.States.{IsCalm, IsSettled}
+use Rattle.intent_journal.proofs.Calm.{settled_calm}
 use Rattle.journal_codec.specs.declared.files.FileText.{FileText}
-use Rattle.model_crashes.specs.Runs.{Run, IsReached, new_run}
+use Rattle.model_crashes.specs.Runs.{Run, IsReached, files_of}
 use Rattle.model_crashes.proofs.Moments.{only_both}
 use Rattle.model_maps.specs.KeyMap.{KeyMap}
 use Rattle.model_files.specs.Texts.{entries_of}
@@ -28,9 +32,10 @@ use Rattle.store_core.specs.Faults.{RefusesStore}
 use Rattle.store_core.specs.declared.cores.Core.{Core}
 use Rattle.store_core.specs.declared.faults.OpenFault.{OpenFault}
 use Rattle.store_core.specs.declared.faults.OpenFault.TheVariants.{BadJournal, DiskFault as OfDisk, Memory as OfMemory}
+use Rattle.store_core.specs.declared.faults.OpenRefused.{OpenRefused}
 use Rattle.store_play.specs.Handles.{Holds, AreHandles, AreNew, HoldNothing, procs_at, records_of}
 use Rattle.store_play.specs.Plays.{Does, HasPlayed, Plays}
-use Rattle.store_play.specs.Ran.{HasPlayedNew, HasRun, HasRunOpened, IsNeverBroken, WasOrReached, first_stage, store_with}
+use Rattle.store_play.specs.Ran.{HasPlayedNew, HasRun, HasRunOpened, IsNeverBroken, WasOrReached, disk_of, first_stage, store_with}
 use Rattle.store_play.specs.Stages.{Stage, set_asked, stage_of}
 use Rattle.store_play.specs.Told.{asked_of}
 use Rattle.store_play.specs.declared.events.Answer.{Answer}
@@ -42,42 +47,46 @@ use Rattle.store_play.proofs.PlayLemmas.{called}
 use Rattle.store_verdict.specs.declared.prepared.Prepared.{Prepared}
 use Rattle.store_verdict.specs.declared.records.Record.{Record}
 
--- ---- the files of a run's beginning stay
+-- ---- the beginning of a run stays
+
+-- its files and its count of faults
+abbrev beginning : Run → Image × ℕ
+beginning run = (run.files, run.faults)
 
 module _ (formats : Formats) (store : Store) (keys : KeyMap) (run later : Run) where
-  files_begun : (set : Option sets.Prepared) → BeginsSet formats store keys run set later → later.files ≡ run.files
-  files_begun None begun = absurd begun
-  files_begun (Some set) begun = ap (λ (x : Run). x.files) begun.2
+  begun_stays : (set : Option sets.Prepared) → BeginsSet formats store keys run set later → beginning later ≡ beginning run
+  begun_stays None begun = absurd begun
+  begun_stays (Some set) begun = ap beginning begun.2
 
-  files_judged : (set : Option sets.Prepared) (front : ℕ) (late : Late) → RunsOn formats store keys run set (event.Judged front late) later → later.files ≡ run.files
-  files_judged set front (Same aside) on = ap (λ (x : Run). x.files) on
-  files_judged set front (Conflict m by) on = ap (λ (x : Run). x.files) on
-  files_judged set front (Invalid violation risen) on = ap (λ (x : Run). x.files) on
-  files_judged set front (DatabaseFull n) on = ap (λ (x : Run). x.files) on
-  files_judged set front (HistoryFull n) on = ap (λ (x : Run). x.files) on
-  files_judged set front (Commits commit aside) on = ap (λ (x : Run). x.files) on
+  judged_stays : (set : Option sets.Prepared) (front : ℕ) (late : Late) → RunsOn formats store keys run set (event.Judged front late) later → beginning later ≡ beginning run
+  judged_stays set front (Same aside) on = ap beginning on
+  judged_stays set front (Conflict m by) on = ap beginning on
+  judged_stays set front (Invalid violation risen) on = ap beginning on
+  judged_stays set front (DatabaseFull n) on = ap beginning on
+  judged_stays set front (HistoryFull n) on = ap beginning on
+  judged_stays set front (Commits commit aside) on = ap beginning on
 
-  files_on : (set : Option sets.Prepared) (answer : event.Answer) → RunsOn formats store keys run set answer later → later.files ≡ run.files
-  files_on set event.Memory on = ap (λ (x : Run). x.files) on
-  files_on set (event.Bad m) on = ap (λ (x : Run). x.files) on
-  files_on set (event.Got front got) on = ap (λ (x : Run). x.files) on
-  files_on set (event.Refused why) on = ap (λ (x : Run). x.files) on
-  files_on set event.Ready on = ap (λ (x : Run). x.files) on
-  files_on set (event.Judged front late) on = files_judged set front late on
-  files_on set (event.Failed front) on = files_begun set on
+  stays_on : (set : Option sets.Prepared) (answer : event.Answer) → RunsOn formats store keys run set answer later → beginning later ≡ beginning run
+  stays_on set event.Memory on = ap beginning on
+  stays_on set (event.Bad m) on = ap beginning on
+  stays_on set (event.Got front got) on = ap beginning on
+  stays_on set (event.Refused why) on = ap beginning on
+  stays_on set event.Ready on = ap beginning on
+  stays_on set (event.Judged front late) on = judged_stays set front late on
+  stays_on set (event.Failed front) on = begun_stays set on
 
 module _ (formats : Formats) (store : Store) (files : List MountedFile) where
-  files_done : (before after : Stage) (event : Event) (answer : Answer) → Does formats store files before event answer after → after.run.files ≡ before.run.files
-  files_done before after event (told.Skipped why) does = ap (λ (s : Stage). s.run.files) does.1
-  files_done before after event (told.Got result) does = files_on formats store before.core.keys before.run after.run (set_asked before.core.sets (asked_of event)) does.answer does.runs_on
-  files_done before after event (told.Prepared result) does = files_on formats store before.core.keys before.run after.run (set_asked before.core.sets (asked_of event)) does.answer does.runs_on
-  files_done before after event (told.Committed result) does = files_on formats store before.core.keys before.run after.run (set_asked before.core.sets (asked_of event)) does.answer does.runs_on
+  stays_done : (before after : Stage) (event : Event) (answer : Answer) → Does formats store files before event answer after → beginning after.run ≡ beginning before.run
+  stays_done before after event (told.Skipped why) does = ap (λ (s : Stage). beginning s.run) does.1
+  stays_done before after event (told.Got result) does = stays_on formats store before.core.keys before.run after.run (set_asked before.core.sets (asked_of event)) does.answer does.runs_on
+  stays_done before after event (told.Prepared result) does = stays_on formats store before.core.keys before.run after.run (set_asked before.core.sets (asked_of event)) does.answer does.runs_on
+  stays_done before after event (told.Committed result) does = stays_on formats store before.core.keys before.run after.run (set_asked before.core.sets (asked_of event)) does.answer does.runs_on
 
-  pub files_played : (first last : Stage) (events : List Event) (answers : List Answer) → Plays formats store files first events answers last → last.run.files ≡ first.run.files
-  files_played first last [] [] plays = ap (λ (s : Stage). s.run.files) plays
-  files_played first last [] (a ∷ answers) plays = absurd plays
-  files_played first last (e ∷ events) [] plays = absurd plays
-  files_played first last (e ∷ events) (a ∷ answers) plays = files_played plays.0 last events answers plays.2 ∙ files_done first plays.0 e a plays.1
+  pub stays_played : (first last : Stage) (events : List Event) (answers : List Answer) → Plays formats store files first events answers last → beginning last.run ≡ beginning first.run
+  stays_played first last [] [] plays = ap (λ (s : Stage). beginning s.run) plays
+  stays_played first last [] (a ∷ answers) plays = absurd plays
+  stays_played first last (e ∷ events) [] plays = absurd plays
+  stays_played first last (e ∷ events) (a ∷ answers) plays = stays_played plays.0 last events answers plays.2 ∙ stays_done first plays.0 e a plays.1
 
 -- ---- new handles
 
@@ -120,20 +129,22 @@ module _ (formats : Formats) {D P : Type 0} (g : Ghosts D) (mounted : List Mount
 
 -- ---- from the opening to the close
 
-module _ (formats : Formats) {D P : Type 0} (g : Ghosts D) (mounted : List MountedFile) (procs : List KeyMap) (places : ℕ) (disk opened : D) (files : Image) (doubt : Option (List FileText)) (events : List Event) (ran : Ran D P)
-    (has : HasRunOpened formats g mounted procs places opened (new_run (opened_files (g.seen disk)) (g.faults disk) (opened_doubt (g.seen disk))) events ran) where
+module _ (formats : Formats) {D P : Type 0} (g : Ghosts D) (mounted : List MountedFile) (procs : List KeyMap) (places : ℕ) (disk opened : D) (files : Image) (doubt : Option (List FileText)) (begun : Run) (events : List Event) (ran : Ran D P)
+    (has : HasRunOpened formats g mounted procs places opened begun events ran) where
   abbrev store : Store
   store = store_with mounted procs
 
   abbrev first : Stage
-  first = first_stage store (new_run (opened_files (g.seen disk)) (g.faults disk) (opened_doubt (g.seen disk))) (length procs) places
+  first = first_stage store begun (length procs) places
 
-  pub has_run : g.moment disk ≤ g.moment opened → LeavesOnly g disk opened (HasOnly (IsEither files doubt)) → HasRun formats g mounted procs places disk files doubt events ran
+  pub has_run : g.moment disk ≤ g.moment opened → LeavesOnly g disk opened (HasOnly (IsEither files doubt)) → HasRun formats g mounted procs places disk files doubt begun events ran
   has_run later opening =
       let played = has.played in
       let run = played.last.run in
       let calls = called formats store mounted first played.last events ran.answers played.plays in
       let same : has.core.history.commits ≡ played.last.core.history = sym (ap (λ (c : cores.Core). c.history) played.core_is) in
+      let stays = stays_played formats store mounted first played.last events ran.answers played.plays in
+      let faults : run.faults ≡ begun.faults = ap (λ (b : Image × ℕ). b.1) stays in
       record {
         last = played.last;
         plays = played.plays;
@@ -142,10 +153,12 @@ module _ (formats : Formats) {D P : Type 0} (g : Ghosts D) (mounted : List Mount
         one_owner = one_owner formats store calls.calls played.last.core calls.runs;
         history = has.history ∙ same;
         entries = played.stands.entries ∙ ap (entries_of formats store) same;
-        files_stay = files_played formats store mounted first played.last events ran.answers played.plays;
+        files_stay = ap (λ (b : Image × ℕ). b.0) stays;
         any_moment = only_both g disk opened ran.disk (HasOnly (IsEither files doubt)) (IsReached run.files run.commits run.begun) (WasOrReached files doubt run)
             (λ image held. inl held) (λ image held. inr held) later opening has.reached;
         now = has.now;
+        shown = λ still. has.shown (subst (λ n. ¬ HasRisen n (g.faults ran.disk)) (sym faults) still);
+        calm = λ still. has.calm (subst (λ n. ¬ HasRisen n (g.faults ran.disk)) (sym faults) still);
       }
 
 -- ---- a journal that isn't broken
@@ -174,3 +187,21 @@ pub reached_behind : {D : Type 0} (g : Ghosts D) (disk opened end : D) (files : 
     → LeavesOnly g opened end (IsReached run.files run.commits run.begun) → LeavesOnly g disk end (WasOrReached files doubt run)
 reached_behind g disk opened end files doubt run later opening reached =
     only_both g disk opened end (HasOnly (IsEither files doubt)) (IsReached run.files run.commits run.begun) (WasOrReached files doubt run) (λ image held. inl held) (λ image held. inr held) later opening reached
+
+-- ---- a run that is refused behind the opening
+
+-- a store that was closed as it was opened leaves its disk as calm as before
+pub closed_calm : {D : Type 0} (g : Ghosts D) (old new : D) (run : Run) (files : Image) (doubt : Option (List FileText)) (wrote : Bool) → g.tells new ≡ true → IsEither files doubt (files_of run)
+    → (wrote ≡ false → new ≡ old) → (wrote ≡ true → IsSettled (g.may_leave new) (files_of run)) → IsCalm (g.seen old) (g.may_leave old) files doubt → IsCalm (g.seen new) (g.may_leave new) files doubt
+closed_calm g old new run files doubt true tells either alone settled calm = settled_calm (g.seen new) (g.may_leave new) (files_of run) files doubt (settled refl) (g.read_is_image new tells) either
+closed_calm g old new run files doubt false tells either alone settled calm = subst (λ d. IsCalm (g.seen d) (g.may_leave d) files doubt) (sym (alone refl)) calm
+
+-- and so the run leaves it as calm as it was handed in, where no fault came
+pub refused_calm : {D P : Type 0} (g : Ghosts D) (disk opened : D) (result : Result (Ran D P) (OpenRefused D P)) (files : Image) (doubt : Option (List FileText)) → GoesOn g disk opened → GoesOn g opened (disk_of result)
+    → (¬ HasRisen (g.faults disk) (g.faults opened) → IsCalm (g.seen opened) (g.may_leave opened) files doubt)
+    → IfErr result (λ refused. ¬ HasRisen (g.faults opened) (g.faults refused.disk) → IsCalm (g.seen opened) (g.may_leave opened) files doubt → IsCalm (g.seen refused.disk) (g.may_leave refused.disk) files doubt)
+    → IfErr result (λ refused. ¬ HasRisen (g.faults disk) (g.faults refused.disk) → IsCalm (g.seen refused.disk) (g.may_leave refused.disk) files doubt)
+refused_calm g disk opened (Ok ran) files doubt opening closing calm closed = tt
+refused_calm g disk opened (Err refused) files doubt opening closing calm closed = λ still.
+    closed (λ risen. still (risen_since (g.faults disk) (g.faults opened) (g.faults refused.disk) opening.later risen))
+    (calm (λ risen. still (risen_still (g.faults disk) (g.faults opened) (g.faults refused.disk) opening.later closing.later risen)))

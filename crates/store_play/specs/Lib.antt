@@ -3,3 +3,4 @@ pub mod Stages
 pub mod Told
 pub mod Plays
 pub mod Ran
+pub mod Causes

@@ -1,15 +1,16 @@
 -- What a whole run of a store promises: it was opened on a calm disk, played, and closed. (This project's own.)
 use Rattle.std.specs.Prelude.{◌≡◌, ◌⊎◌, ℕ, List, length, Option, None, Result, Ok, Err}
 use Rattle.kdb_outside.specs.Crashes.{EveryImage}
+use Rattle.kdb_outside.specs.Faults.{HasRisen}
 use Rattle.kdb_outside.specs.Images.{Image}
 use Rattle.kdb_outside.specs.declared.disks.Disk.{Ghosts}
-use Rattle.intent_journal.specs.BadJournals.{opened_files, opened_doubt}
 use Rattle.intent_journal.specs.JournalBytes.{IsBroken}
 use Rattle.intent_journal.specs.Moments.{LeavesOnly}
-use Rattle.intent_journal.specs.Outcomes.{HasOnly, IsEither}
+use Rattle.intent_journal.specs.Outcomes.{HasOnly, IsEither, SameFiles}
+use Rattle.intent_journal.specs.States.{IsCalm}
 use Rattle.journal_codec.specs.Entry.{journal_name}
 use Rattle.journal_codec.specs.declared.files.FileText.{FileText}
-use Rattle.model_crashes.specs.Runs.{Run, files_of, IsReached, new_run}
+use Rattle.model_crashes.specs.Runs.{Run, files_of, IsReached}
 use Rattle.model_files.specs.Texts.{entries_of}
 use Rattle.model_maps.specs.KeyMap.{KeyMap}
 use Rattle.model_store.specs.Cores.{first_core}
@@ -49,12 +50,15 @@ pub record HasPlayedNew (formats : Formats) {D P : Type 0} (g : Ghosts D) (mount
   pub core_is : last.core ≡ core_with core records known
   pub stands : StandsFor formats g (store_with mounted procs) opened core records known world last.run
 
--- and the store was closed: a crash since the opening leaves what the run reached, and now its files or these with its doubt
+-- and the store was closed: a crash since the opening leaves what the run reached, and now its files or these with its doubt. Without a fault a read
+-- gives its files, and the disk is calm
 pub record HasRunOpened (formats : Formats) {D P : Type 0} (g : Ghosts D) (mounted : List MountedFile) (procs : List KeyMap) (places : ℕ) (opened : D) (first : Run) (events : List Event) (ran : Ran D P) : Type 0 where
   pub core : Core D P
   pub played : HasPlayedNew formats g mounted procs places opened first events ran.answers core
   pub history : ran.history.commits ≡ core.history.commits
   pub reached : LeavesOnly g opened ran.disk (IsReached played.last.run.files played.last.run.commits played.last.run.begun)
+  pub shown : ¬ HasRisen played.last.run.faults (g.faults ran.disk) → SameFiles (g.seen ran.disk) (files_of played.last.run)
+  pub calm : ¬ HasRisen played.last.run.faults (g.faults ran.disk) → IsCalm (g.seen ran.disk) (g.may_leave ran.disk) (files_of played.last.run) played.last.run.doubt
   pub now : EveryImage (g.may_leave ran.disk) (HasOnly (IsEither (files_of played.last.run) played.last.run.doubt))
 
 -- the disk of a run, or the one that was handed back
@@ -70,17 +74,20 @@ IsNeverBroken g disk = EveryImage (g.may_leave disk) (λ image. ¬ IsBroken (ima
 abbrev pub WasOrReached : Image → Option (List FileText) → Run → Image → Type 0
 WasOrReached files doubt run image = HasOnly (IsEither files doubt) image ⊎ IsReached run.files run.commits run.begun image
 
--- the events were played from the opening to the close. The calls that they made are those of one owner. A crash at any moment since the disk was
--- handed in leaves what it stood for then, or the files of a prefix of the commits, or these with one set that was begun on just that prefix; and
--- now the files of all commits, or these with the set in doubt
-pub record HasRun (formats : Formats) {D P : Type 0} (g : Ghosts D) (mounted : List MountedFile) (procs : List KeyMap) (places : ℕ) (disk : D) (files : Image) (doubt : Option (List FileText)) (events : List Event) (ran : Ran D P) : Type 0 where
+-- the events were played from the opening to the close, behind a run that began as the first one. The calls that they made are those of one owner. A
+-- crash at any moment since the disk was handed in leaves what it stood for then, or the files of a prefix of the commits, or these with one set that
+-- was begun on just that prefix; and now the files of all commits, or these with the set in doubt. Without a fault a read gives the files of all
+-- commits, and the disk is calm
+pub record HasRun (formats : Formats) {D P : Type 0} (g : Ghosts D) (mounted : List MountedFile) (procs : List KeyMap) (places : ℕ) (disk : D) (files : Image) (doubt : Option (List FileText)) (first : Run) (events : List Event) (ran : Ran D P) : Type 0 where
   pub last : Stage
-  pub plays : Plays formats (store_with mounted procs) mounted (first_stage (store_with mounted procs) (new_run (opened_files (g.seen disk)) (g.faults disk) (opened_doubt (g.seen disk))) (length procs) places) events ran.answers last
+  pub plays : Plays formats (store_with mounted procs) mounted (first_stage (store_with mounted procs) first (length procs) places) events ran.answers last
   pub calls : List (event.Event × event.Answer)
   pub are_calls : AreCalls mounted events ran.answers calls
   pub one_owner : IsOneOwner formats (store_with mounted procs) calls last.core
   pub history : ran.history.commits ≡ last.core.history
   pub entries : last.run.commits ≡ entries_of formats (store_with mounted procs) last.core.history
-  pub files_stay : last.run.files ≡ opened_files (g.seen disk)
+  pub files_stay : last.run.files ≡ first.files
   pub any_moment : LeavesOnly g disk ran.disk (WasOrReached files doubt last.run)
   pub now : EveryImage (g.may_leave ran.disk) (HasOnly (IsEither (files_of last.run) last.run.doubt))
+  pub shown : ¬ HasRisen first.faults (g.faults ran.disk) → SameFiles (g.seen ran.disk) (files_of last.run)
+  pub calm : ¬ HasRisen first.faults (g.faults ran.disk) → IsCalm (g.seen ran.disk) (g.may_leave ran.disk) (files_of last.run) last.run.doubt

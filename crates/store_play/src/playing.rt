@@ -1,12 +1,14 @@
 //! Events that are played one after the other.
-ghost use Rattle.std.specs.Prelude.{◌≡◌, ℕ, IfOk, List, OnErr, Option};
+ghost use Rattle.std.specs.Prelude.{◌≡◌, ◌≤◌, ℕ, All, IfOk, List, OnErr, Option};
 ghost use Rattle.std.specs.List.{AllByRecursion};
+ghost use Rattle.kdb_outside.specs.Frames.{GoesOn};
 ghost use Rattle.model_crashes.specs.Runs.{Run};
 ghost use Rattle.model_maps.specs.KeyMap.{KeyMap};
 ghost use Rattle.model_store.specs.Sets as sets;
 ghost use Rattle.model_store.specs.Worlds.{World};
 ghost use Rattle.mounted_files.specs.Short.{AreShort};
 ghost use Rattle.store_core.specs.Plans.{store_of};
+ghost use Rattle.store_play.specs.Causes.{IsCaused};
 ghost use Rattle.store_play.specs.Handles.{Holds, IsHolding, places_in, records_in};
 ghost use Rattle.store_play.specs.Plays.{HasPlayed, Stepped};
 ghost use Rattle.store_play.specs.Stages.{stage_of};
@@ -27,7 +29,7 @@ use store_core::{Core, Plan};
 ///
 /// Each call that an event makes is judged as the definitions of a store say, and the store has one owner: each answer is the one that is meant by
 /// the history, the handle's fronts and what was asked. The core stands again, with a run that went on by these answers, so that a crash at any moment
-/// since the opening leaves what the run says.
+/// since the opening leaves what the run says. A fault of the disk and a refused pattern are answered only where their counts rose.
 pub fn play<D: Disk, F: Formats + Drop, P: Patterns + Drop>(
     alloc: Global,
     plan: &Plan<F>,
@@ -41,6 +43,9 @@ pub fn play<D: Disk, F: Formats + Drop, P: Patterns + Drop>(
     ensures played { (procs : ℕ → KeyMap) (opened : D) (known : ℕ → Option sets.Prepared) (world : World) (run : Run)
         → Holds (record { text = F.text; IsStorable = F.is_storable; BreaksAt = F.breaks_at }) D.Disk plan.now.mounted procs opened core.old (records_in handles.old) (places_in handles.old) known world run
         → IfOk result (λ answers. HasPlayed (record { text = F.text; IsStorable = F.is_storable; BreaksAt = F.breaks_at }) D.Disk plan.now.mounted procs opened (stage_of core.old (records_in handles.old) (places_in handles.old) known run) events.now answers core.new (records_in handles.new) (places_in handles.new)) }
+    ensures causes { IfOk result (All (IsCaused (D.faults core.old.journal.disk) (D.faults core.new.journal.disk) (P.refusals core.old.patterns) (P.refusals core.new.patterns))) }
+    ensures goes { GoesOn D.Disk core.old.journal.disk core.new.journal.disk }
+    ensures later { P.refusals core.old.patterns ≤ P.refusals core.new.patterns }
     ensures none { OnErr result ((core.new ≡ core.old) × (handles.new ≡ handles.old)) }
 {
     let mut answers = Vec::with_capacity(alloc, events.len())?;
@@ -62,9 +67,12 @@ fn step<D: Disk, F: Formats + Drop, P: Patterns + Drop>(
     requires fixed { (procs : ℕ → KeyMap) → IsPlan (store_of plan.now.mounted procs) plan.now.fixed }
     requires short { AllByRecursion AreShort plan.now.fixed.shadows }
     requires holding { IsHolding (record { text = F.text; IsStorable = F.is_storable; BreaksAt = F.breaks_at }) D.Disk plan.now.mounted core.old (records_in handles.old) (places_in handles.old) }
-    ensures { (procs : ℕ → KeyMap) (opened : D) (known : ℕ → Option sets.Prepared) (world : World) (run : Run)
+    ensures stepped { (procs : ℕ → KeyMap) (opened : D) (known : ℕ → Option sets.Prepared) (world : World) (run : Run)
         → Holds (record { text = F.text; IsStorable = F.is_storable; BreaksAt = F.breaks_at }) D.Disk plan.now.mounted procs opened core.old (records_in handles.old) (places_in handles.old) known world run
         → Stepped (record { text = F.text; IsStorable = F.is_storable; BreaksAt = F.breaks_at }) D.Disk plan.now.mounted procs opened (stage_of core.old (records_in handles.old) (places_in handles.old) known run) event.now result core.new (records_in handles.new) (places_in handles.new) }
+    ensures goes { GoesOn D.Disk core.old.journal.disk core.new.journal.disk }
+    ensures later { P.refusals core.old.patterns ≤ P.refusals core.new.patterns }
+    ensures cause { IsCaused (D.faults core.old.journal.disk) (D.faults core.new.journal.disk) (P.refusals core.old.patterns) (P.refusals core.new.patterns) result }
 {
     match event {
         Event::Get { handle, parent } => {

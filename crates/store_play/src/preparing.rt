@@ -9,6 +9,7 @@ ghost use Rattle.model_store.specs.Store.{Store};
 ghost use Rattle.model_store.specs.Worlds.{World};
 ghost use Rattle.mounted_files.specs.Short.{AreShort};
 ghost use Rattle.store_core.specs.Plans.{store_of};
+ghost use Rattle.store_play.specs.Causes.{IsCaused};
 ghost use Rattle.store_play.specs.Handles.{Holds};
 ghost use Rattle.store_play.specs.Plays.{Stepped};
 ghost use Rattle.store_play.specs.Stages.{stage_of};
@@ -43,9 +44,10 @@ pub(crate) fn play_prepare<D: Disk, F: Formats + Drop, P: Patterns + Drop>(
 ) -> Answer
     requires fixed { (procs : ℕ → KeyMap) → IsPlan (store_of plan.now.mounted procs) plan.now.fixed }
     requires short { AllByRecursion AreShort plan.now.fixed.shadows }
-    ensures { (procs : ℕ → KeyMap) (opened : D) (known : ℕ → Option sets.Prepared) (world : World) (run : Run)
+    ensures stepped { (procs : ℕ → KeyMap) (opened : D) (known : ℕ → Option sets.Prepared) (world : World) (run : Run)
         → Holds (record { text = F.text; IsStorable = F.is_storable; BreaksAt = F.breaks_at }) D.Disk plan.now.mounted procs opened _core.now records.now places.old known world run
         → Stepped (record { text = F.text; IsStorable = F.is_storable; BreaksAt = F.breaks_at }) D.Disk plan.now.mounted procs opened (stage_of _core.now records.now places.old known run) (event.Prepare handle number parent.now keys.now) result _core.now records.now places.new }
+    ensures cause { (faults now refusals later : ℕ) → IsCaused faults now refusals later result }
 {
     if handle >= records.len() {
         return Answer::Skipped(Skip::NoHandle);

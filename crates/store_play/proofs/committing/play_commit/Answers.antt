@@ -5,6 +5,7 @@ use Rattle.std.proofs.lemmas.Option.{slice_get-get_or}
 use Rattle.model_store.specs.Cores.{accepts}
 use Rattle.store_core.specs.Plans.{store_of}
 use Rattle.store_play.specs.Handles.{records_of}
+use Rattle.store_play.proofs.CauseLemmas.{commit_caused}
 use Rattle.store_play.proofs.StepLemmas.{belongs, belongs_here, committed_so, declined, held_by}
 use Rattle.store_verdict.specs.PreparedView.{prepared_of}
 use Rattle.store_verdict.specs.RecordView.{handle_of, record_of}
@@ -31,8 +32,8 @@ commit-requires g c =
       };
     }
 
-pub returns-in-Ok : goal.returns-in-Ok
-returns-in-Ok g c procs opened known world run h =
+pub returns-in-Ok-clause-stepped : goal.returns-in-Ok-clause-stepped
+returns-in-Ok-clause-stepped g c procs opened known world run h =
     let d : Record = c.index-records-handle-in-Ok.result in
     let rec : Record = get_or c.args.records.now c.args.handle d in
     let accepted : accepts (record_of rec) (handle_of rec) (prepared_of c.in-Ok.set) ≡ true =
@@ -45,7 +46,12 @@ returns-in-Ok g c procs opened known world run h =
     (c.commit.ensures.committed (store_of c.args.plan.now.mounted procs) opened (records_of c.args.records.now) known world run c.args.number
     (belongs (record { text = g.F.Formats.text; IsStorable = g.F.Formats.is_storable; BreaksAt = g.F.Formats.breaks_at }) g.D.Disk c.args.plan.now.mounted procs opened c.args.core.now c.args.records.now c.args.places.now known world run h c.args.handle c.args.number rec c.in-Ok.set there is_held accepted))
 
-pub returns-in-Err : goal.returns-in-Err
-returns-in-Err g c procs opened known world run h =
+pub returns-in-Err-clause-stepped : goal.returns-in-Err-clause-stepped
+returns-in-Err-clause-stepped g c procs opened known world run h =
     declined (record { text = g.F.Formats.text; IsStorable = g.F.Formats.is_storable; BreaksAt = g.F.Formats.breaks_at }) g.D.Disk c.args.plan.now.mounted procs opened c.args.core.now c.args.records.now c.args.places.now known world run h c.args.handle c.args.number (get_or c.args.records.now c.args.handle c.index-records-handle.result) c.take.new.place c.index-places-number.result c.in-Err.why
     (slice_get-get_or c.args.records.now c.args.handle c.index-records-handle.result c.if-handle-records.false) c.if-number-places.false c.in-Err.ensures.err c.in-Err.ensures.same
+
+pub returns-in-Ok-clause-cause : goal.returns-in-Ok-clause-cause
+returns-in-Ok-clause-cause g c =
+    commit_caused (g.D.Disk.faults c.args.core.now.journal.disk) (g.D.Disk.faults c.commit.new.self.journal.disk) (g.P.Patterns.refusals c.args.core.now.patterns) (g.P.Patterns.refusals c.commit.new.self.patterns)
+    c.commit.result c.commit.ensures.cause c.commit.ensures.refused

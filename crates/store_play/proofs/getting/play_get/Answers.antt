@@ -11,8 +11,8 @@ get-got-requires-clause-places g c =
     let rec : Record = get_or c.args.records.now c.args.handle c.index-records-handle.result in
     (c.requires.handles.1 c.args.handle rec (slice_get-get_or c.args.records.now c.args.handle c.index-records-handle.result c.if-handle-records.false)).places
 
-pub returns : goal.returns
-returns g c procs opened places known world run h =
+pub returns-clause-stepped : goal.returns-clause-stepped
+returns-clause-stepped g c procs opened places known world run h =
     let rec : Record = get_or c.args.records.now c.args.handle c.index-records-handle.result in
     let there = slice_get-get_or c.args.records.now c.args.handle c.index-records-handle.result c.if-handle-records.false in
     let is = h.handles c.args.handle rec there in

@@ -1,8 +1,12 @@
 -- Event by event.
-use Rattle.std.proofs.Common.{refl, ◌∙◌, arith}
+use Rattle.std.proofs.Common.{[], refl, ◌∙◌, arith}
+use Rattle.std.proofs.lemmas.List.Elements.{All-same}
 use Rattle.general_words.proofs.Lists.{at_place}
+use Rattle.kdb_outside.proofs.Frames.{GoesOn-then, OnlyReads-goes_on, OnlyReads-none}
+use Rattle.store_play.specs.Causes.{IsCaused}
 use Rattle.store_play.specs.Handles.{places_in, records_in}
 use Rattle.store_play.specs.Stages.{stage_of}
+use Rattle.store_play.proofs.CauseLemmas.{caused_next}
 use Rattle.store_play.proofs.PlayLemmas.{has_played, stood_first, stood_next}
 use Rattle.store_play.proofs.playing.play.Goals as goal
 
@@ -13,6 +17,10 @@ loop-event-init g c = record {
   stood = λ procs opened known world run h.
       stood_first (record { text = g.F.Formats.text; IsStorable = g.F.Formats.is_storable; BreaksAt = g.F.Formats.breaks_at }) g.D.Disk c.args.plan.now.mounted procs opened (stage_of c.args.core.now (records_in c.args.handles.now) (places_in c.args.handles.now) known run) c.args.events.now
       c.in_ok-answers.answers.items c.args.core.now (records_in c.args.handles.now) (places_in c.args.handles.now) known world run c.in_ok-answers.ensures.items refl h;
+  causes = All-same (IsCaused (g.D.Disk.faults c.args.core.now.journal.disk) (g.D.Disk.faults c.args.core.now.journal.disk) (g.P.Patterns.refusals c.args.core.now.patterns) (g.P.Patterns.refusals c.args.core.now.patterns))
+      c.in_ok-answers.answers.items [] c.in_ok-answers.ensures.items (λ k d lt. absurd (omega arith));
+  goes = OnlyReads-goes_on g.D.Disk c.args.core.now.journal.disk c.args.core.now.journal.disk (OnlyReads-none g.D.Disk c.args.core.now.journal.disk);
+  later = omega arith;
 }
 
 pub step-answer-requires-clause-holding : goal.step-answer-requires-clause-holding
@@ -32,7 +40,15 @@ loop-event-preserved g c = record {
       stood_next (record { text = g.F.Formats.text; IsStorable = g.F.Formats.is_storable; BreaksAt = g.F.Formats.breaks_at }) g.D.Disk c.args.plan.now.mounted procs opened (stage_of c.args.core.now (records_in c.args.handles.now) (places_in c.args.handles.now) known run) c.args.events.now
       c.loop-event.event-index c.event-item.result c.step-answer.result c.loop-event.answers.items c.push_reserved.new.self.items c.loop-event.core c.step-answer.new.core
       (records_in c.loop-event.handles) (records_in c.step-answer.new.handles) (places_in c.loop-event.handles) (places_in c.step-answer.new.handles)
-      (at_place c.args.events.now c.loop-event.event-index c.event-item.result c.loop-event-test.true c.event-item.is) c.push_reserved.ensures.items (c.step-answer.ensures procs opened) (c.loop-event.invariant.stood procs opened known world run h);
+      (at_place c.args.events.now c.loop-event.event-index c.event-item.result c.loop-event-test.true c.event-item.is) c.push_reserved.ensures.items (c.step-answer.ensures.stepped procs opened) (c.loop-event.invariant.stood procs opened known world run h);
+  causes =
+      let so_far = c.loop-event.invariant in
+      caused_next (g.D.Disk.faults c.args.core.now.journal.disk) (g.D.Disk.faults c.loop-event.core.journal.disk) (g.D.Disk.faults c.step-answer.new.core.journal.disk)
+      (g.P.Patterns.refusals c.args.core.now.patterns) (g.P.Patterns.refusals c.loop-event.core.patterns) (g.P.Patterns.refusals c.step-answer.new.core.patterns)
+      c.loop-event.answers.items c.push_reserved.new.self.items c.step-answer.result so_far.goes.later c.step-answer.ensures.goes.later so_far.later c.step-answer.ensures.later c.push_reserved.ensures.items
+      so_far.causes c.step-answer.ensures.cause;
+  goes = GoesOn-then g.D.Disk c.args.core.now.journal.disk c.loop-event.core.journal.disk c.step-answer.new.core.journal.disk c.loop-event.invariant.goes c.step-answer.ensures.goes;
+  later = omega (arith, c.loop-event.invariant.later, c.step-answer.ensures.later);
 }
 
 pub returns-clause-played : goal.returns-clause-played
@@ -40,3 +56,8 @@ returns-clause-played g c procs opened known world run h =
     has_played (record { text = g.F.Formats.text; IsStorable = g.F.Formats.is_storable; BreaksAt = g.F.Formats.breaks_at }) g.D.Disk c.args.plan.now.mounted procs opened (stage_of c.args.core.now (records_in c.args.handles.now) (places_in c.args.handles.now) known run) c.args.events.now
     c.loop-event.event-index c.loop-event.answers.items c.from_vec.result c.loop-event.core (records_in c.loop-event.handles) (places_in c.loop-event.handles) c.loop-event-test.false c.from_vec.ensures
     (c.loop-event.invariant.stood procs opened known world run h)
+
+pub returns-clause-causes : goal.returns-clause-causes
+returns-clause-causes g c =
+    All-same (IsCaused (g.D.Disk.faults c.args.core.now.journal.disk) (g.D.Disk.faults c.loop-event.core.journal.disk) (g.P.Patterns.refusals c.args.core.now.patterns) (g.P.Patterns.refusals c.loop-event.core.patterns))
+    c.from_vec.result c.loop-event.answers.items c.from_vec.ensures c.loop-event.invariant.causes

@@ -7,3 +7,9 @@ use Rattle.store_play.proofs.playing.step.Goals as goal
 pub play_get-requires-clause-handles : goal.play_get-requires-clause-handles
 play_get-requires-clause-handles g c =
     (c.requires.holding.procs, subst (λ (records : List Record). AreHandlesOf (length c.args.plan.now.mounted) c.requires.holding.procs records) (sym c.deref_mut.ensures.value) c.requires.holding.holds.handles)
+
+pub returns-in-Get-clause-cause : goal.returns-in-Get-clause-cause
+returns-in-Get-clause-cause g c = c.play_get.ensures.cause _ _ _ _
+
+pub returns-in-Prepare-clause-cause : goal.returns-in-Prepare-clause-cause
+returns-in-Prepare-clause-cause g c = c.play_prepare.ensures.cause _ _ _ _
