@@ -2,22 +2,22 @@
 -- and what a text has that is no pattern.
 use Rattle.std.proofs.Common.{◌≡◌, ℕ, ◌≤◌, Bool, true, false, nat_le, List, [], ◌∷◌, ◌++◌, map, length, Option, Some, None, refl, sym, ap, subst, ◌∙◌, arith, append-nil, codes}
 use Rattle.std.specs.FinMap as finite
-use Rattle.std.specs.List.{AllByRecursion}
 use Rattle.std.specs.Option.{option_to_list}
 use Rattle.std.proofs.lemmas.Bool.{leb-true, leb-false}
-use Rattle.general_words.proofs.Lists.{all_append, all_map, found_once}
+use Rattle.general_words.proofs.Lists.{found_once, head_is}
 use Rattle.model_names.specs.Name.{Name}
 use Rattle.model_maps.specs.Entry.{Entry, Meta}
 use Rattle.model_rules.specs.Rules.{BreaksType, UnknownType, WrongType, BreaksRange, BadRange, OutOfRange, BreaksEnum, BreaksPattern, LongPattern, BadPattern, Mismatch, Tells, breach, longest_pattern}
 use Rattle.model_rules.specs.declared.breaches.Broken.{Broken}
 use Rattle.regex_check.specs.Grammar.{IsInGrammar, Matches, Misses, matches_in}
-use Rattle.model_specified.specs.Violations.{AreBreaches, AreOfKey, AreOfKeyBy, AreOfKeys, AreOfKeysBy, BeginWith, IsNoPattern, TellsPattern, TellsPatternBy, violation_at}
+use Rattle.model_specified.specs.Violations.{AreBreaches, AreOfKey, AreOfKeyBy, AreOfKeys, AreOfKeysBy, BeginWith, BreaksAtFirst, ByType, ByRange, ByEnum, ByPattern, IsNoPattern, TellsPattern, TellsPatternBy, violation_at}
 use Rattle.model_specified.specs.declared.violations.Violation.{Violation}
+use Rattle.model_specified.proofs.ViolationLemmas.{AreOfKeys-append}
 
 -- ---- no violations
 
 -- two lists that are nothing together are nothing each
-nothing_of : {A : Type 0} (xs ys : List A) → [] ≡ xs ++ ys → (xs ≡ []) × (ys ≡ [])
+pub nothing_of : {A : Type 0} (xs ys : List A) → [] ≡ xs ++ ys → (xs ≡ []) × (ys ≡ [])
 nothing_of [] ys e = (refl, sym e)
 nothing_of (x ∷ xs) ys e = absurd cc
 
@@ -38,7 +38,7 @@ no_breach {M} {N} value meta h = record {
     by None e tells = tells
     by (Some broken) e tells = absurd cc
 
-no_violation : {M N : Type 0} (key : Name × Entry) → AreOfKey M key [] → AreOfKey N key []
+pub no_violation : {M N : Type 0} (key : Name × Entry) → AreOfKey M key [] → AreOfKey N key []
 no_violation {M} {N} key h = record { breaches = []; are = no_breach key.1.value key.1.meta (subst (AreBreaches M key.1.value key.1.meta) (none h.breaches h.all) h.are); all = refl }
   where
     none : (breaches : List Broken) → [] ≡ map (violation_at key.0) breaches → breaches ≡ []
@@ -78,33 +78,108 @@ module _ (M : Type 0) (name : Name) where
   by_pattern value meta broken (BadPattern pattern get small may is) six short = may
   by_pattern value meta broken (Mismatch pattern get small misses is) six short = other_rule 7 value broken (λ e. omega (arith, e)) is six short
 
-  told : (Breaks : Broken → Type 0) (o : Option Broken) → ((broken : Broken) → Breaks broken → Caused broken) → Tells Breaks o → AllByRecursion Caused (option_to_list o)
-  told Breaks None each tells = tt
-  told Breaks (Some broken) each tells = (each broken tells, tt)
-
-  told_pattern : (value : List ℕ) (meta : Meta) (o : Option Broken) → TellsPattern M value meta o → AllByRecursion Caused (option_to_list o)
-  told_pattern value meta None tells = tt
-  told_pattern value meta (Some broken) tells = (by_pattern value meta broken tells, tt)
-
-of_key-caused : (M : Type 0) (key : Name × Entry) (violations : List Violation) → AreOfKey M key violations → AllByRecursion (HasCauseIn M) violations
-of_key-caused M key violations h =
-    let value = key.1.value in
-    let meta = key.1.meta in
-    let are = h.are in
-    let C : Broken → Type 0 = Caused M key.0 in
-    let enum : AllByRecursion C (option_to_list are.by_enum) = told M key.0 (BreaksEnum value meta) are.by_enum (λ broken b. other_rule M key.0 5 value broken (λ e. omega (arith, e)) b.is) are.of_enum in
-    let rest = all_append C (option_to_list are.by_enum) (option_to_list are.by_pattern) enum (told_pattern M key.0 value meta are.by_pattern are.of_pattern) in
-    let more = all_append C (option_to_list are.by_range) _ (told M key.0 (BreaksRange value meta) are.by_range (by_range M key.0 value meta) are.of_range) rest in
-    let all = all_append C (option_to_list are.by_type) _ (told M key.0 (BreaksType value meta) are.by_type (by_type M key.0 value meta) are.of_type) more in
-    subst (AllByRecursion (HasCauseIn M)) (sym h.all) (all_map (HasCauseIn M) (violation_at key.0) h.breaches (subst (AllByRecursion C) (sym are.all) all))
-
-AreOfKeys-caused : (M : Type 0) (keys : List (Name × Entry)) (violations : List Violation) → AreOfKeys M keys violations → AllByRecursion (HasCauseIn M) violations
-AreOfKeys-caused M [] violations h = subst (AllByRecursion (HasCauseIn M)) (sym h) tt
-AreOfKeys-caused M (key ∷ keys) violations (own, rest, of_key, of_rest, all) =
-    subst (AllByRecursion (HasCauseIn M)) (sym all) (all_append (HasCauseIn M) own rest (of_key-caused M key own of_key) (AreOfKeys-caused M keys rest of_rest))
+  by_first : (value : List ℕ) (meta : Meta) (broken : Broken) → BreaksAtFirst M value meta broken → Caused broken
+  by_first value meta broken (ByType breaks) = by_type value meta broken breaks
+  by_first value meta broken (ByRange typed breaks) = by_range value meta broken breaks
+  by_first value meta broken (ByEnum typed ranged breaks) = other_rule 5 value broken (λ e. omega (arith, e)) breaks.is
+  by_first value meta broken (ByPattern typed ranged chosen breaks) = by_pattern value meta broken breaks
 
 pub first-caused : (M : Type 0) (keys : List (Name × Entry)) (violation : Violation) → BeginWith M keys violation → HasCauseIn M violation
-first-caused M keys violation h = (AreOfKeys-caused M h.front (violation ∷ h.more) h.violations).0
+first-caused M keys violation h = subst (HasCauseIn M) (sym h.is) (by_first M h.key.0 h.key.1.value h.key.1.meta h.broken h.first)
+
+-- a first violation has that cause alone: it stays where its own has another
+breaks_as : (M N : Type 0) (value : List ℕ) (meta : Meta) (broken : Broken) → (broken.rule ≡ 6 → length broken.given ≤ longest_pattern → M → N) → BreaksAtFirst M value meta broken → BreaksAtFirst N value meta broken
+breaks_as M N value meta broken so (ByType breaks) = ByType breaks
+breaks_as M N value meta broken so (ByRange typed breaks) = ByRange typed breaks
+breaks_as M N value meta broken so (ByEnum typed ranged breaks) = ByEnum typed ranged breaks
+breaks_as M N value meta broken so (ByPattern typed ranged chosen breaks) = ByPattern typed ranged chosen (by breaks)
+  where
+    by : BreaksPattern (λ _. M) Misses value meta broken → BreaksPattern (λ _. N) Misses value meta broken
+    by (LongPattern pattern get long is) = LongPattern pattern get long is
+    by (BadPattern pattern get short may is) = BadPattern pattern get short (so (ap (λ (b : Broken). b.rule) is) (subst (λ (b : Broken). length b.given ≤ longest_pattern) (sym is) short) may) is
+    by (Mismatch pattern get short misses is) = Mismatch pattern get short misses is
+
+pub first-as : (M N : Type 0) (keys : List (Name × Entry)) (violation : Violation) → (violation.rule ≡ 6 → length violation.given ≤ longest_pattern → M → N) → BeginWith M keys violation → BeginWith N keys violation
+first-as M N keys violation so h = record {
+  front = h.front;
+  key = h.key;
+  behind = h.behind;
+  all = h.all;
+  none = h.none;
+  broken = h.broken;
+  first = breaks_as M N h.key.1.value h.key.1.meta h.broken (subst (λ (v : Violation). v.rule ≡ 6 → length v.given ≤ longest_pattern → M → N) h.is so) h.first;
+  is = h.is;
+}
+
+-- ---- the first of a list
+
+first_breach : (M : Type 0) (value : List ℕ) (meta : Meta) (broken : Broken) (more : List Broken) → AreBreaches M value meta (broken ∷ more) → BreaksAtFirst M value meta broken
+first_breach M value meta broken more h = by h.by_type h.by_range h.by_enum h.by_pattern h.of_type h.of_range h.of_enum h.of_pattern h.all
+  where
+    by : (t r e p : Option Broken) → Tells (BreaksType value meta) t → Tells (BreaksRange value meta) r → Tells (BreaksEnum value meta) e → TellsPattern M value meta p
+        → broken ∷ more ≡ option_to_list t ++ (option_to_list r ++ (option_to_list e ++ option_to_list p)) → BreaksAtFirst M value meta broken
+    by (Some b) r e p of_t of_r of_e of_p all = ByType (subst (BreaksType value meta) (sym (head_is broken b _ _ all)) of_t)
+    by None (Some b) e p of_t of_r of_e of_p all = ByRange of_t (subst (BreaksRange value meta) (sym (head_is broken b _ _ all)) of_r)
+    by None None (Some b) p of_t of_r of_e of_p all = ByEnum of_t of_r (subst (BreaksEnum value meta) (sym (head_is broken b _ _ all)) of_e)
+    by None None None (Some b) of_t of_r of_e of_p all = ByPattern of_t of_r of_e (subst (BreaksPattern (λ _. M) Misses value meta) (sym (head_is broken b _ _ all)) of_p)
+    by None None None None of_t of_r of_e of_p all = absurd cc
+
+first_of_key : (M : Type 0) (key : Name × Entry) (violation : Violation) (more : List Violation) → AreOfKey M key (violation ∷ more)
+    → (broken : Broken) × BreaksAtFirst M key.1.value key.1.meta broken × (violation ≡ violation_at key.0 broken)
+first_of_key M key violation more h = by h.breaches h.are h.all
+  where
+    by : (breaches : List Broken) → AreBreaches M key.1.value key.1.meta breaches → violation ∷ more ≡ map (violation_at key.0) breaches
+        → (broken : Broken) × BreaksAtFirst M key.1.value key.1.meta broken × (violation ≡ violation_at key.0 broken)
+    by [] are all = absurd cc
+    by (broken ∷ breaches) are all = (broken, first_breach M key.1.value key.1.meta broken breaches are, head_is violation (violation_at key.0 broken) _ _ all)
+
+-- keys whose list has a first violation begin with it, whatever keys come behind
+pub begin-with : (M : Type 0) (keys others : List (Name × Entry)) (violation : Violation) (more : List Violation) → AreOfKeys M keys (violation ∷ more) → BeginWith M (keys ++ others) violation
+begin-with M [] others violation more h = absurd cc
+begin-with M (key ∷ keys) others violation more (own, rest, of_key, of_rest, all) = by own rest of_key of_rest all (begin-with M keys others violation more)
+  where
+    by : (own rest : List Violation) → AreOfKey M key own → AreOfKeys M keys rest → violation ∷ more ≡ own ++ rest → (AreOfKeys M keys (violation ∷ more) → BeginWith M (keys ++ others) violation) → BeginWith M (key ∷ (keys ++ others)) violation
+    by [] rest of_key of_rest all again =
+        let later = again (subst (AreOfKeys M keys) (sym all) of_rest) in
+        record {
+          front = key ∷ later.front;
+          key = later.key;
+          behind = later.behind;
+          all = ap (λ ks. key ∷ ks) later.all;
+          none = ([], [], no_violation key of_key, later.none, refl);
+          broken = later.broken;
+          first = later.first;
+          is = later.is;
+        }
+    by (v ∷ own) rest of_key of_rest all again =
+        let here = first_of_key M key v own of_key in
+        record { front = []; key = key; behind = keys ++ others; all = refl; none = refl; broken = here.0; first = here.1; is = head_is violation v _ _ all ∙ here.2 }
+
+-- where a key has a list, it has one that begins with what it breaks first
+list_of_key : (M : Type 0) (key : Name × Entry) (own : List Violation) (broken : Broken) → BreaksAtFirst M key.1.value key.1.meta broken → AreOfKey M key own → (more : List Violation) × AreOfKey M key (violation_at key.0 broken ∷ more)
+list_of_key M key own broken first h = by first
+  where
+    are : AreBreaches M key.1.value key.1.meta h.breaches
+    are = h.are
+
+    listed : (more : List Broken) → AreBreaches M key.1.value key.1.meta (broken ∷ more) → (more : List Violation) × AreOfKey M key (violation_at key.0 broken ∷ more)
+    listed more all = (map (violation_at key.0) more, record { breaches = broken ∷ more; are = all; all = refl })
+
+    by : BreaksAtFirst M key.1.value key.1.meta broken → (more : List Violation) × AreOfKey M key (violation_at key.0 broken ∷ more)
+    by (ByType breaks) = listed _ (record { by_type = Some broken; by_range = are.by_range; by_enum = are.by_enum; by_pattern = are.by_pattern; of_type = breaks; of_range = are.of_range; of_enum = are.of_enum; of_pattern = are.of_pattern; all = refl })
+    by (ByRange typed breaks) = listed _ (record { by_type = None; by_range = Some broken; by_enum = are.by_enum; by_pattern = are.by_pattern; of_type = typed; of_range = breaks; of_enum = are.of_enum; of_pattern = are.of_pattern; all = refl })
+    by (ByEnum typed ranged breaks) = listed _ (record { by_type = None; by_range = None; by_enum = Some broken; by_pattern = are.by_pattern; of_type = typed; of_range = ranged; of_enum = breaks; of_pattern = are.of_pattern; all = refl })
+    by (ByPattern typed ranged chosen breaks) = listed _ (record { by_type = None; by_range = None; by_enum = None; by_pattern = Some broken; of_type = typed; of_range = ranged; of_enum = chosen; of_pattern = breaks; all = refl })
+
+pub begins-list : (M : Type 0) (keys : List (Name × Entry)) (violation : Violation) (first : BeginWith M keys violation) (others : List Violation) → AreOfKeys M (first.key ∷ first.behind) others → (more : List Violation) × AreOfKeys M keys (violation ∷ more)
+begins-list M keys violation first others (own, rest, of_key, of_rest, all) =
+    let here = list_of_key M first.key own first.broken first.first of_key in
+    let listed : AreOfKeys M (first.key ∷ first.behind) (violation_at first.key.0 first.broken ∷ (here.0 ++ rest)) = (violation_at first.key.0 first.broken ∷ here.0, rest, here.1, of_rest, refl) in (
+      here.0 ++ rest,
+      subst (λ ks. AreOfKeys M ks (violation ∷ (here.0 ++ rest))) (sym first.all)
+          (AreOfKeys-append M first.front (first.key ∷ first.behind) [] (violation ∷ (here.0 ++ rest)) (AreOfKeys-none ⊥ M first.front first.none)
+          (subst (λ (v : Violation). AreOfKeys M (first.key ∷ first.behind) (v ∷ (here.0 ++ rest))) (sym first.is) listed)),
+    )
 
 -- ---- there is a list
 
@@ -162,7 +237,7 @@ first_or_none M may keys some none = some_of_keys M may keys by
   where
     by : (violations : List Violation) → AreOfKeys M keys violations → ⊥
     by [] h = none h
-    by (violation ∷ more) h = some violation (record { front = keys; behind = []; all = sym (append-nil keys); more = more; violations = h })
+    by (violation ∷ more) h = some violation (subst (λ ks. BeginWith M ks violation) (append-nil keys) (begin-with M keys [] violation more h))
 
 -- ---- a text that is no pattern
 

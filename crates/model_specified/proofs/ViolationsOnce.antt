@@ -28,7 +28,7 @@ module _ (MayRefuse : List ℕ → Type 0) (off : RefusesNoPattern MayRefuse) (v
   Breaks broken = BreaksPattern MayRefuse Misses value meta broken
 
   -- a value that keeps its pattern breaks no rule on it
-  keeps-none : (x : Broken) → KeepsPattern Matches value meta → Breaks x → ⊥
+  pub keeps-none : (x : Broken) → KeepsPattern Matches value meta → Breaks x → ⊥
   keeps-none x keeps (LongPattern pattern get long is) = omega (arith, long, (keeps pattern get).0)
   keeps-none x keeps (BadPattern pattern get short may is) = off pattern may (keeps pattern get).1.grammar
   keeps-none x keeps (Mismatch pattern get short misses is) = let yes = (keeps pattern get).1.is in let no = misses.is in absurd cc
@@ -42,7 +42,7 @@ module _ (MayRefuse : List ℕ → Type 0) (off : RefusesNoPattern MayRefuse) (v
   not_missing pattern other get got may misses = off pattern may (subst (λ p. Misses p value) (found_once other pattern got get) misses).grammar
 
   -- and one that breaks a rule on it breaks one
-  breaks-once : (x y : Broken) → Breaks x → Breaks y → x ≡ y
+  pub breaks-once : (x y : Broken) → Breaks x → Breaks y → x ≡ y
   breaks-once x y (LongPattern pattern get long is) (LongPattern other got large has) = is ∙ ap (breach 6) (found_once pattern other get got) ∙ sym has
   breaks-once x y (LongPattern pattern get long is) (BadPattern other got short may has) = absurd (too_long pattern other get got long short)
   breaks-once x y (LongPattern pattern get long is) (Mismatch other got short misses has) = absurd (too_long pattern other get got long short)

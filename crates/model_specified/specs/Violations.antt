@@ -1,5 +1,5 @@
 -- Which rules the keys of a set break, as its specifications have them. (After Elektra's plugins `type`, `range` and `validation`.)
-use Rattle.std.specs.Prelude.{◌≡◌, ◌⊎◌, ℕ, nat_eq, Bool, false, ◌&&◌, ◌||◌, List, [], ◌∷◌, ◌++◌, map, Option, MatchOption}
+use Rattle.std.specs.Prelude.{◌≡◌, ◌⊎◌, ℕ, nat_eq, Bool, false, ◌&&◌, ◌||◌, List, [], ◌∷◌, ◌++◌, map, Option, None, MatchOption}
 use Rattle.std.specs.FinMap as finite
 use Rattle.std.specs.List.{filter, list_any}
 use Rattle.std.specs.Option.{option_map_or, option_to_list}
@@ -85,13 +85,23 @@ IsNoPattern pattern = IsInGrammar pattern → ⊥
 abbrev pub MayBeRefused : Type 0 → List ℕ → Type 0
 MayBeRefused HasRisen pattern = HasRisen ⊎ IsNoPattern pattern
 
--- some keys have a first violation: those up to it have a list that begins with it
+-- what a value breaks first under its metadata: no check before has a breach, and those behind aren't asked
+pub data BreaksAtFirst (HasRisen : Type 0) (value : List ℕ) (meta : Meta) (broken : Broken) : Type 0 where
+  ByType : BreaksType value meta broken → BreaksAtFirst HasRisen value meta broken
+  ByRange : Tells (BreaksType value meta) None → BreaksRange value meta broken → BreaksAtFirst HasRisen value meta broken
+  ByEnum : Tells (BreaksType value meta) None → Tells (BreaksRange value meta) None → BreaksEnum value meta broken → BreaksAtFirst HasRisen value meta broken
+  ByPattern : Tells (BreaksType value meta) None → Tells (BreaksRange value meta) None → Tells (BreaksEnum value meta) None → BreaksPattern (λ _. HasRisen) Misses value meta broken → BreaksAtFirst HasRisen value meta broken
+
+-- some keys have a first violation: those in front of its key have none, and the key breaks this rule first. No pattern that comes behind it has a part in it
 pub record BeginWith (HasRisen : Type 0) (keys : List (Name × Entry)) (violation : Violation) : Type 0 where
   pub front : List (Name × Entry)
+  pub key : Name × Entry
   pub behind : List (Name × Entry)
-  pub all : keys ≡ front ++ behind
-  pub more : List Violation
-  pub violations : AreOfKeys HasRisen front (violation ∷ more)
+  pub all : keys ≡ front ++ key ∷ behind
+  pub none : AreOfKeys ⊥ front []
+  pub broken : Broken
+  pub first : BreaksAtFirst HasRisen key.1.value key.1.meta broken
+  pub is : violation ≡ violation_at key.0 broken
 
 -- the first violation of the chosen keys of a set, or none where they have none
 abbrev pub IsFirstViolation : Type 0 → (Name → Bool) → KeyMap → Option Violation → Type 0

@@ -74,9 +74,22 @@ pub fn a_text_that_is_no_pattern_breaks_its_rule()
         → answer ≡ Some (breach 6 pattern) }
 {}
 
-/// The first violation stands first in each list of all violations that goes on from those of the keys up to it.
+/// The first violation stands first in a list of all violations, where its key and those behind it have a list.
 pub fn the_first_violation_begins_a_list()
-    ensures { (before now : ℕ) (is_chosen : Name → Bool) (keys : KeyMap) (violation : Violation) (first : BeginWith (HasRisen before now) (checked_keys is_chosen keys) violation) (others : List Violation) → AreOfKeys (HasRisen before now) first.behind others → AreViolations (HasRisen before now) is_chosen keys (violation ∷ (first.more ++ others)) }
+    ensures { (before now : ℕ) (is_chosen : Name → Bool) (keys : KeyMap) (violation : Violation) (first : BeginWith (HasRisen before now) (checked_keys is_chosen keys) violation) (others : List Violation) → AreOfKeys (HasRisen before now) (first.key ∷ first.behind) others
+        → (more : List Violation) × AreViolations (HasRisen before now) is_chosen keys (violation ∷ more) }
+{}
+
+/// A list of all violations begins with the first violation.
+pub fn a_list_begins_with_the_first_violation()
+    ensures { (before now : ℕ) (is_chosen : Name → Bool) (keys : KeyMap) (violation : Violation) (more : List Violation) → AreViolations (HasRisen before now) is_chosen keys (violation ∷ more) → IsFirstViolation (HasRisen before now) is_chosen keys (Some violation) }
+{}
+
+/// Only the first violation's own pattern has to be refused for it, and none where it isn't rule 6 with a pattern of at most 1,024 bytes: patterns that come behind it
+/// have no part in it.
+pub fn the_first_violation_needs_no_refusal_behind_it()
+    ensures { (before now : ℕ) (is_chosen : Name → Bool) (keys : KeyMap) (violation : Violation) → IsFirstViolation (HasRisen before now) is_chosen keys (Some violation)
+        → IsFirstViolation ((violation.rule ≡ 6) × (length violation.given ≤ longest_pattern) × HasRisen before now) is_chosen keys (Some violation) }
 {}
 
 /// Where no pattern may be refused, a set has one first violation at most, and none where it has no violations.

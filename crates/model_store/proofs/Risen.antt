@@ -1,13 +1,13 @@
 -- The test of a count that rose, and what is found under it.
-use Rattle.std.proofs.Common.{◌≡◌, ℕ, ◌-◌, ◌^◌, Bool, true, false, T, ◌||◌, nat_lt, nat_eq, Some, ◌∷◌, inl, inr, refl, ap, eqb-true, eq-eqb, ltb-true, lt-ltb}
+use Rattle.std.proofs.Common.{◌≡◌, ℕ, ◌-◌, ◌^◌, Bool, true, false, T, ◌||◌, nat_lt, nat_eq, Some, inl, inr, refl, ap, eqb-true, eq-eqb, ltb-true, lt-ltb}
 use Rattle.std.specs.Bool.{Decides}
 use Rattle.general_words.proofs.Tests.{true_is}
 use Rattle.kdb_outside.specs.Faults.{HasRisen}
 use Rattle.model_maps.specs.KeyMap.{KeyMap}
 use Rattle.model_names.specs.Name.{Name}
-use Rattle.model_specified.specs.Violations.{IsFirstViolation}
+use Rattle.model_specified.specs.Violations.{IsFirstViolation, checked_keys}
 use Rattle.model_specified.specs.declared.violations.Violation.{Violation}
-use Rattle.model_specified.proofs.ViolationLemmas.{AreOfKeys-still}
+use Rattle.model_specified.proofs.Refusals.{first-as}
 use Rattle.model_store.specs.Rules.{has_risen}
 
 pub has_risen-Decides : (before now : ℕ) → Decides (has_risen before now) (HasRisen before now)
@@ -27,10 +27,5 @@ has_risen-Decides before now = (there (nat_lt before now) refl, back)
 
 -- a first violation by a count that rose is one by the test of it
 pub first-tested : (before now : ℕ) (is_chosen : Name → Bool) (keys : KeyMap) (violation : Violation) → IsFirstViolation (HasRisen before now) is_chosen keys (Some violation) → IsFirstViolation (T (has_risen before now)) is_chosen keys (Some violation)
-first-tested before now is_chosen keys violation first = record {
-  front = first.front;
-  behind = first.behind;
-  all = first.all;
-  more = first.more;
-  violations = AreOfKeys-still (HasRisen before now) (T (has_risen before now)) first.front (violation ∷ first.more) (λ risen. true_is _ ((has_risen-Decides before now).1 risen)) first.violations;
-}
+first-tested before now is_chosen keys violation first =
+    first-as (HasRisen before now) (T (has_risen before now)) (checked_keys is_chosen keys) violation (λ six short risen. true_is _ ((has_risen-Decides before now).1 risen)) first

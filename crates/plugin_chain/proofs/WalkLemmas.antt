@@ -15,6 +15,7 @@ use Rattle.model_specified.specs.SpecMeta.{spec_keys}
 use Rattle.model_specified.specs.Specified.{specified_key, with_defaults}
 use Rattle.model_specified.specs.Violations.{AreOfKeys, AreViolations, BeginWith, IsFirstViolation, TellsPattern, checked_keys, is_checked, violation_at}
 use Rattle.model_specified.specs.declared.violations.Violation.{Violation}
+use Rattle.model_specified.proofs.Refusals.{begin-with}
 use Rattle.model_specified.proofs.SpecifiedLemmas.{entries-specified}
 use Rattle.model_specified.proofs.ViolationLemmas.{AreOfKey-still, AreOfKeys-append, AreOfKeys-one, AreOfKeys-still}
 use Rattle.plugin_chain.specs.Steps.{Adds, AddsIf, IsFirstOf, checked}
@@ -109,13 +110,8 @@ pub reached_found : (M : Type 0) (specs : KeyMap) (is_chosen : Name → Bool) (a
     → Reached M specs is_chosen all rest violations → BeginWith M (checked specs is_chosen all) violation
 reached_found M specs is_chosen all rest violations violation is h =
     let there = begun violations violation is in
-    record {
-      front = checked specs is_chosen h.front;
-      behind = checked specs is_chosen rest;
-      all = ap (checked specs is_chosen) h.is ∙ checked-append specs is_chosen h.front rest;
-      more = there.0;
-      violations = subst (AreOfKeys M (checked specs is_chosen h.front)) there.1 h.are;
-    }
+    subst (λ ks. BeginWith M ks violation) (sym (ap (checked specs is_chosen) h.is ∙ checked-append specs is_chosen h.front rest))
+    (begin-with M (checked specs is_chosen h.front) (checked specs is_chosen rest) violation there.0 (subst (AreOfKeys M (checked specs is_chosen h.front)) there.1 h.are))
 
 -- ---- the checked keys of a set
 
