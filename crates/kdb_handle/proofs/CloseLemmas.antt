@@ -13,6 +13,7 @@ use Rattle.kdb_outside.proofs.Frames.{GoesOn-then}
 use Rattle.intent_journal.specs.Journal.{JournalValue}
 use Rattle.intent_journal.specs.Moments.{LeavesOnly}
 use Rattle.intent_journal.specs.Outcomes.{SameFiles, HasOnly, IsEither}
+use Rattle.intent_journal.specs.declared.states.State.TheVariants as state
 use Rattle.kdb_handle.specs.Closing.{IsClosed}
 use Rattle.kdb_handle.specs.Datums.{coded_journal}
 use Rattle.kdb_handle.specs.Handles.{HandleValue}
@@ -153,12 +154,13 @@ module _ {D P : Type 0} (formats : Formats) (g : Ghosts D) (code : Coded D) (ref
       same_journal = (coded_journal code).inj shared.journal journal (sym shared.journal_is ∙ ap (λ (o : Opening). o.journal) opening_is ∙ journal_is)
 
       pub closed_so : length handles + length free ≡ lock.seats → closed.history ≡ core.history → closed.patterns ≡ core.patterns
+          → (core.wrote ≡ false → core.journal.state ≡ state.Doubt → closed.disk ≡ core.journal.disk)
           → ((start : D) (run : Run) → IsStore g start core.journal run → ¬ HasRisen (g.faults core.journal.disk) (g.faults closed.disk) → SameFiles (g.seen closed.disk) (files_of run))
           → ((start : D) (run : Run) → IsStore g start core.journal run → LeavesOnly g start closed.disk (IsReached run.files run.commits run.begun))
           → ((start : D) (run : Run) → IsStore g start core.journal run → EveryImage (g.may_leave closed.disk) (HasOnly (IsEither (files_of run) run.doubt)))
           → GoesOn g core.journal.disk closed.disk
           → IsClosed formats g refused plan.mounted journal (opening_in lock.start) (length handles) handles closed
-      closed_so all history patterns shown always now goes = record {
+      closed_so all history patterns left_alone shown always now goes = record {
         rest = shared.rest;
         seen = seen_by;
         own = own_by;
@@ -172,6 +174,10 @@ module _ {D P : Type 0} (formats : Formats) (g : Ghosts D) (code : Coded D) (ref
         refusals =
             subst (λ (o : Opening). HasRisenBy (refusals_in shared.rest) o.refusals (refused closed.patterns)) opening_is
             (subst (λ (p : P). HasRisenBy (refusals_in shared.rest) shared.opening.refusals (refused p)) (sym patterns) shared.refusals);
+        left_alone = λ none unwritten in_doubt.
+            let idle = shared.idle none in
+            let same : core.journal ≡ journal = idle.0 ∙ same_journal in
+            left_alone (idle.1 ∙ ap (λ (o : Opening). o.wrote) opening_is ∙ unwritten) (ap (λ (j : JournalValue D). j.state) same ∙ in_doubt) ∙ ap (λ (j : JournalValue D). j.disk) same;
         disk = λ start first stands.
             let before = shared.run start first (subst (λ (j : JournalValue D). IsStore g start j first) (sym same_journal) stands) in
             record {

@@ -1,8 +1,9 @@
 -- A handle is one of its store's after each turn.
-use Rattle.std.proofs.Common.{◌≡◌, inl, inr, ℕ, ◌≤◌, Bool, true, false, cond, List, [], ◌∷◌, ◌++◌, length, map as over, Option, Some, None, Result, Ok, Err, IfOk, IfErr, refl, sym, ap, ap₂, subst, ◌∙◌, eq-eqb}
+use Rattle.std.proofs.Common.{◌≡◌, inl, inr, ℕ, ◌≤◌, Bool, true, false, cond, List, [], ◌∷◌, ◌++◌, length, map as over, Option, Some, None, Result, Ok, Err, IfOk, IfErr, refl, sym, ap, ap₂, subst, ◌∙◌, append-nil, eq-eqb}
 use mathlib.Core.List.{IsPrefix}
 use Rattle.std.specs.Coded.{Coded}
 use Rattle.kdb_outside.specs.declared.disks.Disk.{Ghosts}
+use Rattle.kdb_handle.specs.Fronts.{Cover}
 use Rattle.kdb_handle.specs.Gets.{IsGotAt}
 use Rattle.atomic_table.specs.Seated.{TableId}
 use Rattle.kdb_handle.specs.Handles.{HandleValue, IsSeated, handle_with}
@@ -13,8 +14,9 @@ use Rattle.kdb_handle.specs.Stores.{IsHandle}
 use Rattle.kdb_handle.specs.Sets.{IsDone}
 use Rattle.kdb_handle.specs.Turns.{IsPrepared, MayCommit, told_by, is_refusal, record_by}
 use Rattle.model_store.proofs.Accepting.{put-here}
+use Rattle.kdb_handle.proofs.CoverLemmas.{cover-got, cover-judged, cover-seen}
 use Rattle.kdb_handle.proofs.RecordLemmas.{own_fronts, record-seen}
-use Rattle.kdb_handle.proofs.StoryLemmas.{commits-prefix, one_opening, prefix-both}
+use Rattle.kdb_handle.proofs.StoryLemmas.{commits-append, commits-prefix, one_opening, prefix-both}
 use Rattle.model_history.specs.History as past
 use Rattle.model_history.specs.History.{is_among, replay}
 use Rattle.model_maps.specs.KeyMap.{KeyMap, no_keys}
@@ -177,8 +179,8 @@ made-turn number told (inr one) = subst (λ (l : List Told). made_by maker_of nu
 -- a handle is one of its store's after a turn
 pub handle_moved : {F : Type 0} (lock : Place Told) (plan : Plan F) (old new : HandleValue) (found told : List Told) → IsHandle lock plan old → new.place ≡ old.place → new.number ≡ old.number → IsPrefix old.seen found
     → made_by maker_of old.number found ≡ old.own → new.seen ≡ found ++ told → new.own ≡ old.own ++ told → IsOneTurn maker_of old.number told → places_of new.rec ≡ places_of old.rec
-    → IsRecord (store_at plan.mounted) (commits_of (found ++ told)) (front_in (record_of new.rec)) (record_of new.rec) → IsHandle lock plan new
-handle_moved lock plan old new found told is place number seen own sees gains one places keeps = record {
+    → IsRecord (store_at plan.mounted) (commits_of (found ++ told)) (front_in (record_of new.rec)) (record_of new.rec) → Cover old.number (commits_of (found ++ told)) (front_in (record_of new.rec)) → IsHandle lock plan new
+handle_moved lock plan old new found told is place number seen own sees gains one places keeps covers = record {
   started = is.started;
   place = place ∙ is.place;
   begins = subst (λ (l : List Told). IsPrefix lock.start l) (sym sees) (prefix-more lock.start found told (prefix-trans lock.start old.seen found is.begins seen));
@@ -187,6 +189,9 @@ handle_moved lock plan old new found told is place number seen own sees gains on
       ∙ ap₂ (λ (n : ℕ) (l : List Told). made_by maker_of n l) (sym number) (sym sees);
   places = subst (λ n. length plan.mounted ≤ n) (sym places) is.places;
   keeps = subst (λ (l : List Told). IsRecord (store_at plan.mounted) (commits_of l) (front_in (record_of new.rec)) (record_of new.rec)) (sym sees) keeps;
+  covers =
+      subst (λ n. Cover n (commits_of new.seen) (front_in (record_of new.rec))) (sym number)
+      (subst (λ (l : List Told). Cover old.number (commits_of l) (front_in (record_of new.rec))) (sym sees) covers);
 }
 
 module _ {D P : Type 0} (formats : Formats) (g : Ghosts D) (code : Coded D) (refused : P → ℕ) {F : Type 0} (lock : Place Told) (plan : Plan F) (old : HandleValue) (core : Core D P) (entries : ℕ) (found : List Told)
@@ -246,15 +251,22 @@ handle_met lock plan old new is place number seen own rec within = record {
   started = is.started;
   place = place ∙ is.place;
   begins = prefix-trans lock.start old.seen new.seen is.begins seen;
-  own =
-      own
-      ∙ prefix-both old.own (made_by maker_of old.number new.seen) (subst (λ (l : List Told). IsPrefix l (made_by maker_of old.number new.seen)) (sym is.own) (made-prefix maker_of old.number old.seen new.seen seen)) within
-      ∙ ap (λ n. made_by maker_of n new.seen) (sym number);
+  own = own ∙ made ∙ ap (λ n. made_by maker_of n new.seen) (sym number);
   places = subst (λ (r : Record). length plan.mounted ≤ places_of r) (sym rec) is.places;
   keeps =
       subst (λ (r : Record). IsRecord (store_at plan.mounted) (commits_of new.seen) (front_in (record_of r)) (record_of r)) (sym rec)
       (record-seen (store_at plan.mounted) (commits_of old.seen) (commits_of new.seen) (record_of old.rec) (commits-prefix old.seen new.seen seen) is.keeps);
+  covers =
+      subst (λ (r : Record). Cover new.number (commits_of new.seen) (front_in (record_of r))) (sym rec)
+      (subst (λ n. Cover n (commits_of new.seen) (front_in (record_of old.rec))) (sym number)
+      (cover-seen old.number old.seen new.seen (front_in (record_of old.rec)) seen (sym made ∙ is.own) is.covers));
 }
+  where
+    -- all that it made is seen
+    made : old.own ≡ made_by maker_of old.number new.seen
+    made =
+        prefix-both old.own (made_by maker_of old.number new.seen)
+        (subst (λ (l : List Told). IsPrefix l (made_by maker_of old.number new.seen)) (sym is.own) (made-prefix maker_of old.number old.seen new.seen seen)) within
 
 -- ---- a prepare
 
@@ -284,10 +296,10 @@ module _ {F : Type 0} (lock : Place Told) (plan : Plan F) (old : HandleValue) (s
   -- the handle behind its turn
   pub ended : (new : Record) (place : TableId) (number : ℕ) (found own told : List Told) (left : Known Told) → left ≡ knowledge place number (found ++ told) (own ++ told) → (place ≡ seat.place) × (number ≡ seat.number) × (own ≡ seat.own)
       → IsPrefix seat.seen found → made_by maker_of seat.number found ≡ seat.own → IsOneTurn maker_of seat.number told → places_of new ≡ places_of rec
-      → IsRecord (store_at plan.mounted) (commits_of (found ++ told)) (front_in (record_of new)) (record_of new) → IsHandle lock plan (handle_with (Some left) new)
-  ended new place number found own told left left_is same seen made one places kept =
+      → IsRecord (store_at plan.mounted) (commits_of (found ++ told)) (front_in (record_of new)) (record_of new) → Cover seat.number (commits_of (found ++ told)) (front_in (record_of new)) → IsHandle lock plan (handle_with (Some left) new)
+  ended new place number found own told left left_is same seen made one places kept covers =
       handle_moved lock plan taken (handle_with (Some left) new) found told taken_is (ap (λ (k : Known Told). k.place) left_is ∙ same.0) (ap (λ (k : Known Told). k.number) left_is ∙ same.1) seen made
-      (ap (λ (k : Known Told). k.seen) left_is) (ap (λ (k : Known Told). k.own) left_is ∙ ap (λ (l : List Told). l ++ told) same.2) one places kept
+      (ap (λ (k : Known Told). k.seen) left_is) (ap (λ (k : Known Told). k.own) left_is ∙ ap (λ (l : List Told). l ++ told) same.2) one places kept covers
 
   module _ {D P : Type 0} (formats : Formats) (g : Ghosts D) (code : Coded D) (refused : P → ℕ) (core : Core D P) (entries : ℕ) (found : List Told) (seen : IsPrefix seat.seen found) (shared : IsShared formats g code refused core entries found) where
     -- the clause of the core's get
@@ -302,6 +314,17 @@ module _ {F : Type 0} (lock : Place Told) (plan : Plan F) (old : HandleValue) (s
     pub got_keeps : (parent : Name) (new : Record) (result : Result Got GetFault) → GotClause parent new result → IsRecord (store_at plan.mounted) (commits_of found) (front_in (record_of new)) (record_of new)
     got_keeps parent new result clause =
         get_keeps formats g code refused lock plan taken core entries found taken_is seen shared (λ r. proc_of rec) parent new result (has_got parent new result clause (λ r. proc_of rec) refl)
+
+    -- the commits of the seat that the turn found are those that its handle had seen
+    covers_found : made_by maker_of seat.number found ≡ seat.own → Cover seat.number (commits_of found) (front_in (record_of rec))
+    covers_found made = cover-seen seat.number seat.seen found (front_in (record_of rec)) seen (made ∙ taken_is.own) taken_is.covers
+
+    pub got_covers : made_by maker_of seat.number found ≡ seat.own → (parent : Name) (new : Record) (result : Result Got GetFault) → GotClause parent new result → (told : List Told) → told ≡ []
+        → Cover seat.number (commits_of (found ++ told)) (front_in (record_of new))
+    got_covers made parent new result clause told none =
+        subst (λ (l : List Told). Cover seat.number (commits_of l) (front_in (record_of new))) (sym (append-nil found) ∙ ap (λ (l : List Told). found ++ l) (sym none))
+        (cover-got (store_of plan.mounted (λ r. proc_of rec)) plan.mounted (commits_of found) seat.number (handle_of rec) parent (record_of rec) (record_of new) result
+        (get_found formats g code refused lock plan taken core entries found taken_is seen shared (λ r. proc_of rec) parent new result (has_got parent new result clause (λ r. proc_of rec) refl)) (covers_found made))
 
     pub got_so : handle_of rec ≡ seat.number → (parent : Name) (new : Record) (result : Result Got GetFault) → GotClause parent new result → (procs : ℕ → KeyMap) → procs old.number ≡ proc_of old.rec → (now : List Told) → now ≡ found
         → IsGotAt (store_of plan.mounted procs) plan.mounted (commits_of now) old.number parent (record_of old.rec) (record_of new) result
@@ -327,6 +350,15 @@ module _ {F : Type 0} (lock : Place Told) (plan : Plan F) (old : HandleValue) (s
       pub set_turn : (result : Result Done CommitFault) (told : List Told) → told ≡ told_by (prepared_of set) result → IsOneTurn maker_of seat.number told
       set_turn result told told_is =
           subst (IsOneTurn maker_of seat.number) (sym told_is) (one_turn seat.number (prepared_of set) result (ap (λ (s : sets.Prepared). s.handle) own_set.made.is ∙ number))
+
+      pub done_covers : (new : Record) (result : Result Done CommitFault) (told : List Told) → made_by maker_of seat.number found ≡ seat.own → told ≡ told_by (prepared_of set) result
+          → record_of new ≡ record_by (store_at plan.mounted) core.history.commits (prepared_of set) result (record_of rec) → Cover seat.number (commits_of (found ++ told)) (front_in (record_of new))
+      done_covers new result told made told_is kept =
+          subst (λ (r : model.Record). Cover seat.number (commits_of (found ++ told)) (front_in r))
+          (sym (kept ∙ ap (λ (cs : List past.Commit). record_by (store_at plan.mounted) cs (prepared_of set) result (record_of rec)) (shared_history formats g code refused core entries found shared)))
+          (subst (λ (cs : List past.Commit). Cover seat.number cs (front_in (record_by (store_at plan.mounted) (commits_of found) (prepared_of set) result (record_of rec))))
+          (sym (commits-append found told ∙ ap (λ (l : List Told). commits_of found ++ commits_of l) told_is))
+          (cover-judged (store_at plan.mounted) (commits_of found) seat.number (prepared_of set) (record_of rec) result (covers_found made)))
 
       pub done_so : (new : HandleValue) (result : Result Done CommitFault) (told : List Told) → made_by maker_of seat.number found ≡ seat.own → told ≡ told_by (prepared_of set) result → new.seen ≡ found ++ told → new.own ≡ seat.own ++ told
           → ((risen : Bool) × IsJudged (over (λ file. file.mount) plan.mounted) risen core.history.commits core.keys (prepared_of set) result)

@@ -1,10 +1,12 @@
 -- How the story of a store goes on.
-mod StoryLemmas
-mod RunLemmas
+pub mod StoryLemmas
+pub mod RunLemmas
 mod RecordLemmas
+mod CoverLemmas
 mod AcceptLemmas
 mod BelongLemmas
 mod SharedLemmas
 mod HandleLemmas
+mod BlockLemmas
 mod CloseLemmas
 pub mod Crossing

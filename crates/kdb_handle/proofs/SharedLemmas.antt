@@ -11,13 +11,13 @@ use Rattle.kdb_handle.specs.Opened.{opening_of, store_at}
 use Rattle.kdb_handle.specs.Rising.{HasRisenBy}
 use Rattle.kdb_handle.specs.Runs.{RunsBy}
 use Rattle.kdb_handle.specs.Shares.{IsShared}
-use Rattle.kdb_handle.specs.Story.{Told, Opened, Committed, Failed, Refused, commits_of, failures_in, refusals_in}
+use Rattle.kdb_handle.specs.Story.{Told, Opened, Committed, Failed, Refused, BeginsNone, commits_of, failures_in, refusals_in}
 use Rattle.kdb_handle.specs.Turns.{MayCommit, told_by, is_refusal, record_by}
 use Rattle.model_store.proofs.Accepting.{put-here}
 use Rattle.kdb_handle.proofs.BelongLemmas.{records, known, world, rest_is, stands_in, belongs_in}
 use Rattle.kdb_handle.proofs.RecordLemmas.{own_fronts}
 use Rattle.kdb_handle.proofs.RunLemmas.{runs-committed, runs-failed, runs-refused, risen-once, risen-still}
-use Rattle.kdb_handle.proofs.StoryLemmas.{commits-append, failures-append, refusals-append}
+use Rattle.kdb_handle.proofs.StoryLemmas.{begins-commit, begins-failure, begins_none-before, commits-append, failures-append, refusals-append}
 use Rattle.model_crashes.specs.Runs.{Run, IsOneOf, after_begun, after_commit}
 use Rattle.model_files.specs.Texts.{entry_of}
 use Rattle.model_history.specs.History as past
@@ -41,9 +41,10 @@ use Rattle.model_store.specs.Worlds.{World, first_world}
 use Rattle.model_store.proofs.Owning.{Goes, follows}
 use Rattle.mounted_files.specs.Getting.{visible_keys}
 use Rattle.mounted_files.specs.declared.files.MountedFile.{MountedFile}
-use Rattle.store_core.specs.Answers.{IsAnswer}
+use Rattle.store_core.specs.Answers.{IsAnswer, has_written}
 use Rattle.store_core.specs.Committing.{RunsOn}
 use Rattle.store_core.specs.Cores.{StandsIn, core_with}
+use Rattle.store_core.specs.Frames.{IsUnwritten}
 use Rattle.store_core.specs.Joined.{Belongs, BelongsIn, HasAnswered, HasMade}
 use Rattle.store_core.specs.declared.committing.CommitFault.{CommitFault}
 use Rattle.store_core.specs.declared.committing.CommitFault.TheVariants as fault
@@ -65,10 +66,10 @@ shared_same formats {D} {P} g code refused core next entries count log told same
 
 -- a core that was just opened stands for its opening alone
 pub shared_first : (formats : Formats) {D P : Type 0} (g : Ghosts D) (code : Coded D) (refused : P → ℕ) (files held : List MountedFile) (core : Core D P) → held ≡ files → StandsIn formats (store_at files) core (λ r m. None) (λ p. None) first_world
-    → IsShared formats g code refused core 1 (Opened (opening_of code held core.journal (refused core.patterns)) ∷ [])
+    → IsShared formats g code refused core 1 (Opened (opening_of code held core.journal (refused core.patterns) core.wrote) ∷ [])
 shared_first formats g code refused files held core same st =
-    subst (λ (fs : List MountedFile). IsShared formats g code refused core 1 (Opened (opening_of code fs core.journal (refused core.patterns)) ∷ [])) (sym same) (record {
-      opening = opening_of code files core.journal (refused core.patterns);
+    subst (λ (fs : List MountedFile). IsShared formats g code refused core 1 (Opened (opening_of code fs core.journal (refused core.patterns) core.wrote) ∷ [])) (sym same) (record {
+      opening = opening_of code files core.journal (refused core.patterns) core.wrote;
       rest = [];
       log_is = refl;
       count = refl;
@@ -81,6 +82,7 @@ shared_first formats g code refused files held core same st =
       goes = record { tells = refl; moment = omega arith; later = omega arith };
       faults = inl (omega arith);
       refusals = inl (omega arith);
+      idle = λ none. (refl, refl);
       run = λ start first stands. (first, refl, stands);
     })
 
@@ -237,15 +239,36 @@ module _ (formats : Formats) {D P : Type 0} (g : Ghosts D) (code : Coded D) (ref
   refusals_by (Err (fault.DiskFault front)) n before rose later cause = unrefused n before rose later
   refusals_by (Err fault.Memory) n before rose later cause = unrefused n before rose later
 
+  -- what a call says of an answer before which nothing is written
+  abbrev UnwrittenClause : Result Done CommitFault → Type 0
+  UnwrittenClause result = has_written result ≡ false → IsUnwritten core after
+
+  abbrev Idles : Type 0
+  Idles = (after.journal ≡ may.shared.journal) × (after.wrote ≡ may.shared.opening.wrote)
+
+  idle_still : (told : List Told) → IsUnwritten core after → BeginsNone (may.shared.rest ++ told) → Idles
+  idle_still told unwritten none = let was = may.shared.idle (begins_none-before may.shared.rest told none) in (unwritten.journal ∙ was.0, unwritten.wrote ∙ was.1)
+
+  -- where no set was begun, the journal is as the opening left it
+  idle_by : (result : Result Done CommitFault) → UnwrittenClause result → BeginsNone (may.shared.rest ++ told_by now result) → Idles
+  idle_by (Ok (done.Committed number aside)) unwritten none = absurd (begins-commit may.shared.rest (commit_of now) none)
+  idle_by (Ok (done.Same front aside)) unwritten none = idle_still [] (unwritten refl) none
+  idle_by (Err (fault.Conflict mount by front)) unwritten none = idle_still [] (unwritten refl) none
+  idle_by (Err (fault.Invalid violation front)) unwritten none = idle_still (told_by now (Err (fault.Invalid violation front))) (unwritten refl) none
+  idle_by (Err (fault.DatabaseFull weight front)) unwritten none = idle_still [] (unwritten refl) none
+  idle_by (Err (fault.HistoryFull weight front)) unwritten none = idle_still [] (unwritten refl) none
+  idle_by (Err (fault.DiskFault front)) unwritten none = absurd (begins-failure may.shared.rest (commit_of now) none)
+  idle_by (Err fault.Memory) unwritten none = idle_still [] (unwritten refl) none
+
   -- the core stands for the story with what the turn told
   pub shared_next : (result : Result Done CommitFault) (told : List Told) (count : ℕ) → told ≡ told_by now result → count ≡ entries + length told
       → HasMade formats store.mounts store core after recs sets_known 0 rec new set risen result
       → ((start : D) (run : Run) → Belongs formats g store.mounts store start core recs sets_known (world formats g code refused files core entries log rec set may) run 0 rec set
       → HasAnswered formats g store.mounts store start core after recs sets_known run 0 rec new set risen result)
       → GoesOn g core.journal.disk after.journal.disk → ((front : ℕ) → result ≡ Err (fault.DiskFault front) → HasRisen (g.faults core.journal.disk) (g.faults after.journal.disk))
-      → refused core.patterns ≤ refused after.patterns → RefusalClause result
+      → refused core.patterns ≤ refused after.patterns → RefusalClause result → UnwrittenClause result
       → IsShared formats g code refused after count (log ++ told)
-  shared_next result told count told_is counted has answers goes cause more refusal =
+  shared_next result told count told_is counted has answers goes cause more refusal unwritten =
       let shared = may.shared in
       let w = world formats g code refused files core entries log rec set may in
       let on : Goes formats store w (event.Commit (handle_of rec) 0) has.answer next = follows formats store w old (event.Commit (handle_of rec) 0) has.answer next (stands_in formats g code refused files core entries log rec set may).stands has.is_made in
@@ -273,6 +296,7 @@ module _ (formats : Formats) {D P : Type 0} (g : Ghosts D) (code : Coded D) (ref
             subst (λ n. HasRisenBy n shared.opening.refusals (refused after.patterns)) (sym (refusals-append shared.rest told))
             (subst (λ (ts : List Told). HasRisenBy (refusals_in shared.rest + refusals_in ts) shared.opening.refusals (refused after.patterns)) (sym told_is)
             (refusals_by result (refusals_in shared.rest) shared.opening.refusals shared.refusals more refusal));
+        idle = λ none. idle_by result unwritten (subst (λ (ts : List Told). BeginsNone (shared.rest ++ ts)) told_is none);
         run = λ start first store_first.
             let before = shared.run start first store_first in
             let last : Run = before.0 in
@@ -312,11 +336,11 @@ module _ (formats : Formats) {D P : Type 0} (g : Ghosts D) (code : Coded D) (ref
       → ((of : Store) (start : D) (rs : ℕ → model.Record) (ss : ℕ → Option sets.Prepared) (w : World) (run : Run) (p : ℕ) → Belongs formats g (over (λ file. file.mount) files) of start core rs ss w run p rec set
       → HasAnswered formats g (over (λ file. file.mount) files) of start core after rs ss run p rec new set risen result)
       → GoesOn g core.journal.disk after.journal.disk → ((front : ℕ) → result ≡ Err (fault.DiskFault front) → HasRisen (g.faults core.journal.disk) (g.faults after.journal.disk))
-      → refused core.patterns ≤ refused after.patterns → RefusalClause result
+      → refused core.patterns ≤ refused after.patterns → RefusalClause result → UnwrittenClause result
       → IsShared formats g code refused after count (log ++ told)
-  next_shared result told count told_is counted made answered goes cause more refusal =
+  next_shared result told count told_is counted made answered goes cause more refusal unwritten =
       shared_next result told count told_is (counted ∙ ap (λ (l : List Told). entries + length l) (sym told_is)) (made_here result made)
-      (λ start run b. answered store start recs sets_known (world formats g code refused files core entries log rec set may) run 0 b) goes cause more refusal
+      (λ start run b. answered store start recs sets_known (world formats g code refused files core entries log rec set may) run 0 b) goes cause more refusal unwritten
 
   pub next_kept : (result : Result Done CommitFault) (told : List Told) → told ≡ told_by now result → MadeClause result → IsRecord store (commits_of (log ++ told)) (front_in (record_of new)) (record_of new)
   next_kept result told told_is made = record_kept result told told_is (made_here result made)

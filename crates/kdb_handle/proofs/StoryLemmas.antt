@@ -3,7 +3,7 @@ use Rattle.std.proofs.Common.{◌≡◌, ◌+◌, List, [], ◌∷◌, ◌++◌,
 use Rattle.std.proofs.lemmas.List.{nil_from_length}
 use mathlib.Core.List.{IsPrefix}
 use Rattle.model_history.specs.History.{Commit}
-use Rattle.kdb_handle.specs.Story.{Told, Opening, Opened, Committed, Failed, Refused, commits_of, failures_in, refusals_in}
+use Rattle.kdb_handle.specs.Story.{Told, Opening, Opened, Committed, Failed, Refused, BeginsNone, commits_of, failures_in, refusals_in}
 
 pub commits-append : (log more : List Told) → commits_of (log ++ more) ≡ commits_of log ++ commits_of more
 commits-append [] more = refl
@@ -25,6 +25,21 @@ refusals-append (Opened opening ∷ log) more = refusals-append log more
 refusals-append (Committed commit ∷ log) more = refusals-append log more
 refusals-append (Failed commit ∷ log) more = refusals-append log more
 refusals-append (Refused handle ∷ log) more = let rest = refusals-append log more in omega arith
+
+-- where no set was begun by now, none had been before
+pub begins_none-before : (log more : List Told) → BeginsNone (log ++ more) → BeginsNone log
+begins_none-before log more none =
+    let commits = sym (commits-append log more) ∙ none.commits in
+    let failures = sym (failures-append log more) ∙ none.failures in
+    record { commits = nil_from_length (commits_of log) (omega (arith, ap length commits, length-append (commits_of log) (commits_of more))); failures = omega arith }
+
+-- where one is told, one was begun
+pub begins-commit : (log : List Told) (commit : Commit) → BeginsNone (log ++ Committed commit ∷ []) → ⊥
+begins-commit log commit none =
+    omega (arith, ap length (sym (commits-append log (Committed commit ∷ [])) ∙ none.commits), length-append (commits_of log) (commit ∷ []))
+
+pub begins-failure : (log : List Told) (commit : Commit) → BeginsNone (log ++ Failed commit ∷ []) → ⊥
+begins-failure log commit none = let one : failures_in (log ++ Failed commit ∷ []) ≡ failures_in log + 1 = failures-append log (Failed commit ∷ []) in omega (arith, one, none.failures)
 
 -- who has seen more of the story has seen more of its history
 pub commits-prefix : (log longer : List Told) → IsPrefix log longer → IsPrefix (commits_of log) (commits_of longer)

@@ -1,5 +1,5 @@
 -- What the close of a store promises of the whole time since its opening. (This project's own.)
-use Rattle.std.specs.Prelude.{◌≡◌, ◌⊎◌, ℕ, ◌<◌, List, [], ◌∷◌, All}
+use Rattle.std.specs.Prelude.{◌≡◌, ◌⊎◌, ℕ, ◌<◌, false, List, [], ◌∷◌, All}
 use mathlib.Core.List.{IsPrefix}
 use Rattle.kdb_outside.specs.Crashes.{EveryImage}
 use Rattle.kdb_outside.specs.Faults.{HasRisen}
@@ -8,11 +8,12 @@ use Rattle.kdb_outside.specs.declared.disks.Disk.{Ghosts}
 use Rattle.intent_journal.specs.Journal.{JournalValue}
 use Rattle.intent_journal.specs.Moments.{LeavesOnly}
 use Rattle.intent_journal.specs.Outcomes.{SameFiles, HasOnly, IsEither}
+use Rattle.intent_journal.specs.declared.states.State.TheVariants as state
 use Rattle.kdb_handle.specs.Handles.{HandleValue}
 use Rattle.kdb_handle.specs.Opened.{store_at}
 use Rattle.kdb_handle.specs.Rising.{HasRisenBy}
 use Rattle.kdb_handle.specs.Runs.{RunsBy}
-use Rattle.kdb_handle.specs.Story.{Told, Opening, Opened, maker_of, commits_of, failures_in, refusals_in}
+use Rattle.kdb_handle.specs.Story.{Told, Opening, Opened, BeginsNone, maker_of, commits_of, failures_in, refusals_in}
 use Rattle.model_crashes.specs.Runs.{Run, files_of, IsReached}
 use Rattle.model_store.specs.Legal.{IsLegal}
 use Rattle.model_store.specs.Store.{Formats}
@@ -34,7 +35,8 @@ pub record IsHandedOn (formats : Formats) {D : Type 0} (g : Ghosts D) (files : L
 
 -- A closed store. There is one story, which begins with the opening and with all that each handle has seen. Its entries of a handle's number are those that the handle
 -- made, each once, in their order, and it has no others. Its history is legal, and is the one that comes back. The disk's count of faults rose by
--- at least the sets that failed, and the matcher's count of refusals by at least those with a refused pattern
+-- at least the sets that failed, and the matcher's count of refusals by at least those with a refused pattern. Where the opening wrote nothing and no set was
+-- begun, no call was made on the disk since the opening
 pub record IsClosed (formats : Formats) {D P : Type 0} (g : Ghosts D) (refused : P → ℕ) (files : List MountedFile) (journal : JournalValue D) (opening : Opening) (given : ℕ) (handles : List HandleValue) (closed : Closed D P) : Type 0 where
   pub rest : List Told
   pub seen : All (λ handle. IsPrefix handle.seen (Opened opening ∷ rest)) handles
@@ -45,4 +47,5 @@ pub record IsClosed (formats : Formats) {D P : Type 0} (g : Ghosts D) (refused :
   pub goes : GoesOn g journal.disk closed.disk
   pub faults : HasRisenBy (failures_in rest) (g.faults journal.disk) (g.faults closed.disk)
   pub refusals : HasRisenBy (refusals_in rest) opening.refusals (refused closed.patterns)
+  pub left_alone : BeginsNone rest → opening.wrote ≡ false → journal.state ≡ state.Doubt → closed.disk ≡ journal.disk
   pub disk : (start : D) (first : Run) → IsStore g start journal first → IsHandedOn formats g files start first journal.disk rest closed.disk

@@ -5,6 +5,7 @@ pub mod Rising
 pub mod Runs
 pub mod Opened
 pub mod Shares
+pub mod Fronts
 pub mod Handles
 pub mod Stores
 pub mod Turns

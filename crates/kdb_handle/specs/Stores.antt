@@ -2,6 +2,7 @@
 use Rattle.std.specs.Prelude.{◌≡◌, ℕ, ◌≤◌, ◌<◌, ◌+◌, ◌-◌, List, [], ◌∷◌, ◌++◌, length, slice_get, Some}
 use Rattle.std.specs.List.{AllByRecursion}
 use mathlib.Core.List.{IsPrefix}
+use Rattle.kdb_handle.specs.Fronts.{Cover}
 use Rattle.kdb_handle.specs.Handles.{HandleValue}
 use Rattle.kdb_handle.specs.Opened.{opening_in, store_at}
 use Rattle.kdb_handle.specs.Story.{Told, Opened, maker_of, commits_of}
@@ -24,7 +25,7 @@ pub record IsStarted {F : Type 0} (lock : Place Told) (plan : Plan F) : Type 0 w
   pub short : AllByRecursion AreShort plan.fixed.shadows
 
 -- A handle of a store: it has seen the opening at least. What it made is what it has seen of its number. Its record is that of its fronts in the history that
--- it has seen, so it stays so when the handle sees more
+-- it has seen, so it stays so when the handle sees more; and these fronts cover the handle's own commits
 pub record IsHandle {F : Type 0} (lock : Place Told) (plan : Plan F) (handle : HandleValue) : Type 0 where
   pub started : IsStarted lock plan
   pub place : handle.place ≡ lock.place
@@ -32,6 +33,7 @@ pub record IsHandle {F : Type 0} (lock : Place Told) (plan : Plan F) (handle : H
   pub own : handle.own ≡ made_by maker_of handle.number handle.seen
   pub places : length plan.mounted ≤ places_of handle.rec
   pub keeps : IsRecord (store_at plan.mounted) (commits_of handle.seen) (front_in (record_of handle.rec)) (record_of handle.rec)
+  pub covers : Cover handle.number (commits_of handle.seen) (front_in (record_of handle.rec))
 
 -- The seats that no handle has yet, by their numbers: the last ones of the lock, each of which has seen the opening and made nothing. Where they
 -- stand is room for all seats again

@@ -1,25 +1,54 @@
-//! When a set that was prepared earlier may still be committed. Nothing here runs: the function stands for its contract.
-ghost use Rattle.std.specs.Prelude.{◌≡◌, ℕ, List, true};
+//! Laws of handles: when a set that was prepared earlier may still be committed, whose commit blocks one, and what a story makes of a run. Nothing here
+//! runs: each function stands for its contract.
+ghost use Rattle.std.specs.Prelude.{◌≡◌, ℕ, List, true, Err};
+ghost use mathlib.Core.List.{IsPrefix};
+ghost use Rattle.kdb_handle.specs.Fronts.{IsAnothers};
+ghost use Rattle.kdb_handle.specs.Handles.{HandleValue};
 ghost use Rattle.kdb_handle.specs.Opened.{store_at};
+ghost use Rattle.kdb_handle.specs.Runs.{ComesTo, RunsBy};
+ghost use Rattle.kdb_handle.specs.Sets.{IsDone};
+ghost use Rattle.kdb_handle.specs.Stores.{IsHandle};
+ghost use Rattle.kdb_handle.specs.Story.{Told, commits_of};
 ghost use Rattle.kdb_handle.specs.Turns.{IsPrepared};
+ghost use Rattle.model_crashes.specs.Runs.{Run};
 ghost use Rattle.model_history.specs.History.{Commit};
 ghost use Rattle.model_maps.specs.KeyMap.{KeyMap};
 ghost use Rattle.model_names.specs.Name.{Name};
 ghost use Rattle.model_store.specs.Cores.{accepts};
 ghost use Rattle.model_store.specs.Records.{IsRecord, Record};
 ghost use Rattle.model_store.specs.Sets.{front_in};
+ghost use Rattle.model_store.specs.Store.{Store};
 ghost use Rattle.mounted_files.specs.declared.files.MountedFile.{MountedFile};
+ghost use Rattle.seat_lock.specs.Known.{Place};
+ghost use Rattle.store_core.specs.declared.committing.CommitFault.TheVariants as fault;
+ghost use Rattle.store_core.specs.declared.cores.Plan.{Plan};
 ghost use Rattle.store_verdict.specs.Preparing.{IsMade};
 ghost use Rattle.store_verdict.specs.PreparedView.{prepared_of};
+ghost use Rattle.store_verdict.specs.RecordView.{record_of};
 ghost use Rattle.store_verdict.specs.declared.prepared.Prepared.{Prepared};
 
 use storage_api::Formats;
 
-/// A set that a handle prepared earlier is one that its record makes now, where the record accepts it: what is kept of a mount goes by its front.
+/// A set that a handle prepared earlier is one that its record makes now, where the record accepts it: what is kept of a mount goes by its front. The
+/// history may have grown since.
 pub fn an_accepted_set_is_still_prepared<F: Formats>(_formats: &F)
-    ensures { (files : List MountedFile) (history : List Commit) (number handle : ℕ) (before rec : Record) (parent : Name) (keys : KeyMap) (set : Prepared)
-        → IsRecord (store_at files) history (front_in before) before → IsRecord (store_at files) history (front_in rec) rec
+    ensures { (files : List MountedFile) (earlier later : List Commit) (number handle : ℕ) (before rec : Record) (parent : Name) (keys : KeyMap) (set : Prepared)
+        → IsPrefix earlier later → IsRecord (store_at files) earlier (front_in before) before → IsRecord (store_at files) later (front_in rec) rec
         → IsMade (record { text = F.text; IsStorable = F.is_storable; BreaksAt = F.breaks_at }) (store_at files) handle before parent keys set
         → accepts rec number (prepared_of set) ≡ true
         → IsPrepared (record { text = F.text; IsStorable = F.is_storable; BreaksAt = F.breaks_at }) files number rec set }
+{}
+
+/// The commit that blocks a set of a handle is another's: the handle's fronts cover its own commits.
+pub fn the_blocking_commit_is_anothers<F: Formats + Drop>(_formats: &F)
+    ensures { (lock : Place Told) (plan : Plan F) (old new : HandleValue) (set : Prepared) (mount : Name) (by front : ℕ)
+        → IsHandle lock plan old → IsPrepared (record { text = F.text; IsStorable = F.is_storable; BreaksAt = F.breaks_at }) plan.mounted old.number (record_of old.rec) set
+        → (done : IsDone (record { text = F.text; IsStorable = F.is_storable; BreaksAt = F.breaks_at }) plan.mounted old new set (Err (fault.Conflict mount by front)))
+        → IsAnothers old.number (commits_of done.found) by }
+{}
+
+/// What a run comes to by a story: its files stay, its commits gain those of the story, and what was begun or is in doubt had been, or is a set of the story.
+pub fn a_run_comes_to_its_story<F: Formats>(_formats: &F)
+    ensures { (store : Store) (keys : KeyMap) (first last : Run) (story : List Told) → RunsBy (record { text = F.text; IsStorable = F.is_storable; BreaksAt = F.breaks_at }) store keys first story last
+        → ComesTo (record { text = F.text; IsStorable = F.is_storable; BreaksAt = F.breaks_at }) store keys first story last }
 {}

@@ -16,7 +16,9 @@ mod turns;
 pub use deals::{FreeSeats, NoHandle};
 pub use entries::StoryEntry;
 pub use handles::Handle;
-pub use laws::an_accepted_set_is_still_prepared;
+pub use laws::{
+    a_run_comes_to_its_story, an_accepted_set_is_still_prepared, the_blocking_commit_is_anothers,
+};
 pub use setting::SetFault;
 pub use shared::Shared;
 pub use stores::{Locked, NewStore, NotShared, SharedStore};

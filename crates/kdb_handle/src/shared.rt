@@ -41,7 +41,7 @@ impl<D: Disk, F: Formats + Drop, P: Patterns + Drop> Storied for Shared<D, F, P>
 
     ghost stands = { λ value log. IsShared (record { text = F.text; IsStorable = F.is_storable; BreaksAt = F.breaks_at }) D.Disk D.row.coded P.refusals value.core value.entries log };
 
-    ghost first = { λ value. Opened (opening_of D.row.coded value.plan.value.mounted value.core.journal (P.refusals value.core.patterns)) ∷ [] };
+    ghost first = { λ value. Opened (opening_of D.row.coded value.plan.value.mounted value.core.journal (P.refusals value.core.patterns) value.core.wrote) ∷ [] };
 
     ghost more = { λ value. told_now value.fresh };
 

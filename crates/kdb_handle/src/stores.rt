@@ -57,7 +57,7 @@ impl<D: Disk, F: Formats + Drop, P: Patterns + Drop> NewStore<D, F, P> {
         requires fixed { (procs : ℕ → KeyMap) → IsPlan (store_of plan.mounted procs) plan.fixed }
         requires short { AllByRecursion AreShort plan.fixed.shadows }
         ensures plan { IfOk result (λ new. new.store.plan ≡ plan) }
-        ensures start { IfOk result (λ new. new.store.lock.start ≡ Opened (opening_of D.row.coded plan.mounted core.journal (P.refusals core.patterns)) ∷ []) }
+        ensures start { IfOk result (λ new. new.store.lock.start ≡ Opened (opening_of D.row.coded plan.mounted core.journal (P.refusals core.patterns) core.wrote) ∷ []) }
         ensures started { IfOk result (λ new. IsStarted new.store.lock new.store.plan) }
         ensures count { IfOk result (λ new. new.store.lock.seats ≡ handles) }
         ensures seats { IfOk result (λ new. AreFree new.store.lock new.seats.seats.items (vec_capacity new.seats.seats)) }

@@ -1,7 +1,10 @@
--- By the fronts of the involved mounts.
+-- By the fronts of the involved mounts, whose keys the longer history has too.
+use Rattle.kdb_handle.specs.Opened.{store_at}
 use Rattle.kdb_handle.proofs.AcceptLemmas.{still_prepared}
+use Rattle.kdb_handle.proofs.RecordLemmas.{record-seen}
 use Rattle.kdb_handle.proofs.laws.an_accepted_set_is_still_prepared.Goals as goal
 
 pub returns : goal.returns
-returns g c files history number handle before rec parent keys set was is made ok =
-    still_prepared (record { text = g.F.Formats.text; IsStorable = g.F.Formats.is_storable; BreaksAt = g.F.Formats.breaks_at }) files history number handle before rec parent keys set was is made ok
+returns g c files earlier later number handle before rec parent keys set begins was is made ok =
+    still_prepared (record { text = g.F.Formats.text; IsStorable = g.F.Formats.is_storable; BreaksAt = g.F.Formats.breaks_at }) files later number handle before rec parent keys set
+    (record-seen (store_at files) earlier later before begins was) is made ok

@@ -19,7 +19,7 @@ returns-clause-shared g c log may =
     (next_shared (record { text = g.F.Formats.text; IsStorable = g.F.Formats.is_storable; BreaksAt = g.F.Formats.breaks_at }) g.D.Disk g.row.D.coded g.P.Patterns.refusals c.args.plan.now.mounted c.args.self.now.core c.args.self.now.entries log c.args.rec.now c.args.prepared may c.commit-answer.new.self c.commit-answer.new.rec (has_risen (g.P.Patterns.refusals c.args.self.now.core.patterns) (g.P.Patterns.refusals c.commit-answer.new.self.patterns)) c.commit-answer.result (told_now c.tell.new.self.fresh) c.tell.new.self.entries
     (c.tell.ensures.told ∙ ap (λ (s : Prepared). told_by (prepared_of s) c.commit-answer.result) c.of-set.ensures)
     (c.tell.ensures.count ∙ ap (λ (s : Prepared). c.args.self.now.entries + length (told_by (prepared_of s) c.commit-answer.result)) c.of-set.ensures)
-    c.commit-answer.ensures.made c.commit-answer.ensures.committed c.commit-answer.ensures.goes c.commit-answer.ensures.cause c.commit-answer.ensures.later c.commit-answer.ensures.refused)
+    c.commit-answer.ensures.made c.commit-answer.ensures.committed c.commit-answer.ensures.goes c.commit-answer.ensures.cause c.commit-answer.ensures.later c.commit-answer.ensures.refused c.commit-answer.ensures.unwritten)
 
 pub returns-clause-keeps : goal.returns-clause-keeps
 returns-clause-keeps g c log may =

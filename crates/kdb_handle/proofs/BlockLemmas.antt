@@ -1,0 +1,133 @@
+-- The commit that blocks a set is another handle's: fronts cover the own ones.
+use Rattle.std.proofs.Common.{◌≡◌, inl, inr, ℕ, ◌+◌, ◌-◌, ◌<◌, ◌≤◌, Bool, true, false, cond, nat_lt, List, [], ◌∷◌, ◌++◌, length, Option, Some, None, Err, refl, sym, ap, ◌∙◌, arith}
+use Rattle.std.specs.Option.{option_and_then, option_map, option_or, unwrap_or}
+use Rattle.general_words.specs.Saturated.{saturated}
+use Rattle.general_words.specs.Searches.{first_some}
+use Rattle.general_words.proofs.Lists.{some_is}
+use Rattle.general_words.proofs.Places.{there_is}
+use Rattle.kdb_handle.specs.Fronts.{Cover, IsAnothers}
+use Rattle.kdb_handle.specs.Handles.{HandleValue}
+use Rattle.kdb_handle.specs.Opened.{store_at}
+use Rattle.kdb_handle.specs.Sets.{IsDone}
+use Rattle.kdb_handle.specs.Stores.{IsHandle}
+use Rattle.kdb_handle.specs.Story.{Told, commits_of}
+use Rattle.kdb_handle.specs.Turns.{IsPrepared}
+use Rattle.kdb_handle.proofs.CoverLemmas.{cover-seen}
+use Rattle.model_history.specs.Changes.{after}
+use Rattle.model_history.specs.History.{Commit, first_after, heaviest_history, history_weight, is_among, replay, touches}
+use Rattle.model_history.proofs.HistoryLemmas.{first_after-behind, first_after-there, first_after-within}
+use Rattle.model_maps.specs.KeyMap.{KeyMap, heaviest_map, weight}
+use Rattle.model_names.specs.Name.{Name}
+use Rattle.model_store.specs.Records.{Fetched, Fronts, Record}
+use Rattle.model_store.specs.Sets.{Prepared as Set, front_in, only}
+use Rattle.model_store.specs.Store.{Formats, points_of}
+use Rattle.model_store.specs.Verdicts as late
+use Rattle.model_store.specs.Verdicts.{Checks, Follows, Late, blocking, commit_of, conflict, conflict_at, if_full, if_heavy, if_untouched}
+use Rattle.seat_lock.specs.Known.{Place}
+use Rattle.set_split.specs.Involved.{involved_in}
+use Rattle.store_core.specs.declared.committing.CommitFault.TheVariants as fault
+use Rattle.store_core.specs.declared.cores.Plan.{Plan}
+use Rattle.store_verdict.specs.PreparedView.{prepared_of}
+use Rattle.store_verdict.specs.RecordView.{record_of}
+use Rattle.store_verdict.specs.declared.prepared.Prepared.{Prepared}
+
+-- ---- where a conflict comes from
+
+-- a step that tells another answer, or none, leaves the rest to say
+past_untouched : (touched : List ℕ) (aside m by : ℕ) (P : Type 0) → Follows (if_untouched touched aside) (Some (late.Conflict m by)) P → P
+past_untouched [] aside m by P h = absurd cc
+past_untouched (n ∷ touched) aside m by P h = h
+
+past_limit : (b : Bool) (one is : Late) (P : Type 0) → (is ≡ one → ⊥) → Follows (cond b (Some one) None) (Some is) P → P
+past_limit true one is P off h = absurd (off (some_is is one h))
+past_limit false one is P off h = h
+
+-- the conflict of a touched mount is what the history tells of the set
+is_blocked : (points : List Name) (history : List Commit) (keys : KeyMap) (set : Set) (m by : ℕ) → late.IsLate points history keys set (late.Conflict m by) → conflict history set ≡ Some (late.Conflict m by)
+is_blocked points history keys set m by judged = told (conflict history set) (past_untouched set.touched set.aside m by _ judged)
+  where
+    is : Late
+    is = late.Conflict m by
+
+    w : ℕ
+    w = weight (after keys set.changes)
+
+    h : ℕ
+    h = history_weight (history ++ commit_of set ∷ [])
+
+    Full : Type 0
+    Full = Follows (if_full h) (Some (late.Conflict m by)) (late.Conflict m by ≡ late.Commits (commit_of set) set.aside)
+
+    none : Checks points keys set (late.Conflict m by) (Follows (if_heavy w) (Some (late.Conflict m by)) Full) → ⊥
+    none (inl breaks) = let other = breaks.is in cc
+    none (inr kept) =
+        let full = past_limit (nat_lt heaviest_map w) (late.DatabaseFull (saturated w)) is Full (λ e. cc) kept.1 in
+        let other = past_limit (nat_lt heaviest_history h) (late.HistoryFull (saturated h)) is _ (λ e. cc) full in
+        cc
+
+    told : (o : Option Late) → Follows o (Some (late.Conflict m by)) (Checks points keys set (late.Conflict m by) (Follows (if_heavy w) (Some (late.Conflict m by)) Full)) → o ≡ Some (late.Conflict m by)
+    told (Some answer) e = sym e
+    told None rest = absurd (none rest)
+
+-- the mount of a conflict, and the number of its commit
+abbrev mount_in : Late → ℕ
+mount_in (late.Conflict m by) = m
+mount_in other = 0
+
+abbrev number_in : Late → ℕ
+number_in (late.Conflict m by) = by
+number_in other = 0
+
+blocked_at : (history : List Commit) (fronts : Fronts) (mounts : List ℕ) (m by : ℕ) → first_some (conflict_at history fronts) mounts ≡ Some (late.Conflict m by) → blocking history fronts m ≡ Some by
+blocked_at history fronts [] m by e = absurd cc
+blocked_at history fronts (n ∷ mounts) m by e = at_mount (blocking history fronts n) refl (blocked_at history fronts mounts m by) e
+  where
+    at_mount : (o : Option ℕ) → blocking history fronts n ≡ o → (first_some (conflict_at history fronts) mounts ≡ Some (late.Conflict m by) → blocking history fronts m ≡ Some by)
+        → option_or (option_map (late.Conflict n) o) (first_some (conflict_at history fronts) mounts) ≡ Some (late.Conflict m by) → blocking history fronts m ≡ Some by
+    at_mount None is later rest = later rest
+    at_mount (Some c) is later here =
+        let one = some_is (late.Conflict n c) (late.Conflict m by) here in
+        ap (blocking history fronts) (sym (ap mount_in one)) ∙ is ∙ ap Some (ap number_in one)
+
+-- the front that a prepared set has of a mount is its record's
+own_front : (mounts : List ℕ) (rec : Record) (m front : ℕ) → front_in (only mounts rec) m ≡ Some front → front_in rec m ≡ Some front
+own_front mounts rec m front is = by (is_among mounts m) is
+  where
+    by : (b : Bool) → option_map (λ (fetched : Fetched). fetched.front) (cond b (rec m) None) ≡ Some front → front_in rec m ≡ Some front
+    by true e = e
+    by false e = absurd cc
+
+-- the commit that blocks a mount isn't one that a front there covers
+another : (history : List Commit) (number : ℕ) (rec : Record) (mounts : List ℕ) (m by : ℕ) → Cover number history (front_in rec) → blocking history (front_in (only mounts rec)) m ≡ Some by → IsAnothers number history by
+another history number rec mounts m by covers blocks = told (front_in (only mounts rec) m) refl blocks
+  where
+    told : (o : Option ℕ) → front_in (only mounts rec) m ≡ o → option_and_then (first_after history m) o ≡ Some by → IsAnothers number history by
+    told None is e = absurd cc
+    told (Some front) is e =
+        let behind : front < by = first_after-behind history m front by e in
+        let within : by ≤ length history = first_after-within history m front by e in
+        let place : ℕ = by - 1 in
+        let by_is : by ≡ place + 1 = omega arith in
+        let found = there_is history place (omega arith) in
+        let touched : touches m found.0 ≡ true = first_after-there history m front place found.0 (e ∙ ap Some by_is) found.1 in
+        let here : unwrap_or (front_in rec m) 0 ≡ front = ap (λ (o : Option ℕ). unwrap_or o 0) (own_front mounts rec m front is) in
+        record {
+          place = place;
+          by_is = by_is;
+          commit = found.0;
+          there = found.1;
+          another = λ own. omega (arith, covers place m found.0 found.1 own touched, here, behind);
+        }
+
+pub blocked_by_another : {F : Type 0} (formats : Formats) (lock : Place Told) (plan : Plan F) (old new : HandleValue) (set : Prepared) (mount : Name) (by front : ℕ) → IsHandle lock plan old → IsPrepared formats plan.mounted old.number (record_of old.rec) set
+    → (done : IsDone formats plan.mounted old new set (Err (fault.Conflict mount by front))) → IsAnothers old.number (commits_of done.found) by
+blocked_by_another formats lock plan old new set mount by front is prepared done =
+    let store = store_at plan.mounted in
+    let history = commits_of done.found in
+    let m : ℕ = done.judged.0 in
+    let fronts : (prepared_of set).fronts ≡ front_in (only (involved_in (points_of store) prepared.parent) (record_of old.rec)) = ap (λ (s : Set). s.fronts) prepared.made.is in
+    let told : conflict history (prepared_of set) ≡ Some (late.Conflict m by) = is_blocked (points_of store) history (replay store.start history) (prepared_of set) m by done.judged.3 in
+    let blocks : blocking history (prepared_of set).fronts m ≡ Some by = blocked_at history (prepared_of set).fronts (prepared_of set).touched m by told in
+    another history old.number (record_of old.rec) (involved_in (points_of store) prepared.parent) m by
+    (cover-seen old.number old.seen done.found (front_in (record_of old.rec)) done.seen (done.own ∙ is.own) is.covers)
+    (ap (λ (f : Fronts). blocking history f m) (sym fronts) ∙ blocks)
