@@ -7,6 +7,7 @@ pub mod Opened
 pub mod Shares
 pub mod Fronts
 pub mod Handles
+pub mod Views
 pub mod Stores
 pub mod Turns
 pub mod Gets

@@ -1,11 +1,11 @@
 //! The close of a shared store.
 ghost use Rattle.std.specs.Prelude.{◌≡◌, ◌≤◌, ◌+◌, ◌-◌, ◌++◌, All, length};
-ghost use Rattle.std.specs.Vec.{vec_capacity};
 ghost use Rattle.intent_journal.specs.Journal.{JournalValue};
 ghost use Rattle.kdb_handle.specs.Closing.{IsClosed};
 ghost use Rattle.kdb_handle.specs.Datums.{coded_journal};
 ghost use Rattle.kdb_handle.specs.Opened.{opening_in};
 ghost use Rattle.kdb_handle.specs.Stores.{AreFree, IsHandle, IsStarted, seat_of, seats_back};
+ghost use Rattle.kdb_handle.specs.Views.{files_in, lock_of, plan_of, room_of, seats_of};
 
 use crate::{FreeSeats, Handle, Locked, Shared, SharedStore, StoryEntry};
 use kdb_outside::Disk;
@@ -18,12 +18,12 @@ impl<D: Disk, F: Formats + Drop, P: Patterns + Drop> Locked<Shared<D, F, P>, F> 
     /// Ends the store, with all handles that were opened and the seats that no handle got, and gives its disk, its matcher and its history back. What a commit left to
     /// be done is tried once more, and a failure of it is no refusal.
     pub fn close_store(self, seats: FreeSeats, handles: Vec<Handle>) -> Closed<D, P>
-        requires started { IsStarted self.lock self.plan }
-        requires free { AreFree self.lock seats.seats.items (vec_capacity seats.seats) }
-        requires handles { All (IsHandle self.lock self.plan) handles.items }
-        requires all { length handles.items + length seats.seats.items ≡ self.lock.seats }
-        ensures { (journal : JournalValue D) → (opening_in self.lock.start).journal ≡ (coded_journal D.row.coded).code journal
-            → IsClosed (record { text = F.text; IsStorable = F.is_storable; BreaksAt = F.breaks_at }) D.Disk P.refusals self.plan.mounted journal (opening_in self.lock.start) (length handles.items) handles.items result }
+        requires started { IsStarted (lock_of self) (plan_of self) }
+        requires free { AreFree (lock_of self) (seats_of seats) (room_of seats) }
+        requires handles { All (IsHandle (lock_of self) (plan_of self)) handles.items }
+        requires all { length handles.items + length (seats_of seats) ≡ (lock_of self).seats }
+        ensures { (journal : JournalValue D) → (opening_in (lock_of self).start).journal ≡ (coded_journal D.row.coded).code journal
+            → IsClosed (record { text = F.text; IsStorable = F.is_storable; BreaksAt = F.breaks_at }) D.Disk P.refusals (files_in self) journal (opening_in (lock_of self).start) (length handles.items) handles.items result }
     {
         let seats = gather(seats, handles);
         let Locked { plan: _plan, lock } = self;
@@ -34,8 +34,8 @@ impl<D: Disk, F: Formats + Drop, P: Patterns + Drop> Locked<Shared<D, F, P>, F> 
 
 /// The seats of all handles, behind those that no handle got.
 fn gather(seats: FreeSeats, mut handles: Vec<Handle>) -> Vec<Seat<StoryEntry>>
-    requires room { length handles.items + length seats.seats.items ≤ vec_capacity seats.seats }
-    ensures { result.items ≡ seats.seats.items ++ seats_back handles.items }
+    requires room { length handles.items + length (seats_of seats) ≤ room_of seats }
+    ensures { result.items ≡ seats_of seats ++ seats_back handles.items }
 {
     let FreeSeats { mut seats } = seats;
     while let Some(handle) = handles.pop() {

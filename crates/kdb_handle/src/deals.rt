@@ -1,7 +1,7 @@
 //! The seats of a shared store that no handle has yet.
 ghost use Rattle.std.specs.Prelude.{◌≡◌, ◌+◌, ◌-◌, [], IfOk, OnErr, OnOk, None, ℕ, length};
-ghost use Rattle.std.specs.Vec.{vec_capacity};
 ghost use Rattle.kdb_handle.specs.Stores.{AreFree, IsHandle, IsStarted};
+ghost use Rattle.kdb_handle.specs.Views.{lock_of, plan_of, room_of, seats_of};
 ghost use Rattle.store_verdict.specs.ProcKeys.{AreProc};
 ghost use Rattle.store_verdict.specs.RecordView.{proc_of, record_of};
 
@@ -37,18 +37,18 @@ impl FreeSeats {
         store: &SharedStore<D, F, P>,
         proc: KeySet,
     ) -> Result<Handle, NoHandle>
-        requires started { IsStarted store.now.lock store.now.plan }
-        requires free { AreFree store.now.lock self.old.seats.items (vec_capacity self.old.seats) }
+        requires started { IsStarted (lock_of store.now) (plan_of store.now) }
+        requires free { AreFree (lock_of store.now) (seats_of self.old) (room_of self.old) }
         requires proc { AreProc proc }
-        ensures handle { IfOk result (λ handle. IsHandle store.now.lock store.now.plan handle) }
-        ensures number { IfOk result (λ handle. handle.number ≡ store.now.lock.seats - length self.old.seats.items + 1) }
-        ensures seen { IfOk result (λ handle. handle.seen ≡ store.now.lock.start) }
+        ensures handle { IfOk result (λ handle. IsHandle (lock_of store.now) (plan_of store.now) handle) }
+        ensures number { IfOk result (λ handle. handle.number ≡ (lock_of store.now).seats - length (seats_of self.old) + 1) }
+        ensures seen { IfOk result (λ handle. handle.seen ≡ (lock_of store.now).start) }
         ensures own { IfOk result (λ handle. handle.own ≡ []) }
         ensures rec { IfOk result (λ handle. (m : ℕ) → record_of handle.rec m ≡ None) }
         ensures proc { IfOk result (λ handle. proc_of handle.rec ≡ proc) }
-        ensures free { AreFree store.now.lock self.new.seats.items (vec_capacity self.new.seats) }
-        ensures fewer { OnOk result (length self.new.seats.items + 1 ≡ length self.old.seats.items) }
-        ensures none { result ≡ Err NoHandle.NoSeat → length self.old.seats.items ≡ 0 }
+        ensures free { AreFree (lock_of store.now) (seats_of self.new) (room_of self.new) }
+        ensures fewer { OnOk result (length (seats_of self.new) + 1 ≡ length (seats_of self.old)) }
+        ensures none { result ≡ Err NoHandle.NoSeat → length (seats_of self.old) ≡ 0 }
         ensures same { OnErr result (self.new ≡ self.old) }
     {
         let Some(first) = self.seats.first() else {

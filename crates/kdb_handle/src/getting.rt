@@ -5,6 +5,7 @@ ghost use Rattle.kdb_handle.specs.Gets.{IsGotAt};
 ghost use Rattle.kdb_handle.specs.Opened.{store_at};
 ghost use Rattle.kdb_handle.specs.Story.{commits_of};
 ghost use Rattle.kdb_handle.specs.Stores.{IsHandle};
+ghost use Rattle.kdb_handle.specs.Views.{files_in, lock_of, plan_of};
 ghost use Rattle.model_maps.specs.KeyMap.{KeyMap};
 ghost use Rattle.model_store.specs.Legal.{IsLegal};
 ghost use Rattle.store_core.specs.Plans.{store_of};
@@ -30,15 +31,15 @@ impl Handle {
         store: &SharedStore<D, F, P>,
         parent: &KeyName,
     ) -> Result<Got, GetFault>
-        requires { IsHandle store.now.lock store.now.plan self.old }
-        ensures handle { IsHandle store.now.lock store.now.plan self.new }
+        requires { IsHandle (lock_of store.now) (plan_of store.now) self.old }
+        ensures handle { IsHandle (lock_of store.now) (plan_of store.now) self.new }
         ensures number { self.new.number ≡ self.old.number }
         ensures proc { proc_of self.new.rec ≡ proc_of self.old.rec }
         ensures seen { IsPrefix self.old.seen self.new.seen }
         ensures own { self.new.own ≡ self.old.own }
-        ensures legal { IsLegal (record { text = F.text; IsStorable = F.is_storable; BreaksAt = F.breaks_at }) (store_at store.now.plan.mounted) (commits_of self.new.seen) }
+        ensures legal { IsLegal (record { text = F.text; IsStorable = F.is_storable; BreaksAt = F.breaks_at }) (store_at (files_in store.now)) (commits_of self.new.seen) }
         ensures got { (procs : ℕ → KeyMap) → procs self.old.number ≡ proc_of self.old.rec
-            → IsGotAt (store_of store.now.plan.mounted procs) store.now.plan.mounted (commits_of self.new.seen) self.old.number parent.now (record_of self.old.rec) (record_of self.new.rec) result }
+            → IsGotAt (store_of (files_in store.now) procs) (files_in store.now) (commits_of self.new.seen) self.old.number parent.now (record_of self.old.rec) (record_of self.new.rec) result }
     {
         let Some(seat) = self.seat.take() else {
             unreachable!()

@@ -2,6 +2,7 @@
 ghost use Rattle.std.specs.Prelude.{◌≡◌};
 ghost use mathlib.Core.List.{IsPrefix};
 ghost use Rattle.kdb_handle.specs.Stores.{IsHandle};
+ghost use Rattle.kdb_handle.specs.Views.{lock_of, plan_of};
 ghost use Rattle.seat_lock.specs.Story.{longer};
 
 use crate::{Handle, SharedStore};
@@ -16,8 +17,8 @@ impl Handle {
         store: &SharedStore<D, F, P>,
         other: &mut Handle,
     )
-        requires { IsHandle store.now.lock store.now.plan self.old × IsHandle store.now.lock store.now.plan other.old }
-        ensures handle { IsHandle store.now.lock store.now.plan self.new }
+        requires { IsHandle (lock_of store.now) (plan_of store.now) self.old × IsHandle (lock_of store.now) (plan_of store.now) other.old }
+        ensures handle { IsHandle (lock_of store.now) (plan_of store.now) self.new }
         ensures number { self.new.number ≡ self.old.number }
         ensures met { self.new.seen ≡ longer self.old.seen other.old.seen }
         ensures seen { IsPrefix self.old.seen self.new.seen × IsPrefix other.old.seen self.new.seen }

@@ -1,10 +1,8 @@
 //! An open store that handles share.
-ghost use Rattle.std.specs.Prelude.{◌≡◌, ◌≤◌, ◌<◌, ◌∷◌, ℕ, [], IfErr, IfOk, None, length};
+ghost use Rattle.std.specs.Prelude.{◌≡◌, ◌≤◌, ◌<◌, ℕ, IfErr, IfOk, None, length};
 ghost use Rattle.std.specs.List.{AllByRecursion};
-ghost use Rattle.std.specs.Vec.{vec_capacity};
-ghost use Rattle.kdb_handle.specs.Opened.{opening_of};
-ghost use Rattle.kdb_handle.specs.Story.{Opened};
 ghost use Rattle.kdb_handle.specs.Stores.{AreFree, IsStarted};
+ghost use Rattle.kdb_handle.specs.Views.{files_of, first_story, fixed_of, lock_of, plan_of, room_of, seats_of};
 ghost use Rattle.model_maps.specs.KeyMap.{KeyMap};
 ghost use Rattle.model_store.specs.Worlds.{first_world};
 ghost use Rattle.mounted_files.specs.Short.{AreShort};
@@ -53,15 +51,15 @@ impl<D: Disk, F: Formats + Drop, P: Patterns + Drop> NewStore<D, F, P> {
         handles: u32,
     ) -> Result<NewStore<D, F, P>, NotShared<D, F, P>>
         requires handles { (0 < handles) × (handles ≤ 32) }
-        requires world { (procs : ℕ → KeyMap) → StandsIn (record { text = F.text; IsStorable = F.is_storable; BreaksAt = F.breaks_at }) (store_of plan.mounted procs) core (λ r m. None) (λ p. None) first_world }
-        requires fixed { (procs : ℕ → KeyMap) → IsPlan (store_of plan.mounted procs) plan.fixed }
-        requires short { AllByRecursion AreShort plan.fixed.shadows }
-        ensures plan { IfOk result (λ new. new.store.plan ≡ plan) }
-        ensures start { IfOk result (λ new. new.store.lock.start ≡ Opened (opening_of D.row.coded plan.mounted core.journal (P.refusals core.patterns) core.wrote) ∷ []) }
-        ensures started { IfOk result (λ new. IsStarted new.store.lock new.store.plan) }
-        ensures count { IfOk result (λ new. new.store.lock.seats ≡ handles) }
-        ensures seats { IfOk result (λ new. AreFree new.store.lock new.seats.seats.items (vec_capacity new.seats.seats)) }
-        ensures all { IfOk result (λ new. length new.seats.seats.items ≡ handles) }
+        requires world { (procs : ℕ → KeyMap) → StandsIn (record { text = F.text; IsStorable = F.is_storable; BreaksAt = F.breaks_at }) (store_of (files_of plan) procs) core (λ r m. None) (λ p. None) first_world }
+        requires fixed { (procs : ℕ → KeyMap) → IsPlan (store_of (files_of plan) procs) (fixed_of plan) }
+        requires short { AllByRecursion AreShort (fixed_of plan).shadows }
+        ensures plan { IfOk result (λ new. plan_of new.store ≡ plan) }
+        ensures start { IfOk result (λ new. (lock_of new.store).start ≡ first_story D.row.coded P.refusals plan core) }
+        ensures started { IfOk result (λ new. IsStarted (lock_of new.store) (plan_of new.store)) }
+        ensures count { IfOk result (λ new. (lock_of new.store).seats ≡ handles) }
+        ensures seats { IfOk result (λ new. AreFree (lock_of new.store) (seats_of new.seats) (room_of new.seats)) }
+        ensures all { IfOk result (λ new. length (seats_of new.seats) ≡ handles) }
         ensures err { IfErr result (λ none. (none.plan ≡ plan) × (none.core ≡ core)) }
     {
         let shared = Shared {
@@ -86,7 +84,7 @@ impl<D: Disk, F: Formats + Drop, P: Patterns + Drop> NewStore<D, F, P> {
 impl<V: Storied, F: Formats + Drop> Locked<V, F> {
     /// What the opening of the store fixed.
     pub fn plan(&self) -> &Plan<F>
-        ensures { result.now ≡ self.now.plan }
+        ensures { result.now ≡ plan_of self.now }
     {
         &self.plan
     }
