@@ -1,7 +1,9 @@
 -- A handle is one of its store's after each turn.
-use Rattle.std.proofs.Common.{◌≡◌, inl, inr, ℕ, ◌≤◌, Bool, true, false, cond, List, [], ◌∷◌, ◌++◌, length, map as over, Option, Some, None, Result, Ok, Err, IfOk, IfErr, refl, sym, ap, ap₂, subst, ◌∙◌, append-nil, eq-eqb}
+use Rattle.std.proofs.Common.{◌≡◌, inl, inr, ℕ, ◌≤◌, nat_eq, Bool, true, false, cond, List, [], ◌∷◌, ◌++◌, length, map as over, Option, Some, None, Result, Ok, Err, IfOk, IfErr, refl, sym, ap, ap₂, subst, ◌∙◌, append-nil, eq-eqb}
 use mathlib.Core.List.{IsPrefix}
 use Rattle.std.specs.Coded.{Coded}
+use Rattle.std.proofs.lemmas.Bool.{le-leb}
+use Rattle.general_words.proofs.Tests.{both, true_is}
 use Rattle.kdb_outside.specs.declared.disks.Disk.{Ghosts}
 use Rattle.kdb_handle.specs.Fronts.{Cover}
 use Rattle.kdb_handle.specs.Gets.{IsGotAt}
@@ -11,7 +13,7 @@ use Rattle.kdb_handle.specs.Opened.{store_at}
 use Rattle.kdb_handle.specs.Shares.{IsShared}
 use Rattle.kdb_handle.specs.Story.{Told, Opening, Committed, Failed, Refused, maker_of, commits_of}
 use Rattle.kdb_handle.specs.Stores.{IsHandle}
-use Rattle.kdb_handle.specs.Sets.{IsDone}
+use Rattle.kdb_handle.specs.Sets.{IsDone, tells_refusal}
 use Rattle.kdb_handle.specs.Turns.{IsPrepared, MayCommit, told_by, is_refusal, record_by}
 use Rattle.model_store.proofs.Accepting.{put-here}
 use Rattle.kdb_handle.proofs.CoverLemmas.{cover-got, cover-judged, cover-seen}
@@ -21,6 +23,7 @@ use Rattle.model_history.specs.History as past
 use Rattle.model_history.specs.History.{is_among, replay}
 use Rattle.model_maps.specs.KeyMap.{KeyMap, no_keys}
 use Rattle.model_names.specs.Name.{Name}
+use Rattle.model_rules.specs.Rules.{longest_pattern}
 use Rattle.model_store.specs.Cores as cores
 use Rattle.model_store.specs.Cores.{GetMade, Made, keeping}
 use Rattle.model_store.specs.Events as event
@@ -30,10 +33,12 @@ use Rattle.model_store.specs.Legal.{IsLegal}
 use Rattle.model_store.specs.Records.{IsRecord, seen_at}
 use Rattle.model_store.specs.Sets as sets
 use Rattle.model_store.specs.Sets.{front_in, wants}
-use Rattle.model_store.specs.Store.{Store, Formats, points_of}
+use Rattle.model_store.specs.Store.{Store, Formats, points_at, points_of}
 use Rattle.model_store.specs.Verdicts.{commit_of}
 use Rattle.model_store.proofs.Kept.{record-moves, good_mount}
 use Rattle.model_store.proofs.Members.{nothing_at}
+use Rattle.model_store.proofs.OneVerdict.{breach-as}
+use Rattle.mount_table.specs.declared.mounts.Mount.{Mount}
 use Rattle.mounted_files.specs.Getting.{visible_keys}
 use Rattle.mounted_files.specs.declared.files.MountedFile.{MountedFile}
 use Rattle.mounted_files.specs.declared.refusals.GetFault.{GetFault}
@@ -194,6 +199,18 @@ handle_moved lock plan old new found told is place number seen own sees gains on
       (subst (λ (l : List Told). Cover old.number (commits_of l) (front_in (record_of new.rec))) (sym sees) covers);
 }
 
+-- of an answer it matters alone whether the pattern was refused that it tells
+judged-as : (mounts : List Mount) (risen : Bool) (history : List past.Commit) (keys : KeyMap) (set : sets.Prepared) (result : Result Done CommitFault) → IsJudged mounts risen history keys set result → IsJudged mounts (tells_refusal result) history keys set result
+judged-as mounts risen history keys set (Ok (done.Committed number aside)) judged = judged
+judged-as mounts risen history keys set (Ok (done.Same front aside)) judged = judged
+judged-as mounts risen history keys set (Err (fault.Conflict mount by front)) judged = judged
+judged-as mounts risen history keys set (Err (fault.Invalid violation front)) judged =
+    (judged.0, breach-as (points_at mounts) history keys set violation risen (is_refusal violation) (λ six short rose. both (nat_eq violation.rule 6) _ (true_is _ (eq-eqb violation.rule 6 six)) (true_is _ (le-leb (length violation.given) longest_pattern short))) judged.1)
+judged-as mounts risen history keys set (Err (fault.DatabaseFull weight front)) judged = judged
+judged-as mounts risen history keys set (Err (fault.HistoryFull weight front)) judged = judged
+judged-as mounts risen history keys set (Err (fault.DiskFault front)) judged = judged
+judged-as mounts risen history keys set (Err fault.Memory) judged = judged
+
 module _ {D P : Type 0} (formats : Formats) (g : Ghosts D) (code : Coded D) (refused : P → ℕ) {F : Type 0} (lock : Place Told) (plan : Plan F) (old : HandleValue) (core : Core D P) (entries : ℕ) (found : List Told)
     (is : IsHandle lock plan old) (seen : IsPrefix old.seen found) (shared : IsShared formats g code refused core entries found) where
   opening : shared.opening.files ≡ plan.mounted
@@ -234,9 +251,9 @@ module _ {D P : Type 0} (formats : Formats) (g : Ghosts D) (code : Coded D) (ref
         seen = seen;
         own = own;
         legal = legal_found;
-        risen = judged.0;
-        judged = subst (λ (cs : List past.Commit). IsJudged (over (λ file. file.mount) plan.mounted) judged.0 cs (replay (visible_keys plan.mounted) (commits_of found)) (prepared_of set) result) history
-            (subst (λ (k : KeyMap). IsJudged (over (λ file. file.mount) plan.mounted) judged.0 core.history.commits k (prepared_of set) result) (shared_keys formats g code refused plan.mounted core entries found shared opening) judged.1);
+        judged = subst (λ (cs : List past.Commit). IsJudged (over (λ file. file.mount) plan.mounted) (tells_refusal result) cs (replay (visible_keys plan.mounted) (commits_of found)) (prepared_of set) result) history
+            (subst (λ (k : KeyMap). IsJudged (over (λ file. file.mount) plan.mounted) (tells_refusal result) core.history.commits k (prepared_of set) result) (shared_keys formats g code refused plan.mounted core entries found shared opening)
+            (judged-as (over (λ file. file.mount) plan.mounted) judged.0 core.history.commits core.keys (prepared_of set) result judged.1));
         sees = sees ∙ ap (λ (l : List Told). found ++ l) told_is;
         gains = gains ∙ ap (λ (l : List Told). old.own ++ l) told_is;
         kept = kept ∙ ap (λ (cs : List past.Commit). record_by (store_at plan.mounted) cs (prepared_of set) result (record_of old.rec)) history;
