@@ -13,6 +13,7 @@ use Rattle.kdb_outside.proofs.Frames.{GoesOn-then}
 use Rattle.intent_journal.specs.Journal.{JournalValue}
 use Rattle.intent_journal.specs.Moments.{LeavesOnly}
 use Rattle.intent_journal.specs.Outcomes.{SameFiles, HasOnly, IsEither}
+use Rattle.intent_journal.specs.States.{IsCalm}
 use Rattle.intent_journal.specs.declared.states.State.TheVariants as state
 use Rattle.kdb_handle.specs.Closing.{IsClosed}
 use Rattle.kdb_handle.specs.Datums.{coded_journal}
@@ -23,7 +24,7 @@ use Rattle.kdb_handle.specs.Runs.{RunsBy}
 use Rattle.kdb_handle.specs.Shares.{IsShared}
 use Rattle.kdb_handle.specs.Story.{Told, Opening, Opened, maker_of, commits_of, failures_in, refusals_in}
 use Rattle.kdb_handle.specs.Stores.{AreFree, IsHandle, IsStarted, seat_of, seats_back}
-use Rattle.kdb_handle.proofs.RunLemmas.{risen-still}
+use Rattle.kdb_handle.proofs.RunLemmas.{comes-to, risen-still}
 use Rattle.model_crashes.specs.Runs.{Run, files_of, IsReached}
 use Rattle.model_store.specs.Legal.{IsLegal}
 use Rattle.model_store.specs.Store.{Formats}
@@ -156,11 +157,12 @@ module _ {D P : Type 0} (formats : Formats) (g : Ghosts D) (code : Coded D) (ref
       pub closed_so : length handles + length free ≡ lock.seats → closed.history ≡ core.history → closed.patterns ≡ core.patterns
           → (core.wrote ≡ false → core.journal.state ≡ state.Doubt → closed.disk ≡ core.journal.disk)
           → ((start : D) (run : Run) → IsStore g start core.journal run → ¬ HasRisen (g.faults core.journal.disk) (g.faults closed.disk) → SameFiles (g.seen closed.disk) (files_of run))
+          → ((start : D) (run : Run) → IsStore g start core.journal run → ¬ HasRisen run.faults (g.faults closed.disk) → IsCalm (g.seen closed.disk) (g.may_leave closed.disk) (files_of run) run.doubt)
           → ((start : D) (run : Run) → IsStore g start core.journal run → LeavesOnly g start closed.disk (IsReached run.files run.commits run.begun))
           → ((start : D) (run : Run) → IsStore g start core.journal run → EveryImage (g.may_leave closed.disk) (HasOnly (IsEither (files_of run) run.doubt)))
           → GoesOn g core.journal.disk closed.disk
           → IsClosed formats g refused plan.mounted journal (opening_in lock.start) (length handles) handles closed
-      closed_so all history patterns left_alone shown always now goes = record {
+      closed_so all history patterns left_alone shown calm always now goes = record {
         rest = shared.rest;
         seen = seen_by;
         own = own_by;
@@ -185,6 +187,8 @@ module _ {D P : Type 0} (formats : Formats) (g : Ghosts D) (code : Coded D) (ref
               by_story = subst (λ (fs : List MountedFile). RunsBy formats (store_at fs) (visible_keys fs) first shared.rest before.0) files_are before.1;
               any_moment = always start before.0 before.2;
               now = now start before.0 before.2;
+              calm = λ none. calm start before.0 before.2
+                  (λ rose. none (subst (λ n. HasRisen n (g.faults closed.disk)) (comes-to formats (store_at shared.opening.files) (visible_keys shared.opening.files) first before.0 shared.rest before.1).faults rose));
               shown = λ none. shown start before.0 before.2
                   (λ rose. none (risen_since (g.faults journal.disk) (g.faults core.journal.disk) (g.faults closed.disk) (subst (λ (j : JournalValue D). g.faults j.disk ≤ g.faults core.journal.disk) same_journal shared.goes.later) rose));
             };

@@ -8,6 +8,7 @@ use Rattle.kdb_outside.specs.declared.disks.Disk.{Ghosts}
 use Rattle.intent_journal.specs.Journal.{JournalValue}
 use Rattle.intent_journal.specs.Moments.{LeavesOnly}
 use Rattle.intent_journal.specs.Outcomes.{SameFiles, HasOnly, IsEither}
+use Rattle.intent_journal.specs.States.{IsCalm}
 use Rattle.intent_journal.specs.declared.states.State.TheVariants as state
 use Rattle.kdb_handle.specs.Handles.{HandleValue}
 use Rattle.kdb_handle.specs.Opened.{store_at}
@@ -25,13 +26,15 @@ use Rattle.store_phases.specs.Stores.{IsStore}
 
 -- The disk that comes back. At the opening its journal stood for a run; since then the run went on by the story. A crash at any moment since the
 -- opening leaves the files of a prefix of the commits, or these with a set of the story that was begun on just that prefix; and now the files of all commits, or
--- these with the set in doubt. Without a fault since the opening a read gives them
+-- these with the set in doubt. Without a fault since the opening a read gives them, and without one since the run began the disk is calm with them, so that the
+-- next opening finds what this one found
 pub record IsHandedOn (formats : Formats) {D : Type 0} (g : Ghosts D) (files : List MountedFile) (start : D) (first : Run) (opened : D) (rest : List Told) (disk : D) : Type 0 where
   pub last : Run
   pub by_story : RunsBy formats (store_at files) (visible_keys files) first rest last
   pub any_moment : LeavesOnly g start disk (IsReached last.files last.commits last.begun)
   pub now : EveryImage (g.may_leave disk) (HasOnly (IsEither (files_of last) last.doubt))
   pub shown : ¬ HasRisen (g.faults opened) (g.faults disk) → SameFiles (g.seen disk) (files_of last)
+  pub calm : ¬ HasRisen first.faults (g.faults disk) → IsCalm (g.seen disk) (g.may_leave disk) (files_of last) last.doubt
 
 -- A closed store. There is one story, which begins with the opening and with all that each handle has seen. Its entries of a handle's number are those that the handle
 -- made, each once, in their order, and it has no others. Its history is legal, and is the one that comes back. The disk's count of faults rose by

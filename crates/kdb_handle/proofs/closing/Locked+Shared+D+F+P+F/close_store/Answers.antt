@@ -23,4 +23,4 @@ returns g c journal is =
     log c.close-core.ensures.stands_for
     (subst (λ (l : List (Known Told)). All (λ (seat : Known Told). made_by maker_of seat.number log ≡ seat.own) l) c.gather-seats.ensures c.close-core.ensures.own) c.close-core.ensures.first c.close-core.ensures.others
     (subst (λ (l : List (Known Told)). All (λ (seat : Known Told). IsPrefix seat.seen log) l) c.gather-seats.ensures c.close-core.ensures.seen) c.close.result journal is
-    c.requires.all c.close.ensures.history c.close.ensures.patterns c.close.ensures.left_alone c.close.ensures.shown c.close.ensures.always c.close.ensures.now c.close.ensures.goes
+    c.requires.all c.close.ensures.history c.close.ensures.patterns c.close.ensures.left_alone c.close.ensures.shown c.close.ensures.calm c.close.ensures.always c.close.ensures.now c.close.ensures.goes
