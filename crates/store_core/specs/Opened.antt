@@ -1,5 +1,10 @@
 -- What an opening answers: the disk, the matcher and, where it was refused, why. (This project's own.)
 use Rattle.std.specs.Prelude.{Bool, true, false, Option, Some, None, Result, Ok, Err}
+use Rattle.intent_journal.specs.BadJournals.{opened_doubt, opened_files}
+use Rattle.intent_journal.specs.Outcomes.{SameFiles}
+use Rattle.intent_journal.specs.States.{IsCalm}
+use Rattle.kdb_outside.specs.Frames.{OnlyReads}
+use Rattle.kdb_outside.specs.declared.disks.Disk.{Ghosts}
 use Rattle.store_core.specs.declared.faults.OpenFault.{OpenFault}
 use Rattle.store_core.specs.declared.faults.OpenFault.TheVariants.{DiskFault, BadJournal, BadTable, TooLong, BadFile, Memory}
 use Rattle.store_core.specs.declared.faults.OpenRefused.{OpenRefused}
@@ -29,3 +34,9 @@ may_be_of_journal (Some (BadTable fault)) = false
 may_be_of_journal (Some (TooLong bytes)) = false
 may_be_of_journal (Some (BadFile line)) = false
 may_be_of_journal (Some Memory) = true
+
+-- what an opening leaves of a calm disk that didn't fail: it was only read, or shows the files of the opening, and is calm with these and with what that
+-- leaves in doubt
+pub data IsLeft {D : Type 0} (g : Ghosts D) (disk end : D) : Type 0 where
+  StillRead : OnlyReads g disk end → IsLeft g disk end
+  AsOpened : SameFiles (g.seen end) (opened_files (g.seen disk)) → IsCalm (g.seen end) (g.may_leave end) (opened_files (g.seen disk)) (opened_doubt (g.seen disk)) → IsLeft g disk end

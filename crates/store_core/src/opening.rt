@@ -23,7 +23,7 @@ ghost use Rattle.mounted_files.specs.Short.{AreShort};
 ghost use Rattle.store_core.specs.Cores.{StandsFor, StandsIn};
 ghost use Rattle.store_core.specs.Faults.{RefusesBroken, RefusesStore};
 ghost use Rattle.store_core.specs.Frames.{OnlyReadsFiles};
-ghost use Rattle.store_core.specs.Opened.{disk_of, fault_of, may_be_of_journal, patterns_of};
+ghost use Rattle.store_core.specs.Opened.{IsLeft, disk_of, fault_of, may_be_of_journal, patterns_of};
 ghost use Rattle.store_core.specs.Plans.{store_of};
 ghost use Rattle.store_verdict.specs.Preparing.{IsPlan};
 
@@ -89,6 +89,8 @@ pub fn open_store<D: Disk, F: Formats + Drop, P: Patterns + Drop>(
         → (at : ℕ) → fault_of result ≡ Some (OpenFault.BadJournal at) → ⊥ }
     ensures calm_still { D.tells disk ≡ true → (files : Image) (doubt : Option (List Item)) → IsCalm (D.seen disk) (D.may_leave disk) files doubt → ¬ HasRisen (D.faults disk) (D.faults (disk_of result))
         → IsCalm (D.seen (disk_of result)) (D.may_leave (disk_of result)) files doubt }
+    ensures left { D.tells disk ≡ true → (files : Image) (doubt : Option (List Item)) → IsCalm (D.seen disk) (D.may_leave disk) files doubt → ¬ HasRisen (D.faults disk) (D.faults (disk_of result))
+        → IsLeft D.Disk disk (disk_of result) }
     ensures any_moment { D.tells disk ≡ true → (files : Image) (doubt : Option (List Item)) → IsCalm (D.seen disk) (D.may_leave disk) files doubt
         → LeavesOnly D.Disk disk (disk_of result) (HasOnly (IsEither files doubt)) }
     ensures rests { D.tells disk ≡ true → (files : Image) (doubt : Option (List Item)) → IsCalm (D.seen disk) (D.may_leave disk) files doubt

@@ -9,7 +9,7 @@ use Rattle.model_crashes.specs.Runs.{new_run}
 use Rattle.mount_table.specs.Table.{own_mount}
 use Rattle.mounted_files.specs.Opening.{IsOpened}
 use Rattle.store_core.specs.Faults.{RefusesBroken, RefusesStore}
-use Rattle.store_core.specs.Opened.{disk_of, may_be_of_journal}
+use Rattle.store_core.specs.Opened.{AsOpened, StillRead, disk_of, may_be_of_journal}
 use Rattle.store_core.specs.declared.faults.OpenFault.{OpenFault}
 use Rattle.store_core.specs.declared.faults.OpenFault.TheVariants.{BadJournal}
 use Rattle.store_core.proofs.OpeningLemmas.{calm_read, told_alike, in_doubt, journal_broken, journal_refuses, of_journal-bad, rests_read, stands_opened, still_only, whatever, unread_files}
@@ -96,3 +96,13 @@ pub returns-in-Ok-clause-calm_still : goal.returns-in-Ok-clause-calm_still
 returns-in-Ok-clause-calm_still g c tells files doubt calm still =
     calm_read g.D.Disk c.args.disk c.in-Ok.journal.disk (disk_of c.open_files.result) files doubt tells c.in-Ok.ensures.goes c.open_files.ensures.reads
     (c.in-Ok.ensures.calm_still tells files doubt calm) still
+
+pub returns-in-Ok-clause-left : goal.returns-in-Ok-clause-left
+returns-in-Ok-clause-left g c tells files doubt calm still =
+    let seen = g.D.Disk.seen c.args.disk in
+    let store = c.in-Ok.ensures.opened tells files doubt calm in
+    AsOpened (subst (λ (now : Image). SameFiles now (opened_files seen)) (sym (c.open_files.ensures.reads.same store.rests.tells)) (c.in-Ok.ensures.shown tells files doubt calm))
+    (calm_read g.D.Disk c.args.disk c.in-Ok.journal.disk (disk_of c.open_files.result) (opened_files seen) (opened_doubt seen) tells c.in-Ok.ensures.goes c.open_files.ensures.reads (store.calm c.in-Ok.ensures.doubt) still)
+
+pub returns-in-Err-clause-left : goal.returns-in-Err-clause-left
+returns-in-Err-clause-left g c tells files doubt calm still = StillRead (c.in-Err.ensures.kept (λ is. still (c.in-Err.ensures.cause (ap Some is))))
