@@ -1,5 +1,5 @@
 -- How a run ends, from the answer that was worked out and what became of it on out and err.
-use Rattle.std.specs.Prelude.{◌≡◌, ◌≢◌, ℕ, ◌⊎◌, zero, suc, List, [], ◌++◌, length, take, Option, Some, None, Result, Ok, Err, IfOk, IsOk}
+use Rattle.std.specs.Prelude.{◌≡◌, ◌≢◌, ℕ, ◌⊎◌, List, [], ◌++◌, length, Option, Some, None, Result, Ok, Err, IfOk, IsOk}
 use Rattle.std.proofs.Common.{refl, sym, ap, ◌∙◌, subst, inl, inr, arith}
 use Rattle.std.proofs.Math.Seq.{take-length}
 use Rattle.kdb_tool.specs.declared.answers.Stop.{Stop}
@@ -11,10 +11,11 @@ use Rattle.tool_words.specs.Request.{Request, Refuses, Bars, Asks, Imports}
 use Rattle.tool_commands.specs.StepView.{report_of}
 use Rattle.tool_commands.specs.declared.reports.Report as code
 use Rattle.kdb_tool.specs.Input.{FailsToRead}
-use Rattle.kdb_tool.specs.Untold.{IsStatusOf, AsksStore, ReportsUntold}
+use Rattle.kdb_tool.specs.Untold.{IsStatusOf, HasAsked, ReportsUntold}
 use Rattle.kdb_tool.specs.Ending.{ending}
 use Rattle.kdb_tool.specs.Serving.{MayStore}
 use Rattle.kdb_outside.specs.SinkChange.{SinkChange as Change}
+use Rattle.kdb_outside.specs.declared.sources.Source.{Ghosts}
 use Rattle.kdb_tool.specs.Outcome.{Failed, Gives, Gains, GainsFront, Delivers, Whole, OutFails, ErrFails}
 use Rattle.tool_commands.specs.Report.{IsAnswered, IsEnd}
 use Rattle.kdb_tool.specs.Ends.{LosesSink, EndsRefused, Refused, NoMemory, SinkFails, EndsByWords, EndsWithoutMemory, EndsInFault, FaultCause, OfDisk, OfInput, OfOut, OfErr}
@@ -55,11 +56,11 @@ stopped_by (Bars name) status out err delivers = without_answer (warned 2 (not_w
 stopped_by (Asks question) status out err delivers = λ answered. absurd (answered.0 (whole (warned 70 out_of_memory) status out err delivers answered.1).status_is)
 stopped_by (Imports name kind) status out err delivers = λ answered. absurd (answered.0 (whole (warned 70 out_of_memory) status out err delivers answered.1).status_is)
 
-failed_by : (asked : Request) (status : ℕ) (out err : Change) → AsksStore asked → Delivers (warned 74 disk_fault) status out err → EndsByWords asked status out err
-failed_by (Refuses code text) status out err asks delivers = absurd asks
-failed_by (Bars name) status out err asks delivers = absurd asks
-failed_by (Asks question) status out err asks delivers = λ answered. absurd (answered.1 (whole (warned 74 disk_fault) status out err delivers answered.1).status_is)
-failed_by (Imports name kind) status out err asks delivers = λ answered. absurd (answered.1 (whole (warned 74 disk_fault) status out err delivers answered.1).status_is)
+failed_by : {S : Type 0} (g : Ghosts S) (source new : S) (asked : Request) (status : ℕ) (out err : Change) → HasAsked g asked source new → Delivers (warned 74 disk_fault) status out err → EndsByWords asked status out err
+failed_by g source new (Refuses code text) status out err has delivers = absurd (has.asks [] tt)
+failed_by g source new (Bars name) status out err has delivers = absurd (has.asks [] tt)
+failed_by g source new (Asks question) status out err has delivers = λ answered. absurd (answered.1 (whole (warned 74 disk_fault) status out err delivers answered.1).status_is)
+failed_by g source new (Imports name kind) status out err has delivers = λ answered. absurd (answered.1 (whole (warned 74 disk_fault) status out err delivers answered.1).status_is)
 
 unread_by : (asked : Request) (before now : ℕ) (status : ℕ) (out err : Change) → FailsToRead asked before now → Delivers (warned 74 read_fault) status out err → EndsByWords asked status out err
 unread_by (Refuses code text) before now status out err fails delivers = absurd fails
@@ -67,37 +68,26 @@ unread_by (Bars name) before now status out err fails delivers = absurd fails
 unread_by (Asks question) before now status out err fails delivers = absurd fails
 unread_by (Imports name kind) before now status out err fails delivers = λ answered. absurd (answered.1 (whole (warned 74 read_fault) status out err delivers answered.1).status_is)
 
-pub by_words : (r : Result code.Report Stop) (asked : Request) (before now : ℕ) (status : ℕ) (out err : Change) → IfOk r (λ report. ReportsUntold asked (report_of report)) → (r ≡ Err stops.DiskFault → AsksStore asked) → (r ≡ Err stops.ReadFault → FailsToRead asked before now) → Delivers (ending r) status out err → EndsByWords asked status out err
-by_words (Ok report) asked before now status out err untold asks fails delivers = by_request asked (report_of report) status out err untold delivers
-by_words (Err stops.Memory) asked before now status out err untold asks fails delivers = stopped_by asked status out err delivers
-by_words (Err stops.DiskFault) asked before now status out err untold asks fails delivers = failed_by asked status out err (asks refl) delivers
-by_words (Err stops.ReadFault) asked before now status out err untold asks fails delivers = unread_by asked before now status out err (fails refl) delivers
+pub by_words : {S : Type 0} (g : Ghosts S) (source new : S) (r : Result code.Report Stop) (asked : Request) (status : ℕ) (out err : Change) → IfOk r (λ report. ReportsUntold asked (report_of report)) → (r ≡ Err stops.DiskFault → HasAsked g asked source new)
+    → (r ≡ Err stops.ReadFault → FailsToRead asked (g.faults source) (g.faults new)) → Delivers (ending r) status out err → EndsByWords asked status out err
+by_words g source new (Ok report) asked status out err untold asks fails delivers = by_request asked (report_of report) status out err untold delivers
+by_words g source new (Err stops.Memory) asked status out err untold asks fails delivers = stopped_by asked status out err delivers
+by_words g source new (Err stops.DiskFault) asked status out err untold asks fails delivers = failed_by g source new asked status out err (asks refl) delivers
+by_words g source new (Err stops.ReadFault) asked status out err untold asks fails delivers = unread_by asked (g.faults source) (g.faults new) status out err (fails refl) delivers
 
--- what is gained whole or as a front of nothing is gained as a front
+-- what is gained whole is gained as a front
 front-whole : (before now : Option (List ℕ)) (bytes : List ℕ) → Gains before now bytes → GainsFront before now bytes
 front-whole (Some held) now bytes gains = record { count = length bytes; within = omega arith; is = gains ∙ ap (λ b. Some (held ++ b)) (sym (take-length bytes)) }
 front-whole None now bytes gains = tt
-
-take-nil : (n : ℕ) → ◌≡◌ {A = List ℕ} (take n []) []
-take-nil zero = refl
-take-nil (suc n) = refl
-
-front-none : (before now : Option (List ℕ)) (bytes : List ℕ) → GainsFront before now [] → GainsFront before now bytes
-front-none (Some held) now bytes front =
-    record { count = 0; within = omega arith; is = front.is ∙ ap (λ b. Some (held ++ b)) (take-nil front.count) }
-front-none None now bytes front = tt
 
 front : (report : Report) (status : ℕ) (out err : Change) → Delivers report status out err → GainsFront out.held_before out.held_now report.out
 front report status out err (Whole gives) = front-whole out.held_before out.held_now report.out gives.out_gains
 front report status out err (OutFails loses) = loses.out_front
 front report status out err (ErrFails loses) = loses.out_front
 
--- a run puts a front on out of what the report has that it ends with, and nothing where it ends in none
+-- a run puts a front on out of what the report has that it ends with
 pub put_front : (report : Report) (status : ℕ) (out err : Change) → Delivers report status out err → GainsFront out.held_before out.held_now report.out
 put_front report status out err delivers = front report status out err delivers
-
-pub put_none : (report : Report) (bytes : List ℕ) (status : ℕ) (out err : Change) → report.out ≡ [] → Delivers report status out err → GainsFront out.held_before out.held_now bytes
-put_none report bytes status out err none delivers = front-none out.held_before out.held_now bytes (subst (λ (b : List ℕ). GainsFront out.held_before out.held_now b) none (front report status out err delivers))
 
 -- an answer that was worked out has a status of its own, which is neither that of want of memory nor that of a fault
 pub without_memory : (r : Result code.Report Stop) (status : ℕ) (out err : Change) → IfOk r (λ report. IsAnswered report.status) → Delivers (ending r) status out err → EndsWithoutMemory status out err

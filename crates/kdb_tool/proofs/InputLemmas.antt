@@ -1,8 +1,14 @@
 -- How a call leaves its input.
+use Rattle.std.specs.Prelude.{Result, Ok, Err, IsOk, OnOk}
 use Rattle.std.proofs.Common.{refl, arith}
 use Rattle.tool_words.specs.Request.{Request, Refuses, Bars, Asks, Imports}
 use Rattle.kdb_outside.specs.declared.sources.Source.{Ghosts}
 use Rattle.kdb_tool.specs.Input.{LeavesInput}
+
+-- what holds of a good result holds where the result is good
+pub on_ok : {A E : Type 0} (r : Result A E) (P : Type 0) → IsOk r → OnOk r P → P
+on_ok (Ok made) P is holds = holds
+on_ok (Err fault) P is holds = absurd cc
 
 -- how a call that takes nothing more leaves the input
 pub leaves_input : {S : Type 0} (g : Ghosts S) (asked : Request) (now_done done : Type 0) (before now : S) → (now_done → done) → LeavesInput g asked done before now → LeavesInput g asked now_done before now

@@ -15,3 +15,4 @@ pub mod EndLemmas
 pub mod BrokenLemmas
 pub mod RunLemmas
 pub mod TakeLemmas
+pub mod LegalLemmas

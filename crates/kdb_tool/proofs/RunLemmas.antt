@@ -8,7 +8,7 @@ use Rattle.kdb_outside.specs.Images.{Image}
 use Rattle.kdb_outside.specs.SinkChange.{SinkChange as Change}
 use Rattle.kdb_outside.specs.declared.disks.Disk.{Ghosts}
 use Rattle.tool_commands.specs.Lines.{disk_fault, read_fault}
-use Rattle.tool_commands.specs.Report.{IsAnswered, Report, warned}
+use Rattle.tool_commands.specs.Report.{Report, warned}
 use Rattle.tool_commands.specs.StepView.{report_of}
 use Rattle.tool_commands.specs.declared.reports.Report as code
 use Rattle.tool_words.specs.Lines.{out_of_memory}
@@ -17,40 +17,35 @@ use Rattle.kdb_tool.specs.Answers.{Answers}
 use Rattle.kdb_tool.specs.Ending.{ending}
 use Rattle.kdb_tool.specs.Ends.{LosesSink}
 use Rattle.kdb_tool.specs.Outcome.{Delivers, Failed, GainsFront, Gives}
-use Rattle.kdb_tool.specs.Ran.{ByAnswer, EndsWithout, Follows, Ran, Without}
+use Rattle.kdb_tool.specs.Ran.{ByAnswer, EndsUnstored, EndsWithout, Follows, NotStored, Ran, Without}
 use Rattle.kdb_tool.specs.Serving.{Failing, MayRefuse, Seeking, Serve, Served, Storing}
 use Rattle.kdb_tool.specs.Serving as serving
 use Rattle.kdb_tool.specs.declared.answers.Stop.{Stop}
 use Rattle.kdb_tool.specs.declared.answers.Stop.TheVariants as stops
 use Rattle.kdb_tool.proofs.AnswersMore.{Answers-more}
-use Rattle.kdb_tool.proofs.EndLemmas.{ended, fault_status, given, put_front, put_none, without_out}
+use Rattle.kdb_tool.proofs.EndLemmas.{ended, fault_status, given, put_front, without_out}
 
 module _ {D : Type 0} (g : Ghosts D) (disk end : D) (files : Image) (doubt : Option (List FileText)) (words : List (List ℕ)) (input : List ℕ) (before now : ℕ) (input_failed : Type 0) (status : ℕ) (out err : Change) where
   abbrev opened : Image
   opened = opened_files (g.seen disk)
 
-  -- what is allowed of refused patterns, as the run as a whole tells it: an answer tells that the count rose, and without one any may have been
-  abbrev MayHaveRefused : Type 0
-  MayHaveRefused = IsAnswered status → HasRisen before now
-
   abbrev Answered : Answer → Type 0
-  Answered = Answers MayHaveRefused words input opened
+  Answered = Answers (HasRisen before now) words input opened
 
   abbrev Does : Result code.Report Stop → Type 0
   Does r = Serve g files doubt (Answers (MayRefuse r before now) words input opened) r disk end
 
-  -- an answer was worked out
-  by_answer : (report : code.Report) → Served g files doubt (Answers (HasRisen before now) words input opened) (report_of report) disk end → Delivers (report_of report) status out err → Follows g files doubt Answered disk end status out err
+  -- an answer was worked out, and what it stores was stored
+  by_answer : (report : code.Report) → Served g files doubt Answered (report_of report) disk end → Delivers (report_of report) status out err → Follows g files doubt Answered disk end status out err
   by_answer report does delivers = record {
     answer = does.answer;
-    answers = Answers-more (HasRisen before now) MayHaveRefused (λ rose is. rose) words input opened does.answer does.answers;
+    answers = does.answers;
     answered = λ is. subst (λ (r : Report). Gives r status out err) (sym does.told) (given (report_of report) status out err delivers is);
+    ended = subst (λ (r : Report). (status ≡ r.status) ⊎ LosesSink status out err) (sym does.told) (ended (report_of report) status out err delivers);
     prefix = subst (λ (r : Report). GainsFront out.held_before out.held_now r.out) (sym does.told) (put_front (report_of report) status out err delivers);
     crash = does.crash;
-    lasting = λ is. does.lasting;
+    lasting = does.lasting;
     shown = does.shown;
-    rests = λ still. does.lasting;
-    ended = λ still. subst (λ (r : Report). (status ≡ r.status) ⊎ LosesSink status out err) (sym does.told) (ended (report_of report) status out err delivers);
   }
 
   -- memory was wanting
@@ -73,21 +68,23 @@ module _ {D : Type 0} (g : Ghosts D) (disk end : D) (files : Image) (doubt : Opt
     why = λ still. inr (inr (fault_status read_fault status out err delivers, failed));
   }
 
-  -- the disk failed
+  -- the disk failed to store an answer, which no refused pattern has to do with
+  by_storing : serving.Unstored g files doubt (Answers (MayRefuse (Err stops.DiskFault) before now) words input opened) disk end → Delivers (warned 74 disk_fault) status out err → EndsUnstored g files doubt Answered disk end status out
+  by_storing fails delivers = record {
+    status_is = fault_status disk_fault status out err delivers;
+    prefix = put_front (warned 74 disk_fault) status out err delivers;
+    unstored = record {
+      answer = fails.answer;
+      answers = Answers-more (MayRefuse (Err stops.DiskFault) before now) (HasRisen before now) fails.answer (λ none. absurd (fails.some none)) words input opened fails.answers;
+      some = fails.some;
+      crash = fails.crash;
+      uncommitted = fails.uncommitted;
+    };
+  }
+
+  -- or it failed before one was sought
   by_disk : Failing g files doubt (Answers (MayRefuse (Err stops.DiskFault) before now) words input opened) disk end → HasRisen (g.faults disk) (g.faults end) → Delivers (warned 74 disk_fault) status out err → Ran g files doubt Answered input_failed disk end status out err
-  by_disk (Storing answer answers left) rose delivers =
-      let no_answer : ¬ IsAnswered status = λ is. is.1 (fault_status disk_fault status out err delivers) in
-      ByAnswer (record {
-        answer = answer;
-        answers = Answers-more (MayRefuse (Err stops.DiskFault) before now) MayHaveRefused (λ may is. absurd (no_answer is)) words input opened answer answers;
-        answered = λ is. absurd (no_answer is);
-        prefix = put_none (warned 74 disk_fault) answer.report.out status out err refl delivers;
-        crash = left;
-        lasting = λ is. absurd (no_answer is);
-        shown = λ still. absurd (still rose);
-        rests = λ still. absurd (still rose);
-        ended = λ still. absurd (still rose);
-      })
+  by_disk (Storing fails) rose delivers = NotStored (by_storing fails delivers)
   by_disk (Seeking left) rose delivers =
       Without (record {
         cause = inr (fault_status disk_fault status out err delivers);
@@ -102,13 +99,3 @@ module _ {D : Type 0} (g : Ghosts D) (disk end : D) (files : Image) (doubt : Opt
   ran (Err stops.Memory) does fails cause delivers = Without (by_memory does delivers)
   ran (Err stops.DiskFault) does fails cause delivers = by_disk does (cause refl) delivers
   ran (Err stops.ReadFault) does fails cause delivers = Without (by_input does (fails refl) delivers)
-
--- an answer that the work allows is one that the run as a whole allows
-pub allowed : (before now : ℕ) (words : List (List ℕ)) (input : List ℕ) (bytes_of : Image) (status : ℕ) (out err : Change) (r : Result code.Report Stop) → Delivers (ending r) status out err → (answer : Answer) → Answers (MayRefuse r before now) words input bytes_of answer → Answers (IsAnswered status → HasRisen before now) words input bytes_of answer
-allowed before now words input bytes_of status out err r delivers answer answers = Answers-more (MayRefuse r before now) (IsAnswered status → HasRisen before now) (by r delivers) words input bytes_of answer answers
-  where
-    by : (r : Result code.Report Stop) → Delivers (ending r) status out err → MayRefuse r before now → IsAnswered status → HasRisen before now
-    by (Ok report) delivers rose is = rose
-    by (Err stops.Memory) delivers may is = absurd (is.0 (given (warned 70 out_of_memory) status out err delivers is).status_is)
-    by (Err stops.DiskFault) delivers may is = absurd (is.1 (given (warned 74 disk_fault) status out err delivers is).status_is)
-    by (Err stops.ReadFault) delivers may is = absurd (is.1 (given (warned 74 read_fault) status out err delivers is).status_is)

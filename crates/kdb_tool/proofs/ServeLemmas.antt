@@ -27,6 +27,7 @@ use Rattle.tool_commands.specs.declared.reports.Report as code
 use Rattle.kdb_tool.specs.Answer.{Answer, Texts, entry_of, tells, with_stored}
 use Rattle.kdb_tool.specs.Crashing.{MayBeLeft, MayRemain, Alone, Stored}
 use Rattle.kdb_tool.specs.Serving.{Serves, BeginsEntry, FailsToStore, Serving, MayStore, Served, StoresNothing, Unserved, Failing, Storing, Seeking, Serve, run_with}
+use Rattle.kdb_tool.specs.Serving as serving
 use Rattle.kdb_tool.specs.Stops.{or_memory}
 use Rattle.kdb_tool.specs.declared.answers.Stop.{Stop}
 use Rattle.kdb_tool.specs.declared.answers.Stop.TheVariants as stops
@@ -53,6 +54,7 @@ pub record HasClosed {D P : Type 0} (g : Ghosts D) (core : Core D P) (end : D) :
   pub shown : (opened : D) (run : Run) → IsStore g opened core.journal run → ¬ HasRisen (g.faults core.journal.disk) (g.faults end) → SameFiles (g.seen end) (files_of run)
   pub always : (opened : D) (run : Run) → IsStore g opened core.journal run → LeavesOnly g opened end (IsReached run.files run.commits run.begun)
   pub now : (opened : D) (run : Run) → IsStore g opened core.journal run → EveryImage (g.may_leave end) (HasOnly (IsEither (files_of run) run.doubt))
+  pub goes : GoesOn g core.journal.disk end
 
 -- an opening only read the disk, since no entry was open
 pub record WasRead {D P : Type 0} (g : Ghosts D) (disk : D) (core : Core D P) : Type 0 where
@@ -150,12 +152,23 @@ module _ {D P : Type 0} (g : Ghosts D) (disk end : D) (files : Image) (doubt : O
         untouched = λ none. still_read g disk end old new (record { alone = has_opened.alone none; wrote = has_opened.wrote ∙ ap is_some none; state = has_opened.state }) has_closed.alone kept;
       }
 
-  failing : (Answered : Answer → Type 0) → FailsToStore g Answered old new → Failing g files doubt Answered disk end
-  failing Answered fails =
-      Storing fails.answer fails.answers
-      (whole (MayBeLeft files doubt opened stored) (left_found files doubt opened has_opened.begun.first has_opened.begun.within stored)
-      (IsReached opened [] (after_begun first (entry_of stored) begun.doubt).begun) (λ image reached. some stored fails.some image (reached_begun files doubt opened has_opened.begun.first has_opened.begun.within (entry_of stored) image reached))
-      (has_closed.always mid (after_begun first (entry_of stored) begun.doubt) begun.store))
+  failing : (Answered : Answer → Type 0) → HasRisen (g.faults old.journal.disk) (g.faults new.journal.disk) → FailsToStore g Answered old new → serving.Unstored g files doubt Answered disk end
+  failing Answered rose fails = record {
+    answer = fails.answer;
+    answers = fails.answers;
+    some = fails.some;
+    crash = whole (MayBeLeft files doubt opened stored) (left_found files doubt opened has_opened.begun.first has_opened.begun.within stored)
+        (IsReached opened [] (after_begun first (entry_of stored) begun.doubt).begun) (λ image reached. some stored fails.some image (reached_begun files doubt opened has_opened.begun.first has_opened.begun.within (entry_of stored) image reached))
+        (has_closed.always mid (after_begun first (entry_of stored) begun.doubt) begun.store);
+    uncommitted = record {
+      journal = new.journal;
+      doubt = begun.doubt;
+      rose = risen_since (g.faults disk) (g.faults old.journal.disk) (g.faults new.journal.disk) has_opened.goes.later rose;
+      rests = begun.store.rests;
+      goes = has_closed.goes;
+      shown = has_closed.shown mid (after_begun first (entry_of stored) begun.doubt) begun.store;
+    };
+  }
     where
       stored : Texts
       stored = fails.answer.stored
@@ -167,11 +180,11 @@ module _ {D P : Type 0} (g : Ghosts D) (disk end : D) (files : Image) (doubt : O
       some [] none image left = absurd (none refl)
       some (text ∷ texts) none image left = left
 
-  pub serve : (Answered : Answer → Type 0) (result : Result code.Report Stop) → Serving g Answered result old new → Serve g files doubt Answered result disk end
-  serve Answered (Ok report) serving = served Answered (report_of report) serving
-  serve Answered (Err stops.Memory) serving = unserved serving
-  serve Answered (Err stops.DiskFault) serving = failing Answered serving
-  serve Answered (Err stops.ReadFault) serving = absurd serving
+  pub serve : (Answered : Answer → Type 0) (result : Result code.Report Stop) → (result ≡ Err stops.DiskFault → HasRisen (g.faults old.journal.disk) (g.faults new.journal.disk)) → Serving g Answered result old new → Serve g files doubt Answered result disk end
+  serve Answered (Ok report) cause does = served Answered (report_of report) does
+  serve Answered (Err stops.Memory) cause does = unserved does
+  serve Answered (Err stops.DiskFault) cause does = Storing (failing Answered (cause refl) does)
+  serve Answered (Err stops.ReadFault) cause does = absurd does
 
 -- ---- what is told of an open store, which stays as it is
 
@@ -203,7 +216,7 @@ serving_weaker g P Q (Err stops.ReadFault) before after follows s = absurd s
 pub serve_weaker : {D : Type 0} (g : Ghosts D) (files : Image) (doubt : Option (List FileText)) (P Q : Answer → Type 0) (result : Result code.Report Stop) (before after : D) → ((answer : Answer) → P answer → Q answer) → Serve g files doubt P result before after → Serve g files doubt Q result before after
 serve_weaker g files doubt P Q (Ok report) before after follows s = record { answer = s.answer; answers = follows s.answer s.answers; told = s.told; crash = s.crash; lasting = s.lasting; shown = s.shown }
 serve_weaker g files doubt P Q (Err stops.Memory) before after follows s = s
-serve_weaker g files doubt P Q (Err stops.DiskFault) before after follows (Storing answer answers left) = Storing answer (follows answer answers) left
+serve_weaker g files doubt P Q (Err stops.DiskFault) before after follows (Storing s) = Storing (record { answer = s.answer; answers = follows s.answer s.answers; some = s.some; crash = s.crash; uncommitted = s.uncommitted })
 serve_weaker g files doubt P Q (Err stops.DiskFault) before after follows (Seeking left) = Seeking left
 serve_weaker g files doubt P Q (Err stops.ReadFault) before after follows s = s
 

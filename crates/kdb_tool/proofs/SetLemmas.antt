@@ -91,19 +91,20 @@ Set-once MayRefuse none files parent keys out a b = by
         let same : other ≡ late = IsLate-once (points_of store) [] store.start set other late (certain MayRefuse none store store.start out other b q) (certain MayRefuse none store store.start out late a p) is' is in
         judgement_once MayRefuse none store store.start out late a b p (subst (λ (l : Late). IsJudgement MayRefuse store store.start out l b) same q)
 
--- ---- where more refusals are allowed
+-- ---- where more refusals are allowed, or the answer stores something
 
-judgement_more : (Fewer More : Type 0) → (Fewer → More) → (store : Store) (keys : KeyMap) (out : List ℕ) (late : Late) (a : Answer) → IsJudgement Fewer store keys out late a → IsJudgement More store keys out late a
-judgement_more Fewer More follows store keys out (Same aside) a p = p
-judgement_more Fewer More follows store keys out (Conflict mount by) a p = p
-judgement_more Fewer More follows store keys out (Invalid violation risen) a p = (λ rose. follows (p.0 rose), p.1)
-judgement_more Fewer More follows store keys out (DatabaseFull weight) a p = p
-judgement_more Fewer More follows store keys out (HistoryFull weight) a p = p
-judgement_more Fewer More follows store keys out (Commits commit aside) a p = p
+module _ (Fewer More : Type 0) (a : Answer) (follows : a.stored ≡ [] → Fewer → More) where
+  judgement_more : (store : Store) (keys : KeyMap) (out : List ℕ) (late : Late) → IsJudgement Fewer store keys out late a → IsJudgement More store keys out late a
+  judgement_more store keys out (Same aside) p = p
+  judgement_more store keys out (Conflict mount by) p = p
+  judgement_more store keys out (Invalid violation risen) p = (λ rose. follows (ap (λ (x : Answer). x.stored) p.1) (p.0 rose), p.1)
+  judgement_more store keys out (DatabaseFull weight) p = p
+  judgement_more store keys out (HistoryFull weight) p = p
+  judgement_more store keys out (Commits commit aside) p = p
 
-pub Set-more : (Fewer More : Type 0) → (Fewer → More) → (files : List MountedFile) (parent : Name) (keys : KeyMap) (out : List ℕ) (a : Answer) → AnswersSet Fewer files parent keys out a → AnswersSet More files parent keys out a
-Set-more Fewer More follows files parent keys out a (Refused why early p) = Refused why early p
-Set-more Fewer More follows files parent keys out a (Judged early late is p) = Judged early late is (judgement_more Fewer More follows (store_alone files) (store_alone files).start out late a p)
+  pub Set-more : (files : List MountedFile) (parent : Name) (keys : KeyMap) (out : List ℕ) → AnswersSet Fewer files parent keys out a → AnswersSet More files parent keys out a
+  Set-more files parent keys out (Refused why early p) = Refused why early p
+  Set-more files parent keys out (Judged early late is p) = Judged early late is (judgement_more (store_alone files) (store_alone files).start out late p)
 
 -- ---- some answer
 
@@ -137,7 +138,7 @@ storable_line mounts m key mount there = record {
 }
 
 -- the first of some answers is one of them
-first_is : {A : Type 0} (told : ℕ → Option A) (ms : List ℕ) (x : A) → first_some told ms ≡ Some x → (m : ℕ) × (told m ≡ Some x)
+pub first_is : {A : Type 0} (told : ℕ → Option A) (ms : List ℕ) (x : A) → first_some told ms ≡ Some x → (m : ℕ) × (told m ≡ Some x)
 first_is told [] x e = absurd (none-some x e)
 first_is {A} told (m ∷ ms) x e = by (told m) refl e (first_is told ms x)
   where

@@ -1,9 +1,14 @@
 -- What a crash may leave of the files of a store while a command goes on, and behind it. (This project's own. After crash refinement: a
 -- crash leaves what an acknowledged command stored whole, and what an unfinished one stores whole or absent.)
 use Rattle.std.specs.Prelude.{◌≡◌, ◌⊎◌, List, [], ◌∷◌, Option, Some}
+use Rattle.intent_journal.specs.Journal.{JournalValue}
 use Rattle.intent_journal.specs.Outcomes.{SameFiles, HasOnly, IsEither, IsOutcome}
 use Rattle.journal_codec.specs.declared.files.FileText.{FileText}
+use Rattle.kdb_outside.specs.Faults.{HasRisen}
+use Rattle.kdb_outside.specs.Frames.{GoesOn}
 use Rattle.kdb_outside.specs.Images.{Image}
+use Rattle.kdb_outside.specs.declared.disks.Disk.{Ghosts}
+use Rattle.store_phases.specs.Resting.{IsResting}
 use Rattle.kdb_tool.specs.Answer.{Texts, entry_of, with_stored}
 
 -- amid a command, on files that were found with a doubt and that its opening left so: the files as they were found, or those of the
@@ -21,3 +26,13 @@ MayRemain files doubt opened (text ∷ texts) image = HasOnly (IsOutcome (with_s
 pub data Shows (stored : Texts) (opened before after : Image) : Type 0 where
   Alone : stored ≡ [] → after ≡ before → Shows stored opened before after
   Stored : SameFiles after (with_stored stored opened) → Shows stored opened before after
+
+-- a disk failed, and no commit was made: it was left with the files of the opening, and at most one entry in doubt, in a journal that only the close
+-- behind it may have touched, so that a read gives these files where the disk didn't fail once more
+pub record IsUncommitted {D : Type 0} (g : Ghosts D) (disk end : D) (opened : Image) : Type 0 where
+  pub journal : JournalValue D
+  pub doubt : Option (List FileText)
+  pub rose : HasRisen (g.faults disk) (g.faults journal.disk)
+  pub rests : IsResting g journal opened doubt
+  pub goes : GoesOn g journal.disk end
+  pub shown : ¬ HasRisen (g.faults journal.disk) (g.faults end) → SameFiles (g.seen end) opened

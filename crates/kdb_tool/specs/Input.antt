@@ -60,3 +60,9 @@ LeavesInput g (Refuses status text) answered before now = now ≡ before
 LeavesInput g (Bars name) answered before now = now ≡ before
 LeavesInput g (Asks question) answered before now = now ≡ before
 LeavesInput g (Imports name kind) answered before now = TakesInput g answered before now
+
+-- the input failed an import, whose disk and matcher came back as they were
+pub record LosesInput {D P : Type 0} (failed : Type 0) (disk end : D) (patterns now : P) : Type 0 where
+  pub risen : failed
+  pub disk_is : end ≡ disk
+  pub patterns_is : now ≡ patterns

@@ -14,3 +14,4 @@ pub mod Ending
 pub mod Delivery
 pub mod Stops
 pub mod Refusing
+pub mod OneCommit

@@ -16,23 +16,27 @@ use Rattle.kdb_tool.specs.Ends.{LosesSink}
 use Rattle.kdb_tool.specs.Outcome.{Failed, Gives, GainsFront}
 use Rattle.kdb_tool.specs.Serving as serving
 
--- an answer was worked out, of those that the words, the input and the files allow
+-- an answer was worked out, of those that the words, the input and the files allow, and all that it stores was stored
 pub record Follows {D : Type 0} (g : Ghosts D) (files : Image) (doubt : Option (List FileText)) (Answered : Answer → Type 0) (disk end : D) (status : ℕ) (out err : Change) : Type 0 where
   pub answer : Answer
   pub answers : Answered answer
-  -- the status, out and err are those of the answer, but for a fault
+  -- the status, out and err are those of the answer, but for a fault of out or err
   pub answered : IsAnswered status → Gives answer.report status out err
+  pub ended : (status ≡ answer.report.status) ⊎ LosesSink status out err
   -- however the run ends, out has gained a front of what the answer puts there
   pub prefix : GainsFront out.held_before out.held_now answer.report.out
   -- at every moment since the call began a crash leaves the files as they were found, or these with all that the answer stores
   pub crash : LeavesOnly g disk end (MayBeLeft files doubt (opened_files (g.seen disk)) answer.stored)
-  -- what the answer stored outlasts every crash behind the call, whatever failed but the disk
-  pub lasting : IsAnswered status → EveryImage (g.may_leave end) (MayRemain files doubt (opened_files (g.seen disk)) answer.stored)
-  -- without a fault of the disk the files show what the answer stores, which outlasts every crash, and no others change, whatever becomes of out
-  -- and err
+  -- what the answer stored outlasts every crash behind the call, whatever failed then
+  pub lasting : EveryImage (g.may_leave end) (MayRemain files doubt (opened_files (g.seen disk)) answer.stored)
+  -- without a fault of the disk the files show what the answer stores, and no others change, whatever becomes of out and err
   pub shown : ¬ HasRisen (g.faults disk) (g.faults end) → Shows answer.stored (opened_files (g.seen disk)) (g.seen disk) (g.seen end)
-  pub rests : ¬ HasRisen (g.faults disk) (g.faults end) → EveryImage (g.may_leave end) (MayRemain files doubt (opened_files (g.seen disk)) answer.stored)
-  pub ended : ¬ HasRisen (g.faults disk) (g.faults end) → (status ≡ answer.report.status) ⊎ LosesSink status out err
+
+-- one was, and the disk failed before it was stored: the run ends in a fault, and out has gained nothing
+pub record EndsUnstored {D : Type 0} (g : Ghosts D) (files : Image) (doubt : Option (List FileText)) (Answered : Answer → Type 0) (disk end : D) (status : ℕ) (out : Change) : Type 0 where
+  pub status_is : status ≡ 74
+  pub prefix : GainsFront out.held_before out.held_now []
+  pub unstored : serving.Unstored g files doubt Answered disk end
 
 -- none was, for want of memory or a fault: out has gained nothing, a crash leaves the files as they were found, and where no entry was open and the disk
 -- didn't fail it was only read
@@ -45,4 +49,5 @@ pub record EndsWithout {D : Type 0} (g : Ghosts D) (files : Image) (doubt : Opti
 
 pub data Ran {D : Type 0} (g : Ghosts D) (files : Image) (doubt : Option (List FileText)) (Answered : Answer → Type 0) (input_failed : Type 0) (disk end : D) (status : ℕ) (out err : Change) : Type 0 where
   ByAnswer : Follows g files doubt Answered disk end status out err → Ran g files doubt Answered input_failed disk end status out err
+  NotStored : EndsUnstored g files doubt Answered disk end status out → Ran g files doubt Answered input_failed disk end status out err
   Without : EndsWithout g files doubt input_failed disk end status out err → Ran g files doubt Answered input_failed disk end status out err

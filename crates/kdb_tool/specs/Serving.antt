@@ -34,7 +34,7 @@ use Rattle.tool_commands.specs.Report.{Report}
 use Rattle.tool_commands.specs.StepView.{report_of}
 use Rattle.tool_commands.specs.declared.reports.Report as code
 use Rattle.kdb_tool.specs.Answer.{Answer, Texts, entry_of}
-use Rattle.kdb_tool.specs.Crashing.{MayBeLeft, MayRemain, Shows}
+use Rattle.kdb_tool.specs.Crashing.{IsUncommitted, MayBeLeft, MayRemain, Shows}
 use Rattle.kdb_tool.specs.Sets.{formats, store_alone, the_handle}
 use Rattle.kdb_tool.specs.declared.answers.Stop.{Stop}
 use Rattle.kdb_tool.specs.declared.answers.Stop.TheVariants as stops
@@ -135,9 +135,17 @@ pub record Unserved {D : Type 0} (g : Ghosts D) (files : Image) (doubt : Option 
   pub crash : LeavesOnly g before after (HasOnly (IsEither files doubt))
   pub untouched : open_entry (g.seen before journal_name) ≡ None → OnlyReads g before after
 
+-- the disk failed before what an answer stores was committed
+pub record Unstored {D : Type 0} (g : Ghosts D) (files : Image) (doubt : Option (List FileText)) (Answered : Answer → Type 0) (before after : D) : Type 0 where
+  pub answer : Answer
+  pub answers : Answered answer
+  pub some : answer.stored ≢ []
+  pub crash : LeavesOnly g before after (MayBeLeft files doubt (opened_files (g.seen before)) answer.stored)
+  pub uncommitted : IsUncommitted g before after (opened_files (g.seen before))
+
 -- the disk failed, while an answer was stored, or before one was sought
 pub data Failing {D : Type 0} (g : Ghosts D) (files : Image) (doubt : Option (List FileText)) (Answered : Answer → Type 0) (before after : D) : Type 0 where
-  Storing : (answer : Answer) → Answered answer → LeavesOnly g before after (MayBeLeft files doubt (opened_files (g.seen before)) answer.stored) → Failing g files doubt Answered before after
+  Storing : Unstored g files doubt Answered before after → Failing g files doubt Answered before after
   Seeking : LeavesOnly g before after (HasOnly (IsEither files doubt)) → Failing g files doubt Answered before after
 
 abbrev pub Serve : {D : Type 0} → Ghosts D → Image → Option (List FileText) → (Answer → Type 0) → Result code.Report Stop → D → D → Type 0

@@ -12,8 +12,10 @@ ghost use Rattle.mounted_files.specs.Getting.{fault_of};
 ghost use Rattle.mounted_files.specs.Holding.{IsHolding, cause_of};
 ghost use Rattle.kdb_tool.specs.Answers.{AnswersImport, line_of_get};
 ghost use Rattle.kdb_tool.specs.Broken.{ToldOfImport};
-ghost use Rattle.kdb_tool.specs.Input.{taken, TakesAll, TakesFront};
+ghost use Rattle.kdb_tool.specs.Input.{taken, LosesInput, TakesAll, TakesFront};
 ghost use Rattle.kdb_tool.specs.Serving.{MayRefuse, MayStore, Serve, StoresNothing, Unserved};
+ghost use Rattle.kdb_tool.specs.Untold.{AsksStoreWith, HasAsked};
+ghost use Rattle.tool_words.specs.Request.{Imports};
 ghost use Rattle.tool_commands.specs.Report.{IsAnswered, IsEnd, warned};
 ghost use Rattle.tool_commands.specs.StepView.{report_of};
 
@@ -52,7 +54,10 @@ pub fn import<S: Source, D: Disk, P: Patterns + Drop>(
     ensures own { IfOk result.answer (λ report. IsAnswered report.status) }
     ensures front { (bytes : List ℕ) → S.left input.old ≡ Some bytes → TakesFront bytes (S.left input.new) }
     ensures all { (bytes : List ℕ) → S.left input.old ≡ Some bytes → OnOk result.answer (TakesAll bytes (S.left input.new)) }
-    ensures read { result.answer ≡ Err Stop.ReadFault → HasRisen (S.faults input.old) (S.faults input.new) }
+    ensures broken_stays { D.tells disk ≡ true → (at : ℕ) → bad_place (D.seen disk journal_name) ≡ Some at → OnlyReads D.Disk disk result.disk }
+    ensures asked { result.answer ≡ Err Stop.DiskFault → HasAsked S.Source (Imports name kind) input.old input.new }
+    ensures unasked { (bytes : List ℕ) → S.left input.old ≡ Some bytes → (AsksStoreWith (Imports name kind) bytes → ⊥) → (result.disk ≡ disk) × (result.patterns ≡ patterns) }
+    ensures read { result.answer ≡ Err Stop.ReadFault → LosesInput (HasRisen (S.faults input.old) (S.faults input.new)) disk result.disk patterns result.patterns }
     ensures cause { result.answer ≡ Err Stop.DiskFault → HasRisen (D.faults disk) (D.faults result.disk) }
     ensures goes { GoesOn D.Disk disk result.disk }
     ensures later { S.faults input.old ≤ S.faults input.new }

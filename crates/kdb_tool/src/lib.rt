@@ -1,9 +1,10 @@
 //! The tool `kdb`: from the words of a command line to what it prints and the status that it ends with.
 #![tactic(auto)]
 
-ghost use Rattle.std.specs.Prelude.{◌≡◌, List, ℕ};
+ghost use Rattle.std.specs.Prelude.{◌≡◌, ◌≢◌, List, [], ℕ};
 ghost use Rattle.kdb_tool.specs.Answer.{Answer};
 ghost use Rattle.kdb_tool.specs.Answers.{Answers};
+ghost use Rattle.kdb_tool.specs.OneCommit.{IsOneCommit};
 
 mod answering;
 mod answers;
@@ -27,4 +28,9 @@ pub fn words_have_one_answer()
 /// A command line is never without an answer over an input and files, whatever its words and the bytes of the files, where patterns may be refused.
 pub fn words_have_an_answer()
     ensures { (words : List (List ℕ)) (input : List ℕ) (files : List ℕ → List ℕ) → ¬ ((answer : Answer) → ¬ Answers (Unit {0}) words input files answer) }
+{}
+
+/// What a command line stores is one commit, which is legal on what the files mean: of mounts that aren't bad, within the limits, and by the rules.
+pub fn what_is_stored_is_one_legal_commit()
+    ensures { (words : List (List ℕ)) (input : List ℕ) (files : List ℕ → List ℕ) (answer : Answer) → Answers (Unit {0}) words input files answer → answer.stored ≢ [] → IsOneCommit files answer.stored }
 {}

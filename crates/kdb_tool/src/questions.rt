@@ -43,6 +43,7 @@ pub fn answer_question<D: Disk, P: Patterns + Drop>(
         → StoresNothing (AnswersOver (MayRefuse result.answer (P.refusals patterns) (P.refusals result.patterns)) (question_of question.entry) (D.seen disk)) → OnlyReads D.Disk disk result.disk }
     ensures unstored { D.tells disk ≡ true → open_entry (D.seen disk journal_name) ≡ None → ¬ MayStore result.answer → OnlyReads D.Disk disk result.disk }
     ensures broken { D.tells disk ≡ true → (at : ℕ) → bad_place (D.seen disk journal_name) ≡ Some at → IfOk result.answer (λ report. report_of report ≡ warned 5 (bad_journal at)) }
+    ensures broken_stays { D.tells disk ≡ true → (at : ℕ) → bad_place (D.seen disk journal_name) ≡ Some at → OnlyReads D.Disk disk result.disk }
     ensures status { IfOk result.answer (λ report. IsStatusOf (question_of question.entry) report.status) }
     ensures own { IfOk result.answer (λ report. IsAnswered report.status) }
     ensures cause { result.answer ≡ Err Stop.DiskFault → HasRisen (D.faults disk) (D.faults result.disk) }
@@ -56,6 +57,7 @@ pub fn answer_question<D: Disk, P: Patterns + Drop>(
             let mut core = core;
             let answer = answer_in(alloc, &plan, &mut core, question);
             let Closed { disk, patterns, .. } = core.close();
+            let disk = given_back(disk);
             Ended {
                 answer,
                 disk,
@@ -68,12 +70,24 @@ pub fn answer_question<D: Disk, P: Patterns + Drop>(
                 disk,
                 patterns,
             },
-        ) => Ended {
-            answer: refuse_opening(alloc, &fault),
-            disk,
-            patterns,
-        },
+        ) => {
+            let disk = given_back(disk);
+            Ended {
+                answer: refuse_opening(alloc, &fault),
+                disk,
+                patterns,
+            }
+        }
     }
+}
+
+/// Says that a disk is done with, before the answer is put out: a reader of the output that waits for another run then keeps none waiting.
+fn given_back<D: Disk>(disk: D) -> D
+    ensures { result ≡ disk }
+{
+    let mut disk = disk;
+    disk.release();
+    disk
 }
 
 /// What is told where the store isn't opened.

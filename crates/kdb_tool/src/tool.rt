@@ -10,13 +10,13 @@ ghost use Rattle.journal_codec.specs.Entry.{journal_name};
 ghost use Rattle.journal_codec.specs.declared.files.FileText.{FileText as Item};
 ghost use Rattle.kdb_tool.specs.Answers.{Answers};
 ghost use Rattle.kdb_tool.specs.Broken.{EndsBroken};
-ghost use Rattle.kdb_tool.specs.Input.{FailsToRead, IsInput, LeavesInput};
+ghost use Rattle.kdb_tool.specs.Input.{FailsToRead, IsInput, LeavesInput, LosesInput};
 ghost use Rattle.tool_words.specs.Rows.{request};
 ghost use Rattle.tool_commands.specs.Report.{IsAnswered};
 ghost use Rattle.kdb_tool.specs.Ran.{Ran};
 ghost use Rattle.kdb_tool.specs.Ends.{EndsByWords, EndsWithoutMemory, EndsInFault};
 ghost use Rattle.kdb_tool.specs.Serving.{StoresNothing, Unserved};
-ghost use Rattle.kdb_tool.specs.Untold.{AsksStore};
+ghost use Rattle.kdb_tool.specs.Untold.{AsksStoreWith, HasAsked};
 
 use crate::answers::Ended;
 use crate::delivery::finish;
@@ -44,27 +44,32 @@ pub fn run<S: Source, K: Sink, E: Sink, D: Disk + Send, P: Patterns + Drop + Sen
 ) -> (Status, D, P)
     // All that a run does it does by one answer to the words, the input and the files: the status, out and err are the answer's, and however the run ends
     // out has gained a front of the answer's; at every moment since the call began a crash leaves the files as they were found, or these with all that the
-    // answer stores, which outlasts every crash behind the call; and without a fault of the disk the files show it, and no others change. Where it worked
-    // none out, for want of memory or a fault, a crash leaves the files as they were found. The input matters to an import alone. Of the answers that there
-    // may be, one that goes by a refused pattern is given only where the matcher's count of refusals rose.
+    // answer stores, which outlasts every crash behind the call; and without a fault of the disk the files show it, and no others change. Where the disk
+    // failed to store it, no commit was made, and the run ends in a fault with nothing on out. Where it worked none out, for want of memory or a fault, a
+    // crash leaves the files as they were found. The input matters to an import alone. Of the answers that there may be, one that goes by a refused pattern
+    // is taken only where the matcher's count of refusals rose, however the run ends.
     ensures ran { D.tells disk ≡ true → (files : Image) (doubt : Option (List Item)) → IsCalm (D.seen disk) (D.may_leave disk) files doubt
         → (given : List ℕ) → IsInput (request words.now) (S.left input.old) given
-        → Ran D.Disk files doubt (Answers (IsAnswered result.0 → HasRisen (P.refusals patterns) (P.refusals result.2)) words.now given (opened_files (D.seen disk))) (FailsToRead (request words.now) (S.faults input.old) (S.faults input.new)) disk result.1 result.0 (change_of K.Sink out.old out.new) (change_of E.Sink err.old err.new) }
+        → Ran D.Disk files doubt (Answers (HasRisen (P.refusals patterns) (P.refusals result.2)) words.now given (opened_files (D.seen disk))) (LosesInput (FailsToRead (request words.now) (S.faults input.old) (S.faults input.new)) disk result.1 patterns result.2) disk result.1 result.0 (change_of K.Sink out.old out.new) (change_of E.Sink err.old err.new) }
 
-    // Words that ask for nothing decide alone, whatever the disk does, and leave the disk and the matcher alone.
+    // Words that ask for nothing decide alone, whatever the disk does, and leave the disk and the matcher alone, and so does an import whose input holds no
+    // keys.
     ensures words { EndsByWords (request words.now) result.0 (change_of K.Sink out.old out.new) (change_of E.Sink err.old err.new) }
-    ensures unasked { (AsksStore (request words.now) → ⊥) → (result.1 ≡ disk) × (result.2 ≡ patterns) }
+    ensures unasked { (given : List ℕ) → IsInput (request words.now) (S.left input.old) given → (AsksStoreWith (request words.now) given → ⊥) → (result.1 ≡ disk) × (result.2 ≡ patterns) }
 
     // A journal whose gate is open, and no whole body of an entry behind it, is told in the place of an answer, by its place; an import whose input holds
-    // no keys is told so before that. No crash of this store leaves such a journal, and so no calm disk has one.
+    // no keys is told so before that. However the run ends, the disk is only read. No crash of this store leaves such a journal, and so no calm disk has one.
     ensures broken { D.tells disk ≡ true → (at : ℕ) → bad_place (D.seen disk journal_name) ≡ Some at → (given : List ℕ) → IsInput (request words.now) (S.left input.old) given
         → EndsBroken (request words.now) given at result.0 (change_of K.Sink out.old out.new) (change_of E.Sink err.old err.new) }
+    ensures broken_stays { D.tells disk ≡ true → (at : ℕ) → bad_place (D.seen disk journal_name) ≡ Some at → OnlyReads D.Disk disk result.1 }
 
     // Want of memory puts nothing on out and its line on err.
     ensures memory { EndsWithoutMemory result.0 (change_of K.Sink out.old out.new) (change_of E.Sink err.old err.new) }
 
-    // A fault has its cause in this call, and err tells which where err itself didn't fail.
-    ensures fault { EndsInFault (HasRisen (D.faults disk) (D.faults result.1)) (FailsToRead (request words.now) (S.faults input.old) (S.faults input.new)) result.0 (change_of K.Sink out.old out.new) (change_of E.Sink err.old err.new) }
+    // A fault has its cause in this call, and err tells which where err itself didn't fail: the disk's only where the store was asked, behind the input, and
+    // the input's before that.
+    ensures fault { EndsInFault (HasRisen (D.faults disk) (D.faults result.1) × HasAsked S.Source (request words.now) input.old input.new)
+        (LosesInput (FailsToRead (request words.now) (S.faults input.old) (S.faults input.new)) disk result.1 patterns result.2) result.0 (change_of K.Sink out.old out.new) (change_of E.Sink err.old err.new) }
 
     // So without a fault the run ends with the answer's status, or in want of memory.
     ensures complete { (HasRisen (D.faults disk) (D.faults result.1) → ⊥) → (FailsToRead (request words.now) (S.faults input.old) (S.faults input.new) → ⊥) → (HasRisen (K.faults out.old) (K.faults out.new) → ⊥) → (HasRisen (E.faults err.old) (E.faults err.new) → ⊥) → result.0 ≢ 74 }
@@ -75,7 +80,7 @@ pub fn run<S: Source, K: Sink, E: Sink, D: Disk + Send, P: Patterns + Drop + Sen
 
     // Where no entry is open, and the disk need not be calm for that, nothing is written where no answer stores anything, whatever fails;
     ensures untouched { D.tells disk ≡ true → open_entry (D.seen disk journal_name) ≡ None → (given : List ℕ) → IsInput (request words.now) (S.left input.old) given
-        → StoresNothing (Answers (IsAnswered result.0 → HasRisen (P.refusals patterns) (P.refusals result.2)) words.now given (D.seen disk)) → OnlyReads D.Disk disk result.1 }
+        → StoresNothing (Answers (HasRisen (P.refusals patterns) (P.refusals result.2)) words.now given (D.seen disk)) → OnlyReads D.Disk disk result.1 }
 
     // nor does a run write that ends in want of memory or is refused, one that the journal refuses too: that ends neither as a command that was
     // done nor in a fault.

@@ -9,10 +9,10 @@ ghost use Rattle.kdb_outside.specs.Frames.{GoesOn, OnlyReads};
 ghost use Rattle.kdb_outside.specs.Images.{Image};
 ghost use Rattle.kdb_tool.specs.Answers.{Answers};
 ghost use Rattle.kdb_tool.specs.Broken.{TellsBroken};
-ghost use Rattle.kdb_tool.specs.Input.{FailsToRead, IsInput, LeavesInput};
+ghost use Rattle.kdb_tool.specs.Input.{FailsToRead, IsInput, LeavesInput, LosesInput};
 ghost use Rattle.kdb_tool.specs.Serving.{MayRefuse, MayStore, Serve, StoresNothing, Unserved};
 ghost use Rattle.kdb_tool.specs.Stops.{or_memory};
-ghost use Rattle.kdb_tool.specs.Untold.{AsksStore, ReportsUntold};
+ghost use Rattle.kdb_tool.specs.Untold.{AsksStoreWith, HasAsked, ReportsUntold};
 ghost use Rattle.tool_commands.specs.Report.{IsAnswered};
 ghost use Rattle.tool_commands.specs.StepView.{report_of};
 ghost use Rattle.tool_words.specs.Rows.{request};
@@ -44,11 +44,12 @@ pub fn carry_out<S: Source, D: Disk, P: Patterns + Drop>(
     ensures broken { D.tells disk ≡ true → (at : ℕ) → bad_place (D.seen disk journal_name) ≡ Some at → (given : List ℕ) → IsInput (request words.now) (S.left input.old) given
         → IfOk result.answer (λ report. TellsBroken (request words.now) given at (report_of report)) }
     ensures untold { IfOk result.answer (λ report. ReportsUntold (request words.now) (report_of report)) }
-    ensures asked { result.answer ≡ Err Stop.DiskFault → AsksStore (request words.now) }
-    ensures unasked { (AsksStore (request words.now) → ⊥) → (result.disk ≡ disk) × (result.patterns ≡ patterns) }
+    ensures broken_stays { D.tells disk ≡ true → (at : ℕ) → bad_place (D.seen disk journal_name) ≡ Some at → OnlyReads D.Disk disk result.disk }
+    ensures asked { result.answer ≡ Err Stop.DiskFault → HasAsked S.Source (request words.now) input.old input.new }
+    ensures unasked { (given : List ℕ) → IsInput (request words.now) (S.left input.old) given → (AsksStoreWith (request words.now) given → ⊥) → (result.disk ≡ disk) × (result.patterns ≡ patterns) }
     ensures own { IfOk result.answer (λ report. IsAnswered report.status) }
     ensures input { LeavesInput S.Source (request words.now) (IsOk result.answer) input.old input.new }
-    ensures read { result.answer ≡ Err Stop.ReadFault → FailsToRead (request words.now) (S.faults input.old) (S.faults input.new) }
+    ensures read { result.answer ≡ Err Stop.ReadFault → LosesInput (FailsToRead (request words.now) (S.faults input.old) (S.faults input.new)) disk result.disk patterns result.patterns }
     ensures later { S.faults input.old ≤ S.faults input.new }
     ensures later_patterns { P.refusals patterns ≤ P.refusals result.patterns }
     ensures cause { result.answer ≡ Err Stop.DiskFault → HasRisen (D.faults disk) (D.faults result.disk) }

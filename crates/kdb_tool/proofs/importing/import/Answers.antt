@@ -83,3 +83,19 @@ returns-in-Ok-Bad-clause-broken g c = λ tells at broken bytes is.
     let kind = c.args.kind in
     let cause : IsCause all.Reads all.IsBadAt name kind (taken bytes) (cause_of c.in-Ok-Bad.cause) = subst (λ (h : Holding). IsHolding all.Reads all.IsBadAt name kind (taken bytes) h) c.in-Ok-Bad.field-0-is (c.in-Ok-Bad.ensures.told bytes is) in
     told_of_bad name kind bytes at (cause_of c.in-Ok-Bad.cause) c.refuse_input.result c.without_store.result.answer cause c.without_store.ensures.answer c.refuse_input.ensures.told
+
+pub returns-in-Ok-Keys-clause-asked : goal.returns-in-Ok-Keys-clause-asked
+returns-in-Ok-Keys-clause-asked g c = λ is. record {
+  asks = λ bytes left. (c.in-Ok-Keys.keys, subst (λ (h : Holding). IsHolding all.Reads all.IsBadAt c.args.name c.args.kind (taken bytes) h) c.in-Ok-Keys.field-0-is (c.in-Ok-Keys.ensures.told bytes left));
+  whole = record { front = c.in-Ok-Keys.ensures.front; all = λ done. c.in-Ok-Keys.ensures.all };
+}
+
+pub returns-in-Ok-Keys-clause-unasked : goal.returns-in-Ok-Keys-clause-unasked
+returns-in-Ok-Keys-clause-unasked g c = λ bytes left none.
+    absurd (none (c.in-Ok-Keys.keys, subst (λ (h : Holding). IsHolding all.Reads all.IsBadAt c.args.name c.args.kind (taken bytes) h) c.in-Ok-Keys.field-0-is (c.in-Ok-Keys.ensures.told bytes left)))
+
+pub returns-in-Ok-Bad-clause-broken_stays : goal.returns-in-Ok-Bad-clause-broken_stays
+returns-in-Ok-Bad-clause-broken_stays g c = λ tells at broken. subst (OnlyReads g.D.Disk c.args.disk) (sym c.without_store.ensures.disk) (OnlyReads-none g.D.Disk c.args.disk)
+
+pub returns-in-Err-clause-broken_stays : goal.returns-in-Err-clause-broken_stays
+returns-in-Err-clause-broken_stays g c = λ tells at broken. OnlyReads-none g.D.Disk c.args.disk

@@ -2,10 +2,12 @@
 use Rattle.std.proofs.Common.{ℕ, Ok, Some, ap, is_some, subst, sym, ◌∙◌}
 use Rattle.intent_journal.specs.BadJournals.{opened_files}
 use Rattle.model_maps.specs.KeyMap.{no_keys}
+use Rattle.journal_codec.specs.Entry.{journal_name}
+use Rattle.kdb_outside.specs.Frames.{OnlyReads}
 use Rattle.tool_words.specs.RequestView.{question_of}
 use Rattle.kdb_tool.specs.Answers.{AnswersIn, AnswersOver}
 use Rattle.kdb_tool.specs.Serving.{MayRefuse, Serve}
-use Rattle.kdb_tool.proofs.BrokenLemmas.{broken_told}
+use Rattle.kdb_tool.proofs.BrokenLemmas.{bad-not_open, broken_told}
 use Rattle.kdb_tool.proofs.OpeningLemmas.{has_begun, refused_serve}
 use Rattle.kdb_tool.proofs.ServeLemmas.{serve, serving_untouched, serving_unstored, serving_weaker}
 use Rattle.kdb_tool.proofs.questions.answer_question.Goals as goal
@@ -25,7 +27,8 @@ returns-in-Ok-clause-served g c = λ tells files doubt calm.
     let refused = g.P.Patterns.refusals in
     let result = c.answer_in-answer.result in
     let end = c.close-disk.result in
-    subst (λ (before : ℕ). Serve g.D.Disk files doubt (AnswersOver (MayRefuse result before (refused end.patterns)) question seen) result disk end.disk) (ap refused c.in-Ok.ensures.patterns)
+    subst (λ d. Serve g.D.Disk files doubt (AnswersOver (MayRefuse result (refused c.args.patterns) (refused end.patterns)) question seen) result disk d) (sym c.given_back-disk.ensures)
+    (subst (λ (before : ℕ). Serve g.D.Disk files doubt (AnswersOver (MayRefuse result before (refused end.patterns)) question seen) result disk end.disk) (ap refused c.in-Ok.ensures.patterns)
     (subst (λ (now : ℕ). Serve g.D.Disk files doubt (AnswersOver (MayRefuse result (refused core.patterns) now) question seen) result disk end.disk) (ap refused (sym c.close-disk.ensures.patterns))
     (serve g.D.Disk disk c.close-disk.result.disk files doubt core c.answer_in-answer.new.core
     (record {
@@ -36,16 +39,17 @@ returns-in-Ok-clause-served g c = λ tells files doubt calm.
       wrote = c.in-Ok.ensures.wrote tells;
       state = c.in-Ok.ensures.doubt;
     })
-    (record { alone = c.close-disk.ensures.left_alone; shown = c.close-disk.ensures.shown; always = c.close-disk.ensures.always; now = c.close-disk.ensures.now })
-    (AnswersOver Refusing question seen) c.answer_in-answer.result
+    (record { alone = c.close-disk.ensures.left_alone; shown = c.close-disk.ensures.shown; always = c.close-disk.ensures.always; now = c.close-disk.ensures.now; goes = c.close-disk.ensures.goes })
+    (AnswersOver Refusing question seen) c.answer_in-answer.result c.answer_in-answer.ensures.cause
     (serving_weaker g.D.Disk (AnswersIn Refusing mounted question) (AnswersOver Refusing question seen) c.answer_in-answer.result core c.answer_in-answer.new.core
-    (λ answer answers. record { opened = Ok mounted; opens = is_opened; answers = answers }) serving)))
+    (λ answer answers. record { opened = Ok mounted; opens = is_opened; answers = answers }) serving))))
 
 pub returns-in-Err-clause-served : goal.returns-in-Err-clause-served
 returns-in-Err-clause-served g c = λ tells files doubt calm.
-    refused_serve g.D.Disk c.args.disk c.in-Err.field-0.disk files doubt (g.P.Patterns.refusals c.args.patterns) (g.P.Patterns.refusals c.in-Err.field-0.patterns) (question_of c.args.question) c.in-Err.field-0.fault c.refuse_opening.result c.refuse_opening.ensures.told c.refuse_opening.ensures.answered c.refuse_opening.ensures.input
+    subst (λ d. Serve g.D.Disk files doubt (AnswersOver (MayRefuse c.refuse_opening.result (g.P.Patterns.refusals c.args.patterns) (g.P.Patterns.refusals c.in-Err.field-0.patterns)) (question_of c.args.question) (opened_files (g.D.Disk.seen c.args.disk))) c.refuse_opening.result c.args.disk d) (sym c.given_back-disk-in-Err.ensures)
+    (refused_serve g.D.Disk c.args.disk c.in-Err.field-0.disk files doubt (g.P.Patterns.refusals c.args.patterns) (g.P.Patterns.refusals c.in-Err.field-0.patterns) (question_of c.args.question) c.in-Err.field-0.fault c.refuse_opening.result c.refuse_opening.ensures.told c.refuse_opening.ensures.answered c.refuse_opening.ensures.input
     (c.in-Err.ensures.any_moment tells files doubt calm) (c.in-Err.ensures.rests tells files doubt calm) (c.in-Err.ensures.shown tells files doubt calm) (c.in-Err.ensures.left_alone tells)
-    (c.in-Err.ensures.refused tells files doubt calm) (λ at is. c.in-Err.ensures.calm tells files doubt calm at (ap Some is))
+    (c.in-Err.ensures.refused tells files doubt calm) (λ at is. c.in-Err.ensures.calm tells files doubt calm at (ap Some is)))
 
 pub returns-in-Ok-clause-untouched : goal.returns-in-Ok-clause-untouched
 returns-in-Ok-clause-untouched g c = λ tells none nothing.
@@ -57,27 +61,29 @@ returns-in-Ok-clause-untouched g c = λ tells none nothing.
     let is_opened = c.in-Ok.ensures.as_seen tells none in
     let refused = g.P.Patterns.refusals in
     let result = c.answer_in-answer.result in
-    serving_untouched g.D.Disk c.args.disk c.close-disk.result.disk core c.answer_in-answer.new.core
+    subst (OnlyReads g.D.Disk c.args.disk) (sym c.given_back-disk.ensures)
+    (serving_untouched g.D.Disk c.args.disk c.close-disk.result.disk core c.answer_in-answer.new.core
     (record { alone = c.in-Ok.ensures.left_alone tells none; wrote = c.in-Ok.ensures.wrote tells ∙ ap is_some none; state = c.in-Ok.ensures.doubt }) c.close-disk.ensures.left_alone
     (AnswersOver Refusing question seen) c.answer_in-answer.result
     (serving_weaker g.D.Disk (AnswersIn Refusing mounted question) (AnswersOver Refusing question seen) c.answer_in-answer.result core c.answer_in-answer.new.core
     (λ answer answers. record { opened = Ok mounted; opens = is_opened; answers = answers }) (c.answer_in-answer.ensures.serving seen is_opened))
     (λ answer answers. nothing answer
     (subst (λ (now : ℕ). AnswersOver (MayRefuse result (refused c.args.patterns) now) question seen answer) (ap refused (sym c.close-disk.ensures.patterns))
-    (subst (λ (before : ℕ). AnswersOver (MayRefuse result before (refused c.answer_in-answer.new.core.patterns)) question seen answer) (ap refused c.in-Ok.ensures.patterns) answers)))
+    (subst (λ (before : ℕ). AnswersOver (MayRefuse result before (refused c.answer_in-answer.new.core.patterns)) question seen answer) (ap refused c.in-Ok.ensures.patterns) answers))))
 
 pub returns-in-Ok-clause-unstored : goal.returns-in-Ok-clause-unstored
-returns-in-Ok-clause-unstored g c = λ tells none.
+returns-in-Ok-clause-unstored g c = λ tells none not_done.
     let core = c.in-Ok.opened.core in
-    serving_unstored g.D.Disk c.args.disk c.close-disk.result.disk core c.answer_in-answer.new.core
+    subst (OnlyReads g.D.Disk c.args.disk) (sym c.given_back-disk.ensures)
+    (serving_unstored g.D.Disk c.args.disk c.close-disk.result.disk core c.answer_in-answer.new.core
     (record { alone = c.in-Ok.ensures.left_alone tells none; wrote = c.in-Ok.ensures.wrote tells ∙ ap is_some none; state = c.in-Ok.ensures.doubt }) c.close-disk.ensures.left_alone
-    (AnswersIn (MayRefuse c.answer_in-answer.result (g.P.Patterns.refusals c.in-Ok.opened.core.patterns) (g.P.Patterns.refusals c.answer_in-answer.new.core.patterns)) c.in-Ok.opened.plan.mounted (question_of c.args.question)) c.answer_in-answer.result (c.answer_in-answer.ensures.serving (g.D.Disk.seen c.args.disk) (c.in-Ok.ensures.as_seen tells none))
+    (AnswersIn (MayRefuse c.answer_in-answer.result (g.P.Patterns.refusals c.in-Ok.opened.core.patterns) (g.P.Patterns.refusals c.answer_in-answer.new.core.patterns)) c.in-Ok.opened.plan.mounted (question_of c.args.question)) c.answer_in-answer.result (c.answer_in-answer.ensures.serving (g.D.Disk.seen c.args.disk) (c.in-Ok.ensures.as_seen tells none)) not_done)
 
 pub returns-in-Err-clause-untouched : goal.returns-in-Err-clause-untouched
-returns-in-Err-clause-untouched g c = λ tells none nothing. c.in-Err.ensures.left_alone tells none
+returns-in-Err-clause-untouched g c = λ tells none nothing. subst (OnlyReads g.D.Disk c.args.disk) (sym c.given_back-disk-in-Err.ensures) (c.in-Err.ensures.left_alone tells none)
 
 pub returns-in-Err-clause-unstored : goal.returns-in-Err-clause-unstored
-returns-in-Err-clause-unstored g c = λ tells none not_done. c.in-Err.ensures.left_alone tells none
+returns-in-Err-clause-unstored g c = λ tells none not_done. subst (OnlyReads g.D.Disk c.args.disk) (sym c.given_back-disk-in-Err.ensures) (c.in-Err.ensures.left_alone tells none)
 
 pub returns-in-Ok-clause-broken : goal.returns-in-Ok-clause-broken
 returns-in-Ok-clause-broken g c = λ tells at is. absurd (c.in-Ok.ensures.broken tells at is)
@@ -85,3 +91,10 @@ returns-in-Ok-clause-broken g c = λ tells at is. absurd (c.in-Ok.ensures.broken
 pub returns-in-Err-clause-broken : goal.returns-in-Err-clause-broken
 returns-in-Err-clause-broken g c = λ tells at is.
     broken_told at c.in-Err.field-0.fault c.refuse_opening.result c.refuse_opening.ensures.told c.refuse_opening.ensures.answered (c.in-Err.ensures.broken tells at is)
+
+pub returns-in-Ok-clause-broken_stays : goal.returns-in-Ok-clause-broken_stays
+returns-in-Ok-clause-broken_stays g c = λ tells at is. absurd (c.in-Ok.ensures.broken tells at is)
+
+pub returns-in-Err-clause-broken_stays : goal.returns-in-Err-clause-broken_stays
+returns-in-Err-clause-broken_stays g c = λ tells at is.
+    subst (OnlyReads g.D.Disk c.args.disk) (sym c.given_back-disk-in-Err.ensures) (c.in-Err.ensures.left_alone tells (bad-not_open (g.D.Disk.seen c.args.disk journal_name) at is))

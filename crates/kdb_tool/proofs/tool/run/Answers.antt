@@ -1,22 +1,25 @@
 use Rattle.kdb_outside.specs.Faults.{HasRisen}
-use Rattle.kdb_tool.specs.Input.{FailsToRead}
+use Rattle.kdb_tool.specs.Input.{FailsToRead, LosesInput}
+use Rattle.kdb_tool.specs.Serving.{MayRefuse}
+use Rattle.kdb_tool.specs.Untold.{HasAsked}
 use Rattle.tool_words.specs.Rows.{request}
 use Rattle.tool_commands.specs.Report.{IsAnswered}
 use Rattle.std.proofs.Common.{inl}
+use Rattle.kdb_tool.proofs.AnswersMore.{stores_nothing}
 use Rattle.kdb_tool.proofs.EndLemmas.{by_words, without_memory, in_fault, complete, made_of, not_stored, of_memory}
 use Rattle.kdb_tool.proofs.BrokenLemmas.{ends_broken}
 use Rattle.kdb_tool.proofs.InputLemmas.{leaves_input}
-use Rattle.kdb_tool.proofs.RunLemmas.{allowed, ran}
+use Rattle.kdb_tool.proofs.RunLemmas.{ran}
 use Rattle.kdb_tool.proofs.tool.run.Goals as goal
 
 pub returns-clause-ran : goal.returns-clause-ran
 returns-clause-ran g c = λ tells files doubt calm given fed.
-    ran g.D.Disk c.args.disk c.carry_out-answer.result.disk files doubt c.args.words.now given (g.P.Patterns.refusals c.args.patterns) (g.P.Patterns.refusals c.carry_out-answer.result.patterns) (FailsToRead (request c.args.words.now) (g.S.Source.faults c.args.input.now) (g.S.Source.faults c.carry_out-answer.new.input)) c.finish-status.result _ _
+    ran g.D.Disk c.args.disk c.carry_out-answer.result.disk files doubt c.args.words.now given (g.P.Patterns.refusals c.args.patterns) (g.P.Patterns.refusals c.carry_out-answer.result.patterns) (LosesInput (FailsToRead (request c.args.words.now) (g.S.Source.faults c.args.input.now) (g.S.Source.faults c.carry_out-answer.new.input)) c.args.disk c.carry_out-answer.result.disk c.args.patterns c.carry_out-answer.result.patterns) c.finish-status.result _ _
     c.carry_out-answer.result.answer (c.carry_out-answer.ensures.served tells files doubt calm given fed) c.carry_out-answer.ensures.read c.carry_out-answer.ensures.cause c.finish-status.ensures.finished
 
 pub returns-clause-words : goal.returns-clause-words
 returns-clause-words g c =
-    by_words c.carry_out-answer.result.answer (request c.args.words.now) (g.S.Source.faults c.args.input.now) (g.S.Source.faults c.carry_out-answer.new.input) c.finish-status.result _ _ c.carry_out-answer.ensures.untold c.carry_out-answer.ensures.asked c.carry_out-answer.ensures.read c.finish-status.ensures.finished
+    by_words g.S.Source c.args.input.now c.carry_out-answer.new.input c.carry_out-answer.result.answer (request c.args.words.now) c.finish-status.result _ _ c.carry_out-answer.ensures.untold c.carry_out-answer.ensures.asked (λ is. (c.carry_out-answer.ensures.read is).risen) c.finish-status.ensures.finished
 
 pub returns-clause-memory : goal.returns-clause-memory
 returns-clause-memory g c =
@@ -24,12 +27,15 @@ returns-clause-memory g c =
 
 pub returns-clause-fault : goal.returns-clause-fault
 returns-clause-fault g c =
-    in_fault (HasRisen (g.D.Disk.faults c.args.disk) (g.D.Disk.faults c.carry_out-answer.result.disk)) (FailsToRead (request c.args.words.now) (g.S.Source.faults c.args.input.now) (g.S.Source.faults c.carry_out-answer.new.input))
-    c.carry_out-answer.result.answer c.finish-status.result _ _ c.carry_out-answer.ensures.own c.carry_out-answer.ensures.cause c.carry_out-answer.ensures.read c.finish-status.ensures.finished
+    in_fault (HasRisen (g.D.Disk.faults c.args.disk) (g.D.Disk.faults c.carry_out-answer.result.disk) × HasAsked g.S.Source (request c.args.words.now) c.args.input.now c.carry_out-answer.new.input)
+    (LosesInput (FailsToRead (request c.args.words.now) (g.S.Source.faults c.args.input.now) (g.S.Source.faults c.carry_out-answer.new.input)) c.args.disk c.carry_out-answer.result.disk c.args.patterns c.carry_out-answer.result.patterns)
+    c.carry_out-answer.result.answer c.finish-status.result _ _ c.carry_out-answer.ensures.own (λ is. (c.carry_out-answer.ensures.cause is, c.carry_out-answer.ensures.asked is)) c.carry_out-answer.ensures.read c.finish-status.ensures.finished
 
 pub returns-clause-complete : goal.returns-clause-complete
-returns-clause-complete g c =
-    complete (HasRisen (g.D.Disk.faults c.args.disk) (g.D.Disk.faults c.carry_out-answer.result.disk)) (FailsToRead (request c.args.words.now) (g.S.Source.faults c.args.input.now) (g.S.Source.faults c.carry_out-answer.new.input)) c.finish-status.result _ _ (returns-clause-fault g c)
+returns-clause-complete g c = λ no_disk no_input.
+    complete (HasRisen (g.D.Disk.faults c.args.disk) (g.D.Disk.faults c.carry_out-answer.result.disk) × HasAsked g.S.Source (request c.args.words.now) c.args.input.now c.carry_out-answer.new.input)
+    (LosesInput (FailsToRead (request c.args.words.now) (g.S.Source.faults c.args.input.now) (g.S.Source.faults c.carry_out-answer.new.input)) c.args.disk c.carry_out-answer.result.disk c.args.patterns c.carry_out-answer.result.patterns)
+    c.finish-status.result _ _ (returns-clause-fault g c) (λ failed. no_disk failed.0) (λ failed. no_input failed.risen)
 
 pub returns-clause-unwritten : goal.returns-clause-unwritten
 returns-clause-unwritten g c = λ tells files doubt calm is.
@@ -37,8 +43,10 @@ returns-clause-unwritten g c = λ tells files doubt calm is.
 
 pub returns-clause-untouched : goal.returns-clause-untouched
 returns-clause-untouched g c = λ tells none given fed nothing.
+    let before = g.P.Patterns.refusals c.args.patterns in
+    let now = g.P.Patterns.refusals c.carry_out-answer.result.patterns in
     c.carry_out-answer.ensures.untouched tells none given fed
-    (λ answer answers. nothing answer (allowed (g.P.Patterns.refusals c.args.patterns) (g.P.Patterns.refusals c.carry_out-answer.result.patterns) c.args.words.now given (g.D.Disk.seen c.args.disk) c.finish-status.result _ _ c.carry_out-answer.result.answer c.finish-status.ensures.finished answer answers))
+    (stores_nothing (MayRefuse c.carry_out-answer.result.answer before now) (HasRisen before now) c.args.words.now given (g.D.Disk.seen c.args.disk) nothing)
 
 pub returns-clause-unstored : goal.returns-clause-unstored
 returns-clause-unstored g c = λ tells none not_done no_fault.

@@ -1,5 +1,5 @@
 -- What the words ask for is what the definitions make of them.
-use Rattle.std.proofs.Common.{◌≡◌, IfOk, ◌∙◌, sym, ap, subst}
+use Rattle.std.proofs.Common.{◌≡◌, IfOk, IsOk, ◌∙◌, refl, sym, ap, subst}
 use Rattle.std.proofs.lemmas.Result.{IfOk-weaker}
 use Rattle.intent_journal.specs.BadJournals.{opened_files}
 use Rattle.kdb_outside.specs.Frames.{OnlyReads}
@@ -13,10 +13,11 @@ use Rattle.tool_words.proofs.RowLemmas.{request-names_files}
 use Rattle.kdb_tool.specs.Answer.{tells}
 use Rattle.kdb_tool.specs.Answers.{AnswersOver, AnswersRequest}
 use Rattle.kdb_tool.specs.Broken.{TellsBroken}
-use Rattle.kdb_tool.specs.Input.{IsInput}
+use Rattle.kdb_tool.specs.Input.{IsInput, LeavesInput, TakesAll}
 use Rattle.kdb_tool.specs.Serving.{MayRefuse, Serve, StoresNothing, Unserved}
+use Rattle.kdb_tool.specs.Untold.{AsksStoreWith, HasAsked}
 use Rattle.kdb_tool.proofs.BrokenLemmas.{told_of_barred, told_of_refused}
-use Rattle.kdb_tool.proofs.InputLemmas.{takes_none}
+use Rattle.kdb_tool.proofs.InputLemmas.{on_ok, takes_none}
 use Rattle.kdb_tool.proofs.ServeLemmas.{alone_unserved, handed_on, serve_unserved}
 use Rattle.kdb_tool.proofs.work.carry_out.Goals as goal
 
@@ -123,3 +124,41 @@ pub returns-in-Ok-Bars-clause-broken : goal.returns-in-Ok-Bars-clause-broken
 returns-in-Ok-Bars-clause-broken g c = λ tells_disk at broken given fed.
     let asked : request c.args.words.now ≡ Bars c.in-Ok-Bars.name = ap request (sym (ap texts_of c.deref.ensures.value ∙ c.in-Ok.ensures)) ∙ subst (λ (r : code.Request). IsSeenAs r (request (texts_of c.deref.result.now))) c.in-Ok-Bars.field-0-is c.in-Ok-Bars.ensures in
     subst (λ (r : Request). IfOk c.without_store-in-Ok-Bars.result.answer (λ report. TellsBroken r given at (report_of report))) (sym asked) (told_of_barred c.in-Ok-Bars.name given at c.without_store-in-Ok-Bars.result.answer)
+
+pub returns-in-Ok-Asks-clause-asked : goal.returns-in-Ok-Asks-clause-asked
+returns-in-Ok-Asks-clause-asked g c = λ is.
+    let asked : request c.args.words.now ≡ Asks (question_of c.in-Ok-Asks.question) = ap request (sym (ap texts_of c.deref.ensures.value ∙ c.in-Ok.ensures)) ∙ subst (λ (r : code.Request). IsSeenAs r (request (texts_of c.deref.result.now))) c.in-Ok-Asks.field-0-is c.in-Ok-Asks.ensures in
+    subst (λ (r : Request). HasAsked g.S.Source r c.args.input.now c.args.input.now) (sym asked) (record { asks = λ given fed. tt; whole = refl })
+
+pub returns-in-Ok-Asks-clause-unasked : goal.returns-in-Ok-Asks-clause-unasked
+returns-in-Ok-Asks-clause-unasked g c = λ given fed none.
+    let asked : request c.args.words.now ≡ Asks (question_of c.in-Ok-Asks.question) = ap request (sym (ap texts_of c.deref.ensures.value ∙ c.in-Ok.ensures)) ∙ subst (λ (r : code.Request). IsSeenAs r (request (texts_of c.deref.result.now))) c.in-Ok-Asks.field-0-is c.in-Ok-Asks.ensures in
+    absurd (none (subst (λ (r : Request). AsksStoreWith r given) (sym asked) tt))
+
+pub returns-in-Ok-Imports-clause-asked : goal.returns-in-Ok-Imports-clause-asked
+returns-in-Ok-Imports-clause-asked g c = λ is.
+    let asked : request c.args.words.now ≡ Imports c.in-Ok-Imports.name c.in-Ok-Imports.kind = ap request (sym (ap texts_of c.deref.ensures.value ∙ c.in-Ok.ensures)) ∙ subst (λ (r : code.Request). IsSeenAs r (request (texts_of c.deref.result.now))) c.in-Ok-Imports.field-0-is c.in-Ok-Imports.ensures in
+    subst (λ (r : Request). HasAsked g.S.Source r c.args.input.now c.import.new.input) (sym asked) (c.import.ensures.asked is)
+
+pub returns-in-Ok-Imports-clause-unasked : goal.returns-in-Ok-Imports-clause-unasked
+returns-in-Ok-Imports-clause-unasked g c = λ given fed none.
+    let asked : request c.args.words.now ≡ Imports c.in-Ok-Imports.name c.in-Ok-Imports.kind = ap request (sym (ap texts_of c.deref.ensures.value ∙ c.in-Ok.ensures)) ∙ subst (λ (r : code.Request). IsSeenAs r (request (texts_of c.deref.result.now))) c.in-Ok-Imports.field-0-is c.in-Ok-Imports.ensures in
+    c.import.ensures.unasked given (subst (λ (r : Request). IsInput r (g.S.Source.left c.args.input.now) given) asked fed) (subst (λ (r : Request). AsksStoreWith r given → ⊥) asked none)
+
+pub returns-in-Ok-Refuses-clause-broken_stays : goal.returns-in-Ok-Refuses-clause-broken_stays
+returns-in-Ok-Refuses-clause-broken_stays g c = λ tells_disk at broken. subst (OnlyReads g.D.Disk c.args.disk) (sym c.without_store.ensures.disk) (OnlyReads-none g.D.Disk c.args.disk)
+
+pub returns-in-Ok-Bars-clause-broken_stays : goal.returns-in-Ok-Bars-clause-broken_stays
+returns-in-Ok-Bars-clause-broken_stays g c = λ tells_disk at broken. subst (OnlyReads g.D.Disk c.args.disk) (sym c.without_store-in-Ok-Bars.ensures.disk) (OnlyReads-none g.D.Disk c.args.disk)
+
+pub returns-clause-broken_stays : goal.returns-clause-broken_stays
+returns-clause-broken_stays g c = λ tells_disk at broken. OnlyReads-none g.D.Disk c.args.disk
+
+pub returns-in_default-clause-broken_stays : goal.returns-in_default-clause-broken_stays
+returns-in_default-clause-broken_stays g c = λ tells_disk at broken. OnlyReads-none g.D.Disk c.args.disk
+
+pub returns-in-Ok-Imports-clause-input : goal.returns-in-Ok-Imports-clause-input
+returns-in-Ok-Imports-clause-input g c =
+    let asked : request c.args.words.now ≡ Imports c.in-Ok-Imports.name c.in-Ok-Imports.kind = ap request (sym (ap texts_of c.deref.ensures.value ∙ c.in-Ok.ensures)) ∙ subst (λ (r : code.Request). IsSeenAs r (request (texts_of c.deref.result.now))) c.in-Ok-Imports.field-0-is c.in-Ok-Imports.ensures in
+    subst (λ (r : Request). LeavesInput g.S.Source r (IsOk c.import.result.answer) c.args.input.now c.import.new.input) (sym asked)
+    (record { front = c.import.ensures.front; all = λ answered bytes left. on_ok c.import.result.answer (TakesAll bytes (g.S.Source.left c.import.new.input)) answered (c.import.ensures.all bytes left) })
