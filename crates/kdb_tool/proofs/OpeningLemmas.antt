@@ -60,14 +60,14 @@ pub refused_serve : {D : Type 0} (g : Ghosts D) (disk end : D) (files : Image) (
     → LeavesOnly g disk end (HasOnly (IsEither files doubt)) → EveryImage (g.may_leave end) (HasOnly (IsEither files doubt))
     → (may_be_of_journal (Some why) ≡ false → SameFiles (g.seen end) (opened_files (g.seen disk))) → (open_entry (g.seen disk journal_name) ≡ None → OnlyReads g disk end)
     → RefusesStore all.Reads all.IsBadAt (opened_files (g.seen disk) own_mount.file) why → ((at : ℕ) → why ≡ fault.BadJournal at → ⊥)
-    → Serve g files doubt (AnswersOver (MayRefuse result before now) question (opened_files (g.seen disk))) result disk end
-refused_serve g disk end files doubt before now question why (Ok report) told own unread meanwhile rests shown alone refuses journal =
+    → (¬ HasRisen (g.faults disk) (g.faults end) → IsCalm (g.seen end) (g.may_leave end) files doubt) → Serve g files doubt (AnswersOver (MayRefuse result before now) question (opened_files (g.seen disk))) result disk end
+refused_serve g disk end files doubt before now question why (Ok report) told own unread meanwhile rests shown alone refuses journal calm =
     let read = read_fault why own.0 own.1 journal in
-    refused_served g disk end files doubt (AnswersOver (HasRisen before now) question (opened_files (g.seen disk))) (report_of report) meanwhile rests (shown read)
+    refused_served g disk end files doubt (AnswersOver (HasRisen before now) question (opened_files (g.seen disk))) (report_of report) meanwhile rests (shown read) calm
     (subst (λ (r : Report). AnswersOver (HasRisen before now) question (opened_files (g.seen disk)) (tells r)) (sym told) (over_refused (HasRisen before now) question (opened_files (g.seen disk)) why refuses read))
-refused_serve g disk end files doubt before now question why (Err stops.Memory) told own unread meanwhile rests shown alone refuses journal = record { crash = meanwhile; untouched = alone }
-refused_serve g disk end files doubt before now question why (Err stops.DiskFault) told own unread meanwhile rests shown alone refuses journal = Seeking meanwhile
-refused_serve g disk end files doubt before now question why (Err stops.ReadFault) told own unread meanwhile rests shown alone refuses journal = absurd (unread refl)
+refused_serve g disk end files doubt before now question why (Err stops.Memory) told own unread meanwhile rests shown alone refuses journal calm = record { crash = meanwhile; untouched = alone; calm = calm }
+refused_serve g disk end files doubt before now question why (Err stops.DiskFault) told own unread meanwhile rests shown alone refuses journal calm = Seeking meanwhile
+refused_serve g disk end files doubt before now question why (Err stops.ReadFault) told own unread meanwhile rests shown alone refuses journal calm = absurd (unread refl)
 
 -- ---- one that is
 

@@ -46,6 +46,7 @@ module _ {D : Type 0} (g : Ghosts D) (disk end : D) (files : Image) (doubt : Opt
     crash = does.crash;
     lasting = does.lasting;
     shown = does.shown;
+    calm = does.calm;
   }
 
   -- memory was wanting

@@ -25,12 +25,13 @@ use Rattle.tool_commands.specs.Report.{Report}
 use Rattle.tool_commands.specs.StepView.{report_of}
 use Rattle.tool_commands.specs.declared.reports.Report as code
 use Rattle.kdb_tool.specs.Answer.{Answer, Texts, entry_of, tells, with_stored}
-use Rattle.kdb_tool.specs.Crashing.{MayBeLeft, MayRemain, Alone, Stored}
+use Rattle.kdb_tool.specs.Crashing.{MayBeLeft, MayRemain, StaysCalm, Alone, Stored}
 use Rattle.kdb_tool.specs.Serving.{Serves, BeginsEntry, FailsToStore, Serving, MayStore, Served, StoresNothing, Unserved, Failing, Storing, Seeking, Serve, run_with}
 use Rattle.kdb_tool.specs.Serving as serving
 use Rattle.kdb_tool.specs.Stops.{or_memory}
 use Rattle.kdb_tool.specs.declared.answers.Stop.{Stop}
 use Rattle.kdb_tool.specs.declared.answers.Stop.TheVariants as stops
+use Rattle.kdb_tool.proofs.CalmLemmas.{calm_as}
 use Rattle.kdb_tool.proofs.CrashLemmas.{found, reached_none, reached_begun, reached_commit, left_found}
 
 -- an opened store stands for a run without a commit, on the files that the opening leaves and with a doubt that stands for no other files
@@ -55,6 +56,7 @@ pub record HasClosed {D P : Type 0} (g : Ghosts D) (core : Core D P) (end : D) :
   pub always : (opened : D) (run : Run) → IsStore g opened core.journal run → LeavesOnly g opened end (IsReached run.files run.commits run.begun)
   pub now : (opened : D) (run : Run) → IsStore g opened core.journal run → EveryImage (g.may_leave end) (HasOnly (IsEither (files_of run) run.doubt))
   pub goes : GoesOn g core.journal.disk end
+  pub calm : (opened : D) (run : Run) → IsStore g opened core.journal run → ¬ HasRisen run.faults (g.faults end) → IsCalm (g.seen end) (g.may_leave end) (files_of run) run.doubt
 
 -- an opening only read the disk, since no entry was open
 pub record WasRead {D P : Type 0} (g : Ghosts D) (disk : D) (core : Core D P) : Type 0 where
@@ -123,6 +125,10 @@ module _ {D P : Type 0} (g : Ghosts D) (disk end : D) (files : Image) (doubt : O
   whole : (P : Image → Type 0) → ((image : Image) → HasOnly (IsEither files doubt) image → P image) → (Q : Image → Type 0) → ((image : Image) → Q image → P image) → LeavesOnly g mid end Q → LeavesOnly g disk end P
   whole P from_found Q from_reached reached = only_both g disk mid end (HasOnly (IsEither files doubt)) Q P from_found from_reached has_opened.goes.moment has_opened.meanwhile reached
 
+  stays : (stored : Texts) → IsStore g mid new.journal (run_with first stored) → ¬ HasRisen (g.faults disk) (g.faults end) → StaysCalm g files doubt stored disk end
+  stays [] store still = calm_as (g.seen end) (g.may_leave end) opened files has_opened.begun.first doubt (has_closed.calm mid first store still) has_opened.begun.within
+  stays (text ∷ texts) store still = has_closed.calm mid (run_with first (text ∷ texts)) store still
+
   served : (Answered : Answer → Type 0) (report : Report) → Serves g Answered report old new → Served g files doubt Answered report disk end
   served Answered report serves =
       let stored : Texts = serves.answer.stored in
@@ -138,6 +144,7 @@ module _ {D P : Type 0} (g : Ghosts D) (disk end : D) (files : Image) (doubt : O
             has_closed.shown mid (run_with first stored) store
             (λ rose. still (risen_since (g.faults disk) (g.faults new.journal.disk) (g.faults end) (faults_since stored store) rose)) file not_own
             ∙ files_are stored file not_own);
+        calm = stays stored store;
       }
     where
       faults_since : (stored : Texts) → IsStore g mid new.journal (run_with first stored) → g.faults disk ≤ g.faults new.journal.disk
@@ -150,6 +157,7 @@ module _ {D P : Type 0} (g : Ghosts D) (disk end : D) (files : Image) (doubt : O
       record {
         crash = whole (HasOnly (IsEither files doubt)) (λ image only. only) (IsReached opened [] first.begun) (λ image. amid [] image) (has_closed.always mid first store);
         untouched = λ none. still_read g disk end old new (record { alone = has_opened.alone none; wrote = has_opened.wrote ∙ ap is_some none; state = has_opened.state }) has_closed.alone kept;
+        calm = stays [] store;
       }
 
   failing : (Answered : Answer → Type 0) → HasRisen (g.faults old.journal.disk) (g.faults new.journal.disk) → FailsToStore g Answered old new → serving.Unstored g files doubt Answered disk end
@@ -214,7 +222,7 @@ serving_weaker g P Q (Err stops.DiskFault) before after follows s = record { ans
 serving_weaker g P Q (Err stops.ReadFault) before after follows s = absurd s
 
 pub serve_weaker : {D : Type 0} (g : Ghosts D) (files : Image) (doubt : Option (List FileText)) (P Q : Answer → Type 0) (result : Result code.Report Stop) (before after : D) → ((answer : Answer) → P answer → Q answer) → Serve g files doubt P result before after → Serve g files doubt Q result before after
-serve_weaker g files doubt P Q (Ok report) before after follows s = record { answer = s.answer; answers = follows s.answer s.answers; told = s.told; crash = s.crash; lasting = s.lasting; shown = s.shown }
+serve_weaker g files doubt P Q (Ok report) before after follows s = record { answer = s.answer; answers = follows s.answer s.answers; told = s.told; crash = s.crash; lasting = s.lasting; shown = s.shown; calm = s.calm }
 serve_weaker g files doubt P Q (Err stops.Memory) before after follows s = s
 serve_weaker g files doubt P Q (Err stops.DiskFault) before after follows (Storing s) = Storing (record { answer = s.answer; answers = follows s.answer s.answers; some = s.some; crash = s.crash; uncommitted = s.uncommitted })
 serve_weaker g files doubt P Q (Err stops.DiskFault) before after follows (Seeking left) = Seeking left
@@ -224,6 +232,14 @@ serve_weaker g files doubt P Q (Err stops.ReadFault) before after follows s = s
 pub serve_unserved : {D : Type 0} (g : Ghosts D) (files : Image) (doubt : Option (List FileText)) (P : Answer → Type 0) (result : Result code.Report Stop) (before after : D) → Serve g files doubt P result before after → (result ≡ Err stops.Memory) ⊎ (result ≡ Err stops.ReadFault) → Unserved g files doubt before after
 serve_unserved g files doubt P result before after s (inl is) = subst (λ (r : Result code.Report Stop). Serve g files doubt P r before after) is s
 serve_unserved g files doubt P result before after s (inr is) = subst (λ (r : Result code.Report Stop). Serve g files doubt P r before after) is s
+
+-- without a fault of the disk it is calm, whatever was stored
+pub serve_calm : {D : Type 0} (g : Ghosts D) (files : Image) (doubt : Option (List FileText)) (P : Answer → Type 0) (result : Result code.Report Stop) (before after : D) → Serve g files doubt P result before after → (result ≡ Err stops.DiskFault → HasRisen (g.faults before) (g.faults after))
+    → ¬ HasRisen (g.faults before) (g.faults after) → (stored : Texts) × StaysCalm g files doubt stored before after
+serve_calm g files doubt P (Ok report) before after s cause still = (s.answer.stored, s.calm still)
+serve_calm g files doubt P (Err stops.Memory) before after s cause still = ([], s.calm still)
+serve_calm g files doubt P (Err stops.DiskFault) before after s cause still = absurd (still (cause refl))
+serve_calm g files doubt P (Err stops.ReadFault) before after s cause still = ([], s.calm still)
 
 -- ---- where the store isn't asked
 
@@ -239,23 +255,29 @@ alone_served g disk files doubt Answered report told calm answers = record {
   crash = only_now g disk (HasOnly (IsEither files doubt)) told (calm_only g disk files doubt calm);
   lasting = calm_only g disk files doubt calm;
   shown = λ still. Alone refl refl;
+  calm = λ still. calm;
 }
 
 pub alone_unserved : {D : Type 0} (g : Ghosts D) (disk : D) (files : Image) (doubt : Option (List FileText)) → g.tells disk ≡ true → IsCalm (g.seen disk) (g.may_leave disk) files doubt → Unserved g files doubt disk disk
-alone_unserved g disk files doubt told calm = record { crash = only_now g disk (HasOnly (IsEither files doubt)) told (calm_only g disk files doubt calm); untouched = λ none. OnlyReads-none g disk }
+alone_unserved g disk files doubt told calm = record { crash = only_now g disk (HasOnly (IsEither files doubt)) told (calm_only g disk files doubt calm); untouched = λ none. OnlyReads-none g disk; calm = λ still. calm }
+
+-- a disk that is handed on as it came stays calm
+pub handed_calm : {D : Type 0} (g : Ghosts D) (disk end : D) (files : Image) (doubt : Option (List FileText)) → end ≡ disk → IsCalm (g.seen disk) (g.may_leave disk) files doubt → (stored : Texts) × StaysCalm g files doubt stored disk end
+handed_calm g disk end files doubt still calm = ([], subst (λ d. IsCalm (g.seen d) (g.may_leave d) files doubt) (sym still) calm)
 
 -- ---- where the store isn't opened
 
 -- what is told of files that were read
 pub refused_served : {D : Type 0} (g : Ghosts D) (disk end : D) (files : Image) (doubt : Option (List FileText)) (Answered : Answer → Type 0) (report : Report) → LeavesOnly g disk end (HasOnly (IsEither files doubt)) → EveryImage (g.may_leave end) (HasOnly (IsEither files doubt))
-    → SameFiles (g.seen end) (opened_files (g.seen disk)) → Answered (tells report) → Served g files doubt Answered report disk end
-refused_served g disk end files doubt Answered report meanwhile now shown answers = record {
+    → SameFiles (g.seen end) (opened_files (g.seen disk)) → (¬ HasRisen (g.faults disk) (g.faults end) → IsCalm (g.seen end) (g.may_leave end) files doubt) → Answered (tells report) → Served g files doubt Answered report disk end
+refused_served g disk end files doubt Answered report meanwhile now shown calm answers = record {
   answer = tells report;
   answers = answers;
   told = refl;
   crash = meanwhile;
   lasting = now;
   shown = λ still. Stored (λ file not_own. shown file not_own);
+  calm = calm;
 }
 
 -- ---- what is told without the store

@@ -11,7 +11,7 @@ use Rattle.kdb_outside.specs.SinkChange.{SinkChange as Change}
 use Rattle.kdb_outside.specs.declared.disks.Disk.{Ghosts}
 use Rattle.tool_commands.specs.Report.{IsAnswered}
 use Rattle.kdb_tool.specs.Answer.{Answer}
-use Rattle.kdb_tool.specs.Crashing.{MayBeLeft, MayRemain, Shows}
+use Rattle.kdb_tool.specs.Crashing.{MayBeLeft, MayRemain, Shows, StaysCalm}
 use Rattle.kdb_tool.specs.Ends.{LosesSink}
 use Rattle.kdb_tool.specs.Outcome.{Failed, Gives, GainsFront}
 use Rattle.kdb_tool.specs.Serving as serving
@@ -31,6 +31,8 @@ pub record Follows {D : Type 0} (g : Ghosts D) (files : Image) (doubt : Option (
   pub lasting : EveryImage (g.may_leave end) (MayRemain files doubt (opened_files (g.seen disk)) answer.stored)
   -- without a fault of the disk the files show what the answer stores, and no others change, whatever becomes of out and err
   pub shown : ¬ HasRisen (g.faults disk) (g.faults end) → Shows answer.stored (opened_files (g.seen disk)) (g.seen disk) (g.seen end)
+  -- and the disk is calm again, for the next run
+  pub calm : ¬ HasRisen (g.faults disk) (g.faults end) → StaysCalm g files doubt answer.stored disk end
 
 -- one was, and the disk failed before it was stored: the run ends in a fault, and out has gained nothing
 pub record EndsUnstored {D : Type 0} (g : Ghosts D) (files : Image) (doubt : Option (List FileText)) (Answered : Answer → Type 0) (disk end : D) (status : ℕ) (out : Change) : Type 0 where
@@ -38,8 +40,8 @@ pub record EndsUnstored {D : Type 0} (g : Ghosts D) (files : Image) (doubt : Opt
   pub prefix : GainsFront out.held_before out.held_now []
   pub unstored : serving.Unstored g files doubt Answered disk end
 
--- none was, for want of memory or a fault: out has gained nothing, a crash leaves the files as they were found, and where no entry was open and the disk
--- didn't fail it was only read
+-- none was, for want of memory or a fault: out has gained nothing, and a crash leaves the files as they were found. A disk that didn't fail was only read
+-- where no entry was open, and is calm again
 pub record EndsWithout {D : Type 0} (g : Ghosts D) (files : Image) (doubt : Option (List FileText)) (input_failed : Type 0) (disk end : D) (status : ℕ) (out err : Change) : Type 0 where
   pub cause : (status ≡ 70) ⊎ (status ≡ 74)
   pub prefix : GainsFront out.held_before out.held_now []

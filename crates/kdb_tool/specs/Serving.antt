@@ -34,7 +34,7 @@ use Rattle.tool_commands.specs.Report.{Report}
 use Rattle.tool_commands.specs.StepView.{report_of}
 use Rattle.tool_commands.specs.declared.reports.Report as code
 use Rattle.kdb_tool.specs.Answer.{Answer, Texts, entry_of}
-use Rattle.kdb_tool.specs.Crashing.{IsUncommitted, MayBeLeft, MayRemain, Shows}
+use Rattle.kdb_tool.specs.Crashing.{IsUncommitted, MayBeLeft, MayRemain, Shows, StaysCalm}
 use Rattle.kdb_tool.specs.Sets.{formats, store_alone, the_handle}
 use Rattle.kdb_tool.specs.declared.answers.Stop.{Stop}
 use Rattle.kdb_tool.specs.declared.answers.Stop.TheVariants as stops
@@ -129,11 +129,14 @@ pub record Served {D : Type 0} (g : Ghosts D) (files : Image) (doubt : Option (L
   pub crash : LeavesOnly g before after (MayBeLeft files doubt (opened_files (g.seen before)) answer.stored)
   pub lasting : EveryImage (g.may_leave after) (MayRemain files doubt (opened_files (g.seen before)) answer.stored)
   pub shown : ¬ HasRisen (g.faults before) (g.faults after) → Shows answer.stored (opened_files (g.seen before)) (g.seen before) (g.seen after)
+  pub calm : ¬ HasRisen (g.faults before) (g.faults after) → StaysCalm g files doubt answer.stored before after
 
--- nothing was stored: a crash amid the call leaves the files as they were found, and where no entry was open the disk was only read
+-- nothing was stored: a crash amid the call leaves the files as they were found, and where no entry was open the disk was only read; where it didn't fail
+-- it is calm
 pub record Unserved {D : Type 0} (g : Ghosts D) (files : Image) (doubt : Option (List FileText)) (before after : D) : Type 0 where
   pub crash : LeavesOnly g before after (HasOnly (IsEither files doubt))
   pub untouched : open_entry (g.seen before journal_name) ≡ None → OnlyReads g before after
+  pub calm : ¬ HasRisen (g.faults before) (g.faults after) → StaysCalm g files doubt [] before after
 
 -- the disk failed before what an answer stores was committed
 pub record Unstored {D : Type 0} (g : Ghosts D) (files : Image) (doubt : Option (List FileText)) (Answered : Answer → Type 0) (before after : D) : Type 0 where

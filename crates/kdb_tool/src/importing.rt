@@ -10,6 +10,8 @@ ghost use Rattle.kdb_outside.specs.Frames.{GoesOn, OnlyReads};
 ghost use Rattle.kdb_outside.specs.Images.{Image};
 ghost use Rattle.mounted_files.specs.Getting.{fault_of};
 ghost use Rattle.mounted_files.specs.Holding.{IsHolding, cause_of};
+ghost use Rattle.kdb_tool.specs.Answer.{Texts};
+ghost use Rattle.kdb_tool.specs.Crashing.{StaysCalm};
 ghost use Rattle.kdb_tool.specs.Answers.{AnswersImport, line_of_get};
 ghost use Rattle.kdb_tool.specs.Broken.{ToldOfImport};
 ghost use Rattle.kdb_tool.specs.Input.{taken, LosesInput, TakesAll, TakesFront};
@@ -46,6 +48,7 @@ pub fn import<S: Source, D: Disk, P: Patterns + Drop>(
     ensures served { D.tells disk ≡ true → (files : Image) (doubt : Option (List Item)) → IsCalm (D.seen disk) (D.may_leave disk) files doubt
         → (bytes : List ℕ) → S.left input.old ≡ Some bytes → Serve D.Disk files doubt (AnswersImport (MayRefuse result.answer (P.refusals patterns) (P.refusals result.patterns)) name kind (taken bytes) (opened_files (D.seen disk))) result.answer disk result.disk }
     ensures unserved { D.tells disk ≡ true → (files : Image) (doubt : Option (List Item)) → IsCalm (D.seen disk) (D.may_leave disk) files doubt → (result.answer ≡ Err Stop.Memory) ⊎ (result.answer ≡ Err Stop.ReadFault) → Unserved D.Disk files doubt disk result.disk }
+    ensures calm { D.tells disk ≡ true → (files : Image) (doubt : Option (List Item)) → IsCalm (D.seen disk) (D.may_leave disk) files doubt → ¬ HasRisen (D.faults disk) (D.faults result.disk) → (stored : Texts) × StaysCalm D.Disk files doubt stored disk result.disk }
     ensures untouched { D.tells disk ≡ true → open_entry (D.seen disk journal_name) ≡ None → (bytes : List ℕ) → S.left input.old ≡ Some bytes
         → StoresNothing (AnswersImport (MayRefuse result.answer (P.refusals patterns) (P.refusals result.patterns)) name kind (taken bytes) (D.seen disk)) → OnlyReads D.Disk disk result.disk }
     ensures unstored { D.tells disk ≡ true → open_entry (D.seen disk journal_name) ≡ None → ¬ MayStore result.answer → OnlyReads D.Disk disk result.disk }

@@ -8,6 +8,8 @@ ghost use Rattle.intent_journal.specs.BadJournals.{bad_place, open_entry, opened
 ghost use Rattle.intent_journal.specs.States.{IsCalm};
 ghost use Rattle.journal_codec.specs.Entry.{journal_name};
 ghost use Rattle.journal_codec.specs.declared.files.FileText.{FileText as Item};
+ghost use Rattle.kdb_tool.specs.Answer.{Texts};
+ghost use Rattle.kdb_tool.specs.Crashing.{StaysCalm};
 ghost use Rattle.kdb_tool.specs.Answers.{Answers};
 ghost use Rattle.kdb_tool.specs.Broken.{EndsBroken};
 ghost use Rattle.kdb_tool.specs.Input.{FailsToRead, IsInput, LeavesInput, LosesInput};
@@ -51,6 +53,10 @@ pub fn run<S: Source, K: Sink, E: Sink, D: Disk + Send, P: Patterns + Drop + Sen
     ensures ran { D.tells disk ≡ true → (files : Image) (doubt : Option (List Item)) → IsCalm (D.seen disk) (D.may_leave disk) files doubt
         → (given : List ℕ) → IsInput (request words.now) (S.left input.old) given
         → Ran D.Disk files doubt (Answers (HasRisen (P.refusals patterns) (P.refusals result.2)) words.now given (opened_files (D.seen disk))) (LosesInput (FailsToRead (request words.now) (S.faults input.old) (S.faults input.new)) disk result.1 patterns result.2) disk result.1 result.0 (change_of K.Sink out.old out.new) (change_of E.Sink err.old err.new) }
+
+    // Without a fault of the disk it is calm behind the call, for the next one: with the files that the answer stores and nothing in doubt, or as it was found
+    // where nothing was stored.
+    ensures calm { D.tells disk ≡ true → (files : Image) (doubt : Option (List Item)) → IsCalm (D.seen disk) (D.may_leave disk) files doubt → ¬ HasRisen (D.faults disk) (D.faults result.1) → (stored : Texts) × StaysCalm D.Disk files doubt stored disk result.1 }
 
     // Words that ask for nothing decide alone, whatever the disk does, and leave the disk and the matcher alone, and so does an import whose input holds no
     // keys.

@@ -7,6 +7,8 @@ ghost use Rattle.journal_codec.specs.declared.files.FileText.{FileText as Item};
 ghost use Rattle.kdb_outside.specs.Faults.{HasRisen};
 ghost use Rattle.kdb_outside.specs.Frames.{GoesOn, OnlyReads};
 ghost use Rattle.kdb_outside.specs.Images.{Image};
+ghost use Rattle.kdb_tool.specs.Answer.{Texts};
+ghost use Rattle.kdb_tool.specs.Crashing.{StaysCalm};
 ghost use Rattle.kdb_tool.specs.Answers.{Answers};
 ghost use Rattle.kdb_tool.specs.Broken.{TellsBroken};
 ghost use Rattle.kdb_tool.specs.Input.{FailsToRead, IsInput, LeavesInput, LosesInput};
@@ -38,6 +40,7 @@ pub fn carry_out<S: Source, D: Disk, P: Patterns + Drop>(
     ensures served { D.tells disk ≡ true → (files : Image) (doubt : Option (List Item)) → IsCalm (D.seen disk) (D.may_leave disk) files doubt
         → (given : List ℕ) → IsInput (request words.now) (S.left input.old) given → Serve D.Disk files doubt (Answers (MayRefuse result.answer (P.refusals patterns) (P.refusals result.patterns)) words.now given (opened_files (D.seen disk))) result.answer disk result.disk }
     ensures unserved { D.tells disk ≡ true → (files : Image) (doubt : Option (List Item)) → IsCalm (D.seen disk) (D.may_leave disk) files doubt → (result.answer ≡ Err Stop.Memory) ⊎ (result.answer ≡ Err Stop.ReadFault) → Unserved D.Disk files doubt disk result.disk }
+    ensures calm { D.tells disk ≡ true → (files : Image) (doubt : Option (List Item)) → IsCalm (D.seen disk) (D.may_leave disk) files doubt → ¬ HasRisen (D.faults disk) (D.faults result.disk) → (stored : Texts) × StaysCalm D.Disk files doubt stored disk result.disk }
     ensures untouched { D.tells disk ≡ true → open_entry (D.seen disk journal_name) ≡ None → (given : List ℕ) → IsInput (request words.now) (S.left input.old) given
         → StoresNothing (Answers (MayRefuse result.answer (P.refusals patterns) (P.refusals result.patterns)) words.now given (D.seen disk)) → OnlyReads D.Disk disk result.disk }
     ensures unstored { D.tells disk ≡ true → open_entry (D.seen disk journal_name) ≡ None → ¬ MayStore result.answer → OnlyReads D.Disk disk result.disk }

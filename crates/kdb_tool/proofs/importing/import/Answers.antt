@@ -1,5 +1,5 @@
 -- What the input holds as a file would is asked to replace the keys there, or is refused as a file is.
-use Rattle.std.proofs.Common.{Err, sym, ap, subst}
+use Rattle.std.proofs.Common.{Err, sym, ap, subst, refl}
 use Rattle.std.proofs.lemmas.Result.{IfOk-weaker}
 use Rattle.all_formats.specs.Meanings as all
 use Rattle.intent_journal.specs.BadJournals.{opened_files}
@@ -14,7 +14,7 @@ use Rattle.kdb_tool.specs.Answers.{AnswersImport, AnswersOver, Held, Bad}
 use Rattle.kdb_tool.specs.Input.{taken}
 use Rattle.kdb_tool.specs.Serving.{MayRefuse, Unserved}
 use Rattle.kdb_tool.proofs.BrokenLemmas.{told_of_bad, told_of_held}
-use Rattle.kdb_tool.proofs.ServeLemmas.{alone_stopped, alone_unserved, handed_on, serve_unserved, serve_weaker}
+use Rattle.kdb_tool.proofs.ServeLemmas.{alone_stopped, alone_unserved, handed_calm, handed_on, serve_calm, serve_unserved, serve_weaker}
 use Rattle.kdb_tool.proofs.importing.import.Goals as goal
 
 pub returns-in-Ok-Keys-clause-served : goal.returns-in-Ok-Keys-clause-served
@@ -99,3 +99,13 @@ returns-in-Ok-Bad-clause-broken_stays g c = λ tells at broken. subst (OnlyReads
 
 pub returns-in-Err-clause-broken_stays : goal.returns-in-Err-clause-broken_stays
 returns-in-Err-clause-broken_stays g c = λ tells at broken. OnlyReads-none g.D.Disk c.args.disk
+
+pub returns-in-Ok-Keys-clause-calm : goal.returns-in-Ok-Keys-clause-calm
+returns-in-Ok-Keys-clause-calm g c = λ tells files doubt calm still.
+    serve_calm g.D.Disk files doubt (AnswersOver (MayRefuse c.answer_question.result.answer (g.P.Patterns.refusals c.args.patterns) (g.P.Patterns.refusals c.answer_question.result.patterns)) (On c.args.name (Replace c.in-Ok-Keys.keys)) (opened_files (g.D.Disk.seen c.args.disk))) c.answer_question.result.answer c.args.disk c.answer_question.result.disk (c.answer_question.ensures.served tells files doubt calm) c.answer_question.ensures.cause still
+
+pub returns-in-Ok-Bad-clause-calm : goal.returns-in-Ok-Bad-clause-calm
+returns-in-Ok-Bad-clause-calm g c = λ tells files doubt calm still. handed_calm g.D.Disk c.args.disk c.without_store.result.disk files doubt c.without_store.ensures.disk calm
+
+pub returns-in-Err-clause-calm : goal.returns-in-Err-clause-calm
+returns-in-Err-clause-calm g c = λ tells files doubt calm still. handed_calm g.D.Disk c.args.disk c.args.disk files doubt refl calm

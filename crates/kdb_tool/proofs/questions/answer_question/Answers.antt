@@ -39,7 +39,7 @@ returns-in-Ok-clause-served g c = λ tells files doubt calm.
       wrote = c.in-Ok.ensures.wrote tells;
       state = c.in-Ok.ensures.doubt;
     })
-    (record { alone = c.close-disk.ensures.left_alone; shown = c.close-disk.ensures.shown; always = c.close-disk.ensures.always; now = c.close-disk.ensures.now; goes = c.close-disk.ensures.goes })
+    (record { alone = c.close-disk.ensures.left_alone; shown = c.close-disk.ensures.shown; always = c.close-disk.ensures.always; now = c.close-disk.ensures.now; goes = c.close-disk.ensures.goes; calm = c.close-disk.ensures.calm })
     (AnswersOver Refusing question seen) c.answer_in-answer.result c.answer_in-answer.ensures.cause
     (serving_weaker g.D.Disk (AnswersIn Refusing mounted question) (AnswersOver Refusing question seen) c.answer_in-answer.result core c.answer_in-answer.new.core
     (λ answer answers. record { opened = Ok mounted; opens = is_opened; answers = answers }) serving))))
@@ -49,7 +49,7 @@ returns-in-Err-clause-served g c = λ tells files doubt calm.
     subst (λ d. Serve g.D.Disk files doubt (AnswersOver (MayRefuse c.refuse_opening.result (g.P.Patterns.refusals c.args.patterns) (g.P.Patterns.refusals c.in-Err.field-0.patterns)) (question_of c.args.question) (opened_files (g.D.Disk.seen c.args.disk))) c.refuse_opening.result c.args.disk d) (sym c.given_back-disk-in-Err.ensures)
     (refused_serve g.D.Disk c.args.disk c.in-Err.field-0.disk files doubt (g.P.Patterns.refusals c.args.patterns) (g.P.Patterns.refusals c.in-Err.field-0.patterns) (question_of c.args.question) c.in-Err.field-0.fault c.refuse_opening.result c.refuse_opening.ensures.told c.refuse_opening.ensures.answered c.refuse_opening.ensures.input
     (c.in-Err.ensures.any_moment tells files doubt calm) (c.in-Err.ensures.rests tells files doubt calm) (c.in-Err.ensures.shown tells files doubt calm) (c.in-Err.ensures.left_alone tells)
-    (c.in-Err.ensures.refused tells files doubt calm) (λ at is. c.in-Err.ensures.calm tells files doubt calm at (ap Some is)))
+    (c.in-Err.ensures.refused tells files doubt calm) (λ at is. c.in-Err.ensures.calm tells files doubt calm at (ap Some is)) (c.in-Err.ensures.calm_still tells files doubt calm))
 
 pub returns-in-Ok-clause-untouched : goal.returns-in-Ok-clause-untouched
 returns-in-Ok-clause-untouched g c = λ tells none nothing.

@@ -18,7 +18,7 @@ use Rattle.kdb_tool.specs.Serving.{MayRefuse, Serve, StoresNothing, Unserved}
 use Rattle.kdb_tool.specs.Untold.{AsksStoreWith, HasAsked}
 use Rattle.kdb_tool.proofs.BrokenLemmas.{told_of_barred, told_of_refused}
 use Rattle.kdb_tool.proofs.InputLemmas.{on_ok, takes_none}
-use Rattle.kdb_tool.proofs.ServeLemmas.{alone_unserved, handed_on, serve_unserved}
+use Rattle.kdb_tool.proofs.ServeLemmas.{alone_unserved, handed_calm, handed_on, serve_calm, serve_unserved}
 use Rattle.kdb_tool.proofs.work.carry_out.Goals as goal
 
 pub answer_question-requires : goal.answer_question-requires
@@ -162,3 +162,19 @@ returns-in-Ok-Imports-clause-input g c =
     let asked : request c.args.words.now ≡ Imports c.in-Ok-Imports.name c.in-Ok-Imports.kind = ap request (sym (ap texts_of c.deref.ensures.value ∙ c.in-Ok.ensures)) ∙ subst (λ (r : code.Request). IsSeenAs r (request (texts_of c.deref.result.now))) c.in-Ok-Imports.field-0-is c.in-Ok-Imports.ensures in
     subst (λ (r : Request). LeavesInput g.S.Source r (IsOk c.import.result.answer) c.args.input.now c.import.new.input) (sym asked)
     (record { front = c.import.ensures.front; all = λ answered bytes left. on_ok c.import.result.answer (TakesAll bytes (g.S.Source.left c.import.new.input)) answered (c.import.ensures.all bytes left) })
+
+pub returns-in-Ok-Asks-clause-calm : goal.returns-in-Ok-Asks-clause-calm
+returns-in-Ok-Asks-clause-calm g c = λ tells_disk files doubt calm still.
+    serve_calm g.D.Disk files doubt (AnswersOver (MayRefuse c.answer_question.result.answer (g.P.Patterns.refusals c.args.patterns) (g.P.Patterns.refusals c.answer_question.result.patterns)) (question_of c.in-Ok-Asks.question) (opened_files (g.D.Disk.seen c.args.disk))) c.answer_question.result.answer c.args.disk c.answer_question.result.disk (c.answer_question.ensures.served tells_disk files doubt calm) c.answer_question.ensures.cause still
+
+pub returns-in-Ok-Refuses-clause-calm : goal.returns-in-Ok-Refuses-clause-calm
+returns-in-Ok-Refuses-clause-calm g c = λ tells_disk files doubt calm still. handed_calm g.D.Disk c.args.disk c.without_store.result.disk files doubt c.without_store.ensures.disk calm
+
+pub returns-in-Ok-Bars-clause-calm : goal.returns-in-Ok-Bars-clause-calm
+returns-in-Ok-Bars-clause-calm g c = λ tells_disk files doubt calm still. handed_calm g.D.Disk c.args.disk c.without_store-in-Ok-Bars.result.disk files doubt c.without_store-in-Ok-Bars.ensures.disk calm
+
+pub returns-in_default-clause-calm : goal.returns-in_default-clause-calm
+returns-in_default-clause-calm g c = λ tells_disk files doubt calm still. handed_calm g.D.Disk c.args.disk c.args.disk files doubt refl calm
+
+pub returns-clause-calm : goal.returns-clause-calm
+returns-clause-calm g c = λ tells_disk files doubt calm still. handed_calm g.D.Disk c.args.disk c.args.disk files doubt refl calm
