@@ -1,7 +1,7 @@
 -- A calm disk is calm with the files that its opening leaves, and with a doubt that stands for no other files.
 use Rattle.std.proofs.Common.{◌≡◌, inl, inr, ℕ, true, false, cond, bytes_eq, List, [], ◌∷◌, map as over, Option, Some, None, refl, sym, ap, ◌∙◌}
 use Rattle.std.specs.Option.{option_map, unwrap_or}
-use Rattle.std.proofs.lemmas.Option.{same_Some}
+use Rattle.std.proofs.lemmas.Option.{none-some, same_Some}
 use Rattle.intent_journal.specs.Outcomes.{content_in, with_entry, SameFiles, IsEither}
 use Rattle.intent_journal.specs.States.{IsCalm}
 use Rattle.journal_codec.specs.declared.files.FileText.{FileText}
@@ -23,6 +23,14 @@ with-same files others entry same file not_own = ap (λ (bytes : List ℕ). unwr
 pub either-same : (files others : Image) (doubt : Option Entry) (o : Image) → SameFiles files others → IsEither files doubt o → IsEither others doubt o
 either-same files others doubt o same (inl is) = inl (λ file not_own. is file not_own ∙ same file not_own)
 either-same files others doubt o same (inr one) = inr (one.0, one.1, λ file not_own. one.2 file not_own ∙ with-same files others one.0 same file not_own)
+
+-- files that are one of two outcomes are so with nothing in doubt
+pub either_none : (files : Image) (doubt : Option Entry) (opened : Image) → IsEither files doubt opened → (o : Image) → IsEither opened None o → IsEither files doubt o
+either_none files doubt opened either o (inl same) = elim either as (λ x. IsEither files doubt o) [
+  | inl as_found ↦ inl (λ file not_own. same file not_own ∙ as_found file not_own)
+  | inr one ↦ inr (one.0, one.1, λ file not_own. same file not_own ∙ one.2 file not_own)
+]
+either_none files doubt opened either o (inr one) = absurd (none-some one.0 one.1)
 
 -- ---- the entry that takes another back
 

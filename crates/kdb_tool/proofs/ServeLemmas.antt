@@ -6,7 +6,9 @@ use Rattle.intent_journal.specs.Moments.{LeavesOnly}
 use Rattle.intent_journal.specs.Outcomes.{with_entry, SameFiles, HasOnly, IsEither, IsOutcome}
 use Rattle.intent_journal.specs.States.{IsCalm}
 use Rattle.intent_journal.specs.declared.states.State.TheVariants.{Doubt as IsDoubt}
+use Rattle.intent_journal.proofs.Calm.{calm_files, calm_kept}
 use Rattle.kdb_outside.proofs.Frames.{OnlyReads-none}
+use Rattle.std.proofs.lemmas.Option.{none-some}
 use Rattle.journal_codec.specs.Entry.{journal_name}
 use Rattle.journal_codec.specs.declared.files.FileText.{FileText}
 use Rattle.kdb_outside.specs.Crashes.{EveryImage}
@@ -31,7 +33,7 @@ use Rattle.kdb_tool.specs.Serving as serving
 use Rattle.kdb_tool.specs.Stops.{or_memory}
 use Rattle.kdb_tool.specs.declared.answers.Stop.{Stop}
 use Rattle.kdb_tool.specs.declared.answers.Stop.TheVariants as stops
-use Rattle.kdb_tool.proofs.CalmLemmas.{calm_as}
+use Rattle.kdb_tool.proofs.CalmLemmas.{calm_on}
 use Rattle.kdb_tool.proofs.CrashLemmas.{found, reached_none, reached_begun, reached_commit, left_found}
 
 -- an opened store stands for a run without a commit, on the files that the opening leaves and with a doubt that stands for no other files
@@ -39,6 +41,7 @@ pub record HasBegun {D : Type 0} (g : Ghosts D) (disk : D) (files : Image) (doub
   pub first : Option (List FileText)
   pub store : IsStore g journal.disk journal (new_run (opened_files (g.seen disk)) (g.faults disk) first)
   pub within : (o : Image) → IsEither (opened_files (g.seen disk)) first o → IsEither files doubt o
+  pub settled : (entry : List FileText) → open_entry (g.seen disk journal_name) ≡ Some entry → first ≡ None
 
 -- what an opening left of the disk
 pub record HasOpened {D P : Type 0} (g : Ghosts D) (disk : D) (files : Image) (doubt : Option (List FileText)) (core : Core D P) : Type 0 where
@@ -93,6 +96,13 @@ module _ {D P : Type 0} (g : Ghosts D) (disk end : D) (old new : Core D P) (read
 
 -- ---- on a calm disk
 
+-- a calm disk with nothing in doubt is opened with its files
+pub found_whole : {D : Type 0} (g : Ghosts D) (end : D) (files : Image) → g.tells end ≡ true → IsCalm (g.seen end) (g.may_leave end) files None → SameFiles (opened_files (g.seen end)) files
+found_whole g end files told calm = elim (calm_files (g.seen end) (g.may_leave end) files None calm (g.read_is_image end told)) as (λ x. SameFiles (opened_files (g.seen end)) files) [
+  | inl same ↦ same
+  | inr one ↦ absurd (none-some one.0 one.1)
+]
+
 module _ {D P : Type 0} (g : Ghosts D) (disk end : D) (files : Image) (doubt : Option (List FileText)) (old new : Core D P) (has_opened : HasOpened g disk files doubt old) (has_closed : HasClosed g new end) where
   abbrev opened : Image
   opened = opened_files (g.seen disk)
@@ -125,9 +135,36 @@ module _ {D P : Type 0} (g : Ghosts D) (disk end : D) (files : Image) (doubt : O
   whole : (P : Image → Type 0) → ((image : Image) → HasOnly (IsEither files doubt) image → P image) → (Q : Image → Type 0) → ((image : Image) → Q image → P image) → LeavesOnly g mid end Q → LeavesOnly g disk end P
   whole P from_found Q from_reached reached = only_both g disk mid end (HasOnly (IsEither files doubt)) Q P from_found from_reached has_opened.goes.moment has_opened.meanwhile reached
 
-  stays : (stored : Texts) → IsStore g mid new.journal (run_with first stored) → ¬ HasRisen (g.faults disk) (g.faults end) → StaysCalm g files doubt stored disk end
-  stays [] store still = calm_as (g.seen end) (g.may_leave end) opened files has_opened.begun.first doubt (has_closed.calm mid first store still) has_opened.begun.within
-  stays (text ∷ texts) store still = has_closed.calm mid (run_with first (text ∷ texts)) store still
+  -- where nothing was stored it finds what this opening left
+  found_none : IsUnwritten old new → g.tells disk ≡ true → g.tells end ≡ true → IsCalm (g.seen end) (g.may_leave end) opened has_opened.begun.first → SameFiles (opened_files (g.seen end)) opened
+  found_none kept telling told calm = by (open_entry (g.seen disk journal_name)) refl
+    where
+      by : (o : Option (List FileText)) → open_entry (g.seen disk journal_name) ≡ o → SameFiles (opened_files (g.seen end)) opened
+      by None is =
+          let reads = still_read g disk end old new (record { alone = has_opened.alone is; wrote = has_opened.wrote ∙ ap is_some is; state = has_opened.state }) has_closed.alone kept in
+          λ file not_own. ap (λ (seen : Image). opened_files seen file) (reads.same telling)
+      by (Some entry) is = found_whole g end opened told (subst (λ (d : Option (List FileText)). IsCalm (g.seen end) (g.may_leave end) opened d) (has_opened.begun.settled entry is) calm)
+
+  stays : (stored : Texts) → IsStore g mid new.journal (run_with first stored) → (stored ≡ [] → IsUnwritten old new) → ¬ HasRisen (g.faults disk) (g.faults end) → StaysCalm g files doubt stored disk end
+  stays [] store kept still =
+      let calm = has_closed.calm mid first store still in
+      let told : g.tells end ≡ true = has_closed.goes.tells ∙ store.rests.tells in
+      record {
+        rest = has_opened.begun.first;
+        calm = calm;
+        none = λ some. absurd (some refl);
+        within = λ none. has_opened.begun.within;
+        found = found_none (kept refl) (sym has_opened.goes.tells ∙ has_opened.begun.store.rests.tells) told calm;
+      }
+  stays (text ∷ texts) store kept still =
+      let calm = has_closed.calm mid (run_with first (text ∷ texts)) store still in
+      record {
+        rest = None;
+        calm = calm;
+        none = λ some. refl;
+        within = λ none. absurd cc;
+        found = found_whole g end (with_stored (text ∷ texts) opened) (has_closed.goes.tells ∙ store.rests.tells) calm;
+      }
 
   served : (Answered : Answer → Type 0) (report : Report) → Serves g Answered report old new → Served g files doubt Answered report disk end
   served Answered report serves =
@@ -144,7 +181,7 @@ module _ {D P : Type 0} (g : Ghosts D) (disk end : D) (files : Image) (doubt : O
             has_closed.shown mid (run_with first stored) store
             (λ rose. still (risen_since (g.faults disk) (g.faults new.journal.disk) (g.faults end) (faults_since stored store) rose)) file not_own
             ∙ files_are stored file not_own);
-        calm = stays stored store;
+        calm = stays stored store serves.kept;
       }
     where
       faults_since : (stored : Texts) → IsStore g mid new.journal (run_with first stored) → g.faults disk ≤ g.faults new.journal.disk
@@ -157,7 +194,8 @@ module _ {D P : Type 0} (g : Ghosts D) (disk end : D) (files : Image) (doubt : O
       record {
         crash = whole (HasOnly (IsEither files doubt)) (λ image only. only) (IsReached opened [] first.begun) (λ image. amid [] image) (has_closed.always mid first store);
         untouched = λ none. still_read g disk end old new (record { alone = has_opened.alone none; wrote = has_opened.wrote ∙ ap is_some none; state = has_opened.state }) has_closed.alone kept;
-        calm = stays [] store;
+        shown = λ still. Stored (has_closed.shown mid first store (λ rose. still (risen_since (g.faults disk) (g.faults new.journal.disk) (g.faults end) store.risen rose)));
+        calm = stays [] store (λ none. kept);
       }
 
   failing : (Answered : Answer → Type 0) → HasRisen (g.faults old.journal.disk) (g.faults new.journal.disk) → FailsToStore g Answered old new → serving.Unstored g files doubt Answered disk end
@@ -247,6 +285,25 @@ serve_calm g files doubt P (Err stops.ReadFault) before after s cause still = ([
 pub calm_only : {D : Type 0} (g : Ghosts D) (disk : D) (files : Image) (doubt : Option (List FileText)) → IsCalm (g.seen disk) (g.may_leave disk) files doubt → EveryImage (g.may_leave disk) (HasOnly (IsEither files doubt))
 calm_only g disk files doubt calm image is = record { not_broken = calm.not_broken (image journal_name) (is journal_name); each = λ outcome has. calm.outcomes image outcome is has }
 
+-- and stays so
+pub alone_calm : {D : Type 0} (g : Ghosts D) (disk : D) (files : Image) (doubt : Option (List FileText)) → g.tells disk ≡ true → IsCalm (g.seen disk) (g.may_leave disk) files doubt → StaysCalm g files doubt [] disk disk
+alone_calm g disk files doubt told calm =
+    let opened = opened_files (g.seen disk) in
+    let on = calm_on (g.seen disk) (g.may_leave disk) files doubt opened calm (calm_files (g.seen disk) (g.may_leave disk) files doubt calm (g.read_is_image disk told)) in
+    record { rest = on.first; calm = on.calm; none = λ some. absurd (some refl); within = λ none. on.within; found = λ file not_own. refl }
+
+-- also where it was only read
+pub read_calm : {D : Type 0} (g : Ghosts D) (disk end : D) (files : Image) (doubt : Option (List FileText)) → g.tells disk ≡ true → IsCalm (g.seen disk) (g.may_leave disk) files doubt → OnlyReads g disk end → StaysCalm g files doubt [] disk end
+read_calm g disk end files doubt told calm reads =
+    let stays = alone_calm g disk files doubt told calm in
+    record {
+      rest = stays.rest;
+      calm = calm_kept (g.seen disk) (g.seen end) (g.may_leave disk) (g.may_leave end) (opened_files (g.seen disk)) stays.rest (reads.same told) (reads.images told) stays.calm;
+      none = stays.none;
+      within = stays.within;
+      found = λ file not_own. ap (λ (seen : Image). opened_files seen file) (reads.same told);
+    }
+
 pub alone_served : {D : Type 0} (g : Ghosts D) (disk : D) (files : Image) (doubt : Option (List FileText)) (Answered : Answer → Type 0) (report : Report) → g.tells disk ≡ true → IsCalm (g.seen disk) (g.may_leave disk) files doubt → Answered (tells report) → Served g files doubt Answered report disk disk
 alone_served g disk files doubt Answered report told calm answers = record {
   answer = tells report;
@@ -255,21 +312,26 @@ alone_served g disk files doubt Answered report told calm answers = record {
   crash = only_now g disk (HasOnly (IsEither files doubt)) told (calm_only g disk files doubt calm);
   lasting = calm_only g disk files doubt calm;
   shown = λ still. Alone refl refl;
-  calm = λ still. calm;
+  calm = λ still. alone_calm g disk files doubt told calm;
 }
 
 pub alone_unserved : {D : Type 0} (g : Ghosts D) (disk : D) (files : Image) (doubt : Option (List FileText)) → g.tells disk ≡ true → IsCalm (g.seen disk) (g.may_leave disk) files doubt → Unserved g files doubt disk disk
-alone_unserved g disk files doubt told calm = record { crash = only_now g disk (HasOnly (IsEither files doubt)) told (calm_only g disk files doubt calm); untouched = λ none. OnlyReads-none g disk; calm = λ still. calm }
+alone_unserved g disk files doubt told calm = record {
+  crash = only_now g disk (HasOnly (IsEither files doubt)) told (calm_only g disk files doubt calm);
+  untouched = λ none. OnlyReads-none g disk;
+  shown = λ still. Alone refl refl;
+  calm = λ still. alone_calm g disk files doubt told calm;
+}
 
--- a disk that is handed on as it came stays calm
-pub handed_calm : {D : Type 0} (g : Ghosts D) (disk end : D) (files : Image) (doubt : Option (List FileText)) → end ≡ disk → IsCalm (g.seen disk) (g.may_leave disk) files doubt → (stored : Texts) × StaysCalm g files doubt stored disk end
-handed_calm g disk end files doubt still calm = ([], subst (λ d. IsCalm (g.seen d) (g.may_leave d) files doubt) (sym still) calm)
+-- and so is one that is handed on as it came
+pub handed_calm : {D : Type 0} (g : Ghosts D) (disk end : D) (files : Image) (doubt : Option (List FileText)) → end ≡ disk → g.tells disk ≡ true → IsCalm (g.seen disk) (g.may_leave disk) files doubt → (stored : Texts) × StaysCalm g files doubt stored disk end
+handed_calm g disk end files doubt still told calm = ([], subst (λ d. StaysCalm g files doubt [] disk d) (sym still) (alone_calm g disk files doubt told calm))
 
 -- ---- where the store isn't opened
 
 -- what is told of files that were read
 pub refused_served : {D : Type 0} (g : Ghosts D) (disk end : D) (files : Image) (doubt : Option (List FileText)) (Answered : Answer → Type 0) (report : Report) → LeavesOnly g disk end (HasOnly (IsEither files doubt)) → EveryImage (g.may_leave end) (HasOnly (IsEither files doubt))
-    → SameFiles (g.seen end) (opened_files (g.seen disk)) → (¬ HasRisen (g.faults disk) (g.faults end) → IsCalm (g.seen end) (g.may_leave end) files doubt) → Answered (tells report) → Served g files doubt Answered report disk end
+    → SameFiles (g.seen end) (opened_files (g.seen disk)) → (¬ HasRisen (g.faults disk) (g.faults end) → StaysCalm g files doubt [] disk end) → Answered (tells report) → Served g files doubt Answered report disk end
 refused_served g disk end files doubt Answered report meanwhile now shown calm answers = record {
   answer = tells report;
   answers = answers;

@@ -1,6 +1,6 @@
 -- What a crash may leave of the files of a store while a command goes on, and behind it. (This project's own. After crash refinement: a
 -- crash leaves what an acknowledged command stored whole, and what an unfinished one stores whole or absent.)
-use Rattle.std.specs.Prelude.{◌≡◌, ◌⊎◌, List, [], ◌∷◌, Option, Some, None}
+use Rattle.std.specs.Prelude.{◌≡◌, ◌≢◌, ◌⊎◌, List, [], ◌∷◌, Option, Some, None}
 use Rattle.intent_journal.specs.BadJournals.{opened_files}
 use Rattle.intent_journal.specs.Journal.{JournalValue}
 use Rattle.intent_journal.specs.Outcomes.{SameFiles, HasOnly, IsEither, IsOutcome}
@@ -29,11 +29,14 @@ pub data Shows (stored : Texts) (opened before after : Image) : Type 0 where
   Alone : stored ≡ [] → after ≡ before → Shows stored opened before after
   Stored : SameFiles after (with_stored stored opened) → Shows stored opened before after
 
--- behind a command whose disk didn't fail it is calm: as it was found where nothing was stored, and else with the files that were stored and nothing in
--- doubt
-abbrev pub StaysCalm : {D : Type 0} → Ghosts D → Image → Option (List FileText) → Texts → D → D → Type 0
-StaysCalm g files doubt [] disk end = IsCalm (g.seen end) (g.may_leave end) files doubt
-StaysCalm g files doubt (text ∷ texts) disk end = IsCalm (g.seen end) (g.may_leave end) (with_stored (text ∷ texts) (opened_files (g.seen disk))) None
+-- behind a command whose disk didn't fail it is calm, with the files that the command left: what is in doubt then was so before, and nothing is where
+-- something was stored; and the next opening finds these files
+pub record StaysCalm {D : Type 0} (g : Ghosts D) (files : Image) (doubt : Option (List FileText)) (stored : Texts) (disk end : D) : Type 0 where
+  pub rest : Option (List FileText)
+  pub calm : IsCalm (g.seen end) (g.may_leave end) (with_stored stored (opened_files (g.seen disk))) rest
+  pub none : stored ≢ [] → rest ≡ None
+  pub within : stored ≡ [] → (o : Image) → IsEither (opened_files (g.seen disk)) rest o → IsEither files doubt o
+  pub found : SameFiles (opened_files (g.seen end)) (with_stored stored (opened_files (g.seen disk)))
 
 -- a disk failed, and no commit was made: it was left with the files of the opening, and at most one entry in doubt, in a journal that only the close
 -- behind it may have touched, so that a read gives these files where the disk didn't fail once more

@@ -132,10 +132,11 @@ pub record Served {D : Type 0} (g : Ghosts D) (files : Image) (doubt : Option (L
   pub calm : ¬ HasRisen (g.faults before) (g.faults after) → StaysCalm g files doubt answer.stored before after
 
 -- nothing was stored: a crash amid the call leaves the files as they were found, and where no entry was open the disk was only read; where it didn't fail
--- it is calm
+-- it shows the files of the opening, or what it showed before, and is calm
 pub record Unserved {D : Type 0} (g : Ghosts D) (files : Image) (doubt : Option (List FileText)) (before after : D) : Type 0 where
   pub crash : LeavesOnly g before after (HasOnly (IsEither files doubt))
   pub untouched : open_entry (g.seen before journal_name) ≡ None → OnlyReads g before after
+  pub shown : ¬ HasRisen (g.faults before) (g.faults after) → Shows [] (opened_files (g.seen before)) (g.seen before) (g.seen after)
   pub calm : ¬ HasRisen (g.faults before) (g.faults after) → StaysCalm g files doubt [] before after
 
 -- the disk failed before what an answer stores was committed

@@ -54,8 +54,8 @@ pub fn run<S: Source, K: Sink, E: Sink, D: Disk + Send, P: Patterns + Drop + Sen
         → (given : List ℕ) → IsInput (request words.now) (S.left input.old) given
         → Ran D.Disk files doubt (Answers (HasRisen (P.refusals patterns) (P.refusals result.2)) words.now given (opened_files (D.seen disk))) (LosesInput (FailsToRead (request words.now) (S.faults input.old) (S.faults input.new)) disk result.1 patterns result.2) disk result.1 result.0 (change_of K.Sink out.old out.new) (change_of E.Sink err.old err.new) }
 
-    // Without a fault of the disk it is calm behind the call, for the next one: with the files that the answer stores and nothing in doubt, or as it was found
-    // where nothing was stored.
+    // Without a fault of the disk it is calm behind the call, for the next one, with the files that the answer leaves and nothing in doubt that wasn't
+    // before. Where an answer was worked out, `ran` says the same of what that answer stores.
     ensures calm { D.tells disk ≡ true → (files : Image) (doubt : Option (List Item)) → IsCalm (D.seen disk) (D.may_leave disk) files doubt → ¬ HasRisen (D.faults disk) (D.faults result.1) → (stored : Texts) × StaysCalm D.Disk files doubt stored disk result.1 }
 
     // Words that ask for nothing decide alone, whatever the disk does, and leave the disk and the matcher alone, and so does an import whose input holds no

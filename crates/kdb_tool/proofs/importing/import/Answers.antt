@@ -105,7 +105,7 @@ returns-in-Ok-Keys-clause-calm g c = λ tells files doubt calm still.
     serve_calm g.D.Disk files doubt (AnswersOver (MayRefuse c.answer_question.result.answer (g.P.Patterns.refusals c.args.patterns) (g.P.Patterns.refusals c.answer_question.result.patterns)) (On c.args.name (Replace c.in-Ok-Keys.keys)) (opened_files (g.D.Disk.seen c.args.disk))) c.answer_question.result.answer c.args.disk c.answer_question.result.disk (c.answer_question.ensures.served tells files doubt calm) c.answer_question.ensures.cause still
 
 pub returns-in-Ok-Bad-clause-calm : goal.returns-in-Ok-Bad-clause-calm
-returns-in-Ok-Bad-clause-calm g c = λ tells files doubt calm still. handed_calm g.D.Disk c.args.disk c.without_store.result.disk files doubt c.without_store.ensures.disk calm
+returns-in-Ok-Bad-clause-calm g c = λ tells files doubt calm still. handed_calm g.D.Disk c.args.disk c.without_store.result.disk files doubt c.without_store.ensures.disk tells calm
 
 pub returns-in-Err-clause-calm : goal.returns-in-Err-clause-calm
-returns-in-Err-clause-calm g c = λ tells files doubt calm still. handed_calm g.D.Disk c.args.disk c.args.disk files doubt refl calm
+returns-in-Err-clause-calm g c = λ tells files doubt calm still. handed_calm g.D.Disk c.args.disk c.args.disk files doubt refl tells calm

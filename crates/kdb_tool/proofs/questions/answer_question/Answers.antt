@@ -8,7 +8,7 @@ use Rattle.tool_words.specs.RequestView.{question_of}
 use Rattle.kdb_tool.specs.Answers.{AnswersIn, AnswersOver}
 use Rattle.kdb_tool.specs.Serving.{MayRefuse, Serve}
 use Rattle.kdb_tool.proofs.BrokenLemmas.{bad-not_open, broken_told}
-use Rattle.kdb_tool.proofs.OpeningLemmas.{has_begun, refused_serve}
+use Rattle.kdb_tool.proofs.OpeningLemmas.{has_begun, leaves_calm, refused_serve}
 use Rattle.kdb_tool.proofs.ServeLemmas.{serve, serving_untouched, serving_unstored, serving_weaker}
 use Rattle.kdb_tool.proofs.questions.answer_question.Goals as goal
 
@@ -49,7 +49,8 @@ returns-in-Err-clause-served g c = λ tells files doubt calm.
     subst (λ d. Serve g.D.Disk files doubt (AnswersOver (MayRefuse c.refuse_opening.result (g.P.Patterns.refusals c.args.patterns) (g.P.Patterns.refusals c.in-Err.field-0.patterns)) (question_of c.args.question) (opened_files (g.D.Disk.seen c.args.disk))) c.refuse_opening.result c.args.disk d) (sym c.given_back-disk-in-Err.ensures)
     (refused_serve g.D.Disk c.args.disk c.in-Err.field-0.disk files doubt (g.P.Patterns.refusals c.args.patterns) (g.P.Patterns.refusals c.in-Err.field-0.patterns) (question_of c.args.question) c.in-Err.field-0.fault c.refuse_opening.result c.refuse_opening.ensures.told c.refuse_opening.ensures.answered c.refuse_opening.ensures.input
     (c.in-Err.ensures.any_moment tells files doubt calm) (c.in-Err.ensures.rests tells files doubt calm) (c.in-Err.ensures.shown tells files doubt calm) (c.in-Err.ensures.left_alone tells)
-    (c.in-Err.ensures.refused tells files doubt calm) (λ at is. c.in-Err.ensures.calm tells files doubt calm at (ap Some is)) (c.in-Err.ensures.calm_still tells files doubt calm))
+    (c.in-Err.ensures.refused tells files doubt calm) (λ at is. c.in-Err.ensures.calm tells files doubt calm at (ap Some is))
+    (λ still. leaves_calm g.D.Disk c.args.disk c.in-Err.field-0.disk files doubt tells c.in-Err.ensures.goes calm (c.in-Err.ensures.left_alone tells) (c.in-Err.ensures.left tells files doubt calm still)))
 
 pub returns-in-Ok-clause-untouched : goal.returns-in-Ok-clause-untouched
 returns-in-Ok-clause-untouched g c = λ tells none nothing.

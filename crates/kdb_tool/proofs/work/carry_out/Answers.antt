@@ -168,13 +168,13 @@ returns-in-Ok-Asks-clause-calm g c = λ tells_disk files doubt calm still.
     serve_calm g.D.Disk files doubt (AnswersOver (MayRefuse c.answer_question.result.answer (g.P.Patterns.refusals c.args.patterns) (g.P.Patterns.refusals c.answer_question.result.patterns)) (question_of c.in-Ok-Asks.question) (opened_files (g.D.Disk.seen c.args.disk))) c.answer_question.result.answer c.args.disk c.answer_question.result.disk (c.answer_question.ensures.served tells_disk files doubt calm) c.answer_question.ensures.cause still
 
 pub returns-in-Ok-Refuses-clause-calm : goal.returns-in-Ok-Refuses-clause-calm
-returns-in-Ok-Refuses-clause-calm g c = λ tells_disk files doubt calm still. handed_calm g.D.Disk c.args.disk c.without_store.result.disk files doubt c.without_store.ensures.disk calm
+returns-in-Ok-Refuses-clause-calm g c = λ tells_disk files doubt calm still. handed_calm g.D.Disk c.args.disk c.without_store.result.disk files doubt c.without_store.ensures.disk tells_disk calm
 
 pub returns-in-Ok-Bars-clause-calm : goal.returns-in-Ok-Bars-clause-calm
-returns-in-Ok-Bars-clause-calm g c = λ tells_disk files doubt calm still. handed_calm g.D.Disk c.args.disk c.without_store-in-Ok-Bars.result.disk files doubt c.without_store-in-Ok-Bars.ensures.disk calm
+returns-in-Ok-Bars-clause-calm g c = λ tells_disk files doubt calm still. handed_calm g.D.Disk c.args.disk c.without_store-in-Ok-Bars.result.disk files doubt c.without_store-in-Ok-Bars.ensures.disk tells_disk calm
 
 pub returns-in_default-clause-calm : goal.returns-in_default-clause-calm
-returns-in_default-clause-calm g c = λ tells_disk files doubt calm still. handed_calm g.D.Disk c.args.disk c.args.disk files doubt refl calm
+returns-in_default-clause-calm g c = λ tells_disk files doubt calm still. handed_calm g.D.Disk c.args.disk c.args.disk files doubt refl tells_disk calm
 
 pub returns-clause-calm : goal.returns-clause-calm
-returns-clause-calm g c = λ tells_disk files doubt calm still. handed_calm g.D.Disk c.args.disk c.args.disk files doubt refl calm
+returns-clause-calm g c = λ tells_disk files doubt calm still. handed_calm g.D.Disk c.args.disk c.args.disk files doubt refl tells_disk calm
