@@ -16,3 +16,4 @@ pub mod BrokenLemmas
 pub mod RunLemmas
 pub mod TakeLemmas
 pub mod LegalLemmas
+pub mod RunsLemmas

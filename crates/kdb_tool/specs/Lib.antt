@@ -15,3 +15,4 @@ pub mod Delivery
 pub mod Stops
 pub mod Refusing
 pub mod OneCommit
+pub mod Runs

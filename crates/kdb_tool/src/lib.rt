@@ -13,10 +13,12 @@ mod delivery;
 mod importing;
 mod questions;
 mod reading;
+mod runs;
 mod setting;
 mod tool;
 mod work;
 
+pub use runs::{one_run, runs_have_one_history};
 pub use tool::run;
 pub use tool_commands::Status;
 
