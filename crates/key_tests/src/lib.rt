@@ -5,8 +5,6 @@
 #[cfg(test)]
 mod chunked_maps;
 #[cfg(test)]
-mod key_lists;
-#[cfg(test)]
 mod key_sets;
 #[cfg(test)]
 mod lists;

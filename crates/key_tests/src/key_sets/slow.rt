@@ -1,6 +1,6 @@
 //! The same calls over a list that is scanned, and both kinds run side by side.
 
-use super::{entry, name};
+use super::{entry_with, name};
 use key_meta::Memory;
 use key_name::KeyName;
 use key_set::{Entry, KeySet};
@@ -52,18 +52,30 @@ impl SlowSet {
         Ok(found)
     }
 
-    fn cut(&mut self, at: &KeyName) -> Result<usize, Memory> {
+    /// Takes out the keys at or below a name.
+    fn cut(&mut self, at: &KeyName) -> Result<Vec<(KeyName, Entry)>, Memory> {
+        let mut taken = Vec::new(self.alloc);
         let mut kept = Vec::new(self.alloc);
-        let before = self.keys.len();
         for key in mem::replace(&mut self.keys, Vec::new(self.alloc)) {
-            if !key.0.is_below_or_same(at) {
+            if key.0.is_below_or_same(at) {
+                taken.push(key)?;
+            } else {
                 kept.push(key)?;
             }
         }
-        let taken = before.saturating_sub(kept.len());
         self.keys = kept;
         Ok(taken)
     }
+}
+
+/// A set has these keys, each with its entry, and no others.
+fn has_just(set: &KeySet, keys: &[(KeyName, Entry)]) -> bool {
+    for key in keys {
+        if set.lookup(&key.0) != Some(&key.1) {
+            return false;
+        }
+    }
+    set.len() == keys.len()
 }
 
 const NAMES: [&str; 8] = [
@@ -76,10 +88,6 @@ const NAMES: [&str; 8] = [
     "/a",
     "user:/b",
 ];
-
-fn value_of(entry: Option<&Entry>) -> Option<&str> {
-    entry.map(|e| e.value.as_str())
-}
 
 /// The two sets, which get the same calls.
 #[derive(Drop)]
@@ -101,36 +109,48 @@ impl Pair {
         match kind {
             0 => self.cut(at),
             1 => self.remove(at),
-            2 => Ok(value_of(self.fast.lookup(at)) == value_of(self.slow.lookup(at))),
+            2 => Ok(self.fast.lookup(at) == self.slow.lookup(at)),
             _ => self.append(at, step),
         }
     }
 
+    /// A copy of what is below has the keys that are cut then.
     fn cut(&mut self, at: &KeyName) -> Result<bool, Memory> {
+        let copied = self.fast.below(at)?;
         let taken = self.fast.cut(at)?;
-        Ok(taken.len() == self.slow.cut(at)?)
+        let also = self.slow.cut(at)?;
+        Ok(copied == taken && has_just(&taken, &also))
     }
 
     fn remove(&mut self, at: &KeyName) -> Result<bool, Memory> {
         let gone = self.fast.remove(at)?;
-        let also = self.slow.remove(at)?;
-        Ok(value_of(gone.as_ref()) == value_of(also.as_ref()))
+        Ok(gone == self.slow.remove(at)?)
     }
 
+    /// Each third key has a metadata.
     fn append(&mut self, at: &KeyName, step: u32) -> Result<bool, Memory> {
         let value = format!(in self.slow.alloc; "{step}")?;
-        let former = self.append_to_fast(at, &value)?;
-        let also = self.append_to_slow(at, &value)?;
-        Ok(value_of(former.as_ref()) == value_of(also.as_ref()))
+        let former = self.append_to_fast(at, &value, step % 3 == 0)?;
+        Ok(former == self.append_to_slow(at, &value, step % 3 == 0)?)
     }
 
-    fn append_to_fast(&mut self, at: &KeyName, value: &str) -> Result<Option<Entry>, Memory> {
-        let held = entry(self.slow.alloc, value)?;
+    fn append_to_fast(
+        &mut self,
+        at: &KeyName,
+        value: &str,
+        has_meta: bool,
+    ) -> Result<Option<Entry>, Memory> {
+        let held = entry_with(self.slow.alloc, value, has_meta)?;
         self.fast.append(at.copy()?, held)
     }
 
-    fn append_to_slow(&mut self, at: &KeyName, value: &str) -> Result<Option<Entry>, Memory> {
-        let held = entry(self.slow.alloc, value)?;
+    fn append_to_slow(
+        &mut self,
+        at: &KeyName,
+        value: &str,
+        has_meta: bool,
+    ) -> Result<Option<Entry>, Memory> {
+        let held = entry_with(self.slow.alloc, value, has_meta)?;
         self.slow.append(at.copy()?, held)
     }
 
@@ -139,7 +159,7 @@ impl Pair {
         let text = NAMES[(random >> 16) as usize % NAMES.len()];
         let at = name(self.slow.alloc, text)?;
         let same = self.call((random >> 24) % 8, &at, step)?;
-        Ok(same && self.fast.len() == self.slow.keys.len())
+        Ok(same && has_just(&self.fast, &self.slow.keys))
     }
 }
 

@@ -1,3 +1,0 @@
-pub mod FoundLemmas
-pub mod MadeLemmas
-pub mod ListLemmas
