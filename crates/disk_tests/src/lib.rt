@@ -2,7 +2,6 @@
 //! Calls of a disk in memory, names of files and bodies of entries are cases of `kdb_cases`.
 #![tactic(auto)]
 
-mod crashes;
 #[cfg(test)]
 mod file_names;
 #[cfg(test)]
@@ -19,5 +18,3 @@ mod readers;
 mod store_runs;
 #[cfg(test)]
 mod writers;
-
-pub use crashes::{Ended, two_commits};

@@ -2,7 +2,6 @@
 ghost use Rattle.std.specs.Prelude.{IfOk};
 ghost use Rattle.journal_codec.specs.Entry.{IsEntry};
 
-use crate::{Ended, two_commits};
 use backend_files::FileRead;
 use disk_memory::MemDisk;
 use intent_journal::{Journal, State};
@@ -37,12 +36,31 @@ fn empty_disk(alloc: Global, failing: Vec<u64>) -> Result<MemDisk, Fail> {
     Ok(MemDisk::new(alloc, Vec::new(alloc), failing, None)?)
 }
 
-/// Both entries on an empty disk whose call with this number fails.
-fn ended(alloc: Global, failed: u64) -> Result<Ended<MemDisk>, Fail> {
-    let first = entry(alloc, FIRST)?;
-    let second = entry(alloc, SECOND)?;
+/// Which of both entries were acknowledged, and the disk behind them.
+#[derive(Drop)]
+struct Ended {
+    one: bool,
+    two: bool,
+    disk: MemDisk,
+}
+
+/// Commits both entries on an empty disk whose call with this number fails.
+fn commit_both(alloc: Global, failed: u64) -> Result<Ended, Fail> {
     let disk = empty_disk(alloc, vec![in alloc; failed]?)?;
-    Ok(two_commits(alloc, disk, first, second))
+    match open(alloc, disk) {
+        Ok(journal) => {
+            let mut journal = journal;
+            let one = committed(alloc, &mut journal, FIRST)?.is_ok();
+            let two = committed(alloc, &mut journal, SECOND)?.is_ok();
+            let disk = close(journal);
+            Ok(Ended { one, two, disk })
+        }
+        Err(refused) => Ok(Ended {
+            one: false,
+            two: false,
+            disk: refused.disk,
+        }),
+    }
 }
 
 /// Whether what is told of both entries fits the call that failed. The first call is the opening's; the seventh syncs the open
@@ -68,7 +86,7 @@ fn bytes_behind(alloc: Global, journal: Journal<MemDisk>, text: &str) -> Result<
 
 /// Whether what is told fits the call that failed, and what was told stored is there after a crash.
 fn fits(alloc: Global, failed: u64, choice: u64) -> Result<bool, Fail> {
-    let Ended { one, two, disk } = ended(alloc, failed)?;
+    let Ended { one, two, disk } = commit_both(alloc, failed)?;
     let left = bytes_again(alloc, disk.crash(choice)?, "a.ecf")?;
     Ok(is_told(failed, one, two) && (!two || left.as_slice() == b"22".as_slice()))
 }
