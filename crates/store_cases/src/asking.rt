@@ -64,6 +64,24 @@ pub fn put(alloc: Global, keys: &mut KeySet, text: &str) -> Result<bool, Memory>
     put_entry(alloc, keys, name, plain_entry(alloc, value)?)
 }
 
+/// Puts keys with their values, and their metadata, each spelled as `NAME=VALUE` or `NAME#META=TEXT`.
+pub fn put_all(alloc: Global, keys: &mut KeySet, text: &str) -> Result<bool, Memory> {
+    for word in text.split(' ') {
+        if !word.is_empty() && !put_word(alloc, keys, word)? {
+            return Ok(false);
+        }
+    }
+    Ok(true)
+}
+
+fn put_word(alloc: Global, keys: &mut KeySet, word: &str) -> Result<bool, Memory> {
+    let (name, value) = word.split_once('=').unwrap_or((word, ""));
+    match name.split_once('#') {
+        Some((name, meta)) => put_meta_of(alloc, keys, name, meta, value),
+        None => put_entry(alloc, keys, name, plain_entry(alloc, value)?),
+    }
+}
+
 /// Puts so many keys with one value, whose names end with the digits of their numbers, from 00001 on.
 pub fn put_many(alloc: Global, keys: &mut KeySet, text: &str) -> Result<bool, Memory> {
     let (count, rest) = number_of(text);
@@ -81,6 +99,16 @@ pub fn put_many(alloc: Global, keys: &mut KeySet, text: &str) -> Result<bool, Me
 pub fn put_meta(alloc: Global, keys: &mut KeySet, text: &str) -> Result<bool, Memory> {
     let (name, rest) = text.split_once(' ').unwrap_or((text, ""));
     let (word, value) = rest.split_once(' ').unwrap_or((rest, ""));
+    put_meta_of(alloc, keys, name, word, value)
+}
+
+fn put_meta_of(
+    alloc: Global,
+    keys: &mut KeySet,
+    name: &str,
+    word: &str,
+    value: &str,
+) -> Result<bool, Memory> {
     if word.is_empty() || word.len() > LONGEST_META_NAME {
         return Ok(false);
     }

@@ -1,7 +1,9 @@
 //! A case is a line: a word that says what is done, and what it is done with.
 
 use crate::answers::lines_of;
-use crate::asking::{event_of, put, put_many, put_meta};
+use crate::asking::{event_of, put, put_all, put_many, put_meta};
+use crate::fronts::fronts_of;
+use crate::showing::push_bytes;
 use crate::spelling::spelled_out;
 use crate::starts::Start;
 use crate::stops::{faults_of, recovered, stops_of};
@@ -43,12 +45,12 @@ impl Cases {
         match word {
             "" | "#" => {}
             "disk" => *self = Cases::new(self.alloc),
+            "again" => self.begin_again(),
             "file" => self.add_file(rest)?,
             "fail" => self.start.failing = self.numbers(rest)?,
             "refuse" => self.start.refusing = self.numbers(rest)?,
             "stop" => self.start.stop_after = rest.parse().ok(),
-            "keys" => self.keys = KeySet::new(self.alloc),
-            "put" | "many" | "meta" => return self.put(word, rest),
+            "keys" | "put" | "many" | "meta" => return self.put(word, rest),
             "get" | "prepare" | "commit" => return self.ask(word, rest),
             _ => return self.look(word, rest),
         }
@@ -61,9 +63,21 @@ impl Cases {
             "crash" => self.crash(rest.parse().unwrap_or(0)),
             "show" => self.show(rest),
             "calls" => self.calls(),
+            "fronts" => self.fronts(rest.parse().unwrap_or(0)),
             "stops" | "faults" | "recover" => self.tried(word, rest.parse().unwrap_or(0)),
             _ => String::from_str(self.alloc, "  no such case\n"),
         }
+    }
+
+    /// A new case over the files of the last one, whose calls all go through.
+    fn begin_again(&mut self) {
+        self.start.failing = Vec::new(self.alloc);
+        self.start.refusing = Vec::new(self.alloc);
+        self.start.stop_after = None;
+        self.quiet = None;
+        self.left = None;
+        self.keys = KeySet::new(self.alloc);
+        self.events = Vec::new(self.alloc);
     }
 
     /// Adds a file, whose lines are parted by `|n`.
@@ -97,6 +111,10 @@ impl Cases {
 
     fn put(&mut self, word: &str, rest: &str) -> Result<String, Memory> {
         let named = match word {
+            "keys" => {
+                self.keys = KeySet::new(self.alloc);
+                put_all(self.alloc, &mut self.keys, rest)?
+            }
             "many" => put_many(self.alloc, &mut self.keys, rest)?,
             "meta" => put_meta(self.alloc, &mut self.keys, rest)?,
             _ => put(self.alloc, &mut self.keys, rest)?,
@@ -147,6 +165,11 @@ impl Cases {
         }
     }
 
+    /// The events, played for each front of them. They stay.
+    fn fronts(&mut self, choice: u64) -> Result<String, Memory> {
+        fronts_of(self.alloc, &self.start, &self.events, choice)
+    }
+
     fn crash(&mut self, choice: u64) -> Result<String, Memory> {
         match self.left.take() {
             Some(left) => {
@@ -177,23 +200,4 @@ impl Cases {
             None => String::from_str(self.alloc, "  no disk\n"),
         }
     }
-}
-
-/// Bytes on one line: letters as they are, a line feed as `|n`, and any other byte by its digits.
-fn push_bytes(alloc: Global, shown: &mut String, bytes: &[u8]) -> Result<(), Memory> {
-    if bytes.len() > 400 {
-        let count = bytes.len();
-        return shown.push_str(format!(in alloc; "{count} bytes")?.as_str());
-    }
-    if bytes.is_empty() {
-        return shown.push_str("nothing");
-    }
-    for byte in bytes {
-        match byte {
-            b'\n' => shown.push_str("|n")?,
-            b' '..=b'~' => shown.push(*byte as char)?,
-            _ => shown.push_str(format!(in alloc; "|x{byte:02x}")?.as_str())?,
-        }
-    }
-    Ok(())
 }

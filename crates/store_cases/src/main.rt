@@ -4,12 +4,12 @@
 mod answers;
 mod asking;
 mod cases;
+mod fronts;
+mod showing;
 mod spelling;
 mod starts;
 mod stops;
 mod stores;
-#[cfg(test)]
-mod tests;
 
 use cases::Cases;
 use std::{env, fs, io};
