@@ -1,15 +1,20 @@
 #!/usr/bin/env python3
-"""A slow store, which has no code in common with the tool's: it keeps the history alone, as the mounts that each commit touches and its changes, and
-works out anew from it at each event what a handle has seen, what is wanted, what blocks, and which key would break the range that a key of `spec:` gives
-it. Which mount owns a name and which mounts a parent involves are tables here, and the text of a file is put together by hand.
+"""A slow store, which has no code in common with the tool's.
 
-    bench/slow_store.py lists              writes the lists of events that a fixed rule makes up: crates/store_cases/data/lists.txt
-    bench/slow_store.py answers            prints these lists with what is wanted of each, as far as no call of the disk fails
-    bench/slow_store.py check [PRINTED]    looks at what the program printed of the lists (crates/store_cases/stdout without a name), line by line
+It keeps the history alone, as the mounts that each commit touches and its changes, and works out anew from it at each
+event what a handle has seen, what is wanted, what blocks, and which key would break the range that a key of `spec:`
+gives it. Which mount owns a name and which mounts a parent involves are tables here, and the text of a file is put
+together by hand.
 
-Where calls of the disk fail, the slow store believes a printed failure of the disk where the set is a commit; what the files hold behind a crash is then
-the outcome of the history, or of it with one set more that failed since the last commit. So `stdout` is made anew by `lists`, a run of the program, and
-`check` on what it printed. Not part of the gate.
+    bench/slow_store.py lists      writes the lists of events that a fixed rule makes up: store_cases/data/lists.txt
+    bench/slow_store.py answers    prints these lists with what is wanted of each, as far as no call of the disk fails
+    bench/slow_store.py check [PRINTED]
+        looks, line by line, at what the program printed of the lists (store_cases/stdout without a name)
+
+Where calls of the disk fail, the slow store believes a printed failure of the disk where the set is a commit; what the
+files hold behind a crash is then the outcome of the history, or of it with one set more that failed since the last
+commit. So `stdout` is made anew by `lists`, a run of the program in store_cases/data, and `check` on what it printed.
+Not part of the gate.
 """
 import collections
 import os
@@ -29,8 +34,8 @@ MOUNTS = [
     ("system:/", "system.ecf"),
     ("system:/elektra", "elektra.ecf"),
 ]
-# some names in their order, each with the mount that owns it and how its file names it; the first one specifies the path /a, by a range, and the last
-# one says that user:/sw is a mount
+# some names in their order, each with the mount that owns it and how its file names it; the first one specifies the
+# path /a, by a range, and the last one says that user:/sw is a mount
 KEYS = [
     ("spec:/a", 0, "a"),
     ("user:/a", 2, "a"),
@@ -55,7 +60,8 @@ PARENTS = [
     ("system:/a", (4,)),
     ("/sw", (0, 1, 3, 4)),
 ]
-# a record that user.ecf keeps for later, since another mount owns its name; what the files hold at first, and the values of all names then
+# a record that user.ecf keeps for later, since another mount owns its name; what the files hold at first, and the
+# values of all names then
 KEPT = "$key string 4 1\nsw/x\nh\n"
 FIRST_TEXTS = {
     2: "kdbOpen 2\n$key string 1 1\na\n1\n" + KEPT + "$end\n",
@@ -68,7 +74,10 @@ Set = collections.namedtuple("Set", "handle fronts parent values")
 
 
 class Store:
-    """The history, what each handle has seen of each mount, the sets that are held, and those of which the disk may have kept one though it failed."""
+    """The history, what each handle has seen of each mount, and the sets that are held.
+
+    `in_doubt` are those of which the disk may have kept one, though it failed.
+    """
 
     def __init__(self, handles, places):
         self.history, self.in_doubt = [], []
@@ -95,7 +104,8 @@ class Store:
         values, mounts = self.present(), PARENTS[parent][1]
         for mount in mounts:
             self.fronts[handle][mount] = len(self.history)
-        shown = [f" {name}={value}" for (name, owner, _), value in zip(KEYS, values) if value is not None and owner in mounts]
+        there = [(key, value) for key, value in zip(KEYS, values) if value is not None and key[1] in mounts]
+        shown = [f" {key[0]}={value}" for key, value in there]
         return f"got {len(self.history)} {len(shown)}{''.join(shown)}"
 
     def prepare(self, handle, number, parent, values, _):
@@ -145,11 +155,12 @@ class Store:
         changes = []
         for mount in mounts:
             seen = self.values(held.fronts[mount])
-            changes += [(k, held.values[k]) for k, (_, owner, _) in enumerate(KEYS) if owner == mount and held.values[k] != seen[k]]
+            own = [k for k, (_, owner, _) in enumerate(KEYS) if owner == mount]
+            changes += [(k, held.values[k]) for k in own if held.values[k] != seen[k]]
         return Commit([m for m in mounts if any(KEYS[k][1] == m for k, _ in changes)], changes)
 
     def broken(self, commit):
-        """The first key of a touched mount that would lie outside the range which the specification gives it then, and its value."""
+        """The first key of a touched mount that would lie outside the range which it is given then, and its value."""
         values = self.present()
         for key, value in commit.changes:
             values[key] = value
@@ -166,7 +177,8 @@ class Store:
         values = self.present()
         for key, value in [] if doubt is None else doubt.changes:
             values[key] = value
-        return [dump_of(values, m) if any(m in c.touched for c in commits) else FIRST_TEXTS.get(m, "") for m in range(len(MOUNTS))]
+        touched = {mount for commit in commits for mount in commit.touched}
+        return [dump_of(values, m) if m in touched else FIRST_TEXTS.get(m, "") for m in range(len(MOUNTS))]
 
     def outcomes(self):
         return [self.texts()] + [self.texts(doubt) for doubt in self.in_doubt]
@@ -195,8 +207,11 @@ class Numbers:
 
 
 def list_of(numbers):
-    """A list of events by up to three handles, over four places. Most handles get everything first, and half of the lists begin with a commit of the
-    specification. Most sets are of the present keys, with up to three of them changed, and are committed at once."""
+    """A list of events by up to three handles, over four places.
+
+    Most handles get everything first, and half of the lists begin with a commit of the specification. Most sets are of
+    the present keys, with up to three of them changed, and are committed at once.
+    """
     store, events = Store(3, 4), []
 
     def add(event):
@@ -376,7 +391,8 @@ def check(printed):
             at = end
     if lines[at:] != [""]:
         raise Wrong(f"{lines[at]!r} stands behind the lists")
-    return f"{LISTS} lists are as the slow store has them: " + ", ".join(f"{word.strip(':')} {n}" for word, n in counts.most_common())
+    told = ", ".join(f"{word.strip(':')} {count}" for word, count in counts.most_common())
+    return f"{LISTS} lists are as the slow store has them: {told}"
 
 
 def main(word="", path=WANTED):
