@@ -5,9 +5,8 @@
 
 use all_formats::AllFormats;
 use disk_memory::MemDisk;
-use handle_tests::{Team, disk_with_mounts, points_of};
+use handle_teams::{Team, count_by_two, disk_with_mounts, points_of};
 use key_name::{KeyName, Namespace};
-use lock_tests::count_by_two;
 use regex_check::RegexPatterns;
 use std::alloc::Global;
 use std::env;

@@ -1,15 +1,7 @@
-//! Handles on threads over one store, and tests of them over a disk in memory.
+//! Tests of handles on threads over a disk in memory, and of the lock between them.
 #![tactic(auto)]
 
-mod asking;
-mod meeting;
-mod mounts;
-mod opening;
-mod teams;
 #[cfg(test)]
-mod tests;
-mod working;
-
-pub use asking::{Answer, Ask};
-pub use mounts::{disk_with_mounts, points_of};
-pub use teams::Team;
+mod handles;
+#[cfg(test)]
+mod locks;

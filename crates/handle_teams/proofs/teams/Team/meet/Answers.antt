@@ -1,0 +1,11 @@
+-- The handles stay those of the store, and as many.
+use Rattle.std.proofs.Common.{◌+◌, ◌∙◌, ap, length}
+use Rattle.handle_teams.proofs.teams.Team.meet.Goals as goal
+
+pub invariant_of-result : goal.invariant_of-result
+invariant_of-result g c = record {
+  started = c.args.self.started;
+  free = c.args.self.free;
+  each = c.meet_last.ensures.each;
+  all = ap (λ n. n + length c.args.self.seats.seats.items) c.meet_last.ensures.len ∙ c.args.self.all;
+}

@@ -1,0 +1,147 @@
+//! A store with all handles that share it.
+ghost use Rattle.std.specs.Prelude.{◌≡◌, ◌+◌, All, length};
+ghost use Rattle.std.specs.Vec.{vec_capacity};
+ghost use Rattle.handle_teams.specs.Teams.{each_prop, started_prop};
+ghost use Rattle.kdb_handle.specs.Stores.{AreFree, IsHandle, IsStarted};
+
+use crate::asking::ask_at;
+use crate::meeting::meet_last;
+use crate::opening::open_handles;
+use crate::working::work_all;
+use crate::{Answer, Ask};
+use kdb_handle::{FreeSeats, Handle, NewStore, SharedStore};
+use kdb_outside::Disk;
+use key_name::KeyName;
+use regex_check::Patterns;
+use std::alloc::Global;
+use std::sync::Wait;
+use std::thread::Threads;
+use storage_api::Formats;
+use store_core::{Closed, Opened, open_store};
+
+/// The most handles that a store has.
+const MOST: usize = 32;
+
+/// An open store, and its handles in the order of their numbers.
+pub struct Team<D: Disk, F: Formats + Drop, P: Patterns + Drop> {
+    store: SharedStore<D, F, P>,
+    seats: FreeSeats,
+    handles: Vec<Handle>,
+    ghost started: { IsStarted store.lock store.plan } by { started_prop store.lock store.plan },
+    ghost free: { AreFree store.lock seats.seats.items (vec_capacity seats.seats) },
+    ghost each: { All (IsHandle store.lock store.plan) handles.items } by { each_prop store.lock store.plan handles.items },
+    ghost all: { length handles.items + length seats.seats.items ≡ store.lock.seats },
+}
+
+impl<D: Disk, F: Formats + Drop, P: Patterns + Drop> Team<D, F, P> {
+    /// Opens the store of a disk, and so many handles, of which there may be up to 32. Where memory is wanting there are fewer.
+    pub fn open(
+        alloc: Global,
+        disk: D,
+        formats: F,
+        patterns: P,
+        count: usize,
+    ) -> Option<Team<D, F, P>>
+    where
+        D: Drop,
+    {
+        if count == 0 || count > MOST {
+            return None;
+        }
+        let Ok(mut handles) = Vec::with_capacity(alloc, count) else {
+            return None;
+        };
+        let Ok(Opened { plan, core }) = open_store(alloc, disk, formats, patterns) else {
+            return None;
+        };
+        let Ok(NewStore { store, mut seats }) = NewStore::new(alloc, plan, core, count as u32)
+        else {
+            return None;
+        };
+        open_handles(alloc, &store, &mut seats, &mut handles, count);
+        Some(Team {
+            store,
+            seats,
+            handles,
+        })
+    }
+
+    /// How many handles there are.
+    pub fn len(&self) -> usize {
+        self.handles.len()
+    }
+
+    /// Asks the handle at a place, counted from 0, and tells what it answered.
+    pub fn ask<R: Wait>(
+        self,
+        rt: &R,
+        alloc: Global,
+        place: usize,
+        ask: Ask,
+    ) -> (Team<D, F, P>, Answer) {
+        let Team {
+            store,
+            seats,
+            mut handles,
+        } = self;
+        let answer = ask_at(rt, alloc, &store, &mut handles, place, ask);
+        let team = Team {
+            store,
+            seats,
+            handles,
+        };
+        (team, answer)
+    }
+
+    /// Lets the first handle see what the last one has seen.
+    pub fn meet(self) -> Team<D, F, P> {
+        let Team {
+            store,
+            seats,
+            mut handles,
+        } = self;
+        meet_last(&store, &mut handles);
+        Team {
+            store,
+            seats,
+            handles,
+        }
+    }
+
+    /// Has each handle make its share of so many commits on a thread of its own, at the parent of its place. Each commit is tried so often.
+    pub fn work<R: Threads + Wait + Sync>(
+        self,
+        rt: &R,
+        alloc: Global,
+        parents: &[KeyName],
+        commits: u64,
+        tries: u32,
+    ) -> Team<D, F, P>
+    where
+        D: Send,
+        F: Sync,
+        P: Send,
+    {
+        let Team {
+            store,
+            seats,
+            mut handles,
+        } = self;
+        work_all(rt, alloc, &store, &mut handles, parents, commits, tries);
+        Team {
+            store,
+            seats,
+            handles,
+        }
+    }
+
+    /// Ends the store.
+    pub fn close(self) -> Closed<D, P> {
+        let Team {
+            store,
+            seats,
+            handles,
+        } = self;
+        store.close_store(seats, handles)
+    }
+}

@@ -1,5 +1,0 @@
-use Rattle.kdb_handle.specs.Stores.{IsHandle}
-use Rattle.handle_tests.proofs.working.make_commits.Given as goal
-
-abbrev pub invariant-loop-commit : goal.invariant-loop-commit
-invariant-loop-commit g l = IsHandle l.store.lock l.store.plan l.handle
