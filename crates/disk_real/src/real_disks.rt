@@ -72,8 +72,8 @@ impl RealDisk {
         RealDisk::trying(rt, folder, MOST_TRIES)
     }
 
-    /// A disk over a folder that tries so often to take a lock that is held.
-    fn trying(rt: HostRuntime, folder: &str, tries: u64) -> Result<RealDisk, Memory>
+    /// A disk over a folder that tries so often to take a lock that is held, a try each 5 milliseconds, in place of ten seconds long.
+    pub fn trying(rt: HostRuntime, folder: &str, tries: u64) -> Result<RealDisk, Memory>
         ensures { IfOk result (λ disk. disk ≡ record { inner = folder.now; faults = 0 }) }
     {
         Ok(RealDisk {
@@ -469,6 +469,3 @@ impl Disk for RealDisk {
         self.overlay = None;
     }
 }
-
-#[cfg(test)]
-mod tests;

@@ -1,6 +1,6 @@
 //! Bodies of the journal's entries: where bytes stop being one, and the text of one.
 
-use crate::notation::{bytes_of, shown};
+use crate::notation::{bytes_of, push_line};
 use journal_codec::{DecodeFault, FileText, decode, encode, spells_what_is_read};
 use key_meta::{List, Memory};
 use std::alloc::{AllocError, Global};
@@ -30,10 +30,8 @@ fn told(alloc: Global, bytes: &[u8]) -> Result<String, Memory> {
 fn files_of(alloc: Global, files: &List<FileText>, encoded: &[u8]) -> Result<String, Memory> {
     let mut answer = String::new(alloc);
     for file in files.as_slice() {
-        let bytes = shown(alloc, file.bytes.as_slice())?;
-        answer.push_str(&format!(in alloc; "  {} {bytes}\n", file.file.text())?)?;
+        push_line(alloc, &mut answer, file.file.text(), file.bytes.as_slice())?;
     }
-    let encoded = shown(alloc, encoded)?;
-    answer.push_str(&format!(in alloc; "  entry {encoded}\n")?)?;
+    push_line(alloc, &mut answer, "entry", encoded)?;
     Ok(answer)
 }

@@ -1,11 +1,11 @@
 //! Files by their formats: whether bytes are one, and what they read as.
 
 use crate::notation::{bytes_of, shown};
+use all_formats::AllFormats;
 use kdb_outside::Kind;
 use key_meta::Memory;
-use key_set::KeySet;
 use std::alloc::{AllocError, Global};
-use storage_api::ReadRefusal;
+use storage_api::{Formats, ReadRefusal};
 
 /// What comes of a line, if it is one of formats.
 pub fn answer_to(alloc: Global, word: &str, rest: &str) -> Result<Option<String>, Memory> {
@@ -21,30 +21,17 @@ pub fn answer_to(alloc: Global, word: &str, rest: &str) -> Result<Option<String>
         "again" => Ok(Some(written(alloc, kind, kind, text)?)),
         "as-dump" => Ok(Some(written(alloc, kind, Kind::Dump, text)?)),
         "first" => Ok(Some(first_of(alloc, kind, text)?)),
+        "by-keys" => {
+            let answer = AllFormats.keywise(kind);
+            Ok(Some(format!(in alloc; "  {answer}\n")?))
+        }
         _ => Ok(None),
-    }
-}
-
-fn read(alloc: Global, kind: Kind, bytes: &[u8]) -> Result<KeySet, ReadRefusal> {
-    match kind {
-        Kind::Dump => dump_storage::read(alloc, bytes),
-        Kind::SimpleIni => ini_storage::read(alloc, bytes),
-        Kind::Hosts => hosts_storage::read(alloc, bytes),
-    }
-}
-
-/// The text of keys; none where the format can't hold them.
-fn write(alloc: Global, kind: Kind, keys: &KeySet) -> Option<Vec<u8>> {
-    match kind {
-        Kind::Dump => dump_storage::write(alloc, keys).ok(),
-        Kind::SimpleIni => ini_storage::write(alloc, keys).ok(),
-        Kind::Hosts => hosts_storage::write(alloc, keys).ok(),
     }
 }
 
 /// How many keys there are, or the line of the first fault.
 fn read_of(alloc: Global, kind: Kind, bytes: &[u8]) -> Result<String, Memory> {
-    match read(alloc, kind, bytes) {
+    match AllFormats.read(alloc, kind, bytes) {
         Ok(keys) => format!(in alloc; "  {} keys\n", keys.len()),
         Err(ReadRefusal::BadFile { line }) => format!(in alloc; "  bad at line {line}\n"),
         Err(ReadRefusal::Memory) => Err(AllocError),
@@ -54,10 +41,10 @@ fn read_of(alloc: Global, kind: Kind, bytes: &[u8]) -> Result<String, Memory> {
 /// The text of the keys of a file in a format, or that the file is none.
 fn written(alloc: Global, from: Kind, to: Kind, text: &str) -> Result<String, Memory> {
     let bytes = bytes_of(alloc, text)?;
-    let Ok(keys) = read(alloc, from, &bytes) else {
+    let Ok(keys) = AllFormats.read(alloc, from, &bytes) else {
         return format!(in alloc; "  no {}\n", from.word());
     };
-    let Some(text) = write(alloc, to, &keys) else {
+    let Ok(text) = AllFormats.write(alloc, to, &keys) else {
         return Err(AllocError);
     };
     let text = shown(alloc, &text)?;
@@ -67,7 +54,7 @@ fn written(alloc: Global, from: Kind, to: Kind, text: &str) -> Result<String, Me
 /// The name of the first key, in name order.
 fn first_of(alloc: Global, kind: Kind, text: &str) -> Result<String, Memory> {
     let bytes = bytes_of(alloc, text)?;
-    let Ok(keys) = read(alloc, kind, &bytes) else {
+    let Ok(keys) = AllFormats.read(alloc, kind, &bytes) else {
         return format!(in alloc; "  no {}\n", kind.word());
     };
     match keys.at(0) {

@@ -4,14 +4,18 @@
 mod bodies;
 mod calls;
 mod cases;
+mod folders;
 mod formats;
 mod merges;
 mod names;
 mod notation;
+mod ran;
+mod reals;
 mod runs;
 mod sets;
 mod starts;
 mod stops;
+mod streams;
 mod tables;
 mod texts;
 
@@ -20,13 +24,19 @@ use std::{env, fs, io};
 
 fn main(rt: HostRuntime) -> io::Result<()> {
     for path in env::args(&rt)?.skip(1) {
-        let text = fs::read_to_string(&rt, path.as_str())?;
-        let mut cases = Cases::new(rt.alloc());
-        for line in text.lines() {
-            let answer = cases.answer_to(line)?;
-            println!(rt; "{line}")?;
-            print!(rt; "{answer}")?;
-        }
+        tell_cases(rt, path.as_str())?;
+    }
+    Ok(())
+}
+
+/// Prints each line of a file with what came of it.
+fn tell_cases(rt: HostRuntime, path: &str) -> io::Result<()> {
+    let text = fs::read_to_string(&rt, path)?;
+    let mut cases = Cases::new(rt);
+    for line in text.lines() {
+        let answer = cases.answer_to(line)?;
+        println!(rt; "{line}")?;
+        print!(rt; "{answer}")?;
     }
     Ok(())
 }

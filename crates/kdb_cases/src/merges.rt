@@ -14,17 +14,25 @@ pub fn answer_to(alloc: Global, word: &str, rest: &str) -> Result<Option<String>
         return Ok(None);
     }
     let (strategy, sets) = rest.split_once(' ').unwrap_or((rest, ""));
-    let Some(strategy) = strategy_of(strategy) else {
-        return Ok(None);
-    };
+    match strategy_of(strategy) {
+        Some(strategy) => Ok(Some(merged(alloc, sets, strategy)?)),
+        None => Ok(None),
+    }
+}
+
+fn merged(alloc: Global, sets: &str, strategy: Strategy) -> Result<String, Memory> {
     let (base, sides) = sets.split_once(' ').unwrap_or((sets, ""));
     let (our, their) = sides.split_once(' ').unwrap_or((sides, ""));
     let base = keys_of(alloc, base)?;
     let our = keys_of(alloc, our)?;
     let their = keys_of(alloc, their)?;
-    match merge3(&base, &our, &their, strategy) {
-        Ok(keys) => Ok(Some(written_of(alloc, &keys)?)),
-        Err(Merge3Fault::Conflicts { names }) => Ok(Some(conflicts_of(alloc, &names)?)),
+    told(alloc, merge3(&base, &our, &their, strategy))
+}
+
+fn told(alloc: Global, outcome: Result<KeySet, Merge3Fault>) -> Result<String, Memory> {
+    match outcome {
+        Ok(keys) => written_of(alloc, &keys),
+        Err(Merge3Fault::Conflicts { names }) => conflicts_of(alloc, &names),
         Err(Merge3Fault::Memory) => Err(AllocError),
     }
 }

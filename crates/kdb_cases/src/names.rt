@@ -1,6 +1,6 @@
 //! Names of keys: how they are spelled, what they refuse, and how they stand to one another.
 
-use crate::notation::{shown, text_of, two_of};
+use crate::notation::{push_line, shown, text_of, two_of};
 use key_meta::Memory;
 use key_name::{KeyName, NameFault, Namespace};
 use std::alloc::{AllocError, Global};
@@ -72,14 +72,11 @@ fn parts(alloc: Global, name: &KeyName) -> Result<String, Memory> {
     let namespace = name.namespace();
     let mut answer = format!(in alloc; "  {namespace:?} {}\n", name.len())?;
     for i in 0..name.len() {
-        let part = shown(alloc, name.part(i).unwrap_or("none").as_bytes())?;
-        answer.push_str(&format!(in alloc; "  part {part}\n")?)?;
+        let part = name.part(i).unwrap_or("none");
+        push_line(alloc, &mut answer, "part", part.as_bytes())?;
     }
     match name.base_name() {
-        Some(base) => {
-            let base = shown(alloc, base.as_bytes())?;
-            answer.push_str(&format!(in alloc; "  base {base}\n")?)?;
-        }
+        Some(base) => push_line(alloc, &mut answer, "base", base.as_bytes())?,
         None => answer.push_str("  no base\n")?,
     }
     Ok(answer)

@@ -48,14 +48,18 @@ fn push_repeated(alloc: Global, bytes: &mut Vec<u8>, text: &str) -> Result<(), M
     let from: u64 = from.parse().unwrap_or(0);
     let to: u64 = to.parse().unwrap_or(0);
     for step in 0..from.abs_diff(to) {
-        let number = if from < to {
-            from.saturating_add(step)
-        } else {
-            from.saturating_sub(step)
-        };
-        push_plain(alloc, bytes, repeated, number)?;
+        push_plain(alloc, bytes, repeated, number_at(from, to, step))?;
     }
     Ok(())
+}
+
+/// The number that is so many steps from one on the way to another.
+fn number_at(from: u64, to: u64, step: u64) -> u64 {
+    if from < to {
+        from.saturating_add(step)
+    } else {
+        from.saturating_sub(step)
+    }
 }
 
 fn push_plain(alloc: Global, bytes: &mut Vec<u8>, text: &str, number: u64) -> Result<(), Memory> {
@@ -93,9 +97,22 @@ fn push_lettered(
 
 /// Puts the byte of two digits, and what comes behind them.
 fn push_digits(bytes: &mut Vec<u8>, text: &str) -> Result<(), Memory> {
-    let (digits, rest) = text.split_at_checked(2).unwrap_or((text, ""));
-    bytes.push(u8::from_str_radix(digits, 16).unwrap_or(0))?;
-    bytes.extend_from_slice(rest.as_bytes())
+    match text.as_bytes() {
+        [high, low, rest @ ..] => {
+            bytes.push(digit(*high) << 4 | digit(*low))?;
+            bytes.extend_from_slice(rest)
+        }
+        short => bytes.extend_from_slice(short),
+    }
+}
+
+/// What a digit of sixteen counts, of which no other letter is one.
+fn digit(letter: u8) -> u8 {
+    match letter {
+        b'0'..=b'9' => letter - b'0',
+        b'a'..=b'f' => letter - b'a' + 10,
+        _ => 0,
+    }
 }
 
 /// How bytes are printed: as a line has them, with blanks as they are.
@@ -112,6 +129,17 @@ pub fn shown(alloc: Global, bytes: &[u8]) -> Result<String, Memory> {
         push_shown(alloc, &mut text, *byte)?;
     }
     Ok(text)
+}
+
+/// Puts a line: a word, and bytes as they are printed.
+pub fn push_line(
+    alloc: Global,
+    answer: &mut String,
+    word: &str,
+    bytes: &[u8],
+) -> Result<(), Memory> {
+    let text = shown(alloc, bytes)?;
+    answer.push_str(&format!(in alloc; "  {word} {text}\n")?)
 }
 
 fn push_shown(alloc: Global, text: &mut String, byte: u8) -> Result<(), Memory> {

@@ -2,13 +2,12 @@
 
 use crate::calls;
 use crate::notation::{bytes_of, shown, text_of};
+use crate::ran::{Streams, ended, run_over};
 use crate::starts::Start;
 use crate::stops::rows_of;
 use disk_memory::MemDisk;
-use kdb_outside::{FileName, MemSink, MemSource, OpenGate, Source};
-use kdb_tool::run;
+use kdb_outside::{FileName, MemSink, MemSource, Source};
 use key_meta::{Memory, Text};
-use regex_check::RegexPatterns;
 use std::alloc::Global;
 
 /// A disk, what it begins with, and what the last run put on out.
@@ -128,22 +127,30 @@ impl Runs {
 
     /// Runs the tool, and tells how it ends.
     fn run(&mut self, words: &str) -> Result<String, Memory> {
-        let texts = words_of(self.alloc, words)?;
+        let words = words_of(self.alloc, words)?;
+        let mut streams = self.streams()?;
         let disk = self.disk()?;
-        let mut input = MemSource::new(
-            self.input.clone()?,
-            listed(self.alloc, self.input_failing)?,
-        );
-        let mut out = sink(self.alloc, self.out_failing)?;
-        let mut err = sink(self.alloc, self.err_failing)?;
-        let patterns = RegexPatterns::new();
-        let (status, disk, _) = run(
-            self.alloc, &texts, &mut input, &mut out, &mut err, disk, patterns, &OpenGate,
-        );
+        let (status, disk) = run_over(self.alloc, &words, &mut streams, disk);
         self.disk = Some(disk);
-        self.out = out.bytes().to_vec(self.alloc)?;
-        self.left = rest_of(self.alloc, &mut input)?;
-        ended(self.alloc, status.code(), out.bytes(), err.bytes())
+        self.hear(&mut streams)?;
+        ended(self.alloc, status, &streams)
+    }
+
+    /// The input, out and err, of which one call fails each, if any.
+    fn streams(&self) -> Result<Streams, Memory> {
+        let alloc = self.alloc;
+        Ok(Streams {
+            input: MemSource::new(self.input.clone()?, listed(alloc, self.input_failing)?),
+            out: MemSink::new(alloc, listed(alloc, self.out_failing)?),
+            err: MemSink::new(alloc, listed(alloc, self.err_failing)?),
+        })
+    }
+
+    /// Keeps what a run has put on out, and what it has left of its input.
+    fn hear(&mut self, streams: &mut Streams) -> Result<(), Memory> {
+        self.out = streams.out.bytes().to_vec(self.alloc)?;
+        self.left = rest_of(self.alloc, &mut streams.input)?;
+        Ok(())
     }
 
     fn show(&mut self, name: &str) -> Result<String, Memory> {
@@ -179,10 +186,6 @@ fn yes_or_no(holds: bool) -> &'static str {
     if holds { "  yes\n" } else { "  no\n" }
 }
 
-fn sink(alloc: Global, failing: Option<u64>) -> Result<MemSink, Memory> {
-    Ok(MemSink::new(alloc, listed(alloc, failing)?))
-}
-
 fn listed(alloc: Global, failing: Option<u64>) -> Result<Vec<u64>, Memory> {
     let mut calls = Vec::new(alloc);
     if let Some(call) = failing {
@@ -210,7 +213,7 @@ fn numbers(alloc: Global, text: &str) -> Result<Vec<u64>, Memory> {
 }
 
 /// The words of a line. A blank of a word is written `|s`, and a word of no bytes `|e`.
-fn words_of(alloc: Global, text: &str) -> Result<Vec<Text>, Memory> {
+pub fn words_of(alloc: Global, text: &str) -> Result<Vec<Text>, Memory> {
     let mut words = Vec::new(alloc);
     for word in text.split(' ') {
         if word.is_empty() {
@@ -221,16 +224,4 @@ fn words_of(alloc: Global, text: &str) -> Result<Vec<Text>, Memory> {
         }
     }
     Ok(words)
-}
-
-/// The status, and the lines of out and err that aren't empty.
-fn ended(alloc: Global, status: u8, out: &[u8], err: &[u8]) -> Result<String, Memory> {
-    let mut answer = format!(in alloc; "  {status}\n")?;
-    for (word, bytes) in [("out", out), ("err", err)] {
-        if !bytes.is_empty() {
-            let text = shown(alloc, bytes)?;
-            answer.push_str(&format!(in alloc; "  {word} {text}\n")?)?;
-        }
-    }
-    Ok(answer)
 }

@@ -1,11 +1,9 @@
 //! A run that the disk stops behind each of its calls in turn, with a crash of each of ten numbers behind the stop: what the next run finds.
 
+use crate::ran::{Streams, run_over};
 use crate::starts::Start;
 use disk_memory::MemDisk;
-use kdb_outside::{MemSink, MemSource, OpenGate};
-use kdb_tool::run;
 use key_meta::{Memory, Text};
-use regex_check::RegexPatterns;
 use std::alloc::Global;
 
 /// How many crashes are tried behind each stop.
@@ -26,7 +24,7 @@ struct Found {
 pub fn rows_of(alloc: Global, start: &Start, words: &[Text]) -> Result<String, Memory> {
     let whole = start.copy_disk(None)?;
     let old = start.bytes_of(&whole)?;
-    let (_, whole) = run_over(alloc, words, whole)?;
+    let (_, whole) = run_alone(alloc, words, whole);
     let calls = whole.calls();
     let new = start.bytes_of(&whole)?;
     let mut rows = String::new(alloc);
@@ -64,9 +62,9 @@ fn found_at(
     };
     for number in 0..CRASHES {
         let disk = start.copy_disk(Some(stop))?;
-        let (status, disk) = run_over(alloc, words, disk)?;
+        let (status, disk) = run_alone(alloc, words, disk);
         let next = vec![in alloc; Text::new(alloc, "mounts")?]?;
-        let (_, disk) = run_over(alloc, &next, disk.crash(number)?)?;
+        let (_, disk) = run_alone(alloc, &next, disk.crash(number)?);
         let bytes = start.bytes_of(&disk)?;
         found.status = status;
         if bytes.as_slice() == old {
@@ -80,15 +78,9 @@ fn found_at(
     Ok(found)
 }
 
-fn run_over(alloc: Global, words: &[Text], disk: MemDisk) -> Result<(u8, MemDisk), Memory> {
-    let mut input = MemSource::new(Vec::new(alloc), Vec::new(alloc));
-    let mut out = MemSink::new(alloc, Vec::new(alloc));
-    let mut err = MemSink::new(alloc, Vec::new(alloc));
-    let patterns = RegexPatterns::new();
-    let (status, disk, _) = run(
-        alloc, words, &mut input, &mut out, &mut err, disk, patterns, &OpenGate,
-    );
-    Ok((status.code(), disk))
+/// Runs the tool without an input, and leaves what it tells.
+fn run_alone(alloc: Global, words: &[Text], disk: MemDisk) -> (u8, MemDisk) {
+    run_over(alloc, words, &mut Streams::new(alloc), disk)
 }
 
 fn push_row(

@@ -6,6 +6,3 @@ use std::process::ExitCode;
 fn main(rt: HostRuntime) -> ExitCode {
     kdb_process::start(rt)
 }
-
-#[cfg(test)]
-mod tests;

@@ -4,7 +4,6 @@
 
 mod streams;
 
-use crate::streams::taken_streams;
 use disk_real::RealDisk;
 use kdb_outside::{OpenGate, ReaderSource, Sink, WriterSink};
 use kdb_tool::run;
@@ -14,6 +13,7 @@ use std::env::VarError;
 use std::io::ErrorKind;
 use std::process::ExitCode;
 use std::{env, io};
+pub use streams::{dead_end, taken_streams};
 
 /// The folder of the store.
 const FOLDER: &str = ".kdb";

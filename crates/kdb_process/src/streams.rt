@@ -7,13 +7,13 @@ use std::os::fd::AsRawFd;
 const LAST_STREAM: i32 = 2;
 
 /// Something that is open, and that neither gives nor takes bytes: a folder that is read as a file.
-fn dead_end(rt: HostRuntime) -> io::Result<File> {
+pub fn dead_end(rt: HostRuntime) -> io::Result<File> {
     File::open(&rt, "/")
 }
 
 /// Takes the number of each standard stream that is closed, as long as these files are open. No file that is opened meanwhile
 /// becomes such a stream then, and reading or writing one fails.
-pub(crate) fn taken_streams(rt: HostRuntime) -> io::Result<Vec<File>> {
+pub fn taken_streams(rt: HostRuntime) -> io::Result<Vec<File>> {
     let mut taken = Vec::new(rt.alloc());
     for _ in 0..=LAST_STREAM {
         let file = dead_end(rt)?;
@@ -24,6 +24,3 @@ pub(crate) fn taken_streams(rt: HostRuntime) -> io::Result<Vec<File>> {
     }
     Ok(taken)
 }
-
-#[cfg(test)]
-mod tests;
