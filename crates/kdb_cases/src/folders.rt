@@ -11,16 +11,24 @@ use std::{fs, io};
 pub fn answer_to(rt: HostRuntime, word: &str, rest: &str) -> Result<Option<String>, Memory> {
     let (path, text) = rest.split_once(' ').unwrap_or((rest, ""));
     match word {
-        "folder" => Ok(Some(made(rt, fs::create_dir(&rt, path))?)),
-        "link" => Ok(Some(made(rt, symlink(&rt, text, path))?)),
-        "remove" => Ok(Some(made(rt, fs::remove_file(&rt, path))?)),
-        "put" => {
-            let bytes = bytes_of(rt.alloc(), text)?;
-            Ok(Some(made(rt, fs::write(&rt, path, &bytes))?))
-        }
+        "put" => Ok(Some(put(rt, path, text)?)),
         "rights" => Ok(Some(rights(rt, path, text)?)),
         "at" => Ok(Some(at(rt, path)?)),
+        "folder" | "link" | "remove" => Ok(Some(made(rt, change(rt, word, path, text))?)),
         _ => Ok(None),
+    }
+}
+
+fn put(rt: HostRuntime, path: &str, text: &str) -> Result<String, Memory> {
+    let bytes = bytes_of(rt.alloc(), text)?;
+    made(rt, fs::write(&rt, path, &bytes))
+}
+
+fn change(rt: HostRuntime, word: &str, path: &str, target: &str) -> io::Result<()> {
+    match word {
+        "folder" => fs::create_dir(&rt, path),
+        "link" => symlink(&rt, target, path),
+        _ => fs::remove_file(&rt, path),
     }
 }
 

@@ -35,8 +35,7 @@ fn tell_cases(rt: HostRuntime, path: &str) -> io::Result<()> {
     let mut cases = Cases::new(rt);
     for line in text.lines() {
         let answer = cases.answer_to(line)?;
-        println!(rt; "{line}")?;
-        print!(rt; "{answer}")?;
+        print!(rt; "{line}\n{answer}")?;
     }
     Ok(())
 }

@@ -6,7 +6,7 @@ use dump_storage::write;
 use key_meta::{Memory, Meta, Text};
 use key_name::{KeyName, NameFault, owner};
 use key_set::{Entry, KeySet};
-use set_split::{are_points, involved, split, unite};
+use set_split::{Parts, are_points, involved, split, unite};
 use std::alloc::{AllocError, Global};
 
 /// Keys, and the points by which they are split.
@@ -114,15 +114,21 @@ impl Keys {
             return String::from_str(alloc, "  no owner\n");
         }
         let made = split(alloc, &self.points, parent, &self.keys)?;
-        let mut answer = format!(in alloc; "  {} aside\n", made.aside)?;
-        for part in made.parts.as_slice() {
-            let names = names_of(alloc, &part.keys)?;
-            answer.push_str(&format!(in alloc; "  {}{names}", part.mount)?)?;
-        }
+        let mut answer = told(alloc, &made)?;
         let united = unite(alloc, made)?;
         answer.push_str(&names_of(alloc, &united)?)?;
         Ok(answer)
     }
+}
+
+/// How many keys are set aside, and the names of each part behind its mount.
+fn told(alloc: Global, made: &Parts) -> Result<String, Memory> {
+    let mut answer = format!(in alloc; "  {} aside\n", made.aside)?;
+    for part in made.parts.as_slice() {
+        let names = names_of(alloc, &part.keys)?;
+        answer.push_str(&format!(in alloc; "  {}{names}", part.mount)?)?;
+    }
+    Ok(answer)
 }
 
 /// The dump of keys.
