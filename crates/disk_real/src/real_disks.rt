@@ -72,7 +72,8 @@ impl RealDisk {
         RealDisk::trying(rt, folder, MOST_TRIES)
     }
 
-    /// A disk over a folder that tries so often to take a lock that is held, a try each 5 milliseconds, in place of ten seconds long.
+    /// A disk over a folder that tries so often to take a lock that is held, a try each 5 milliseconds. `new` tries for ten
+    /// seconds.
     pub fn trying(rt: HostRuntime, folder: &str, tries: u64) -> Result<RealDisk, Memory>
         ensures { IfOk result (λ disk. disk ≡ record { inner = folder.now; faults = 0 }) }
     {

@@ -1,4 +1,5 @@
-//! A run that the disk stops behind each of its calls in turn, with a crash of each of ten numbers behind the stop: what the next run finds.
+//! A run that the disk stops behind each of its calls in turn, with a crash of each of ten numbers behind the stop: what the
+//! next run finds.
 
 use crate::ran::{Streams, run_over};
 use crate::starts::Start;
@@ -11,7 +12,8 @@ const CRASHES: u64 = 10;
 /// No run of a case makes as many calls.
 const MOST_CALLS: u64 = 100;
 
-/// What came of the runs with one stop: their status, and whether the files were old, new or anything else behind some crash.
+/// What came of the runs with one stop: their status, and whether the files were old, new or anything else behind some
+/// crash.
 #[derive(Clone, Copy, PartialEq, Eq)]
 struct Found {
     status: u8,

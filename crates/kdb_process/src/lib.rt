@@ -1,5 +1,5 @@
 //! What the program `kdb` does from its start to its end: it takes its words and its streams, and runs the tool over the files
-//! of a folder. It is a crate of its own, so that two programs can be run on it.
+//! of a folder. It is a crate of its own, so that several programs can be run on it.
 #![tactic(auto)]
 
 mod streams;
