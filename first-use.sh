@@ -1,13 +1,14 @@
 #!/usr/bin/env bash
-# Proves and builds the program crate by crate, and reads one key with it in a folder of its own. What an earlier run proved
-# isn't proved again, so a run that was cut short goes on where it stopped. It fails where a proof fails, with what was said
-# of it. It leaves the executable at build/kdb, which stands on the C library alone.
+# Proves and builds the program, and reads one key with it in a folder of its own. What the gate or an earlier run of this
+# script proved on this machine is taken, so a run that was cut short goes on where it stopped; and what this run proves, the
+# gate takes. It fails where a proof fails, with what was said of it. It leaves the executable at build/kdb, which stands on
+# the C library alone.
 set -eu
 cd "$(dirname "$0")"
 program=kdb_main
 mkdir -p build
 # An executable of an earlier run must not pass for one of this run.
-rm -f build/kdb "crates/$program/out/$program"
+rm -rf build/kdb build/program build/first-use
 
 # The crates that the program stands on, each behind those that it stands on itself.
 crates=$(awk -F: -v program="$program" '
@@ -19,27 +20,38 @@ crates=$(awk -F: -v program="$program" '
     print name
   }
   END { visit(program) }' crates.txt)
-total=$(echo "$crates" | wc -l)
 
-# in_crate CRATE WORDS: runs rt there, and ends with what it said where it fails
-in_crate() {
-  if ! (cd "crates/$1" && shift && rt "$@") >build/rt.log 2>&1; then
-    tail -n 40 build/rt.log >&2
-    echo "$1: not proved, or not built; build/rt.log has all that was said" >&2
-    exit 1
-  fi
-}
-
-number=0
+# A repository of these crates alone, without the wrong bodies that the gate tries.
+mkdir -p build/program/crates
+git init -q build/program
+cp HANDLES build/program/
 for crate in $crates; do
-  number=$((number + 1))
-  printf '%s  crate %s of %s: %s\n' "$(date +%T)" "$number" "$total" "$crate" >&2
-  # The program itself is proved and built by running it. It lists its mounts, and makes no folder for that.
-  if [ "$crate" = "$program" ]; then in_crate "$crate" run -- mounts; else in_crate "$crate" lib; fi
+  grep "^$crate[ :]" crates.txt >>build/program/crates.txt
+  mkdir "build/program/crates/$crate"
+  for part in "crates/$crate"/*; do
+    case ${part##*/} in out | must-fail) ;; *) cp -r "$part" "build/program/crates/$crate/" ;; esac
+  done
 done
-cp "crates/$program/out/$program" build/kdb
 
-rm -rf build/first-use
+total=$(wc -l <build/program/crates.txt)
+echo "$total crates are proved and built, on all processors. Where none was proved on this machine before, that takes some 100 processor minutes." >&2
+number=0
+(cd build/program && rt ci) 2>&1 | tee build/rt.log | while read -r line; do
+  case $line in
+    "rt: "*" proved" | "rt: "*" is kept"*)
+      number=$((number + 1))
+      printf '%s  crate %s of %s: %s\n' "$(date +%T)" "$number" "$total" "$line" >&2
+      ;;
+  esac
+done || true
+if ! tail -n 1 build/rt.log | grep -q ', 0 failed$'; then
+  tail -n 40 build/rt.log >&2
+  echo "not proved, or not built; build/rt.log has all that was said" >&2
+  exit 1
+fi
+cp "build/program/crates/$program/out/$program" build/kdb
+rm -rf build/program
+
 mkdir -p build/first-use/.kdb
 printf 'kdbOpen 2\n$key string 4 1\nsw/a\n1\n$end\n' >build/first-use/.kdb/user.ecf
 cd build/first-use
