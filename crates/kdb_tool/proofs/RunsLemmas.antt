@@ -185,8 +185,7 @@ calm_with seen leaves files others doubt other calm only =
 -- a disk that stays calm is at rest
 calm_rests : {D : Type 0} (g : Ghosts D) (files : Image) (doubt : Option (List FileText)) (texts : Texts) (disk end : D)
     → StaysCalm g files doubt texts disk end → IsAtRest g end
-calm_rests g files doubt [] disk end calm = (files, doubt, calm)
-calm_rests g files doubt (text ∷ texts) disk end calm = (with_stored (text ∷ texts) (opened_files (g.seen disk)), None, calm)
+calm_rests g files doubt texts disk end stays = (with_stored texts (opened_files (g.seen disk)), stays.rest, stays.calm)
 
 -- the disk that a run gave back to the next is at rest, and holds what the run stored
 record Rests {D : Type 0} (g : Ghosts D) (run : OneRun D) : Type 0 where
