@@ -1,11 +1,14 @@
 #!/usr/bin/env python3
-"""gate.py [--functions] [COMMAND..]: runs the gate, and writes what each crate costs into docs/DESIGN.md, between the two lines
+"""gate.py [--functions] [COMMAND..] · gate.py --join PAGE..: runs the gate, and writes what each crate costs into docs/DESIGN.md, between the two lines
 that mark the table there (where they are missing, on out). COMMAND stands for .ci/run; `rt ci --anew` proves all from nothing.
 
 Figures are processor minutes of the gate's own processes, which are sampled each second. What all of them spent between two samples
 is exact: a process that ended has left its time with the one that waited for it. Of that each process has what its own samples say,
 and what is left goes in equal parts to those that ended in between. So the sum is true to the ticks of the system's clock, and a
 row to a second for each of its processes.
+
+gate.py --join PAGE.. joins what runs wrote into copies of that page, each of which proved a part: a later page's figure stands in the place
+of an earlier one's.
 
 With --functions each crate whose proof took a minute is proved once more, by one job, and the functions of over ten seconds are
 listed: the gate itself tells nothing of a function's time. Not part of the gate.
@@ -23,6 +26,7 @@ TICKS = os.sysconf("SC_CLK_TCK")
 TO = "docs/DESIGN.md"
 BEGIN, END = "<!-- begin of what bench/gate.py writes -->", "<!-- end of what bench/gate.py writes -->"
 KINDS = ("proof", "tests", "edits", "runs")
+OTHERS = "others, of less than a minute each"
 
 Process = collections.namedtuple("Process", "parent own reaped")
 
@@ -171,18 +175,46 @@ def row(name, cells, edits):
     return f"| {name} | {proof} | {tests} | {f'{edits}: {tried}' if tried else ''} | {runs} |"
 
 
-def table(spent):
-    """The rows of all crates, the dearest first, and the sums."""
-    crates = sorted({crate for crate, kind in spent if crate})
-    cells = {it: [spent[it, kind] / TICKS / 60 for kind in KINDS] for it in crates}
-    dear = sorted((it for it in crates if sum(cells[it]) >= 1), key=lambda it: -sum(cells[it]))
+def table(cells):
+    """The rows of all crates, the dearest first, and the sums, from the minutes of each crate by kind."""
+    dear = sorted((it for it in cells if sum(cells[it]) >= 1 and it != OTHERS), key=lambda it: -sum(cells[it]))
     rows = [row(f"`{it}`", cells[it], edits_of(it)) for it in dear]
-    cheap = [it for it in crates if it not in dear]
+    cheap = [it for it in cells if it not in dear]
     if cheap:
-        rows.append(row(f"of less than a minute: {len(cheap)}", [sum(cells[it][at] for it in cheap) for at in range(4)], sum(map(edits_of, cheap))))
+        count = sum(1 for it in os.listdir("crates") if it not in dear)
+        rows.append(row(f"{count} {OTHERS}", [sum(cells[it][at] for it in cheap) for at in range(4)], sum(edits_of(it) for it in os.listdir("crates") if it not in dear)))
     sums = [sum(it[at] for it in cells.values()) for at in range(4)]
-    rows.append(row("all", sums, sum(map(edits_of, crates))))
+    rows.append(row("all", sums, sum(map(edits_of, os.listdir("crates")))))
     return ["| crate | a proof | its tests | wrong bodies | runs |", "|---|---|---|---|---|", *rows], sums
+
+
+def cells_of(spent):
+    return {crate: [spent[crate, kind] / TICKS / 60 for kind in KINDS] for crate in sorted({crate for crate, kind in spent if crate})}
+
+
+def read_page(page):
+    """What a run wrote into a page: its first lines, and the minutes of each crate."""
+    said = text_of(page).split(BEGIN)[1].split(END)[0].strip().split("\n")
+    cells = {}
+    for line in said:
+        found = re.match(r"\| (?:`(\w+)`|\d+ (others)[^|]*) \| ([\d.]*) \| ([\d.]*) \| (?:\d+: )?([\d.]*) \| ([\d.]*) \|$", line)
+        if found:
+            cells[found[1] or OTHERS] = [float(it or 0) for it in found.groups()[2:]]
+    return said[: said.index("")], cells
+
+
+def joined(pages):
+    """The lines of a table that several runs made."""
+    heads, cells = [], {}
+    for page in pages:
+        head, more = read_page(page)
+        heads += [*head, ""]
+        for crate, minutes in more.items():
+            known = cells.get(crate, [0] * 4)
+            cells[crate] = [sum(it) if crate == OTHERS else it[1] or it[0] for it in zip(known, minutes)]
+    rows, sums = table(cells)
+    kinds = f"Proofs {sums[0]:.1f}, tests {sums[1]:.1f}, wrong bodies {sums[2]:.1f}, runs {sums[3]:.1f}: {sum(sums):.1f} together."
+    return [*heads, "What each crate cost in the last of these runs that proved it or tried its wrong bodies:", "", *rows, "", kinds]
 
 
 def functions(proofs, spent):
@@ -214,14 +246,31 @@ def rt():
     return subprocess.run(["sh", "-c", "command -v rt"], capture_output=True, text=True, check=True).stdout.strip()
 
 
+def put(said):
+    """Writes lines between the two that mark the table."""
+    text = text_of(TO)
+    if text.count(BEGIN) == text.count(END) == 1:
+        front, back = text.split(BEGIN)[0], text.split(END)[1]
+        with open(TO, "w", encoding="utf-8") as file:
+            file.write("\n".join([front + BEGIN, *said, END + back]))
+    else:
+        print("\n".join([BEGIN, *said, END]))
+        print(f"{TO} has no two lines that mark the table: put these there", file=sys.stderr)
+
+
 def main():
     words = sys.argv[1:]
+    if words[:1] == ["--join"]:
+        pages = [os.path.abspath(it) for it in words[1:]]
+        os.chdir(f"{os.path.dirname(os.path.abspath(__file__))}/..")
+        put(joined(pages))
+        return 0
     lists = words[:1] == ["--functions"]
     os.chdir(f"{os.path.dirname(os.path.abspath(__file__))}/..")
     command = words[1 if lists else 0 :] or [".ci/run"]
     status, lines, meter, machine, minutes = measured(command)
     spent = meter.spent
-    rows, sums = table(spent)
+    rows, sums = table(cells_of(spent))
     kept = sum(" is kept: an earlier run " in it for it in lines)
     done = re.findall(r"every proof and must-fail edit was done in this run|done in this run: [^;]*", "".join(lines)) or [f"{kept} crates are kept from earlier runs"]
     version = subprocess.run(["rt", "version"], capture_output=True, text=True, check=False).stdout.split("\n")[0].strip()
@@ -242,14 +291,7 @@ def main():
     if lists:
         slow = functions(meter.proofs, spent)
         said += ["", f"{'Functions' if slow else 'No functions'} that take over ten seconds of processor time, of the crates above:", *(["", *slow] if slow else [])]
-    text = text_of(TO)
-    if text.count(BEGIN) == text.count(END) == 1:
-        front, back = text.split(BEGIN)[0], text.split(END)[1]
-        with open(TO, "w", encoding="utf-8") as file:
-            file.write("\n".join([front + BEGIN, *said, END + back]))
-    else:
-        print("\n".join([BEGIN, *said, END]))
-        print(f"{TO} has no two lines that mark the table: put these there", file=sys.stderr)
+    put(said)
     return status
 
 
