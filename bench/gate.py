@@ -1,17 +1,22 @@
 #!/usr/bin/env python3
-"""gate.py [--functions] [COMMAND..] · gate.py --join PAGE..: runs the gate, and writes what each crate costs into docs/DESIGN.md, between the two lines
-that mark the table there (where they are missing, on out). COMMAND stands for .ci/run; `rt ci --anew` proves all from nothing.
+"""gate.py [COMMAND..] · gate.py --join PAGE.. · gate.py --functions CRATE..: what the gate costs, for docs/DESIGN.md.
 
-Figures are processor minutes of the gate's own processes, which are sampled each second. What all of them spent between two samples
-is exact: a process that ended has left its time with the one that waited for it. Of that each process has what its own samples say,
-and what is left goes in equal parts to those that ended in between. So the sum is true to the ticks of the system's clock, and a
-row to a second for each of its processes.
+gate.py [COMMAND..] runs the gate (.ci/run, or COMMAND; `rt ci --anew` proves all from nothing) and writes what each
+crate costs between the two lines that mark the table there.
 
-gate.py --join PAGE.. joins what runs wrote into copies of that page, each of which proved a part: a later page's figure stands in the place
-of an earlier one's.
+Figures are processor minutes of the gate's own processes, which are sampled each second. What all of them spent between
+two samples is exact: a process that ended has left its time with the one that waited for it. Of that each process has
+what its own samples say, and what is left goes in equal parts to those that ended in between. So the sum is true to the
+ticks of the system's clock, and a row to a second for each of its processes.
 
-With --functions each crate whose proof took a minute is proved once more, by one job, and the functions of over ten seconds are
-listed: the gate itself tells nothing of a function's time. Not part of the gate.
+gate.py --join PAGE.. joins what runs wrote into copies of that page, each of which proved a part: a later page's figure
+stands in the place of an earlier one's.
+
+gate.py --functions CRATE.. proves each of these crates once more by one job, a crate of tests with its tests, and lists
+the functions that take over ten seconds between two further lines there: the gate itself tells nothing of a function's
+time. The libraries below must stand in crates/*/out, where `rt ci` leaves them. It is no part of the gate.
+
+Where the marking lines are missing, what would stand between them goes to out.
 """
 import collections
 import datetime
@@ -24,9 +29,12 @@ import time
 
 TICKS = os.sysconf("SC_CLK_TCK")
 TO = "docs/DESIGN.md"
-BEGIN, END = "<!-- begin of what bench/gate.py writes -->", "<!-- end of what bench/gate.py writes -->"
+COSTS = "bench/gate.py writes"
+SLOW = "bench/gate.py --functions writes"
 KINDS = ("proof", "tests", "edits", "runs")
 OTHERS = "others, of less than a minute each"
+# the least time of a function that is listed, in seconds
+LONG = 10
 
 Process = collections.namedtuple("Process", "parent own reaped")
 
@@ -37,14 +45,15 @@ def text_of(path):
 
 
 def processes():
-    """All processes by their numbers and beginnings: the parent, and the ticks of its own and of those that it waited for."""
+    """All processes by numbers and beginnings: the parent, and the ticks of its own and of those it waited for."""
     found = {}
     for name in filter(str.isdigit, os.listdir("/proc")):
         try:
             words = text_of(f"/proc/{name}/stat").rpartition(")")[2].split()
         except OSError:
             continue
-        found[int(name), words[19]] = Process(int(words[1]), int(words[11]) + int(words[12]), int(words[13]) + int(words[14]))
+        own, reaped = int(words[11]) + int(words[12]), int(words[13]) + int(words[14])
+        found[int(name), words[19]] = Process(int(words[1]), own, reaped)
     return found
 
 
@@ -59,7 +68,7 @@ def below(root):
 
 
 def tree(root):
-    """The processes at and below one, as they stand at one moment: none began and none was waited for between two looks."""
+    """The processes at and below one, as they stand at one moment: none began or was waited for between two looks."""
     for _ in range(20):
         first, second = below(root), below(root)
         if {key: it.reaped for key, it in first.items()} == {key: it.reaped for key, it in second.items()}:
@@ -68,7 +77,7 @@ def tree(root):
 
 
 def label(number):
-    """The crate that a process works for, and at what: a proof, its tests, its wrong bodies, or the runs of what was built."""
+    """The crate that a process works for, and at what: a proof, its tests, its wrong bodies, or a run."""
     try:
         words = text_of(f"/proc/{number}/cmdline").split("\0")
         folder = os.readlink(f"/proc/{number}/cwd")
@@ -77,13 +86,15 @@ def label(number):
     if "--crate-name" in words:
         crate = words[words.index("--crate-name") + 1]
         if "--test" in words:
-            return crate, "tests", words, folder
+            return crate, "tests"
         if "--incremental" in words or "/rt-edit-" in folder:
-            return crate, "edits", words, folder
-        return crate, "runs" if "--crate-checked" in words else "proof", words, folder
-    run = next((found for it in words for found in [re.search(r"/rt-run-[^/]*/bin/(\w+?)(?:_tests)?$", it)] if found), None)
-    run = run or re.search(r"/crates/(\w+)$", folder) if any("rattle-link" in it or "clang" in it for it in words) else run
-    return (run[1], "runs", words, folder) if run else None
+            return crate, "edits"
+        return crate, "runs" if "--crate-checked" in words else "proof"
+    runs = (re.search(r"/rt-run-[^/]*/bin/(\w+?)(?:_tests)?$", it) for it in words)
+    run = next((found for found in runs if found), None)
+    if any("rattle-link" in it or "clang" in it for it in words):
+        run = run or re.search(r"/crates/(\w+)$", folder)
+    return (run[1], "runs") if run else None
 
 
 class Meter:
@@ -91,15 +102,13 @@ class Meter:
 
     def __init__(self, root):
         self.root, self.before, self.labels, self.total = root, {}, {}, 0
-        self.spent, self.proofs = collections.Counter(), {}
+        self.spent = collections.Counter()
 
     def name(self, key):
         if key not in self.labels:
             found = label(key[0])
             if found:
-                self.labels[key] = found[:2]
-                if found[1] == "proof":
-                    self.proofs[found[0]] = found[2:]
+                self.labels[key] = found
         return self.labels.get(key, ("", "rt"))
 
     def share(self, ticks, ended):
@@ -142,7 +151,8 @@ def busy():
 def measured(command):
     """Runs a command, and returns its status, its lines, its meter and what the machine did meanwhile."""
     begun, ours, loads, lines = time.time(), busy(), [], []
-    ran = subprocess.Popen(command, stdout=subprocess.PIPE, stderr=subprocess.STDOUT, text=True, errors="replace")
+    how = {"stdout": subprocess.PIPE, "stderr": subprocess.STDOUT, "text": True, "errors": "replace"}
+    ran = subprocess.Popen(command, **how)
     reader = threading.Thread(target=pass_on, args=(ran.stdout, lines), daemon=True)
     reader.start()
     meter = Meter(ran.pid)
@@ -157,7 +167,11 @@ def measured(command):
     reader.join(5)
     seconds = use.ru_utime + use.ru_stime
     meter.end(seconds)
-    machine = {"minutes": (time.time() - begun) / 60, "load": sum(loads) / max(len(loads), 1), "others": (busy() - ours) / TICKS / 60 - seconds / 60}
+    machine = {
+        "minutes": (time.time() - begun) / 60,
+        "load": sum(loads) / max(len(loads), 1),
+        "others": max((busy() - ours) / TICKS - seconds, 0) / 60,
+    }
     return ran.returncode, lines, meter, machine, seconds / 60
 
 
@@ -181,23 +195,27 @@ def table(cells):
     rows = [row(f"`{it}`", cells[it], edits_of(it)) for it in dear]
     cheap = [it for it in cells if it not in dear]
     if cheap:
-        count = sum(1 for it in os.listdir("crates") if it not in dear)
-        rows.append(row(f"{count} {OTHERS}", [sum(cells[it][at] for it in cheap) for at in range(4)], sum(edits_of(it) for it in os.listdir("crates") if it not in dear)))
+        others = [it for it in os.listdir("crates") if it not in dear]
+        minutes = [sum(cells[it][at] for it in cheap) for at in range(4)]
+        rows.append(row(f"{len(others)} {OTHERS}", minutes, sum(map(edits_of, others))))
     sums = [sum(it[at] for it in cells.values()) for at in range(4)]
     rows.append(row("all", sums, sum(map(edits_of, os.listdir("crates")))))
     return ["| crate | a proof | its tests | wrong bodies | runs |", "|---|---|---|---|---|", *rows], sums
 
 
 def cells_of(spent):
-    return {crate: [spent[crate, kind] / TICKS / 60 for kind in KINDS] for crate in sorted({crate for crate, kind in spent if crate})}
+    crates = sorted({crate for crate, kind in spent if crate})
+    return {crate: [spent[crate, kind] / TICKS / 60 for kind in KINDS] for crate in crates}
 
 
 def read_page(page):
     """What a run wrote into a page: its first lines, and the minutes of each crate."""
-    said = text_of(page).split(BEGIN)[1].split(END)[0].strip().split("\n")
+    begin, end = marks(COSTS)
+    said = text_of(page).split(begin)[1].split(end)[0].strip().split("\n")
     cells = {}
     for line in said:
-        found = re.match(r"\| (?:`(\w+)`|\d+ (others)[^|]*) \| ([\d.]*) \| ([\d.]*) \| (?:\d+: )?([\d.]*) \| ([\d.]*) \|$", line)
+        figures = r" \| ([\d.]*) \| ([\d.]*) \| (?:\d+: )?([\d.]*) \| ([\d.]*) \|$"
+        found = re.match(r"\| (?:`(\w+)`|\d+ (others)[^|]*)" + figures, line)
         if found:
             cells[found[1] or OTHERS] = [float(it or 0) for it in found.groups()[2:]]
     return said[: said.index("")], cells
@@ -213,86 +231,108 @@ def joined(pages):
             known = cells.get(crate, [0] * 4)
             cells[crate] = [sum(it) if crate == OTHERS else it[1] or it[0] for it in zip(known, minutes)]
     rows, sums = table(cells)
-    kinds = f"Proofs {sums[0]:.1f}, tests {sums[1]:.1f}, wrong bodies {sums[2]:.1f}, runs {sums[3]:.1f}: {sum(sums):.1f} together."
-    return [*heads, "What each crate cost in the last of these runs that proved it or tried its wrong bodies:", "", *rows, "", kinds]
+    heads += ["What each crate cost in the last of these runs that proved it or tried its wrong bodies:", ""]
+    return [*heads, *rows, "", f"{told(sums)}: {sum(sums):.1f} together."]
 
 
-def functions(proofs, spent):
-    """The functions that take over ten seconds, of each crate whose proof takes a minute: it is proved anew by one job."""
+def told(sums):
+    return ", ".join(f"{name} {it:.1f}" for name, it in zip(("Proofs", "tests", "wrong bodies", "runs"), sums))
+
+
+def times(words, folder):
+    """The ticks of each function that a check by one job proves, in its order."""
+    how = {"cwd": folder, "stdout": subprocess.PIPE, "stderr": subprocess.STDOUT, "text": True, "errors": "replace"}
+    ran = subprocess.Popen([*words, "--jobs", "1", "--progress"], **how)
+    last, found = None, []
+    for line in ran.stdout:
+        done = re.match(r"checked (.*), \d+ of \d+$", line.strip())
+        if done:
+            now = next((it.own for key, it in processes().items() if key[0] == ran.pid), last or 0)
+            if last is not None:
+                found.append((now - last, done[1]))
+            last = now
+    if ran.wait():
+        print(f"{folder}: the check ended with {ran.returncode}", file=sys.stderr)
+    return found
+
+
+def slow_functions(crates):
+    """The lines of the functions that take long, of each of these crates."""
+    said = subprocess.run(["rt", "doc"], capture_output=True, text=True, check=True).stdout
+    # the words of a check are the toolchain's own
+    sys.path.insert(0, f"{os.path.dirname(said.strip())}/bin")
+    import rtlib
+
     slow = []
-    for crate, (words, folder) in sorted(proofs.items()):
-        if spent[crate, "proof"] < 60 * TICKS:
-            continue
-        words = ["check", *words[words.index("--crate-name") :]]
-        for flag in ("-o", "--jobs"):
-            if flag in words:
-                at = words.index(flag)
-                words = [*words[:at], *words[at + 2 :]]
-        words = [it for it in words if it and it != "--statements"]
-        ran = subprocess.Popen([f"{os.path.dirname(os.path.realpath(rt()))}/rattle", *words, "--jobs", "1", "--progress"], cwd=folder, stdout=subprocess.PIPE, stderr=subprocess.STDOUT, text=True, errors="replace")
-        last = None
-        for line in ran.stdout:
-            found = re.match(r"checked (.*), \d+ of \d+$", line.strip())
-            if found:
-                now = next((it.own for key, it in processes().items() if key[0] == ran.pid), last or 0)
-                if last is not None and now - last > 10 * TICKS:
-                    slow.append((now - last, crate, found[1]))
-                last = now
-        ran.wait()
-    return [f"- {ticks / TICKS:.0f} s: `{crate}`, `{name}`" for ticks, crate, name in sorted(slow, reverse=True)]
+    for name in crates:
+        crate = rtlib.Crate(os.path.abspath(f"crates/{name}"), os.getcwd(), {})
+        words = crate.words(["--jobs", "1"], tests=crate.has_tests(), keeps=False)
+        slow += [(ticks, name, it) for ticks, it in times([rtlib.RATTLE, "check", *words], crate.folder)]
+        print(f"{name}: {sum(it[0] for it in slow if it[1] == name) / TICKS:.0f} s", file=sys.stderr, flush=True)
+    slow = [it for it in sorted(slow, reverse=True) if it[0] >= LONG * TICKS]
+    head = f"Functions of {', '.join(f'`{it}`' for it in crates)} that take over {LONG} seconds"
+    lines = [f"- {ticks / TICKS:.0f} s: `{crate}`, `{it}`" for ticks, crate, it in slow]
+    return [f"{head}:", "", *lines] if slow else [f"{head}: none."]
 
 
-def rt():
-    return subprocess.run(["sh", "-c", "command -v rt"], capture_output=True, text=True, check=True).stdout.strip()
+def marks(who):
+    """The two lines between which a part of the page stands."""
+    return f"<!-- begin of what {who} -->", f"<!-- end of what {who} -->"
 
 
-def put(said):
-    """Writes lines between the two that mark the table."""
-    text = text_of(TO)
-    if text.count(BEGIN) == text.count(END) == 1:
-        front, back = text.split(BEGIN)[0], text.split(END)[1]
+def put(said, who):
+    """Writes lines between the two that mark their part of the page."""
+    (begin, end), text = marks(who), text_of(TO)
+    if text.count(begin) == text.count(end) == 1:
+        front, back = text.split(begin)[0], text.split(end)[1]
         with open(TO, "w", encoding="utf-8") as file:
-            file.write("\n".join([front + BEGIN, *said, END + back]))
+            file.write("\n".join([front + begin, *said, end + back]))
     else:
-        print("\n".join([BEGIN, *said, END]))
-        print(f"{TO} has no two lines that mark the table: put these there", file=sys.stderr)
+        print("\n".join([begin, *said, end]))
+        print(f"{TO} has no two lines that mark this: put these there", file=sys.stderr)
 
 
-def main():
-    words = sys.argv[1:]
-    if words[:1] == ["--join"]:
-        pages = [os.path.abspath(it) for it in words[1:]]
-        os.chdir(f"{os.path.dirname(os.path.abspath(__file__))}/..")
-        put(joined(pages))
-        return 0
-    lists = words[:1] == ["--functions"]
-    os.chdir(f"{os.path.dirname(os.path.abspath(__file__))}/..")
-    command = words[1 if lists else 0 :] or [".ci/run"]
+def run_gate(command):
+    """Runs the gate, and writes what it cost."""
     status, lines, meter, machine, minutes = measured(command)
     spent = meter.spent
     rows, sums = table(cells_of(spent))
     kept = sum(" is kept: an earlier run " in it for it in lines)
-    done = re.findall(r"every proof and must-fail edit was done in this run|done in this run: [^;]*", "".join(lines)) or [f"{kept} crates are kept from earlier runs"]
-    version = subprocess.run(["rt", "version"], capture_output=True, text=True, check=False).stdout.split("\n")[0].strip()
+    done = re.findall(
+        r"every proof and must-fail edit was done in this run|done in this run: [^;]*", "".join(lines)
+    ) or [f"{kept} crates are kept from earlier runs"]
+    version = subprocess.run(["rt", "version"], capture_output=True, text=True, check=False).stdout.split("\n")[0]
     memory = int(re.search(r"MemTotal:\s+(\d+)", text_of("/proc/meminfo"))[1]) / 2**20
     own, short = (spent["", it] / TICKS / 60 for it in ("rt", "short"))
     said = [
-        f"`{' '.join(command)}` took {minutes:.1f} processor minutes in {machine['minutes']:.1f} minutes on {datetime.date.today()}, with `{version}`,",
-        f"on {len(os.sched_getaffinity(0))} processors and {memory:.0f} GiB of memory, at a mean load of {machine['load']:.1f};"
-        f" other programs took {max(machine['others'], 0):.1f} processor minutes meanwhile.",
+        f"`{' '.join(command)}` took {minutes:.1f} processor minutes in {machine['minutes']:.1f} minutes on"
+        f" {datetime.date.today()},",
+        f"with `{version.strip()}`, on {len(os.sched_getaffinity(0))} processors and {memory:.0f} GiB of memory,",
+        f"at a mean load of {machine['load']:.1f}; other programs took {machine['others']:.1f} processor minutes"
+        " meanwhile.",
         f"{done[-1][0].upper()}{done[-1][1:]}{'; what was kept cost nothing here' if kept else ''}.",
         *([f"It ended with status {status}, so it is no whole gate."] if status else []),
         "",
         *rows,
         "",
-        f"Proofs {sums[0]:.1f}, tests {sums[1]:.1f}, wrong bodies {sums[2]:.1f}, runs {sums[3]:.1f}, `rt` itself {own:.1f},"
-        f" and {short:.1f} of processes that no sample saw: {sum(spent.values()) / TICKS / 60:.1f} together.",
+        f"{told(sums)}, `rt` itself {own:.1f}, and {short:.1f} of processes that no sample saw:"
+        f" {sum(spent.values()) / TICKS / 60:.1f} together.",
     ]
-    if lists:
-        slow = functions(meter.proofs, spent)
-        said += ["", f"{'Functions' if slow else 'No functions'} that take over ten seconds of processor time, of the crates above:", *(["", *slow] if slow else [])]
-    put(said)
+    put(said, COSTS)
     return status
+
+
+def main():
+    words = sys.argv[1:]
+    pages = [os.path.abspath(it) for it in words[1:]] if words[:1] == ["--join"] else None
+    os.chdir(f"{os.path.dirname(os.path.abspath(__file__))}/..")
+    if pages is not None:
+        put(joined(pages), COSTS)
+    elif words[:1] == ["--functions"]:
+        put(slow_functions(words[1:]), SLOW)
+    else:
+        return run_gate(words or [".ci/run"])
+    return 0
 
 
 sys.exit(main())
