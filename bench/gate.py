@@ -240,9 +240,9 @@ def told(sums):
 
 
 def times(words, folder):
-    """The ticks of each function that a check by one job proves, in its order."""
+    """The ticks of each function that a check proves, in its order."""
     how = {"cwd": folder, "stdout": subprocess.PIPE, "stderr": subprocess.STDOUT, "text": True, "errors": "replace"}
-    ran = subprocess.Popen([*words, "--jobs", "1", "--progress"], **how)
+    ran = subprocess.Popen([*words, "--progress"], **how)
     last, found = None, []
     for line in ran.stdout:
         done = re.match(r"checked (.*), \d+ of \d+$", line.strip())
