@@ -132,8 +132,9 @@ class Meter:
         self.before, self.total = now, total
 
     def end(self, seconds):
-        """The root was waited for: all that it and those below it spent is known."""
-        self.share(seconds * TICKS - self.total, [it for it in self.before if it[0] != self.root] or [*self.before])
+        """The root was waited for: all that it and those below it spent is known, but of those that it left behind."""
+        left = max(seconds * TICKS - self.total, 0)
+        self.share(left, [it for it in self.before if it[0] != self.root] or [*self.before])
 
 
 def pass_on(stream, lines):
