@@ -38,7 +38,7 @@ use Rattle.kdb_tool.specs.Answers.{AnswersGot, file_told, line_of_get, owner_in}
 use Rattle.mounted_files.proofs.PointLemmas.{points-of_mounts}
 
 -- the answer to one whose keys can't be got
-pub got-fault : (MayRefuse : Type 0) (files : List MountedFile) (name parent : Name) (action : Action) (fault : GetFault) (answer : Answer) → parent ≡ parent_of name action → Gets (got files parent) fault → fault ≢ faults.Memory
+pub got-fault : (MayRefuse : List ℕ → Type 0) (files : List MountedFile) (name parent : Name) (action : Action) (fault : GetFault) (answer : Answer) → parent ≡ parent_of name action → Gets (got files parent) fault → fault ≢ faults.Memory
     → answer ≡ refused 5 (line_of_get fault) → AnswersGot MayRefuse files name action (got files (parent_of name action)) answer
 got-fault MayRefuse files name parent action fault answer parent_is gets no_memory is =
     subst (λ r. AnswersGot MayRefuse files name action r answer) (sym (ap (λ p. got files p) (sym parent_is) ∙ gets no_memory)) is

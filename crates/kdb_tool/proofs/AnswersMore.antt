@@ -9,7 +9,7 @@ use Rattle.mounted_files.specs.declared.refusals.GetFault.{GetFault}
 use Rattle.mounted_files.specs.declared.refusals.OpenRefusal.{OpenRefusal}
 use Rattle.tool_commands.specs.Commands.{every_key, parent_of, step_of}
 use Rattle.model_specified.specs.Violations.{checked_keys, is_within}
-use Rattle.model_specified.proofs.ViolationLemmas.{AreOfKeys-still}
+use Rattle.model_specified.proofs.ViolationLemmas.{AreOfKeysBy-still, RefusesMore}
 use Rattle.tool_commands.specs.Step.{Step, Tells, Sets}
 use Rattle.tool_words.specs.Request.{Action, Replace, Question, Mounts, FileOf, TextOf, ViolationsOf, On, Request, Refuses, Bars, Asks, Imports}
 use Rattle.tool_words.specs.Rows.{request}
@@ -20,7 +20,7 @@ use Rattle.kdb_tool.specs.Input.{taken}
 use Rattle.kdb_tool.specs.Serving.{StoresNothing}
 use Rattle.kdb_tool.proofs.SetLemmas.{Set-more}
 
-module _ (Fewer More : Type 0) (a : Answer) (follows : a.stored ≡ [] → Fewer → More) where
+module _ (Fewer More : List ℕ → Type 0) (a : Answer) (follows : a.stored ≡ [] → RefusesMore Fewer More) where
   step_more : (files : List MountedFile) (parent : Name) (step : Step) → AnswersStep Fewer files parent step a → AnswersStep More files parent step a
   step_more files parent (Tells report) p = p
   step_more files parent (Sets keys out) p = Set-more Fewer More a follows files parent keys out p
@@ -30,7 +30,7 @@ module _ (Fewer More : Type 0) (a : Answer) (follows : a.stored ≡ [] → Fewer
   got_more files name action (Err fault) p = p
 
   checked_more : (name : Name) (keys : Result KeyMap GetFault) → AnswersChecked Fewer name keys a → AnswersChecked More name keys a
-  checked_more name (Ok keys) p = (p.0, AreOfKeys-still Fewer More (checked_keys (is_within name) keys) p.0 (follows (ap (λ (x : Answer). x.stored) p.2)) p.1, p.2)
+  checked_more name (Ok keys) p = (p.0, AreOfKeysBy-still Fewer More (checked_keys (is_within name) keys) p.0 (follows (ap (λ (x : Answer). x.stored) p.2)) p.1, p.2)
   checked_more name (Err fault) p = p
 
   in_more : (files : List MountedFile) (question : Question) → AnswersIn Fewer files question a → AnswersIn More files question a
@@ -61,7 +61,7 @@ module _ (Fewer More : Type 0) (a : Answer) (follows : a.stored ≡ [] → Fewer
   Answers-more words input files p = request_more (request words) input files p
 
 -- where none of some answers stores anything, none does whatever pattern may be refused
-pub stores_nothing : (M N : Type 0) (words : List (List ℕ)) (input : List ℕ) (files : List ℕ → List ℕ) → StoresNothing (Answers N words input files) → StoresNothing (Answers M words input files)
+pub stores_nothing : (M N : List ℕ → Type 0) (words : List (List ℕ)) (input : List ℕ) (files : List ℕ → List ℕ) → StoresNothing (Answers N words input files) → StoresNothing (Answers M words input files)
 stores_nothing M N words input files nothing answer answers = by answer.stored refl
   where
     by : (stored : Texts) → answer.stored ≡ stored → answer.stored ≡ []

@@ -1,5 +1,5 @@
 -- What the commit of a set alone does to a store, and what it answers.
-use Rattle.std.proofs.Common.{◌≡◌, ◌≢◌, ℕ, Bool, T, false, List, [], ◌∷◌, length, map as over, Option, Some, None, Result, Ok, Err, refl, sym, ap, ap₂, subst, ◌∙◌, arith}
+use Rattle.std.proofs.Common.{◌≡◌, ◌≢◌, ℕ, Bool, T, true, false, List, [], ◌∷◌, length, map as over, Option, Some, None, Result, Ok, Err, refl, sym, ap, ap₂, subst, ◌∙◌, arith}
 use Rattle.std.proofs.lemmas.List.{length-map}
 use Rattle.kdb_outside.specs.declared.disks.Disk.{Ghosts}
 use Rattle.journal_codec.specs.Entry.{IsEntry}
@@ -148,7 +148,7 @@ module _ {D P : Type 0} (g : Ghosts D) (files : List MountedFile) (core : Core D
   pub joined : (opened : D) (run : Run) → IsStore g opened core.journal run → Belongs formats g mounts store opened core records made world run 0 rec set
   joined opened run on_disk = record { here = belongs; on_disk = on_disk }
 
-  module _ (MayRefuse : Type 0) (risen : Bool) (out : List ℕ) (after : Core D P) (new : Record) where
+  module _ (MayRefuse : List ℕ → Type 0) (risen : Bool) (out : List ℕ) (after : Core D P) (new : Record) where
     -- the set was committed with this answer, for each run that the journal stands for
     abbrev ForEachRun : Result Done CommitFault → Type 0
     ForEachRun result = (opened : D) (run : Run) → IsStore g opened core.journal run → HasAnswered formats g mounts store opened core after records made run 0 rec new set risen result
@@ -215,10 +215,10 @@ module _ {D P : Type 0} (g : Ghosts D) (files : List MountedFile) (core : Core D
     done_serves (done.Committed number aside) judged has kept = committed_serves number aside judged has
     done_serves (done.Same front aside) judged has kept = same_serves front aside judged (kept refl)
 
-    pub rule_serves : (violation : Violation) (front : ℕ) (report : Report) → (T risen → MayRefuse) → report ≡ warned 5 (invalid violation) → IsJudged mounts risen core.history.commits core.keys (prepared_of set) (Err (fault.Invalid violation front)) → IsUnwritten core after → Serves g Answered report core after
+    pub rule_serves : (violation : Violation) (front : ℕ) (report : Report) → ((pattern : List ℕ) → T risen → MayRefuse pattern) → report ≡ warned 5 (invalid violation) → IsJudged mounts risen core.history.commits core.keys (prepared_of set) (Err (fault.Invalid violation front)) → IsUnwritten core after → Serves g Answered report core after
     rule_serves violation front report may told_is judged kept = record {
       answer = answer.refused 5 (invalid violation);
-      answers = Judged early (late.Invalid violation risen) (alone (late.Invalid violation risen) judged.1) (may, refl);
+      answers = Judged early (late.Invalid violation risen) (alone (late.Invalid violation risen) judged.1) (may violation.given, refl);
       told = sym told_is;
       committed = λ opened run on_disk. still opened run on_disk kept;
       kept = λ none. kept;
@@ -245,12 +245,13 @@ module _ {D P : Type 0} (g : Ghosts D) (files : List MountedFile) (core : Core D
       done = λ some. absurd (some refl);
     }
 
-    pub fault_fails : (front : ℕ) → IsJudged mounts risen core.history.commits core.keys (prepared_of set) (Err (fault.DiskFault front)) → ForEachRun (Err (fault.DiskFault front)) → FailsToStore g Answered core after
-    fault_fails front judged has = record {
+    pub fault_fails : (front : ℕ) → after.wrote ≡ true → IsJudged mounts risen core.history.commits core.keys (prepared_of set) (Err (fault.DiskFault front)) → ForEachRun (Err (fault.DiskFault front)) → FailsToStore g Answered core after
+    fault_fails front wrote judged has = record {
       answer = answer.stores stored out;
       answers = answers judged.0 judged.2;
       some = some judged.0 judged.2;
       begun = λ opened run on_disk. begins opened run (has opened run on_disk);
+      wrote = wrote;
     }
       where
         begins : (opened : D) (run : Run) → HasAnswered formats g mounts store opened core after records made run 0 rec new set risen (Err (fault.DiskFault front)) → BeginsEntry g opened run (entry_of stored) after.journal
@@ -264,17 +265,17 @@ module _ {D P : Type 0} (g : Ghosts D) (files : List MountedFile) (core : Core D
             }
 
     -- what a set comes to that isn't committed
-    pub refused_serving : (why : CommitFault) (result : Result code.Report Stop) → (T risen → MayRefuse) → IsRefusalOf why result → IsJudged mounts risen core.history.commits core.keys (prepared_of set) (Err why) → ForEachRun (Err why)
-        → (has_written (Err why) ≡ false → IsUnwritten core after) → Serving g Answered result core after
-    refused_serving (fault.Conflict mount by front) result may refusal judged has kept = absurd refusal
-    refused_serving (fault.Invalid violation front) (Ok report) may refusal judged has kept = rule_serves violation front (report_of report) may refusal judged (kept refl)
-    refused_serving (fault.Invalid violation front) (Err stop) may refusal judged has kept = subst (λ (s : Stop). Serving g Answered (Err s) core after) (sym refusal) (kept refl)
-    refused_serving (fault.DatabaseFull weight front) (Ok report) may refusal judged has kept = full_serves weight front (report_of report) refusal judged (kept refl)
-    refused_serving (fault.DatabaseFull weight front) (Err stop) may refusal judged has kept = subst (λ (s : Stop). Serving g Answered (Err s) core after) (sym refusal) (kept refl)
-    refused_serving (fault.HistoryFull weight front) (Ok report) may refusal judged has kept = history_serves weight front (report_of report) refusal judged (kept refl)
-    refused_serving (fault.HistoryFull weight front) (Err stop) may refusal judged has kept = subst (λ (s : Stop). Serving g Answered (Err s) core after) (sym refusal) (kept refl)
-    refused_serving (fault.DiskFault front) result may refusal judged has kept = subst (λ (r : Result code.Report Stop). Serving g Answered r core after) (sym refusal) (fault_fails front judged has)
-    refused_serving fault.Memory result may refusal judged has kept = subst (λ (r : Result code.Report Stop). Serving g Answered r core after) (sym refusal) (kept refl)
+    pub refused_serving : (why : CommitFault) (result : Result code.Report Stop) → ((pattern : List ℕ) → T risen → MayRefuse pattern) → IsRefusalOf why result → IsJudged mounts risen core.history.commits core.keys (prepared_of set) (Err why) → ForEachRun (Err why)
+        → (has_written (Err why) ≡ false → IsUnwritten core after) → (has_written (Err why) ≡ true → after.wrote ≡ true) → Serving g Answered result core after
+    refused_serving (fault.Conflict mount by front) result may refusal judged has kept wrote = absurd refusal
+    refused_serving (fault.Invalid violation front) (Ok report) may refusal judged has kept wrote = rule_serves violation front (report_of report) may refusal judged (kept refl)
+    refused_serving (fault.Invalid violation front) (Err stop) may refusal judged has kept wrote = subst (λ (s : Stop). Serving g Answered (Err s) core after) (sym refusal) (kept refl)
+    refused_serving (fault.DatabaseFull weight front) (Ok report) may refusal judged has kept wrote = full_serves weight front (report_of report) refusal judged (kept refl)
+    refused_serving (fault.DatabaseFull weight front) (Err stop) may refusal judged has kept wrote = subst (λ (s : Stop). Serving g Answered (Err s) core after) (sym refusal) (kept refl)
+    refused_serving (fault.HistoryFull weight front) (Ok report) may refusal judged has kept wrote = history_serves weight front (report_of report) refusal judged (kept refl)
+    refused_serving (fault.HistoryFull weight front) (Err stop) may refusal judged has kept wrote = subst (λ (s : Stop). Serving g Answered (Err s) core after) (sym refusal) (kept refl)
+    refused_serving (fault.DiskFault front) result may refusal judged has kept wrote = subst (λ (r : Result code.Report Stop). Serving g Answered r core after) (sym refusal) (fault_fails front (wrote refl) judged has)
+    refused_serving fault.Memory result may refusal judged has kept wrote = subst (λ (r : Result code.Report Stop). Serving g Answered r core after) (sym refusal) (kept refl)
 
 -- where memory was wanting the store is as it was
 pub refused_memory : {D P : Type 0} (why : CommitFault) (result : Result code.Report Stop) (core after : Core D P) → IsRefusalOf why result → (has_written (Err why) ≡ false → IsUnwritten core after) → result ≡ Err stops.Memory → IsUnwritten core after

@@ -113,7 +113,7 @@ module _ (files : List MountedFile) (parent : Name) (keys : KeyMap) (good : firs
 nothing : {P : Type 0} (answer : Answer) (report : Report) → answer ≡ tells report → answer.stored ≢ [] → P
 nothing answer report is some = absurd (some (ap (λ (a : Answer). a.stored) is))
 
-module _ (MayRefuse : Type 0) (bytes_of : List ℕ → List ℕ) (a : Answer) (some : a.stored ≢ []) where
+module _ (MayRefuse : List ℕ → Type 0) (bytes_of : List ℕ → List ℕ) (a : Answer) (some : a.stored ≢ []) where
   abbrev One : Type 0
   One = IsOneCommit bytes_of a.stored
 
@@ -193,5 +193,5 @@ module _ (MayRefuse : Type 0) (bytes_of : List ℕ → List ℕ) (a : Answer) (s
   of_request (Asks question) input p = of_over question p
   of_request (Imports name kind) input p = of_import name kind (taken input) p
 
-pub stores_one : (MayRefuse : Type 0) (words : List (List ℕ)) (input : List ℕ) (files : List ℕ → List ℕ) (answer : Answer) → Answers MayRefuse words input files answer → answer.stored ≢ [] → IsOneCommit files answer.stored
+pub stores_one : (MayRefuse : List ℕ → Type 0) (words : List (List ℕ)) (input : List ℕ) (files : List ℕ → List ℕ) (answer : Answer) → Answers MayRefuse words input files answer → answer.stored ≢ [] → IsOneCommit files answer.stored
 stores_one MayRefuse words input files answer answers some = of_request MayRefuse files answer some (request words) input answers

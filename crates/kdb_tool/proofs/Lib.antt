@@ -1,4 +1,6 @@
 pub mod RiseLemmas
+pub mod FirstRefusals
+pub mod VerdictsBy
 pub mod SetLemmas
 pub mod AnswersOnce
 pub mod AnswersExist
@@ -13,6 +15,7 @@ pub mod OpeningLemmas
 pub mod InputLemmas
 pub mod EndLemmas
 pub mod BrokenLemmas
+pub mod BrokenPlaces
 pub mod RunLemmas
 pub mod TakeLemmas
 pub mod LegalLemmas

@@ -49,7 +49,7 @@ read_fault (fault.BadFile line) disk memory journal = refl
 read_fault fault.Memory disk memory journal = absurd (memory refl)
 
 -- the answer of files that open no store
-pub over_refused : (MayRefuse : Type 0) (question : Question) (bytes_of : Image) (why : OpenFault) → RefusesStore all.Reads all.IsBadAt (bytes_of own_mount.file) why → may_be_of_journal (Some why) ≡ false → AnswersOver MayRefuse question bytes_of (refused 5 (line_of_store why))
+pub over_refused : (MayRefuse : List ℕ → Type 0) (question : Question) (bytes_of : Image) (why : OpenFault) → RefusesStore all.Reads all.IsBadAt (bytes_of own_mount.file) why → may_be_of_journal (Some why) ≡ false → AnswersOver MayRefuse question bytes_of (refused 5 (line_of_store why))
 over_refused MayRefuse question bytes_of fault.DiskFault refuses read = absurd cc
 over_refused MayRefuse question bytes_of (fault.BadJournal at) refuses read = absurd cc
 over_refused MayRefuse question bytes_of (fault.BadTable why) refuses read = record { opened = Err (refusal.BadTable why); opens = refuses; answers = (λ e. absurd cc, refl) }
@@ -95,8 +95,8 @@ pub refused_serve : {D : Type 0} (g : Ghosts D) (disk end : D) (files : Image) (
     → (¬ HasRisen (g.faults disk) (g.faults end) → LeavesCalm g files doubt disk end) → Serve g files doubt (AnswersOver (MayRefuse result before now) question (opened_files (g.seen disk))) result disk end
 refused_serve g disk end files doubt before now question why (Ok report) told own unread meanwhile rests shown alone refuses journal left =
     let read = read_fault why own.0 own.1 journal in
-    refused_served g disk end files doubt (AnswersOver (HasRisen before now) question (opened_files (g.seen disk))) (report_of report) meanwhile rests (shown read) (λ still. (left still).calm)
-    (subst (λ (r : Report). AnswersOver (HasRisen before now) question (opened_files (g.seen disk)) (tells r)) (sym told) (over_refused (HasRisen before now) question (opened_files (g.seen disk)) why refuses read))
+    refused_served g disk end files doubt (AnswersOver (λ _. HasRisen before now) question (opened_files (g.seen disk))) (report_of report) meanwhile rests (shown read) (λ still. (left still).calm)
+    (subst (λ (r : Report). AnswersOver (λ _. HasRisen before now) question (opened_files (g.seen disk)) (tells r)) (sym told) (over_refused (λ _. HasRisen before now) question (opened_files (g.seen disk)) why refuses read))
 refused_serve g disk end files doubt before now question why (Err stops.Memory) told own unread meanwhile rests shown alone refuses journal left = record { crash = meanwhile; untouched = alone; shown = λ still. (left still).shown; calm = λ still. (left still).calm }
 refused_serve g disk end files doubt before now question why (Err stops.DiskFault) told own unread meanwhile rests shown alone refuses journal left = Seeking meanwhile
 refused_serve g disk end files doubt before now question why (Err stops.ReadFault) told own unread meanwhile rests shown alone refuses journal left = absurd (unread refl)

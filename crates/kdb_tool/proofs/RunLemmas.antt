@@ -30,7 +30,7 @@ module _ {D : Type 0} (g : Ghosts D) (disk end : D) (files : Image) (doubt : Opt
   opened = opened_files (g.seen disk)
 
   abbrev Answered : Answer → Type 0
-  Answered = Answers (HasRisen before now) words input opened
+  Answered = Answers (λ _. HasRisen before now) words input opened
 
   abbrev Does : Result code.Report Stop → Type 0
   Does r = Serve g files doubt (Answers (MayRefuse r before now) words input opened) r disk end
@@ -76,7 +76,7 @@ module _ {D : Type 0} (g : Ghosts D) (disk end : D) (files : Image) (doubt : Opt
     prefix = put_front (warned 74 disk_fault) status out err delivers;
     unstored = record {
       answer = fails.answer;
-      answers = Answers-more (MayRefuse (Err stops.DiskFault) before now) (HasRisen before now) fails.answer (λ none. absurd (fails.some none)) words input opened fails.answers;
+      answers = Answers-more (MayRefuse (Err stops.DiskFault) before now) (λ _. HasRisen before now) fails.answer (λ none. absurd (fails.some none)) words input opened fails.answers;
       some = fails.some;
       crash = fails.crash;
       uncommitted = fails.uncommitted;

@@ -4,7 +4,7 @@ use Rattle.intent_journal.specs.BadJournals.{open_entry, opened_files}
 use Rattle.intent_journal.specs.Journal.{JournalValue}
 use Rattle.intent_journal.specs.Moments.{LeavesOnly}
 use Rattle.intent_journal.specs.Outcomes.{with_entry, SameFiles, HasOnly, IsEither, IsOutcome}
-use Rattle.intent_journal.specs.States.{IsCalm}
+use Rattle.intent_journal.specs.States.{IsCalm, IsSettled}
 use Rattle.intent_journal.specs.declared.states.State.TheVariants.{Doubt as IsDoubt}
 use Rattle.intent_journal.proofs.Calm.{calm_files, calm_kept}
 use Rattle.kdb_outside.proofs.Frames.{OnlyReads-none}
@@ -58,6 +58,8 @@ pub record HasClosed {D P : Type 0} (g : Ghosts D) (core : Core D P) (end : D) :
   pub shown : (opened : D) (run : Run) → IsStore g opened core.journal run → ¬ HasRisen (g.faults core.journal.disk) (g.faults end) → SameFiles (g.seen end) (files_of run)
   pub always : (opened : D) (run : Run) → IsStore g opened core.journal run → LeavesOnly g opened end (IsReached run.files run.commits run.begun)
   pub now : (opened : D) (run : Run) → IsStore g opened core.journal run → EveryImage (g.may_leave end) (HasOnly (IsEither (files_of run) run.doubt))
+  pub settled : (opened : D) (run : Run) → IsStore g opened core.journal run → ¬ HasRisen (g.faults core.journal.disk) (g.faults end)
+      → (core.wrote ≡ true) ⊎ (core.journal.state ≢ IsDoubt) → IsSettled (g.may_leave end) (files_of run)
   pub goes : GoesOn g core.journal.disk end
   pub calm : (opened : D) (run : Run) → IsStore g opened core.journal run → ¬ HasRisen run.faults (g.faults end) → IsCalm (g.seen end) (g.may_leave end) (files_of run) run.doubt
 
@@ -213,6 +215,7 @@ module _ {D P : Type 0} (g : Ghosts D) (disk end : D) (files : Image) (doubt : O
       rests = begun.store.rests;
       goes = has_closed.goes;
       shown = has_closed.shown mid (after_begun first (entry_of stored) begun.doubt) begun.store;
+      settled = λ still. has_closed.settled mid (after_begun first (entry_of stored) begun.doubt) begun.store still (inl fails.wrote);
     };
   }
     where
@@ -256,10 +259,11 @@ told_serves g Answered report core answers = quiet_serves g Answered report core
 pub serving_weaker : {D C : Type 0} (g : Ghosts D) (P Q : Answer → Type 0) (result : Result code.Report Stop) (before after : Core D C) → ((answer : Answer) → P answer → Q answer) → Serving g P result before after → Serving g Q result before after
 serving_weaker g P Q (Ok report) before after follows s = record { answer = s.answer; answers = follows s.answer s.answers; told = s.told; committed = s.committed; kept = s.kept; done = s.done }
 serving_weaker g P Q (Err stops.Memory) before after follows s = s
-serving_weaker g P Q (Err stops.DiskFault) before after follows s = record { answer = s.answer; answers = follows s.answer s.answers; some = s.some; begun = s.begun }
+serving_weaker g P Q (Err stops.DiskFault) before after follows s = record { answer = s.answer; answers = follows s.answer s.answers; some = s.some; begun = s.begun; wrote = s.wrote }
 serving_weaker g P Q (Err stops.ReadFault) before after follows s = absurd s
 
-pub serve_weaker : {D : Type 0} (g : Ghosts D) (files : Image) (doubt : Option (List FileText)) (P Q : Answer → Type 0) (result : Result code.Report Stop) (before after : D) → ((answer : Answer) → P answer → Q answer) → Serve g files doubt P result before after → Serve g files doubt Q result before after
+pub serve_weaker : {D : Type 0} (g : Ghosts D) (files : Image) (doubt : Option (List FileText)) (P Q : Answer → Type 0) (result : Result code.Report Stop) (before after : D)
+    → ((answer : Answer) → P answer → Q answer) → Serve g files doubt P result before after → Serve g files doubt Q result before after
 serve_weaker g files doubt P Q (Ok report) before after follows s = record { answer = s.answer; answers = follows s.answer s.answers; told = s.told; crash = s.crash; lasting = s.lasting; shown = s.shown; calm = s.calm }
 serve_weaker g files doubt P Q (Err stops.Memory) before after follows s = s
 serve_weaker g files doubt P Q (Err stops.DiskFault) before after follows (Storing s) = Storing (record { answer = s.answer; answers = follows s.answer s.answers; some = s.some; crash = s.crash; uncommitted = s.uncommitted })
@@ -267,12 +271,14 @@ serve_weaker g files doubt P Q (Err stops.DiskFault) before after follows (Seeki
 serve_weaker g files doubt P Q (Err stops.ReadFault) before after follows s = s
 
 -- a run without an answer whose disk didn't fail stored nothing
-pub serve_unserved : {D : Type 0} (g : Ghosts D) (files : Image) (doubt : Option (List FileText)) (P : Answer → Type 0) (result : Result code.Report Stop) (before after : D) → Serve g files doubt P result before after → (result ≡ Err stops.Memory) ⊎ (result ≡ Err stops.ReadFault) → Unserved g files doubt before after
+pub serve_unserved : {D : Type 0} (g : Ghosts D) (files : Image) (doubt : Option (List FileText)) (P : Answer → Type 0) (result : Result code.Report Stop) (before after : D)
+    → Serve g files doubt P result before after → (result ≡ Err stops.Memory) ⊎ (result ≡ Err stops.ReadFault) → Unserved g files doubt before after
 serve_unserved g files doubt P result before after s (inl is) = subst (λ (r : Result code.Report Stop). Serve g files doubt P r before after) is s
 serve_unserved g files doubt P result before after s (inr is) = subst (λ (r : Result code.Report Stop). Serve g files doubt P r before after) is s
 
 -- without a fault of the disk it is calm, whatever was stored
-pub serve_calm : {D : Type 0} (g : Ghosts D) (files : Image) (doubt : Option (List FileText)) (P : Answer → Type 0) (result : Result code.Report Stop) (before after : D) → Serve g files doubt P result before after → (result ≡ Err stops.DiskFault → HasRisen (g.faults before) (g.faults after))
+pub serve_calm : {D : Type 0} (g : Ghosts D) (files : Image) (doubt : Option (List FileText)) (P : Answer → Type 0) (result : Result code.Report Stop) (before after : D)
+    → Serve g files doubt P result before after → (result ≡ Err stops.DiskFault → HasRisen (g.faults before) (g.faults after))
     → ¬ HasRisen (g.faults before) (g.faults after) → (stored : Texts) × StaysCalm g files doubt stored before after
 serve_calm g files doubt P (Ok report) before after s cause still = (s.answer.stored, s.calm still)
 serve_calm g files doubt P (Err stops.Memory) before after s cause still = ([], s.calm still)
@@ -304,7 +310,8 @@ read_calm g disk end files doubt told calm reads =
       found = λ file not_own. ap (λ (seen : Image). opened_files seen file) (reads.same told);
     }
 
-pub alone_served : {D : Type 0} (g : Ghosts D) (disk : D) (files : Image) (doubt : Option (List FileText)) (Answered : Answer → Type 0) (report : Report) → g.tells disk ≡ true → IsCalm (g.seen disk) (g.may_leave disk) files doubt → Answered (tells report) → Served g files doubt Answered report disk disk
+pub alone_served : {D : Type 0} (g : Ghosts D) (disk : D) (files : Image) (doubt : Option (List FileText)) (Answered : Answer → Type 0) (report : Report)
+    → g.tells disk ≡ true → IsCalm (g.seen disk) (g.may_leave disk) files doubt → Answered (tells report) → Served g files doubt Answered report disk disk
 alone_served g disk files doubt Answered report told calm answers = record {
   answer = tells report;
   answers = answers;
@@ -344,17 +351,20 @@ refused_served g disk end files doubt Answered report meanwhile now shown calm a
 
 -- ---- what is told without the store
 
-pub alone_serve : {D : Type 0} {E : Type 0} (g : Ghosts D) (disk : D) (files : Image) (doubt : Option (List FileText)) (Answered : Answer → Type 0) (made : Result code.Report E) → g.tells disk ≡ true → IsCalm (g.seen disk) (g.may_leave disk) files doubt → IfOk made (λ report. Answered (tells (report_of report))) → Serve g files doubt Answered (or_memory made) disk disk
+pub alone_serve : {D : Type 0} {E : Type 0} (g : Ghosts D) (disk : D) (files : Image) (doubt : Option (List FileText)) (Answered : Answer → Type 0) (made : Result code.Report E)
+    → g.tells disk ≡ true → IsCalm (g.seen disk) (g.may_leave disk) files doubt → IfOk made (λ report. Answered (tells (report_of report))) → Serve g files doubt Answered (or_memory made) disk disk
 alone_serve g disk files doubt Answered (Ok report) told calm answers = alone_served g disk files doubt Answered (report_of report) told calm answers
 alone_serve g disk files doubt Answered (Err why) told calm answers = alone_unserved g disk files doubt told calm
 
-pub alone_stopped : {D : Type 0} (g : Ghosts D) (disk : D) (files : Image) (doubt : Option (List FileText)) (Answered : Answer → Type 0) (stop : Stop) → g.tells disk ≡ true → IsCalm (g.seen disk) (g.may_leave disk) files doubt → stop ≢ stops.DiskFault → Serve g files doubt Answered (Err stop) disk disk
+pub alone_stopped : {D : Type 0} (g : Ghosts D) (disk : D) (files : Image) (doubt : Option (List FileText)) (Answered : Answer → Type 0) (stop : Stop)
+    → g.tells disk ≡ true → IsCalm (g.seen disk) (g.may_leave disk) files doubt → stop ≢ stops.DiskFault → Serve g files doubt Answered (Err stop) disk disk
 alone_stopped g disk files doubt Answered stops.Memory told calm own = alone_unserved g disk files doubt told calm
 alone_stopped g disk files doubt Answered stops.DiskFault told calm own = absurd (own refl)
 alone_stopped g disk files doubt Answered stops.ReadFault told calm own = alone_unserved g disk files doubt told calm
 
 -- what is told without the store, as the call that hands the disk on has it
-pub handed_on : {D : Type 0} {E : Type 0} (g : Ghosts D) (disk end : D) (files : Image) (doubt : Option (List FileText)) (Answered : Answer → Type 0) (made : Result code.Report E) (result : Result code.Report Stop) → result ≡ or_memory made → end ≡ disk → g.tells disk ≡ true → IsCalm (g.seen disk) (g.may_leave disk) files doubt
+pub handed_on : {D : Type 0} {E : Type 0} (g : Ghosts D) (disk end : D) (files : Image) (doubt : Option (List FileText)) (Answered : Answer → Type 0) (made : Result code.Report E) (result : Result code.Report Stop)
+    → result ≡ or_memory made → end ≡ disk → g.tells disk ≡ true → IsCalm (g.seen disk) (g.may_leave disk) files doubt
     → IfOk made (λ report. Answered (tells (report_of report))) → Serve g files doubt Answered result disk end
 handed_on g disk end files doubt Answered made result is still told calm answers =
     subst (λ e. Serve g files doubt Answered result disk e) (sym still) (subst (λ (r : Result code.Report Stop). Serve g files doubt Answered r disk disk) (sym is) (alone_serve g disk files doubt Answered made told calm answers))

@@ -1,5 +1,5 @@
 -- A set alone has one answer.
-use Rattle.std.specs.Prelude.{◌≡◌, ℕ, nat_lt, Bool, T, true, false, not, cond, List, [], ◌∷◌, length, Option, Some, None, IsSomeAnd, slice_get, option_and_then, Result, Ok, Err}
+use Rattle.std.specs.Prelude.{◌≡◌, ℕ, nat_lt, Bool, true, false, cond, List, [], ◌∷◌, length, Option, Some, None, IsSomeAnd, slice_get, option_and_then, Result, Ok, Err}
 use Rattle.std.specs.List.{AllByRecursion}
 use Rattle.std.specs.Option.{option_map, option_or}
 use Rattle.std.proofs.Common.{refl, sym, ap, ap₂, subst, ◌∙◌, inl, inr, ◌⊎◌}
@@ -16,8 +16,11 @@ use Rattle.model_store.specs.Store.{Store, contents, points_of}
 use Rattle.mounted_files.specs.Setting.{first_long_in}
 use Rattle.model_store.specs.Records as model
 use Rattle.model_store.specs.Sets.{Prepared, prepared}
-use Rattle.model_store.specs.Verdicts.{Late, Same, Conflict, Invalid, DatabaseFull, HistoryFull, Commits, Follows, IsEarly, IsLate, is_certain, BreaksFirst, before_formats, behind_formats, wanted_in, not_fetched, long_value, if_unseen}
-use Rattle.model_store.proofs.OneVerdict.{IsEarly-once, IsEarly-some, IsLate-once, IsLate-some}
+use Rattle.model_store.specs.Verdicts.{Late, Same, Conflict, Invalid, DatabaseFull, HistoryFull, Commits, Follows, IsEarly, IsLate, BreaksFirst, before_formats, behind_formats, wanted_in, not_fetched, long_value, if_unseen}
+use Rattle.model_store.proofs.OneVerdict.{IsEarly-once, IsEarly-some}
+use Rattle.model_specified.proofs.Refusals.{RefusesEach}
+use Rattle.model_specified.proofs.ViolationLemmas.{RefusesMore}
+use Rattle.model_specified.proofs.ViolationsOnce.{RefusesNoPattern}
 use Rattle.model_store.proofs.FirstSets.{never-unseen, never-blocked}
 use Rattle.mount_table.specs.Points.{own_point}
 use Rattle.mount_table.specs.Table.{table_of}
@@ -33,6 +36,7 @@ use Rattle.tool_commands.specs.Lines.{bad_table as bad_table_line, value_too_lon
 use Rattle.kdb_tool.specs.Answer.{Answer, done, stores, refused}
 use Rattle.kdb_tool.specs.Serving.{HasFetched}
 use Rattle.kdb_tool.specs.Sets.{AnswersSet, Refused, Judged, IsRefusal, IsJudgement, formats, set_alone, store_alone, stored_by, the_handle}
+use Rattle.kdb_tool.proofs.VerdictsBy.{IsPermitted, told_alone, verdict-once, verdict-some}
 
 -- ---- one answer
 
@@ -48,29 +52,33 @@ told_once : (o : Option PrepareFault) (a b : Answer) → IsSomeAnd o (λ why. Is
 told_once None a b p q = absurd p
 told_once (Some why) a b p q = refusal_once why a b p q
 
-judgement_once : (MayRefuse : Type 0) → ¬ MayRefuse → (store : Store) (keys : KeyMap) (out : List ℕ) (late : Late) (a b : Answer) → IsJudgement MayRefuse store keys out late a → IsJudgement MayRefuse store keys out late b → a ≡ b
-judgement_once MayRefuse none store keys out (Same aside) a b p q = p ∙ sym q
-judgement_once MayRefuse none store keys out (Conflict mount by) a b p q = absurd p
-judgement_once MayRefuse none store keys out (Invalid violation risen) a b p q = p.1 ∙ sym q.1
-judgement_once MayRefuse none store keys out (DatabaseFull weight) a b p q = p ∙ sym q
-judgement_once MayRefuse none store keys out (HistoryFull weight) a b p q = p ∙ sym q
-judgement_once MayRefuse none store keys out (Commits commit aside) a b p q = p ∙ sym q
+judgement_once : (MayRefuse : List ℕ → Type 0) (store : Store) (keys : KeyMap) (out : List ℕ) (late : Late) (a b : Answer) → IsJudgement MayRefuse store keys out late a → IsJudgement MayRefuse store keys out late b → a ≡ b
+judgement_once MayRefuse store keys out (Same aside) a b p q = p ∙ sym q
+judgement_once MayRefuse store keys out (Conflict mount by) a b p q = absurd p
+judgement_once MayRefuse store keys out (Invalid violation risen) a b p q = p.1 ∙ sym q.1
+judgement_once MayRefuse store keys out (DatabaseFull weight) a b p q = p ∙ sym q
+judgement_once MayRefuse store keys out (HistoryFull weight) a b p q = p ∙ sym q
+judgement_once MayRefuse store keys out (Commits commit aside) a b p q = p ∙ sym q
 
--- a verdict that was told where nothing may have been refused is certain
-certain : (MayRefuse : Type 0) → ¬ MayRefuse → (store : Store) (keys : KeyMap) (out : List ℕ) (late : Late) (a : Answer) → IsJudgement MayRefuse store keys out late a → is_certain late ≡ true
-certain MayRefuse none store keys out (Same aside) a p = refl
-certain MayRefuse none store keys out (Conflict mount by) a p = absurd p
-certain MayRefuse none store keys out (Invalid violation risen) a p = by risen p.0
-  where
-    by : (rose : Bool) → (T rose → MayRefuse) → not rose ≡ true
-    by true may = absurd (none (may tt))
-    by false may = refl
-certain MayRefuse none store keys out (DatabaseFull weight) a p = refl
-certain MayRefuse none store keys out (HistoryFull weight) a p = refl
-certain MayRefuse none store keys out (Commits commit aside) a p = refl
+-- the judgement on a verdict that may go by a refusal is one on what it tells alone, and tells only what may be refused
+alone_judged : (MayRefuse : List ℕ → Type 0) (store : Store) (keys : KeyMap) (out : List ℕ) (late : Late) (a : Answer) → IsJudgement MayRefuse store keys out late a → IsJudgement MayRefuse store keys out (told_alone late) a
+alone_judged MayRefuse store keys out (Same aside) a p = p
+alone_judged MayRefuse store keys out (Conflict mount by) a p = p
+alone_judged MayRefuse store keys out (Invalid violation risen) a p = ((λ none. absurd none), p.1)
+alone_judged MayRefuse store keys out (DatabaseFull weight) a p = p
+alone_judged MayRefuse store keys out (HistoryFull weight) a p = p
+alone_judged MayRefuse store keys out (Commits commit aside) a p = p
 
-pub Set-once : (MayRefuse : Type 0) → ¬ MayRefuse → (files : List MountedFile) (parent : Name) (keys : KeyMap) (out : List ℕ) (a b : Answer) → AnswersSet MayRefuse files parent keys out a → AnswersSet MayRefuse files parent keys out b → a ≡ b
-Set-once MayRefuse none files parent keys out a b = by
+permitted : (MayRefuse : List ℕ → Type 0) (store : Store) (keys : KeyMap) (out : List ℕ) (late : Late) (a : Answer) → IsJudgement MayRefuse store keys out late a → IsPermitted MayRefuse late
+permitted MayRefuse store keys out (Same aside) a p = tt
+permitted MayRefuse store keys out (Conflict mount by) a p = tt
+permitted MayRefuse store keys out (Invalid violation risen) a p = p.0
+permitted MayRefuse store keys out (DatabaseFull weight) a p = tt
+permitted MayRefuse store keys out (HistoryFull weight) a p = tt
+permitted MayRefuse store keys out (Commits commit aside) a p = tt
+
+pub Set-once : (MayRefuse : List ℕ → Type 0) → RefusesNoPattern MayRefuse → (files : List MountedFile) (parent : Name) (keys : KeyMap) (out : List ℕ) (a b : Answer) → AnswersSet MayRefuse files parent keys out a → AnswersSet MayRefuse files parent keys out b → a ≡ b
+Set-once MayRefuse off files parent keys out a b = by
   where
     store : Store
     store = store_alone files
@@ -88,16 +96,17 @@ Set-once MayRefuse none files parent keys out a b = by
     by (Refused why early p) (Judged early' late is q) = absurd (none-some why (one None (Some why) early' early))
     by (Judged early late is p) (Refused why early' q) = absurd (none-some why (one None (Some why) early early'))
     by (Judged early late is p) (Judged early' other is' q) =
-        let same : other ≡ late = IsLate-once (points_of store) [] store.start set other late (certain MayRefuse none store store.start out other b q) (certain MayRefuse none store store.start out late a p) is' is in
-        judgement_once MayRefuse none store store.start out late a b p (subst (λ (l : Late). IsJudgement MayRefuse store store.start out l b) same q)
+        let same : told_alone other ≡ told_alone late = verdict-once MayRefuse (points_of store) [] store.start set off other late (permitted MayRefuse store store.start out other b q) (permitted MayRefuse store store.start out late a p) is' is in
+        judgement_once MayRefuse store store.start out (told_alone late) a b (alone_judged MayRefuse store store.start out late a p)
+        (subst (λ (l : Late). IsJudgement MayRefuse store store.start out l b) same (alone_judged MayRefuse store store.start out other b q))
 
 -- ---- where more refusals are allowed, or the answer stores something
 
-module _ (Fewer More : Type 0) (a : Answer) (follows : a.stored ≡ [] → Fewer → More) where
+module _ (Fewer More : List ℕ → Type 0) (a : Answer) (follows : a.stored ≡ [] → RefusesMore Fewer More) where
   judgement_more : (store : Store) (keys : KeyMap) (out : List ℕ) (late : Late) → IsJudgement Fewer store keys out late a → IsJudgement More store keys out late a
   judgement_more store keys out (Same aside) p = p
   judgement_more store keys out (Conflict mount by) p = p
-  judgement_more store keys out (Invalid violation risen) p = (λ rose. follows (ap (λ (x : Answer). x.stored) p.1) (p.0 rose), p.1)
+  judgement_more store keys out (Invalid violation risen) p = (λ rose. follows (ap (λ (x : Answer). x.stored) p.1) violation.given (p.0 rose), p.1)
   judgement_more store keys out (DatabaseFull weight) p = p
   judgement_more store keys out (HistoryFull weight) p = p
   judgement_more store keys out (Commits commit aside) p = p
@@ -228,8 +237,8 @@ module _ (store : Store) (set : Prepared) (why : Early) (fetched : (m : ℕ) →
       by None is (inr all) = of_behind (sym all.1)
 
 -- it can't be that a set has no answer
-pub Set-some : (MayRefuse : Type 0) → MayRefuse → (files : List MountedFile) (parent : Name) (keys : KeyMap) (out : List ℕ) → ¬ ((answer : Answer) → ¬ AnswersSet MayRefuse files parent keys out answer)
-Set-some MayRefuse may files parent keys out none = by (IsEarly-some formats laws.storable-or_breaks store set)
+pub Set-some : (MayRefuse : List ℕ → Type 0) → RefusesEach MayRefuse → (files : List MountedFile) (parent : Name) (keys : KeyMap) (out : List ℕ) → ¬ ((answer : Answer) → ¬ AnswersSet MayRefuse files parent keys out answer)
+Set-some MayRefuse each files parent keys out none = by (IsEarly-some formats laws.storable-or_breaks store set)
   where
     store : Store
     store = store_alone files
@@ -237,21 +246,21 @@ Set-some MayRefuse may files parent keys out none = by (IsEarly-some formats law
     set : Prepared
     set = set_alone store parent keys
 
-    judged : (late : Late) → IsLate (points_of store) [] store.start set late → (answer : Answer) × IsJudgement MayRefuse store store.start out late answer
-    judged (Same aside) is = (done out, refl)
-    judged (Conflict mount by) is = absurd (never-blocked store the_handle parent keys (Conflict mount by) mount by is refl)
-    judged (Invalid violation risen) is = (refused 5 (invalid violation), ((λ rose. may), refl))
-    judged (DatabaseFull weight) is = (refused 5 (database_full weight), refl)
-    judged (HistoryFull weight) is = (refused 5 (history_full weight), refl)
-    judged (Commits commit aside) is = (stores (stored_by store store.start commit) out, refl)
+    judged : (late : Late) → IsLate (points_of store) [] store.start set late → IsPermitted MayRefuse late → (answer : Answer) × IsJudgement MayRefuse store store.start out late answer
+    judged (Same aside) is may = (done out, refl)
+    judged (Conflict mount by) is may = absurd (never-blocked store the_handle parent keys (Conflict mount by) mount by is refl)
+    judged (Invalid violation risen) is may = (refused 5 (invalid violation), (may, refl))
+    judged (DatabaseFull weight) is may = (refused 5 (database_full weight), refl)
+    judged (HistoryFull weight) is may = (refused 5 (history_full weight), refl)
+    judged (Commits commit aside) is may = (stores (stored_by store store.start commit) out, refl)
 
     by : ((early : Option Early) × IsEarly formats store set early) → ⊥
     by (Some why, early) =
         let line = line_of store set why (λ m e. never-unseen formats store the_handle parent keys (Some why) m early (ap Some e)) early in
         none line.answer (Refused why early (subst (λ (o : Option PrepareFault). IsSomeAnd o (λ f. IsRefusal f line.answer)) (sym line.is) line.line))
     by (None, early) =
-        IsLate-some (points_of store) [] store.start set (λ late is.
-        let answer = judged late is in
+        verdict-some MayRefuse (points_of store) [] store.start set each (λ late is may.
+        let answer = judged late is may in
         none answer.0 (Judged early late is answer.1))
 
 -- ---- what the code refuses
@@ -291,7 +300,7 @@ module _ (files : List MountedFile) (parent : Name) (keys : KeyMap) (rec : Recor
       let unseen = unseen_early the_store.mounts refused_as.early at (refused_as.is ∙ ap Some is) in
       never-unseen formats the_store the_handle parent keys (Some refused_as.early) unseen.0 (subst (λ (s : Prepared). IsEarly formats the_store s (Some refused_as.early)) alone_is refused_as.refused) (ap Some unseen.1)
 
-  pub refused_answers : (MayRefuse : Type 0) (out : List ℕ) (why : PrepareFault) (answer : Answer) → IsRefused formats the_store (handle_of rec) (record_of rec) parent keys why → IsRefusal why answer → AnswersSet MayRefuse files parent keys out answer
+  pub refused_answers : (MayRefuse : List ℕ → Type 0) (out : List ℕ) (why : PrepareFault) (answer : Answer) → IsRefused formats the_store (handle_of rec) (record_of rec) parent keys why → IsRefusal why answer → AnswersSet MayRefuse files parent keys out answer
   refused_answers MayRefuse out why answer refused_as refusal =
       Refused refused_as.early (subst (λ (s : Prepared). IsEarly formats the_store s (Some refused_as.early)) alone_is refused_as.refused)
       (subst (λ (o : Option PrepareFault). IsSomeAnd o (λ f. IsRefusal f answer)) (sym refused_as.is) refusal)

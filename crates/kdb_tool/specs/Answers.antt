@@ -7,7 +7,7 @@ use Rattle.key_name.specs.Owner.{owner_of}
 use Rattle.kdb_outside.specs.declared.kinds.Kind.{Kind}
 use Rattle.model_names.specs.Name.{Name}
 use Rattle.model_maps.specs.KeyMap.{KeyMap}
-use Rattle.model_specified.specs.Violations.{AreViolations, is_within}
+use Rattle.model_specified.specs.Violations.{AreViolationsBy, is_within}
 use Rattle.model_specified.specs.declared.violations.Violation.{Violation}
 use Rattle.mount_table.specs.Points.{own_point}
 use Rattle.mounted_files.specs.Files.{points_of, Holds, IsCause}
@@ -31,7 +31,7 @@ use Rattle.tool_commands.specs.Commands.{every_key, parent_of, step_of}
 use Rattle.tool_commands.specs.Report.{checked}
 
 -- the answer by what a command makes of the keys that it got
-abbrev pub AnswersStep : Type 0 → List MountedFile → Name → Step → Answer → Type 0
+abbrev pub AnswersStep : (List ℕ → Type 0) → List MountedFile → Name → Step → Answer → Type 0
 AnswersStep MayRefuse files parent (Tells report) answer = answer ≡ tells report
 AnswersStep MayRefuse files parent (Sets keys out) answer = AnswersSet MayRefuse files parent keys out answer
 
@@ -43,7 +43,7 @@ line_of_get (faults.TooHeavy mount weight) = too_heavy mount weight
 line_of_get faults.Memory = out_of_memory
 
 -- the answer to an action, by what it got
-abbrev pub AnswersGot : Type 0 → List MountedFile → Name → Action → Result KeyMap GetFault → Answer → Type 0
+abbrev pub AnswersGot : (List ℕ → Type 0) → List MountedFile → Name → Action → Result KeyMap GetFault → Answer → Type 0
 AnswersGot MayRefuse files name action (Ok keys) answer = AnswersStep MayRefuse files (parent_of name action) (step_of keys name action) answer
 AnswersGot MayRefuse files name action (Err fault) answer = answer ≡ refused 5 (line_of_get fault)
 
@@ -70,12 +70,12 @@ abbrev pub mounts_told : List MountedFile → Answer
 mounts_told files = done (flat_map (λ file. line_of_mount file.mount) files)
 
 -- `validate`, by all keys: the lines of the violations at or below a name
-abbrev pub AnswersChecked : Type 0 → Name → Result KeyMap GetFault → Answer → Type 0
-AnswersChecked MayRefuse name (Ok keys) answer = (violations : List Violation) × AreViolations MayRefuse (is_within name) keys violations × (answer ≡ tells (checked violations))
+abbrev pub AnswersChecked : (List ℕ → Type 0) → Name → Result KeyMap GetFault → Answer → Type 0
+AnswersChecked MayRefuse name (Ok keys) answer = (violations : List Violation) × AreViolationsBy MayRefuse (is_within name) keys violations × (answer ≡ tells (checked violations))
 AnswersChecked MayRefuse name (Err fault) answer = answer ≡ refused 5 (line_of_get fault)
 
 -- the answer to a question over mounted files
-abbrev pub AnswersIn : Type 0 → List MountedFile → Question → Answer → Type 0
+abbrev pub AnswersIn : (List ℕ → Type 0) → List MountedFile → Question → Answer → Type 0
 AnswersIn MayRefuse files Mounts answer = answer ≡ mounts_told files
 AnswersIn MayRefuse files (FileOf name) answer = IsSomeAnd (owner_in files name) (λ file. answer ≡ file_told file)
 AnswersIn MayRefuse files (TextOf name kind) answer = AnswersBelow name kind (below files name) answer
@@ -94,30 +94,31 @@ abbrev pub IsRefusedBy : OpenRefusal → Answer → Type 0
 IsRefusedBy refusal answer = (refusal ≢ refusals.Memory) × (answer ≡ refused 5 (line_of_opening refusal))
 
 -- the answer to a question by what came of the opening
-abbrev pub AnswersOpened : Type 0 → Result (List MountedFile) OpenRefusal → Question → Answer → Type 0
+abbrev pub AnswersOpened : (List ℕ → Type 0) → Result (List MountedFile) OpenRefusal → Question → Answer → Type 0
 AnswersOpened MayRefuse (Ok files) question answer = AnswersIn MayRefuse files question answer
 AnswersOpened MayRefuse (Err refusal) question answer = IsRefusedBy refusal answer
 
 -- the answer to a question over what the files mean
-pub record AnswersOver (MayRefuse : Type 0) (question : Question) (bytes_of : List ℕ → List ℕ) (answer : Answer) : Type 0 where
+pub record AnswersOver (MayRefuse : List ℕ → Type 0) (question : Question) (bytes_of : List ℕ → List ℕ) (answer : Answer) : Type 0 where
   pub opened : Result (List MountedFile) OpenRefusal
   pub opens : Opens all.Reads all.IsBadAt bytes_of opened
   pub answers : AnswersOpened MayRefuse opened question answer
 
 -- `import`: the keys that some bytes hold as a file at a name would, take the place of all at or below it. Bytes that hold none are
 -- refused as such a file is, before the files are looked at
-pub data AnswersImport (MayRefuse : Type 0) (name : Name) (kind : Kind) (bytes : List ℕ) (bytes_of : List ℕ → List ℕ) (answer : Answer) : Type 0 where
+pub data AnswersImport (MayRefuse : List ℕ → Type 0) (name : Name) (kind : Kind) (bytes : List ℕ) (bytes_of : List ℕ → List ℕ) (answer : Answer) : Type 0 where
   Held : (keys : KeyMap) → Holds all.Reads name kind bytes keys → AnswersOver MayRefuse (On name (Replace keys)) bytes_of answer → AnswersImport MayRefuse name kind bytes bytes_of answer
   Bad : (cause : Cause) → IsCause all.Reads all.IsBadAt name kind bytes cause → answer ≡ refused 5 (line_of_get (fault_of name cause)) → AnswersImport MayRefuse name kind bytes bytes_of answer
 
 -- the answer to a request
-abbrev pub AnswersRequest : Type 0 → Request → List ℕ → (List ℕ → List ℕ) → Answer → Type 0
+abbrev pub AnswersRequest : (List ℕ → Type 0) → Request → List ℕ → (List ℕ → List ℕ) → Answer → Type 0
 AnswersRequest MayRefuse (Refuses status text) input bytes_of answer = answer ≡ refused status text
 AnswersRequest MayRefuse (Bars name) input bytes_of answer = answer ≡ refused 2 (not_writable name)
 AnswersRequest MayRefuse (Asks question) input bytes_of answer = AnswersOver MayRefuse question bytes_of answer
 AnswersRequest MayRefuse (Imports name kind) input bytes_of answer = AnswersImport MayRefuse name kind (taken input) bytes_of answer
 
--- the answer to a command line with some input, where files gives each file name its bytes. It is one and the same but for patterns that the
--- matcher may have refused (`MayRefuse`): a value that such a pattern is to check breaks the rule on patterns then
-abbrev pub Answers : Type 0 → List (List ℕ) → List ℕ → (List ℕ → List ℕ) → Answer → Type 0
+-- the answer to a command line with some input, where files gives each file name its bytes. It is one and the same but for the texts that may be refused
+-- as patterns (`MayRefuse`): a value that such a text is to check breaks the rule on patterns then. Where each text that is no pattern is among them
+-- there is always an answer, and where no other text is, one alone
+abbrev pub Answers : (List ℕ → Type 0) → List (List ℕ) → List ℕ → (List ℕ → List ℕ) → Answer → Type 0
 Answers MayRefuse words input files answer = AnswersRequest MayRefuse (request words) input files answer

@@ -1,6 +1,10 @@
 -- What is told where the journal's gate is open, and no whole body of an entry stands behind it. No crash of this store leaves that. (This project's own.)
-use Rattle.std.specs.Prelude.{◌≡◌, ℕ, List}
+use Rattle.std.specs.Prelude.{◌≡◌, ◌≢◌, ℕ, ◌<◌, ◌≤◌, List, length}
 use Rattle.all_formats.specs.Meanings as all
+use Rattle.intent_journal.specs.BadJournals.{longest_body}
+use Rattle.journal_codec.specs.Entry.{IsEntry, spelled}
+use Rattle.journal_codec.specs.Places.{IsPlace}
+use Rattle.journal_codec.specs.declared.files.FileText.{FileText}
 use Rattle.kdb_outside.specs.SinkChange.{SinkChange as Change}
 use Rattle.kdb_outside.specs.declared.kinds.Kind.{Kind}
 use Rattle.model_maps.specs.KeyMap.{KeyMap}
@@ -14,6 +18,14 @@ use Rattle.tool_words.specs.Request.{Request, Refuses, Bars, Asks, Imports}
 use Rattle.kdb_tool.specs.Answers.{line_of_get}
 use Rattle.kdb_tool.specs.Input.{taken}
 use Rattle.kdb_tool.specs.Outcome.{Gives}
+
+-- what stands behind an open gate is no whole body of an entry, by its length, which stands first, and the bytes behind that up to it: the length is
+-- over that of every entry, told at the front; or the bytes go wrong, told at the place where they do; or they are an entry's, but fewer than the
+-- length, told at their end
+pub data IsBrokenAt (size : ℕ) (body : List ℕ) (at : ℕ) : Type 0 where
+  TooLong : longest_body < size → at ≡ 0 → IsBrokenAt size body at
+  WrongField : size ≤ longest_body → IsPlace body at → IsBrokenAt size body at
+  CutShort : size ≤ longest_body → (files : List FileText) → IsEntry files → spelled files ≡ body → length body ≢ size → at ≡ length body → IsBrokenAt size body at
 
 -- of an import: an input that holds no keys is refused as a file is, before the journal is looked at, and else the journal is
 pub data ToldOfImport (name : Name) (kind : Kind) (input : List ℕ) (at : ℕ) (report : Report) : Type 0 where

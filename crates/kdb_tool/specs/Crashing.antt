@@ -4,7 +4,7 @@ use Rattle.std.specs.Prelude.{◌≡◌, ◌≢◌, ◌⊎◌, List, [], ◌∷�
 use Rattle.intent_journal.specs.BadJournals.{opened_files}
 use Rattle.intent_journal.specs.Journal.{JournalValue}
 use Rattle.intent_journal.specs.Outcomes.{SameFiles, HasOnly, IsEither, IsOutcome}
-use Rattle.intent_journal.specs.States.{IsCalm}
+use Rattle.intent_journal.specs.States.{IsCalm, IsSettled}
 use Rattle.journal_codec.specs.declared.files.FileText.{FileText}
 use Rattle.kdb_outside.specs.Faults.{HasRisen}
 use Rattle.kdb_outside.specs.Frames.{GoesOn}
@@ -39,7 +39,7 @@ pub record StaysCalm {D : Type 0} (g : Ghosts D) (files : Image) (doubt : Option
   pub found : SameFiles (opened_files (g.seen end)) (with_stored stored (opened_files (g.seen disk)))
 
 -- a disk failed, and no commit was made: it was left with the files of the opening, and at most one entry in doubt, in a journal that only the close
--- behind it may have touched, so that a read gives these files where the disk didn't fail once more
+-- behind it may have touched, so that a read and every crash give these files where the disk didn't fail once more
 pub record IsUncommitted {D : Type 0} (g : Ghosts D) (disk end : D) (opened : Image) : Type 0 where
   pub journal : JournalValue D
   pub doubt : Option (List FileText)
@@ -47,3 +47,4 @@ pub record IsUncommitted {D : Type 0} (g : Ghosts D) (disk end : D) (opened : Im
   pub rests : IsResting g journal opened doubt
   pub goes : GoesOn g journal.disk end
   pub shown : ¬ HasRisen (g.faults journal.disk) (g.faults end) → SameFiles (g.seen end) opened
+  pub settled : ¬ HasRisen (g.faults journal.disk) (g.faults end) → IsSettled (g.may_leave end) opened

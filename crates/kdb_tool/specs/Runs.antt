@@ -43,7 +43,7 @@ pub record OneRun (D : Type 0) : Type 0 where
 -- an answer to the command line of a run over its input and the files that it found
 abbrev pub AnswersRun : {D : Type 0} → Ghosts D → OneRun D → Answer → Type 0
 AnswersRun g run answer =
-    Answers (HasRisen run.refusals_before run.refusals) run.words run.input (opened_files (g.seen run.found)) answer
+    Answers (λ _. HasRisen run.refusals_before run.refusals) run.words run.input (opened_files (g.seen run.found)) answer
 
 -- what the top call says of a run on a disk that tells; of a fault of its input nothing is asked here
 pub record HasRan {D : Type 0} (g : Ghosts D) (run : OneRun D) : Type 0 where

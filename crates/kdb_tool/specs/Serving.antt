@@ -1,5 +1,5 @@
 -- What a command does to a store, by how it ended: on the open store, and on the disk from the opening to the close. (This project's own.)
-use Rattle.std.specs.Prelude.{◌≡◌, ◌≢◌, ℕ, List, [], ◌∷◌, length, Option, None, Result, Ok, Err}
+use Rattle.std.specs.Prelude.{◌≡◌, ◌≢◌, ℕ, true, List, [], ◌∷◌, length, Option, None, Result, Ok, Err}
 use Rattle.std.specs.List.{AllByRecursion}
 use Rattle.intent_journal.specs.BadJournals.{open_entry, opened_files}
 use Rattle.intent_journal.specs.Journal.{JournalValue}
@@ -89,12 +89,13 @@ pub record BeginsEntry {D : Type 0} (g : Ghosts D) (opened : D) (run : Run) (ent
   pub one : IsOneOf doubt run.doubt entry
   pub store : IsStore g opened journal (after_begun run entry doubt)
 
--- the disk failed to commit what an answer stores
+-- the disk failed to commit what an answer stores, and was written to
 pub record FailsToStore {D P : Type 0} (g : Ghosts D) (Answered : Answer → Type 0) (before after : Core D P) : Type 0 where
   pub answer : Answer
   pub answers : Answered answer
   pub some : answer.stored ≢ []
   pub begun : (opened : D) (run : Run) → IsStore g opened before.journal run → BeginsEntry g opened run (entry_of answer.stored) after.journal
+  pub wrote : after.wrote ≡ true
 
 abbrev pub Serving : {D P : Type 0} → Ghosts D → (Answer → Type 0) → Result code.Report Stop → Core D P → Core D P → Type 0
 Serving g Answered (Ok report) before after = Serves g Answered (report_of report) before after
@@ -102,11 +103,11 @@ Serving g Answered (Err stops.Memory) before after = IsUnwritten before after
 Serving g Answered (Err stops.DiskFault) before after = FailsToStore g Answered before after
 Serving g Answered (Err stops.ReadFault) before after = ⊥
 
--- a pattern may have been refused, by the counts of the matcher's refusals: where an answer was given its count has risen, and where none was
--- given any may have been
-abbrev pub MayRefuse : Result code.Report Stop → ℕ → ℕ → Type 0
-MayRefuse (Ok report) before now = HasRisen before now
-MayRefuse (Err stop) before now = Unit {0}
+-- the texts that may have been refused as patterns, by the counts of the matcher's refusals: where an answer was given none unless its count has
+-- risen, since it counts the texts that are no patterns too, and where no answer was given any
+abbrev pub MayRefuse : Result code.Report Stop → ℕ → ℕ → List ℕ → Type 0
+MayRefuse (Ok report) before now pattern = HasRisen before now
+MayRefuse (Err stop) before now pattern = Unit {0}
 
 -- none of some answers stores anything
 abbrev pub StoresNothing : (Answer → Type 0) → Type 0

@@ -50,17 +50,17 @@ IsRefusal (fault.NotStorable mount key) answer = answer ≡ refused 5 (not_stora
 IsRefusal (fault.BadTable why) answer = answer ≡ refused 5 (bad_table why)
 IsRefusal fault.Memory answer = ⊥
 
--- what the history and the rules make of a set, where nothing was committed before: nothing blocks it. A violation may have been told of a pattern that
--- the matcher refused, where it may have refused some
-abbrev pub IsJudgement : Type 0 → Store → KeyMap → List ℕ → Late → Answer → Type 0
+-- what the history and the rules make of a set, where nothing was committed before: nothing blocks it. A violation that goes by a refused pattern is told
+-- only of a text that may be refused as one
+abbrev pub IsJudgement : (List ℕ → Type 0) → Store → KeyMap → List ℕ → Late → Answer → Type 0
 IsJudgement MayRefuse store keys out (Same aside) answer = answer ≡ done out
 IsJudgement MayRefuse store keys out (Conflict mount by) answer = ⊥
-IsJudgement MayRefuse store keys out (Invalid violation risen) answer = (T risen → MayRefuse) × (answer ≡ refused 5 (invalid violation))
+IsJudgement MayRefuse store keys out (Invalid violation risen) answer = (T risen → MayRefuse violation.given) × (answer ≡ refused 5 (invalid violation))
 IsJudgement MayRefuse store keys out (DatabaseFull weight) answer = answer ≡ refused 5 (database_full weight)
 IsJudgement MayRefuse store keys out (HistoryFull weight) answer = answer ≡ refused 5 (history_full weight)
 IsJudgement MayRefuse store keys out (Commits commit aside) answer = answer ≡ stores (stored_by store keys commit) out
 
 -- the answer where keys are set at a parent whose keys were got
-pub data AnswersSet (MayRefuse : Type 0) (files : List MountedFile) (parent : Name) (keys : KeyMap) (out : List ℕ) (answer : Answer) : Type 0 where
+pub data AnswersSet (MayRefuse : List ℕ → Type 0) (files : List MountedFile) (parent : Name) (keys : KeyMap) (out : List ℕ) (answer : Answer) : Type 0 where
   Refused : (why : Early) → IsEarly formats (store_alone files) (set_alone (store_alone files) parent keys) (Some why) → IsSomeAnd (fault_of (store_alone files).mounts why) (λ fault. IsRefusal fault answer) → AnswersSet MayRefuse files parent keys out answer
   Judged : IsEarly formats (store_alone files) (set_alone (store_alone files) parent keys) None → (late : Late) → IsLate (points_of (store_alone files)) [] (store_alone files).start (set_alone (store_alone files) parent keys) late → IsJudgement MayRefuse (store_alone files) (store_alone files).start out late answer → AnswersSet MayRefuse files parent keys out answer

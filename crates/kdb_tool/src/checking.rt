@@ -33,7 +33,7 @@ pub fn check_keys<D: Disk, P: Patterns + Drop>(
 ) -> Result<Report, Memory>
     requires open { IsOpen plan.now core.old }
     ensures answers { (bytes_of : List ℕ → List ℕ) → IsOpened Reads IsBadAt bytes_of plan.now.mounted
-        → IfOk result (λ report. AnswersChecked (HasRisen (P.refusals core.old.patterns) (P.refusals core.new.patterns)) name.now (got plan.now.mounted every_key) (tells (report_of report))) }
+        → IfOk result (λ report. AnswersChecked (λ _. HasRisen (P.refusals core.old.patterns) (P.refusals core.new.patterns)) name.now (got plan.now.mounted every_key) (tells (report_of report))) }
     ensures kept { IsUnwritten core.old core.new }
     ensures status { IfOk result (λ report. IsStatusOf (ViolationsOf name.now) report.status) }
     ensures later { P.refusals core.old.patterns ≤ P.refusals core.new.patterns }

@@ -52,7 +52,7 @@ pub fn run<S: Source, K: Sink, E: Sink, D: Disk + Send, P: Patterns + Drop + Sen
     // is taken only where the matcher's count of refusals rose, however the run ends.
     ensures ran { D.tells disk ≡ true → (files : Image) (doubt : Option (List Item)) → IsCalm (D.seen disk) (D.may_leave disk) files doubt
         → (given : List ℕ) → IsInput (request words.now) (S.left input.old) given
-        → Ran D.Disk files doubt (Answers (HasRisen (P.refusals patterns) (P.refusals result.2)) words.now given (opened_files (D.seen disk))) (LosesInput (FailsToRead (request words.now) (S.faults input.old) (S.faults input.new)) disk result.1 patterns result.2) disk result.1 result.0 (change_of K.Sink out.old out.new) (change_of E.Sink err.old err.new) }
+        → Ran D.Disk files doubt (Answers (λ _. HasRisen (P.refusals patterns) (P.refusals result.2)) words.now given (opened_files (D.seen disk))) (LosesInput (FailsToRead (request words.now) (S.faults input.old) (S.faults input.new)) disk result.1 patterns result.2) disk result.1 result.0 (change_of K.Sink out.old out.new) (change_of E.Sink err.old err.new) }
 
     // Without a fault of the disk it is calm behind the call, for the next one, with the files that the answer leaves and nothing in doubt that wasn't
     // before. Where an answer was worked out, `ran` says the same of what that answer stores.
@@ -86,7 +86,7 @@ pub fn run<S: Source, K: Sink, E: Sink, D: Disk + Send, P: Patterns + Drop + Sen
 
     // Where no entry is open, and the disk need not be calm for that, nothing is written where no answer stores anything, whatever fails;
     ensures untouched { D.tells disk ≡ true → open_entry (D.seen disk journal_name) ≡ None → (given : List ℕ) → IsInput (request words.now) (S.left input.old) given
-        → StoresNothing (Answers (HasRisen (P.refusals patterns) (P.refusals result.2)) words.now given (D.seen disk)) → OnlyReads D.Disk disk result.1 }
+        → StoresNothing (Answers (λ _. HasRisen (P.refusals patterns) (P.refusals result.2)) words.now given (D.seen disk)) → OnlyReads D.Disk disk result.1 }
 
     // nor does a run write that ends in want of memory or is refused, one that the journal refuses too: that ends neither as a command that was
     // done nor in a fault.

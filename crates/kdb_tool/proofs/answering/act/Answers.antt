@@ -1,5 +1,5 @@
 -- What is got leads to a step, and what can't be got is told.
-use Rattle.std.proofs.Common.{◌≡◌, Ok, Result, sym, ap, subst, ◌∙◌}
+use Rattle.std.proofs.Common.{List, ℕ, ◌≡◌, Ok, Result, sym, ap, subst, ◌∙◌}
 use Rattle.model_maps.specs.KeyMap.{KeyMap}
 use Rattle.model_names.specs.Name.{Name}
 use Rattle.mounted_files.specs.Getting.{got}
@@ -40,5 +40,7 @@ returns-in_ok-refuse_get-in-Err-clause-serving g c = λ bytes_of is_opened.
     let action = action_of c.args.action in
     let report = report_of c.in_ok-refuse_get-in-Err.field-0 in
     let told = c.in_ok-refuse_get-in-Err.ensures.refused in
-    told_serves g.D.Disk (AnswersGot (HasRisen (g.P.Patterns.refusals c.args.core.now.patterns) (g.P.Patterns.refusals c.args.core.now.patterns)) files name action (got files (parent_of name action))) report c.args.core.now
-    (got-fault (HasRisen (g.P.Patterns.refusals c.args.core.now.patterns) (g.P.Patterns.refusals c.args.core.now.patterns)) files name c.in_ok-parent.parent action c.in-Err.fault (tells report) c.in_ok-parent.ensures c.in-Err.ensures.fault told.0 (ap tells told.1))
+    let refused = g.P.Patterns.refusals in
+    let Rose : List ℕ → Type 0 = λ pattern. HasRisen (refused c.args.core.now.patterns) (refused c.args.core.now.patterns) in
+    told_serves g.D.Disk (AnswersGot Rose files name action (got files (parent_of name action))) report c.args.core.now
+    (got-fault Rose files name c.in_ok-parent.parent action c.in-Err.fault (tells report) c.in_ok-parent.ensures c.in-Err.ensures.fault told.0 (ap tells told.1))

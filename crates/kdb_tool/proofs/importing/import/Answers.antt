@@ -29,7 +29,11 @@ returns-in-Ok-Keys-clause-served g c = λ tells files doubt calm bytes is.
 
 pub returns-in-Ok-Keys-clause-unserved : goal.returns-in-Ok-Keys-clause-unserved
 returns-in-Ok-Keys-clause-unserved g c = λ tells files doubt calm.
-    serve_unserved g.D.Disk files doubt (AnswersOver (MayRefuse c.answer_question.result.answer (g.P.Patterns.refusals c.args.patterns) (g.P.Patterns.refusals c.answer_question.result.patterns)) (On c.args.name (Replace c.in-Ok-Keys.keys)) (opened_files (g.D.Disk.seen c.args.disk))) c.answer_question.result.answer c.args.disk c.answer_question.result.disk (c.answer_question.ensures.served tells files doubt calm)
+    let refused = g.P.Patterns.refusals in
+    let ended = c.answer_question.result in
+    let Refusing = MayRefuse ended.answer (refused c.args.patterns) (refused ended.patterns) in
+    let Answered = AnswersOver Refusing (On c.args.name (Replace c.in-Ok-Keys.keys)) (opened_files (g.D.Disk.seen c.args.disk)) in
+    serve_unserved g.D.Disk files doubt Answered ended.answer c.args.disk ended.disk (c.answer_question.ensures.served tells files doubt calm)
 
 pub returns-in-Ok-Bad-clause-served : goal.returns-in-Ok-Bad-clause-served
 returns-in-Ok-Bad-clause-served g c = λ tells_disk files doubt calm bytes is.
@@ -37,7 +41,10 @@ returns-in-Ok-Bad-clause-served g c = λ tells_disk files doubt calm bytes is.
     let kind = c.args.kind in
     let seen = opened_files (g.D.Disk.seen c.args.disk) in
     let cause : IsCause all.Reads all.IsBadAt name kind (taken bytes) (cause_of c.in-Ok-Bad.cause) = subst (λ (h : Holding). IsHolding all.Reads all.IsBadAt name kind (taken bytes) h) c.in-Ok-Bad.field-0-is (c.in-Ok-Bad.ensures.told bytes is) in
-    handed_on g.D.Disk c.args.disk c.without_store.result.disk files doubt (AnswersImport (MayRefuse c.without_store.result.answer (g.P.Patterns.refusals c.args.patterns) (g.P.Patterns.refusals c.without_store.result.patterns)) name kind (taken bytes) seen) c.refuse_input.result c.without_store.result.answer c.without_store.ensures.answer c.without_store.ensures.disk tells_disk calm
+    let refused = g.P.Patterns.refusals in
+    let ended = c.without_store.result in
+    let Refusing = MayRefuse ended.answer (refused c.args.patterns) (refused ended.patterns) in
+    handed_on g.D.Disk c.args.disk ended.disk files doubt (AnswersImport Refusing name kind (taken bytes) seen) c.refuse_input.result ended.answer c.without_store.ensures.answer c.without_store.ensures.disk tells_disk calm
     (IfOk-weaker c.refuse_input.result _ _ (λ report told. Bad (cause_of c.in-Ok-Bad.cause) cause (ap tells told)) c.refuse_input.ensures.told)
 
 pub returns-in-Ok-Bad-clause-unserved : goal.returns-in-Ok-Bad-clause-unserved
@@ -46,7 +53,10 @@ returns-in-Ok-Bad-clause-unserved g c = λ tells_disk files doubt calm stops.
 
 pub returns-in-Err-clause-served : goal.returns-in-Err-clause-served
 returns-in-Err-clause-served g c = λ tells_disk files doubt calm bytes is.
-    alone_stopped g.D.Disk c.args.disk files doubt (AnswersImport (MayRefuse (Err c.in-Err.stop) (g.P.Patterns.refusals c.args.patterns) (g.P.Patterns.refusals c.args.patterns)) c.args.name c.args.kind (taken bytes) (opened_files (g.D.Disk.seen c.args.disk))) c.in-Err.stop tells_disk calm (λ e. c.in-Err.ensures.own (ap Err e))
+    let refused = g.P.Patterns.refusals in
+    let Refusing = MayRefuse (Err c.in-Err.stop) (refused c.args.patterns) (refused c.args.patterns) in
+    let seen = opened_files (g.D.Disk.seen c.args.disk) in
+    alone_stopped g.D.Disk c.args.disk files doubt (AnswersImport Refusing c.args.name c.args.kind (taken bytes) seen) c.in-Err.stop tells_disk calm (λ e. c.in-Err.ensures.own (ap Err e))
 
 pub returns-in-Err-clause-unserved : goal.returns-in-Err-clause-unserved
 returns-in-Err-clause-unserved g c = λ tells_disk files doubt calm stops. alone_unserved g.D.Disk c.args.disk files doubt tells_disk calm
@@ -102,7 +112,11 @@ returns-in-Err-clause-broken_stays g c = λ tells at broken. OnlyReads-none g.D.
 
 pub returns-in-Ok-Keys-clause-calm : goal.returns-in-Ok-Keys-clause-calm
 returns-in-Ok-Keys-clause-calm g c = λ tells files doubt calm still.
-    serve_calm g.D.Disk files doubt (AnswersOver (MayRefuse c.answer_question.result.answer (g.P.Patterns.refusals c.args.patterns) (g.P.Patterns.refusals c.answer_question.result.patterns)) (On c.args.name (Replace c.in-Ok-Keys.keys)) (opened_files (g.D.Disk.seen c.args.disk))) c.answer_question.result.answer c.args.disk c.answer_question.result.disk (c.answer_question.ensures.served tells files doubt calm) c.answer_question.ensures.cause still
+    let refused = g.P.Patterns.refusals in
+    let ended = c.answer_question.result in
+    let Refusing = MayRefuse ended.answer (refused c.args.patterns) (refused ended.patterns) in
+    let Answered = AnswersOver Refusing (On c.args.name (Replace c.in-Ok-Keys.keys)) (opened_files (g.D.Disk.seen c.args.disk)) in
+    serve_calm g.D.Disk files doubt Answered ended.answer c.args.disk ended.disk (c.answer_question.ensures.served tells files doubt calm) c.answer_question.ensures.cause still
 
 pub returns-in-Ok-Bad-clause-calm : goal.returns-in-Ok-Bad-clause-calm
 returns-in-Ok-Bad-clause-calm g c = λ tells files doubt calm still. handed_calm g.D.Disk c.args.disk c.without_store.result.disk files doubt c.without_store.ensures.disk tells calm

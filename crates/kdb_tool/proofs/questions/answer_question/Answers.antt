@@ -39,15 +39,20 @@ returns-in-Ok-clause-served g c = λ tells files doubt calm.
       wrote = c.in-Ok.ensures.wrote tells;
       state = c.in-Ok.ensures.doubt;
     })
-    (record { alone = c.close-disk.ensures.left_alone; shown = c.close-disk.ensures.shown; always = c.close-disk.ensures.always; now = c.close-disk.ensures.now; goes = c.close-disk.ensures.goes; calm = c.close-disk.ensures.calm })
+    (record { alone = c.close-disk.ensures.left_alone; shown = c.close-disk.ensures.shown; always = c.close-disk.ensures.always; now = c.close-disk.ensures.now; settled = c.close-disk.ensures.settled; goes = c.close-disk.ensures.goes; calm = c.close-disk.ensures.calm })
     (AnswersOver Refusing question seen) c.answer_in-answer.result c.answer_in-answer.ensures.cause
     (serving_weaker g.D.Disk (AnswersIn Refusing mounted question) (AnswersOver Refusing question seen) c.answer_in-answer.result core c.answer_in-answer.new.core
     (λ answer answers. record { opened = Ok mounted; opens = is_opened; answers = answers }) serving))))
 
 pub returns-in-Err-clause-served : goal.returns-in-Err-clause-served
 returns-in-Err-clause-served g c = λ tells files doubt calm.
-    subst (λ d. Serve g.D.Disk files doubt (AnswersOver (MayRefuse c.refuse_opening.result (g.P.Patterns.refusals c.args.patterns) (g.P.Patterns.refusals c.in-Err.field-0.patterns)) (question_of c.args.question) (opened_files (g.D.Disk.seen c.args.disk))) c.refuse_opening.result c.args.disk d) (sym c.given_back-disk-in-Err.ensures)
-    (refused_serve g.D.Disk c.args.disk c.in-Err.field-0.disk files doubt (g.P.Patterns.refusals c.args.patterns) (g.P.Patterns.refusals c.in-Err.field-0.patterns) (question_of c.args.question) c.in-Err.field-0.fault c.refuse_opening.result c.refuse_opening.ensures.told c.refuse_opening.ensures.answered c.refuse_opening.ensures.input
+    let refused = g.P.Patterns.refusals in
+    let refusal = c.in-Err.field-0 in
+    let Refusing = MayRefuse c.refuse_opening.result (refused c.args.patterns) (refused refusal.patterns) in
+    let Answered = AnswersOver Refusing (question_of c.args.question) (opened_files (g.D.Disk.seen c.args.disk)) in
+    subst (λ d. Serve g.D.Disk files doubt Answered c.refuse_opening.result c.args.disk d) (sym c.given_back-disk-in-Err.ensures)
+    (refused_serve g.D.Disk c.args.disk refusal.disk files doubt (refused c.args.patterns) (refused refusal.patterns) (question_of c.args.question) refusal.fault
+    c.refuse_opening.result c.refuse_opening.ensures.told c.refuse_opening.ensures.answered c.refuse_opening.ensures.input
     (c.in-Err.ensures.any_moment tells files doubt calm) (c.in-Err.ensures.rests tells files doubt calm) (c.in-Err.ensures.shown tells files doubt calm) (c.in-Err.ensures.left_alone tells)
     (c.in-Err.ensures.refused tells files doubt calm) (λ at is. c.in-Err.ensures.calm tells files doubt calm at (ap Some is))
     (λ still. leaves_calm g.D.Disk c.args.disk c.in-Err.field-0.disk files doubt tells c.in-Err.ensures.goes calm (c.in-Err.ensures.left_alone tells) (c.in-Err.ensures.left tells files doubt calm still)))
@@ -75,10 +80,13 @@ returns-in-Ok-clause-untouched g c = λ tells none nothing.
 pub returns-in-Ok-clause-unstored : goal.returns-in-Ok-clause-unstored
 returns-in-Ok-clause-unstored g c = λ tells none not_done.
     let core = c.in-Ok.opened.core in
+    let refused = g.P.Patterns.refusals in
+    let Refusing = MayRefuse c.answer_in-answer.result (refused core.patterns) (refused c.answer_in-answer.new.core.patterns) in
+    let Answered = AnswersIn Refusing c.in-Ok.opened.plan.mounted (question_of c.args.question) in
     subst (OnlyReads g.D.Disk c.args.disk) (sym c.given_back-disk.ensures)
     (serving_unstored g.D.Disk c.args.disk c.close-disk.result.disk core c.answer_in-answer.new.core
     (record { alone = c.in-Ok.ensures.left_alone tells none; wrote = c.in-Ok.ensures.wrote tells ∙ ap is_some none; state = c.in-Ok.ensures.doubt }) c.close-disk.ensures.left_alone
-    (AnswersIn (MayRefuse c.answer_in-answer.result (g.P.Patterns.refusals c.in-Ok.opened.core.patterns) (g.P.Patterns.refusals c.answer_in-answer.new.core.patterns)) c.in-Ok.opened.plan.mounted (question_of c.args.question)) c.answer_in-answer.result (c.answer_in-answer.ensures.serving (g.D.Disk.seen c.args.disk) (c.in-Ok.ensures.as_seen tells none)) not_done)
+    Answered c.answer_in-answer.result (c.answer_in-answer.ensures.serving (g.D.Disk.seen c.args.disk) (c.in-Ok.ensures.as_seen tells none)) not_done)
 
 pub returns-in-Err-clause-untouched : goal.returns-in-Err-clause-untouched
 returns-in-Err-clause-untouched g c = λ tells none nothing. subst (OnlyReads g.D.Disk c.args.disk) (sym c.given_back-disk-in-Err.ensures) (c.in-Err.ensures.left_alone tells none)

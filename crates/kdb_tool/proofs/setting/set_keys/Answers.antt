@@ -1,5 +1,5 @@
 -- What is prepared was fetched, and what is refused is refused for no mount that wasn't.
-use Rattle.std.proofs.Common.{subst, ℕ}
+use Rattle.std.proofs.Common.{List, subst, ℕ}
 use Rattle.std.specs.Prelude.{string_bytes}
 use Rattle.model_maps.specs.KeyMap.{no_keys}
 use Rattle.store_verdict.specs.Preparing.{IsMade}
@@ -34,6 +34,8 @@ refuse_set-requires g c = λ mount is.
 
 pub returns-in_ok-refuse_set-in-Err-clause-serving : goal.returns-in_ok-refuse_set-in-Err-clause-serving
 returns-in_ok-refuse_set-in-Err-clause-serving g c =
-    told_serves g.D.Disk (AnswersSet (HasRisen (g.P.Patterns.refusals c.args.core.now.patterns) (g.P.Patterns.refusals c.args.core.now.patterns)) c.args.plan.now.mounted c.args.parent.now c.args.keys.now (string_bytes c.args.out)) (report_of c.in_ok-refuse_set-in-Err.field-0) c.args.core.now
-    (refused_answers c.args.plan.now.mounted c.args.parent.now c.args.keys.now c.args.rec.now c.requires.fetched (HasRisen (g.P.Patterns.refusals c.args.core.now.patterns) (g.P.Patterns.refusals c.args.core.now.patterns)) (string_bytes c.args.out) c.in-Err.fault (tells (report_of c.in_ok-refuse_set-in-Err.field-0))
+    let refused = g.P.Patterns.refusals in
+    let Rose : List ℕ → Type 0 = λ pattern. HasRisen (refused c.args.core.now.patterns) (refused c.args.core.now.patterns) in
+    told_serves g.D.Disk (AnswersSet Rose c.args.plan.now.mounted c.args.parent.now c.args.keys.now (string_bytes c.args.out)) (report_of c.in_ok-refuse_set-in-Err.field-0) c.args.core.now
+    (refused_answers c.args.plan.now.mounted c.args.parent.now c.args.keys.now c.args.rec.now c.requires.fetched Rose (string_bytes c.args.out) c.in-Err.fault (tells (report_of c.in_ok-refuse_set-in-Err.field-0))
     (c.in-Err.ensures.refused (not_memory c.in-Err.fault _ c.in_ok-refuse_set-in-Err.ensures.refused) (store_alone c.args.plan.now.mounted) (c.requires.open.fixed (λ h. no_keys))) c.in_ok-refuse_set-in-Err.ensures.refused)

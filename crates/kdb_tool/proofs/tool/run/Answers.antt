@@ -14,7 +14,10 @@ use Rattle.kdb_tool.proofs.tool.run.Goals as goal
 
 pub returns-clause-ran : goal.returns-clause-ran
 returns-clause-ran g c = λ tells files doubt calm given fed.
-    ran g.D.Disk c.args.disk c.carry_out-answer.result.disk files doubt c.args.words.now given (g.P.Patterns.refusals c.args.patterns) (g.P.Patterns.refusals c.carry_out-answer.result.patterns) (LosesInput (FailsToRead (request c.args.words.now) (g.S.Source.faults c.args.input.now) (g.S.Source.faults c.carry_out-answer.new.input)) c.args.disk c.carry_out-answer.result.disk c.args.patterns c.carry_out-answer.result.patterns) c.finish-status.result _ _
+    let ended = c.carry_out-answer.result in
+    let Unread = FailsToRead (request c.args.words.now) (g.S.Source.faults c.args.input.now) (g.S.Source.faults c.carry_out-answer.new.input) in
+    ran g.D.Disk c.args.disk ended.disk files doubt c.args.words.now given (g.P.Patterns.refusals c.args.patterns) (g.P.Patterns.refusals ended.patterns)
+    (LosesInput Unread c.args.disk ended.disk c.args.patterns ended.patterns) c.finish-status.result _ _
     c.carry_out-answer.result.answer (c.carry_out-answer.ensures.served tells files doubt calm given fed) c.carry_out-answer.ensures.read c.carry_out-answer.ensures.cause c.finish-status.ensures.finished
 
 pub returns-clause-words : goal.returns-clause-words
@@ -46,7 +49,7 @@ returns-clause-untouched g c = λ tells none given fed nothing.
     let before = g.P.Patterns.refusals c.args.patterns in
     let now = g.P.Patterns.refusals c.carry_out-answer.result.patterns in
     c.carry_out-answer.ensures.untouched tells none given fed
-    (stores_nothing (MayRefuse c.carry_out-answer.result.answer before now) (HasRisen before now) c.args.words.now given (g.D.Disk.seen c.args.disk) nothing)
+    (stores_nothing (MayRefuse c.carry_out-answer.result.answer before now) (λ _. HasRisen before now) c.args.words.now given (g.D.Disk.seen c.args.disk) nothing)
 
 pub returns-clause-unstored : goal.returns-clause-unstored
 returns-clause-unstored g c = λ tells none not_done no_fault.
