@@ -23,7 +23,7 @@ same_digits : (a b : ℕ) → a / 16 ≡ b / 16 → a % 16 ≡ b % 16 → a ≡ 
 same_digits a b e f = omega arith
 
 -- the first byte of a quoted text and the rest are its own
-first_quoted : (a b : ℕ) (xs ys : List ℕ) → quoted_byte a ++ xs ≡ quoted_byte b ++ ys → (a ≡ b) × (xs ≡ ys)
+pub first_quoted : (a b : ℕ) (xs ys : List ℕ) → quoted_byte a ++ xs ≡ quoted_byte b ++ ys → (a ≡ b) × (xs ≡ ys)
 first_quoted a b xs ys same = by (quoted_as a) (quoted_as b)
   where
     at : (p q : List ℕ) → quoted_byte a ≡ p → quoted_byte b ≡ q → p ++ xs ≡ q ++ ys

@@ -1,3 +1,4 @@
 pub mod QuotedAs
 pub mod AlikeLemmas
 pub mod LineLemmas
+pub mod CutLemmas

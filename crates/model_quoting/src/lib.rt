@@ -1,7 +1,7 @@
 //! How texts and names are shown on one line. Definitions for the crates above, with worked examples and their laws.
 #![tactic(auto)]
 
-ghost use Rattle.std.specs.Prelude.{◌≡◌, ℕ, true, List, [], ◌∷◌, codes};
+ghost use Rattle.std.specs.Prelude.{◌≡◌, ℕ, ◌≤◌, true, List, [], ◌∷◌, ◌++◌, codes};
 ghost use Rattle.std.specs.List.{list_all};
 ghost use Rattle.model_names.specs.Name.{Name};
 ghost use Rattle.model_names.specs.WellFormed.{IsName};
@@ -23,6 +23,13 @@ pub fn one_quoted_text_one_text()
 /// Different texts are shown differently, whether or not one of them needs quotes.
 pub fn one_shown_text_one_text()
     ensures { (a b : List ℕ) → shown_text a ≡ shown_text b → a ≡ b }
+{}
+
+/// A text in quotes ends at its last quote, and what is shown ends at the next blank or control byte, so that what stands behind it
+/// can be told.
+pub fn texts_on_a_line_are_told_from_what_follows()
+    ensures in_quotes { (a b rest other : List ℕ) → quoted a ++ rest ≡ quoted b ++ other → (a ≡ b) × (rest ≡ other) }
+    ensures shown { (a b rest other : List ℕ) (blank end : ℕ) → blank ≤ 32 → end ≤ 32 → shown_text a ++ blank ∷ rest ≡ shown_text b ++ end ∷ other → (a ≡ b) × (blank ∷ rest ≡ end ∷ other) }
 {}
 
 /// Well-formed names that are shown alike are one.
