@@ -19,7 +19,7 @@ use Rattle.model_specified.proofs.Refusals.{RefusesEach, some_by_keys}
 use Rattle.tool_commands.specs.Step.{Step, Tells, Sets}
 use Rattle.kdb_outside.specs.declared.kinds.Kind.{Kind}
 use Rattle.key_name.specs.Joining.{joined}
-use Rattle.tool_commands.specs.Lines.{not_storable}
+use Rattle.store_lines.specs.Lines.{not_storable}
 use Rattle.kdb_tool.specs.Answer.{Answer, tells, done, refused}
 use Rattle.kdb_tool.specs.Input.{taken}
 use Rattle.mounted_files.specs.Files.{Holds, IsCause}

@@ -18,7 +18,7 @@ use Rattle.model_specified.specs.declared.violations.Violation.{Violation}
 use Rattle.model_specified.proofs.ViolationsOnce.{AreOfKeysBy-once, RefusesNoPattern}
 use Rattle.kdb_outside.specs.declared.kinds.Kind.{Kind}
 use Rattle.key_name.specs.Joining.{joined}
-use Rattle.tool_commands.specs.Lines.{not_storable}
+use Rattle.store_lines.specs.Lines.{not_storable}
 use Rattle.kdb_tool.specs.Answer.{refused, tells}
 use Rattle.kdb_tool.specs.Input.{taken}
 use Rattle.mounted_files.specs.Getting.{below, fault_of}

@@ -16,11 +16,11 @@ use Rattle.mounted_files.specs.declared.causes.Cause.{Cause}
 use Rattle.store_core.specs.Faults.{RefusesBroken}
 use Rattle.store_core.specs.declared.faults.OpenFault.{OpenFault}
 use Rattle.store_core.specs.declared.faults.OpenFault.TheVariants as fault
-use Rattle.tool_commands.specs.Lines.{bad_journal, disk_fault, read_fault}
+use Rattle.tool_commands.specs.Lines.{read_fault}
+use Rattle.store_lines.specs.Lines.{bad_journal, disk_fault, out_of_memory}
 use Rattle.tool_commands.specs.Report.{warned}
 use Rattle.tool_commands.specs.StepView.{report_of}
 use Rattle.tool_commands.specs.declared.reports.Report as code
-use Rattle.tool_words.specs.Lines.{out_of_memory}
 use Rattle.tool_words.specs.Request.{Request, Refuses, Bars}
 use Rattle.kdb_tool.specs.Answers.{line_of_get}
 use Rattle.kdb_tool.specs.Broken.{Held, Bad, EndsBroken, TellsBroken, ToldOfImport}

@@ -47,7 +47,7 @@ use Rattle.store_verdict.specs.PreparedView.{prepared_of}
 use Rattle.store_verdict.specs.RecordView.{record_of}
 use Rattle.store_verdict.specs.declared.prepared.Prepared.{Prepared}
 use Rattle.store_verdict.specs.declared.records.Record.{Record}
-use Rattle.tool_commands.specs.Lines.{invalid, database_full, history_full}
+use Rattle.store_lines.specs.Lines.{invalid, database_full, history_full}
 use Rattle.tool_commands.specs.Report.{Report, told, warned}
 use Rattle.kdb_tool.specs.Answer.{Answer, Texts, entry_of}
 use Rattle.kdb_tool.specs.Answer as answer

@@ -4,8 +4,9 @@ use Rattle.std.proofs.Common.{refl, sym, ap, ◌∙◌, subst, inl, inr, arith}
 use Rattle.std.proofs.Math.Seq.{take-length}
 use Rattle.kdb_tool.specs.declared.answers.Stop.{Stop}
 use Rattle.kdb_tool.specs.declared.answers.Stop.TheVariants as stops
-use Rattle.tool_commands.specs.Lines.{disk_fault, read_fault}
-use Rattle.tool_words.specs.Lines.{not_writable, out_of_memory}
+use Rattle.tool_commands.specs.Lines.{read_fault}
+use Rattle.store_lines.specs.Lines.{disk_fault, out_of_memory}
+use Rattle.tool_words.specs.Lines.{not_writable}
 use Rattle.tool_commands.specs.Report.{Report, warned}
 use Rattle.tool_words.specs.Request.{Request, Refuses, Bars, Asks, Imports}
 use Rattle.tool_commands.specs.StepView.{report_of}

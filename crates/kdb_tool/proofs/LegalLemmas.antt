@@ -37,7 +37,8 @@ use Rattle.store_verdict.specs.Preparing as preparing
 use Rattle.store_verdict.specs.declared.faults.PrepareFault.{PrepareFault}
 use Rattle.store_verdict.specs.declared.faults.PrepareFault.TheVariants as fault
 use Rattle.tool_commands.specs.Commands.{every_key, parent_of, step_of}
-use Rattle.tool_commands.specs.Lines.{bad_table, database_full, file_too_large, history_full, invalid, line_of_mount, not_storable, value_too_long}
+use Rattle.tool_commands.specs.Lines.{line_of_mount}
+use Rattle.store_lines.specs.Lines.{bad_table, database_full, file_too_large, history_full, invalid, not_storable, value_too_long}
 use Rattle.tool_commands.specs.Report.{Report, checked, told, warned}
 use Rattle.tool_commands.specs.Step.{Step, Tells, Sets}
 use Rattle.tool_words.specs.Request.{Action, Replace, Question, Mounts, FileOf, TextOf, ViolationsOf, On, Request, Refuses, Bars, Asks, Imports}

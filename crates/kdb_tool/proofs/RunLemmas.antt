@@ -7,11 +7,11 @@ use Rattle.kdb_outside.specs.Faults.{HasRisen}
 use Rattle.kdb_outside.specs.Images.{Image}
 use Rattle.kdb_outside.specs.SinkChange.{SinkChange as Change}
 use Rattle.kdb_outside.specs.declared.disks.Disk.{Ghosts}
-use Rattle.tool_commands.specs.Lines.{disk_fault, read_fault}
+use Rattle.tool_commands.specs.Lines.{read_fault}
+use Rattle.store_lines.specs.Lines.{disk_fault, out_of_memory}
 use Rattle.tool_commands.specs.Report.{Report, warned}
 use Rattle.tool_commands.specs.StepView.{report_of}
 use Rattle.tool_commands.specs.declared.reports.Report as code
-use Rattle.tool_words.specs.Lines.{out_of_memory}
 use Rattle.kdb_tool.specs.Answer.{Answer}
 use Rattle.kdb_tool.specs.Answers.{Answers}
 use Rattle.kdb_tool.specs.Ending.{ending}

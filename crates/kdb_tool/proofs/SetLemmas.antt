@@ -32,7 +32,7 @@ use Rattle.store_verdict.specs.RecordView.{handle_of, record_of}
 use Rattle.store_verdict.specs.declared.records.Record.{Record}
 use Rattle.store_verdict.specs.declared.faults.PrepareFault.{PrepareFault}
 use Rattle.store_verdict.specs.declared.faults.PrepareFault.TheVariants as fault
-use Rattle.tool_commands.specs.Lines.{bad_table as bad_table_line, value_too_long, file_too_large, not_storable, invalid, database_full, history_full}
+use Rattle.store_lines.specs.Lines.{bad_table as bad_table_line, value_too_long, file_too_large, not_storable, invalid, database_full, history_full}
 use Rattle.kdb_tool.specs.Answer.{Answer, done, stores, refused}
 use Rattle.kdb_tool.specs.Serving.{HasFetched}
 use Rattle.kdb_tool.specs.Sets.{AnswersSet, Refused, Judged, IsRefusal, IsJudgement, formats, set_alone, store_alone, stored_by, the_handle}

@@ -19,8 +19,9 @@ use Rattle.mounted_files.specs.declared.refusals.GetFault.{GetFault}
 use Rattle.mounted_files.specs.declared.refusals.GetFault.TheVariants as faults
 use Rattle.mounted_files.specs.declared.refusals.OpenRefusal.{OpenRefusal}
 use Rattle.mounted_files.specs.declared.refusals.OpenRefusal.TheVariants as refusals
-use Rattle.tool_commands.specs.Lines.{too_long, bad_file, too_heavy, bad_table, not_storable, line_of_mount}
-use Rattle.tool_words.specs.Lines.{not_writable, out_of_memory}
+use Rattle.tool_commands.specs.Lines.{line_of_mount}
+use Rattle.store_lines.specs.Lines.{too_long, bad_file, too_heavy, bad_table, not_storable, out_of_memory}
+use Rattle.tool_words.specs.Lines.{not_writable}
 use Rattle.kdb_tool.specs.Answer.{Answer, tells, done, refused}
 use Rattle.kdb_tool.specs.Input.{taken}
 use Rattle.kdb_tool.specs.Sets.{AnswersSet}

@@ -12,7 +12,7 @@ use Rattle.model_names.specs.Name.{Name}
 use Rattle.mounted_files.specs.Files.{Holds, IsCause}
 use Rattle.mounted_files.specs.Getting.{fault_of}
 use Rattle.mounted_files.specs.declared.causes.Cause.{Cause}
-use Rattle.tool_commands.specs.Lines.{bad_journal}
+use Rattle.store_lines.specs.Lines.{bad_journal}
 use Rattle.tool_commands.specs.Report.{IsAnswered, Report, warned}
 use Rattle.tool_words.specs.Request.{Request, Refuses, Bars, Asks, Imports}
 use Rattle.kdb_tool.specs.Answers.{line_of_get}

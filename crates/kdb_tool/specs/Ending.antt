@@ -2,8 +2,8 @@
 use Rattle.std.specs.Prelude.{Result, Ok, Err}
 use Rattle.kdb_tool.specs.declared.answers.Stop.{Stop}
 use Rattle.kdb_tool.specs.declared.answers.Stop.TheVariants as stops
-use Rattle.tool_commands.specs.Lines.{disk_fault, read_fault}
-use Rattle.tool_words.specs.Lines.{out_of_memory}
+use Rattle.tool_commands.specs.Lines.{read_fault}
+use Rattle.store_lines.specs.Lines.{disk_fault, out_of_memory}
 use Rattle.tool_commands.specs.Report.{Report, warned}
 use Rattle.tool_commands.specs.StepView.{report_of}
 use Rattle.tool_commands.specs.declared.reports.Report as code

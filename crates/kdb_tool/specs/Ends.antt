@@ -1,7 +1,8 @@
 -- How a run ends, as the top call says it. (This project's own.)
 use Rattle.std.specs.Prelude.{◌≡◌, ◌⊎◌, ℕ, []}
-use Rattle.tool_commands.specs.Lines.{disk_fault, line, read_fault, write_fault}
-use Rattle.tool_words.specs.Lines.{not_writable, out_of_memory}
+use Rattle.tool_commands.specs.Lines.{line, read_fault, write_fault}
+use Rattle.store_lines.specs.Lines.{disk_fault, out_of_memory}
+use Rattle.tool_words.specs.Lines.{not_writable}
 use Rattle.tool_commands.specs.Report.{IsAnswered, IsEnd, Report, warned}
 use Rattle.tool_words.specs.Request.{Request, Refuses, Bars, Asks, Imports}
 use Rattle.kdb_tool.specs.Untold.{IsStatusOf}

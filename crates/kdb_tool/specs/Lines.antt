@@ -3,8 +3,7 @@ use Rattle.std.specs.Prelude.{ℕ, List}
 use Rattle.mount_table.specs.Points.{own_point}
 use Rattle.store_core.specs.declared.faults.OpenFault.{OpenFault}
 use Rattle.store_core.specs.declared.faults.OpenFault.TheVariants.{DiskFault, BadJournal, BadTable, TooLong, BadFile, Memory}
-use Rattle.tool_commands.specs.Lines.{bad_file, bad_journal, bad_table, disk_fault, too_long}
-use Rattle.tool_words.specs.Lines.{out_of_memory}
+use Rattle.store_lines.specs.Lines.{bad_file, bad_journal, bad_table, disk_fault, too_long, out_of_memory}
 
 abbrev pub line_of_store : OpenFault → List ℕ
 line_of_store DiskFault = disk_fault

@@ -18,7 +18,7 @@ use Rattle.store_core.specs.Plans.{store_of}
 use Rattle.store_verdict.specs.Preparing.{fault_of}
 use Rattle.store_verdict.specs.declared.faults.PrepareFault.{PrepareFault}
 use Rattle.store_verdict.specs.declared.faults.PrepareFault.TheVariants as fault
-use Rattle.tool_commands.specs.Lines.{bad_table, value_too_long, file_too_large, not_storable, invalid, database_full, history_full}
+use Rattle.store_lines.specs.Lines.{bad_table, value_too_long, file_too_large, not_storable, invalid, database_full, history_full}
 use Rattle.kdb_tool.specs.Answer.{Answer, Texts, done, stores, refused}
 
 -- the formats of all files

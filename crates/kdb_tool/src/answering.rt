@@ -22,7 +22,8 @@ ghost use Rattle.key_name.specs.Joining.{joined};
 ghost use Rattle.model_names.specs.WellFormed.{IsName};
 ghost use Rattle.model_names.specs.declared.namespaces.Namespace.TheVariants.{Cascading};
 ghost use Rattle.mounted_files.specs.Sound.{AreNames};
-ghost use Rattle.tool_commands.specs.Lines.{line_of_mount, not_storable};
+ghost use Rattle.tool_commands.specs.Lines.{line_of_mount};
+ghost use Rattle.store_lines.specs.Lines.{not_storable};
 ghost use Rattle.tool_words.specs.Request.{NamesFiles};
 ghost use Rattle.tool_words.specs.RequestView.{action_of, question_of};
 ghost use Rattle.model_names.specs.Namespaces.{has_files};
@@ -42,11 +43,9 @@ use regex_check::Patterns;
 use std::alloc::{AllocError, Global};
 use storage_api::{Formats, WriteRefusal};
 use store_core::{Core, Plan};
+use store_lines::{bad_file, not_storable, too_heavy, too_long};
 use store_verdict::Record;
-use tool_commands::{
-    REFUSED, Report, Step, bad_file, not_storable, parent_of, step, tell, tell_bytes, too_heavy,
-    too_long, warn,
-};
+use tool_commands::{REFUSED, Report, Step, parent_of, step, tell, tell_bytes, warn};
 use tool_words::{Action, Question};
 
 /// The answer to a question to an open store. What it stores is committed by then.

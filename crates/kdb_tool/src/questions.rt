@@ -12,7 +12,7 @@ ghost use Rattle.kdb_tool.specs.Lines.{line_of_store};
 ghost use Rattle.kdb_tool.specs.Serving.{MayRefuse, MayStore, Serve, StoresNothing};
 ghost use Rattle.kdb_tool.specs.Untold.{IsStatusOf};
 ghost use Rattle.store_core.specs.declared.faults.OpenFault.TheVariants.{DiskFault as OfDisk, Memory as OfMemory};
-ghost use Rattle.tool_commands.specs.Lines.{bad_journal};
+ghost use Rattle.store_lines.specs.Lines.{bad_journal};
 ghost use Rattle.tool_commands.specs.Report.{IsAnswered, warned};
 ghost use Rattle.tool_commands.specs.StepView.{report_of};
 ghost use Rattle.tool_words.specs.Request.{NamesFiles};
@@ -26,7 +26,8 @@ use key_meta::Memory;
 use regex_check::Patterns;
 use std::alloc::{AllocError, Global};
 use store_core::{Closed, OpenFault, OpenRefused, Opened, open_store};
-use tool_commands::{REFUSED, Report, bad_file, bad_journal, bad_table, own_point, too_long, warn};
+use store_lines::{bad_file, bad_journal, bad_table, too_long};
+use tool_commands::{REFUSED, Report, own_point, warn};
 use tool_words::Question;
 
 /// The answer to a question over the store of a disk. What it stores is stored by then.

@@ -25,11 +25,11 @@ use key_set::KeySet;
 use regex_check::Patterns;
 use std::alloc::{AllocError, Global};
 use store_core::{CommitFault, Core, Plan};
-use store_verdict::{PrepareFault, Prepared, Record};
-use tool_commands::{
-    REFUSED, Report, bad_table, database_full, file_too_large, history_full, invalid, not_storable,
-    tell, value_too_long, warn,
+use store_lines::{
+    bad_table, database_full, file_too_large, history_full, invalid, not_storable, value_too_long,
 };
+use store_verdict::{PrepareFault, Prepared, Record};
+use tool_commands::{REFUSED, Report, tell, warn};
 
 /// The answer where keys are set at a parent that the command's handle got.
 pub fn set_keys<D: Disk, P: Patterns + Drop>(

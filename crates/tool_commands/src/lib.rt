@@ -8,16 +8,11 @@ mod reports;
 mod rule_lines;
 mod status;
 mod steps;
-mod store_lines;
 
 pub use commands::{parent_of, step};
 pub use places::{every_key, own_point};
 pub use refusing::{warn_of_name, warn_of_words};
 pub use reports::{Report, tell, tell_bytes, warn, warn_not_found};
-pub use rule_lines::{invalid, tell_checked};
+pub use rule_lines::tell_checked;
 pub use status::{FAULT, OUT_OF_MEMORY, REFUSED, Status};
 pub use steps::Step;
-pub use store_lines::{
-    bad_file, bad_journal, bad_table, database_full, file_too_large, history_full, not_storable,
-    too_heavy, too_long, value_too_long,
-};

@@ -9,11 +9,11 @@ ghost use Rattle.tool_commands.specs.Commands.Mounting.{mounted};
 
 use crate::reports::{Report, warn};
 use crate::status::REFUSED;
-use crate::store_lines::bad_table;
 use key_meta::Memory;
 use key_set::KeySet;
 use mount_table::TableFault;
 use std::alloc::Global;
+use store_lines::bad_table;
 
 /// It tells something, or it sets keys in the place of those that it got and then puts something on out.
 #[derive(Debug, Drop)]

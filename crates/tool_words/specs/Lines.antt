@@ -34,6 +34,3 @@ argument word = codes "C01320 argument: " ++ quoted word
 -- a key can't be written, or a name that can't be a mountpoint or have a file
 abbrev pub not_writable : Name → List ℕ
 not_writable name = codes "C01320 not writable: " ++ shown name
-
-abbrev pub out_of_memory : List ℕ
-out_of_memory = codes "C01110 out of memory"

@@ -15,7 +15,8 @@ use Rattle.tool_words.specs.declared.requests.Named as code_named
 use Rattle.tool_words.specs.declared.requests.Named.TheVariants as code_names
 use Rattle.tool_words.specs.declared.requests.Refusal.{Refusal}
 use Rattle.tool_words.specs.declared.requests.Refusal.TheVariants as refusals
-use Rattle.tool_words.specs.Lines.{argument, no_command, unknown_command, options_refused, no_name, out_of_memory}
+use Rattle.tool_words.specs.Lines.{argument, no_command, unknown_command, options_refused, no_name}
+use Rattle.store_lines.specs.Lines.{out_of_memory}
 use Rattle.tool_words.specs.Request.{Action, Get, Set, Remove, Names, GetMeta, SetMeta, MetaNames, Bring, MountFile, Unmount, Replace, Merge, Question, Mounts, FileOf, TextOf, ViolationsOf, On, Request, Refuses, Bars, Asks, Imports}
 
 -- the status of a refusal

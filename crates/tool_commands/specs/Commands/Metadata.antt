@@ -2,8 +2,8 @@
 use Rattle.std.specs.Prelude.{ℕ, List, [], ◌∷◌, ◌++◌, Option, None, Some}
 use Rattle.std.specs.FinMap as map
 use Rattle.std.specs.List.{flat_map}
+use Rattle.key_edits.specs.Edits.{put_meta}
 use Rattle.model_names.specs.Name.{Name}
-use Rattle.model_maps.specs.Entry.{Entry, plain_entry, with_meta}
 use Rattle.model_maps.specs.KeyMap.{KeyMap}
 use Rattle.spec_cascade.specs.declared.founds.Found.{Found}
 use Rattle.tool_commands.specs.Lines.{not_found, no_metadata}
@@ -20,14 +20,9 @@ abbrev pub meta_got : Name → List ℕ → Option Found → Report
 meta_got name meta None = warned 11 (not_found name)
 meta_got name meta (Some found) = text_got meta (map.get found.meta meta)
 
--- an entry with one more metadata text; a missing one has the empty value
-abbrev pub with_text : Option Entry → List ℕ → List ℕ → Entry
-with_text None meta text = with_meta (plain_entry []) meta text
-with_text (Some entry) meta text = with_meta entry meta text
-
 -- `meta-set`: a key gets a metadata text
 abbrev pub meta_set_in : KeyMap → Name → List ℕ → List ℕ → Step
-meta_set_in keys name meta text = Sets (map.insert keys name (with_text (map.get keys name) meta text)) []
+meta_set_in keys name meta text = Sets (put_meta keys name meta text) []
 
 -- `meta-ls`: a line for each metadata name of what is found, in the order of their bytes
 abbrev pub meta_listed : Name → Option Found → Report

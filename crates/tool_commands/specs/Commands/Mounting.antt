@@ -2,7 +2,7 @@
 use Rattle.std.specs.Prelude.{[], Result, Ok, Err}
 use Rattle.model_maps.specs.KeyMap.{KeyMap}
 use Rattle.mount_table.specs.declared.faults.TableFault.{TableFault}
-use Rattle.tool_commands.specs.Lines.{bad_table}
+use Rattle.store_lines.specs.Lines.{bad_table}
 use Rattle.tool_commands.specs.Report.{warned}
 use Rattle.tool_commands.specs.Step.{Step, Tells, Sets}
 

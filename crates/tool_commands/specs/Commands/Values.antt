@@ -1,8 +1,9 @@
 -- The commands on the values of keys. (This project's own.)
 use Rattle.std.specs.Prelude.{ℕ, List, [], ◌∷◌, ◌++◌, Option, None, Some}
 use Rattle.std.specs.FinMap as map
+use Rattle.key_edits.specs.Edits.{put_value}
 use Rattle.model_names.specs.Name.{Name}
-use Rattle.model_maps.specs.Entry.{Entry, plain_entry}
+use Rattle.model_maps.specs.Entry.{Entry}
 use Rattle.model_maps.specs.KeyMap.{KeyMap}
 use Rattle.spec_cascade.specs.declared.founds.Found.{Found}
 use Rattle.tool_commands.specs.Lines.{not_found, created, set_to}
@@ -14,11 +15,6 @@ abbrev pub got : Name → Option Found → Report
 got name None = warned 11 (not_found name)
 got name (Some found) = told (found.value ++ 10 ∷ [])
 
--- an entry with another value; metadata stay
-abbrev pub with_value : Option Entry → List ℕ → Entry
-with_value None value = plain_entry value
-with_value (Some entry) value = record { value = value; meta = entry.meta }
-
 -- what `set` prints, by what the key had
 abbrev pub printed_set : Option Entry → Name → List ℕ → List ℕ
 printed_set None name value = created name value
@@ -26,5 +22,4 @@ printed_set (Some entry) name value = set_to value
 
 -- `set`: a key gets a value
 abbrev pub set_in : KeyMap → Name → List ℕ → Step
-set_in keys name value =
-    let former = map.get keys name in Sets (map.insert keys name (with_value former value)) (printed_set former name value)
+set_in keys name value = Sets (put_value keys name value) (printed_set (map.get keys name) name value)

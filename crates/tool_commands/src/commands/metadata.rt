@@ -2,19 +2,17 @@
 ghost use Rattle.std.specs.Prelude.{◌≡◌, ◌++◌, ◌∷◌, [], IfOk, OnOk, string_bytes};
 ghost use Rattle.std.specs.FinMap as map;
 ghost use Rattle.std.specs.List.{flat_map};
-ghost use Rattle.std.specs.Option.{option_map};
-ghost use Rattle.key_set.specs.EntryView.{entry_of};
-ghost use Rattle.model_maps.specs.Entry.{plain_entry, with_meta};
 ghost use Rattle.tool_commands.specs.Report.{IsOneOf};
 ghost use Rattle.tool_commands.specs.StepView.{report_of, seen_step};
 ghost use Rattle.tool_commands.specs.Step.{Tells, TellsEnd};
-ghost use Rattle.tool_commands.specs.Commands.Metadata.{text_got, meta_got, with_text, meta_set_in, meta_listed};
+ghost use Rattle.tool_commands.specs.Commands.Metadata.{text_got, meta_got, meta_set_in, meta_listed};
 
 use crate::reports::{Report, tell, warn_no_metadata, warn_not_found};
 use crate::steps::{Step, set_silently};
-use key_meta::{Memory, Meta, Text};
+use key_edits::put_meta;
+use key_meta::{Memory, Meta};
 use key_name::KeyName;
-use key_set::{Entry, KeySet};
+use key_set::KeySet;
 use spec_cascade::Found;
 use std::alloc::Global;
 use tool_words::MetaName;
@@ -60,44 +58,9 @@ pub fn set_meta(
     ensures step { IfOk result (λ step. seen_step step ≡ meta_set_in keys name.now meta.now text.now) }
     ensures status { IfOk result (λ step. TellsEnd ([]) (seen_step step)) }
 {
-    let entry = with_text(alloc, keys.lookup(name), meta, text)?;
     let mut keys = keys;
-    let _ = keys.append(name.copy()?, entry)?;
+    put_meta(alloc, &mut keys, name, meta.as_str(), text)?;
     Ok(set_silently(alloc, keys))
-}
-
-/// An entry with one more metadata text. A missing one gets the empty value.
-fn with_text(
-    alloc: Global,
-    former: Option<&Entry>,
-    meta: &MetaName<'_>,
-    text: &str,
-) -> Result<Entry, Memory>
-    ensures { IfOk result (λ made. entry_of made ≡ with_text (option_map (λ entry. entry_of entry.now) former.entry) meta.now text.now) }
-{
-    match former {
-        Some(entry) => set_text(entry.copy()?, meta, text),
-        None => set_text(empty_entry(alloc)?, meta, text),
-    }
-}
-
-/// An entry with the empty value and no metadata.
-fn empty_entry(alloc: Global) -> Result<Entry, Memory>
-    ensures { IfOk result (λ made. entry_of made ≡ plain_entry []) }
-{
-    Ok(Entry {
-        value: Text::new(alloc, "")?,
-        meta: Meta::new(alloc),
-    })
-}
-
-/// Sets a metadata text of an entry.
-fn set_text(entry: Entry, meta: &MetaName<'_>, text: &str) -> Result<Entry, Memory>
-    ensures { IfOk result (λ made. entry_of made ≡ with_meta (entry_of entry) meta.now text.now) }
-{
-    let mut entry = entry;
-    let _ = entry.meta.set(meta.as_str(), text)?;
-    Ok(entry)
 }
 
 /// `meta-ls`: a line for each metadata name of what was found for a name.

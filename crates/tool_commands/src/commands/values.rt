@@ -5,13 +5,14 @@ ghost use Rattle.key_set.specs.EntryView.{entry_of};
 ghost use Rattle.tool_commands.specs.StepView.{seen_step};
 ghost use Rattle.tool_commands.specs.Report.{told};
 ghost use Rattle.tool_commands.specs.Step.{Tells, TellsEnd};
-ghost use Rattle.tool_commands.specs.Commands.Values.{got, set_in, with_value, printed_set};
+ghost use Rattle.tool_commands.specs.Commands.Values.{got, set_in, printed_set};
 ghost use Rattle.tool_commands.specs.Lines.{created, set_to};
 
 use crate::reports::{tell, warn_not_found};
 use crate::steps::Step;
 use kdb_text::{quoted, shown};
-use key_meta::{Memory, Meta, Text};
+use key_edits::put_value;
+use key_meta::{Memory, Text};
 use key_name::KeyName;
 use key_set::{Entry, KeySet};
 use spec_cascade::Found;
@@ -42,28 +43,10 @@ pub fn set(alloc: Global, name: &KeyName, value: &str, keys: KeySet) -> Result<S
     ensures step { IfOk result (λ step. seen_step step ≡ set_in keys name.now value.now) }
     ensures status { IfOk result (λ step. TellsEnd ([]) (seen_step step)) }
 {
-    let former = keys.lookup(name);
-    let entry = with_value(alloc, former, value)?;
-    let out = printed_set(alloc, former, name, value)?;
+    let out = printed_set(alloc, keys.lookup(name), name, value)?;
     let mut keys = keys;
-    let _ = keys.append(name.copy()?, entry)?;
+    put_value(alloc, &mut keys, name, value)?;
     Ok(Step::Sets { keys, out })
-}
-
-/// An entry with another value. A missing one had no metadata.
-fn with_value(alloc: Global, former: Option<&Entry>, value: &str) -> Result<Entry, Memory>
-    ensures { IfOk result (λ made. entry_of made ≡ with_value (option_map (λ entry. entry_of entry.now) former.entry) value.now) }
-{
-    match former {
-        Some(entry) => Ok(Entry {
-            value: Text::new(alloc, value)?,
-            meta: entry.meta.copy()?,
-        }),
-        None => Ok(Entry {
-            value: Text::new(alloc, value)?,
-            meta: Meta::new(alloc),
-        }),
-    }
 }
 
 /// What `set` prints, by what the key had.

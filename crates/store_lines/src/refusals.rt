@@ -1,13 +1,11 @@
-//! The lines of what a store refuses.
-ghost use Rattle.std.specs.Prelude.{◌≡◌, ◌≢◌, IfOk, OnOk, string_bytes};
-ghost use Rattle.tool_commands.specs.Lines.{too_long, bad_file, too_heavy, bad_table, value_too_long, file_too_large, not_storable, database_full, history_full, bad_journal, bad_entry};
-ghost use Rattle.mount_table.specs.declared.faults.TableFault.TheVariants.{Memory as OutOfMemory};
+//! The lines of files, of sets and of the journal.
+ghost use Rattle.std.specs.Prelude.{◌≡◌, IfOk, string_bytes};
+ghost use Rattle.store_lines.specs.Lines.{too_long, bad_file, too_heavy, not_fetched, value_too_long, file_too_large, not_storable, database_full, history_full, bad_journal};
 
-use kdb_text::{quoted, shown};
+use kdb_text::shown;
 use key_meta::Memory;
 use key_name::KeyName;
-use mount_table::TableFault;
-use std::alloc::{AllocError, Global};
+use std::alloc::Global;
 
 pub fn too_long(alloc: Global, mount: &KeyName, bytes: u64) -> Result<String, Memory>
     ensures { IfOk result (λ text. string_bytes text ≡ too_long mount.now bytes) }
@@ -28,6 +26,13 @@ pub fn too_heavy(alloc: Global, mount: &KeyName, weight: u64) -> Result<String, 
 {
     let mount = shown(alloc, mount)?;
     format!(in alloc; "C01100 too-heavy {mount} {weight}")
+}
+
+pub fn not_fetched(alloc: Global, mount: &KeyName) -> Result<String, Memory>
+    ensures { IfOk result (λ text. string_bytes text ≡ not_fetched mount.now) }
+{
+    let mount = shown(alloc, mount)?;
+    format!(in alloc; "C01320 not-fetched {mount}")
 }
 
 pub fn value_too_long(alloc: Global, name: &KeyName, bytes: u64) -> Result<String, Memory>
@@ -70,30 +75,4 @@ pub fn bad_journal(alloc: Global, at: u64) -> Result<String, Memory>
     ensures { IfOk result (λ text. string_bytes text ≡ bad_journal at) }
 {
     format!(in alloc; "C03100 bad-journal {at}")
-}
-
-/// What is wrong with a mount table. Want of memory has no such line.
-pub fn bad_table(alloc: Global, fault: &TableFault) -> Result<String, Memory>
-    ensures text { IfOk result (λ text. string_bytes text ≡ bad_table fault.now) }
-    ensures memory { OnOk result (fault.now ≢ OutOfMemory) }
-{
-    match fault {
-        TableFault::BadMountpoint { entry } => bad_entry(alloc, "bad-mountpoint", entry.as_str()),
-        TableFault::NoPath { entry } => bad_entry(alloc, "no-path", entry.as_str()),
-        TableFault::BadPath { entry } => bad_entry(alloc, "bad-path", entry.as_str()),
-        TableFault::UnknownPlugin { entry } => bad_entry(alloc, "unknown-plugin", entry.as_str()),
-        TableFault::FileTwice { entry } => bad_entry(alloc, "file-twice", entry.as_str()),
-        TableFault::TooMany { count } => format!(in alloc; "C03200 bad-table too-many {count}"),
-        TableFault::AlreadyMounted { entry } => bad_entry(alloc, "already-mounted", entry.as_str()),
-        TableFault::NotMounted { entry } => bad_entry(alloc, "not-mounted", entry.as_str()),
-        TableFault::Memory => Err(AllocError),
-    }
-}
-
-/// What is wrong with an entry of a mount table.
-fn bad_entry(alloc: Global, cause: &str, entry: &str) -> Result<String, Memory>
-    ensures { IfOk result (λ text. string_bytes text ≡ bad_entry cause.now entry.now) }
-{
-    let entry = quoted(alloc, entry)?;
-    format!(in alloc; "C03200 bad-table {cause} {entry}")
 }
