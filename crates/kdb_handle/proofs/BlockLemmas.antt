@@ -1,5 +1,5 @@
 -- The commit that blocks a set is another handle's: fronts cover the own ones.
-use Rattle.std.proofs.Common.{◌≡◌, inl, inr, ℕ, ◌+◌, ◌-◌, ◌<◌, ◌≤◌, Bool, true, false, cond, nat_lt, List, [], ◌∷◌, ◌++◌, length, Option, Some, None, Err, refl, sym, ap, ◌∙◌, arith}
+use Rattle.std.proofs.Common.{◌≡◌, ℕ, ◌+◌, ◌-◌, ◌<◌, ◌≤◌, Bool, true, false, cond, nat_lt, List, [], ◌∷◌, ◌++◌, length, Option, Some, None, Err, refl, sym, ap, ◌∙◌, arith}
 use Rattle.std.specs.Option.{option_and_then, option_map, option_or, unwrap_or}
 use Rattle.general_words.specs.Saturated.{saturated}
 use Rattle.general_words.specs.Searches.{first_some}
@@ -22,7 +22,8 @@ use Rattle.model_store.specs.Records.{Fetched, Fronts, Record}
 use Rattle.model_store.specs.Sets.{Prepared as Set, front_in, only}
 use Rattle.model_store.specs.Store.{Formats, points_of}
 use Rattle.model_store.specs.Verdicts as late
-use Rattle.model_store.specs.Verdicts.{Checks, Follows, Late, blocking, commit_of, conflict, conflict_at, if_full, if_heavy, if_untouched}
+use Rattle.model_store.specs.Verdicts.{Late, blocking, commit_of, conflict, conflict_at, if_full, if_heavy, if_untouched}
+use Rattle.model_store.proofs.VerdictLemmas.{is_conflict, not_limited, not_same, skipped, told, unruled}
 use Rattle.seat_lock.specs.Known.{Place}
 use Rattle.set_split.specs.Involved.{involved_in}
 use Rattle.store_core.specs.declared.committing.CommitFault.TheVariants as fault
@@ -33,41 +34,21 @@ use Rattle.store_verdict.specs.declared.prepared.Prepared.{Prepared}
 
 -- ---- where a conflict comes from
 
--- a step that tells another answer, or none, leaves the rest to say
-past_untouched : (touched : List ℕ) (aside m by : ℕ) (P : Type 0) → Follows (if_untouched touched aside) (Some (late.Conflict m by)) P → P
-past_untouched [] aside m by P h = absurd cc
-past_untouched (n ∷ touched) aside m by P h = h
-
-past_limit : (b : Bool) (one is : Late) (P : Type 0) → (is ≡ one → ⊥) → Follows (cond b (Some one) None) (Some is) P → P
-past_limit true one is P off h = absurd (off (some_is is one h))
-past_limit false one is P off h = h
-
 -- the conflict of a touched mount is what the history tells of the set
 is_blocked : (points : List Name) (history : List Commit) (keys : KeyMap) (set : Set) (m by : ℕ) → late.IsLate points history keys set (late.Conflict m by) → conflict history set ≡ Some (late.Conflict m by)
-is_blocked points history keys set m by judged = told (conflict history set) (past_untouched set.touched set.aside m by _ judged)
-  where
-    is : Late
-    is = late.Conflict m by
-
-    w : ℕ
-    w = weight (after keys set.changes)
-
-    h : ℕ
-    h = history_weight (history ++ commit_of set ∷ [])
-
-    Full : Type 0
-    Full = Follows (if_full h) (Some (late.Conflict m by)) (late.Conflict m by ≡ late.Commits (commit_of set) set.aside)
-
-    none : Checks points keys set (late.Conflict m by) (Follows (if_heavy w) (Some (late.Conflict m by)) Full) → ⊥
-    none (inl breaks) = let other = breaks.is in cc
-    none (inr kept) =
-        let full = past_limit (nat_lt heaviest_map w) (late.DatabaseFull (saturated w)) is Full (λ e. cc) kept.1 in
-        let other = past_limit (nat_lt heaviest_history h) (late.HistoryFull (saturated h)) is _ (λ e. cc) full in
-        cc
-
-    told : (o : Option Late) → Follows o (Some (late.Conflict m by)) (Checks points keys set (late.Conflict m by) (Follows (if_heavy w) (Some (late.Conflict m by)) Full)) → o ≡ Some (late.Conflict m by)
-    told (Some answer) e = sym e
-    told None rest = absurd (none rest)
+is_blocked points history keys set m by judged =
+    let is : Late = late.Conflict m by in
+    let w : ℕ = weight (after keys set.changes) in
+    let h : ℕ = history_weight (history ++ commit_of set ∷ []) in
+    let touched = skipped (if_untouched set.touched set.aside) is _ (λ e. let off : is_conflict is ≡ false = not_same is_conflict set.touched set.aside is refl e in absurd cc) judged in
+    told (conflict history set) is _ (λ rest.
+    let valid = unruled points keys set is _ (λ violation risen e. let off : is_conflict is ≡ false = ap is_conflict e in absurd cc) rest in
+    let heavy = late.DatabaseFull (saturated w) in
+    let light = skipped (if_heavy w) is _ (λ e. let off : is_conflict is ≡ false = not_limited is_conflict (nat_lt heaviest_map w) heavy is refl e in absurd cc) valid.1 in
+    let full = late.HistoryFull (saturated h) in
+    let room = skipped (if_full h) is _ (λ e. let off : is_conflict is ≡ false = not_limited is_conflict (nat_lt heaviest_history h) full is refl e in absurd cc) light.1 in
+    let off : is_conflict is ≡ false = ap is_conflict room.1 in
+    absurd cc) touched.1
 
 -- the mount of a conflict, and the number of its commit
 abbrev mount_in : Late → ℕ
@@ -99,11 +80,11 @@ own_front mounts rec m front is = by (is_among mounts m) is
 
 -- the commit that blocks a mount isn't one that a front there covers
 another : (history : List Commit) (number : ℕ) (rec : Record) (mounts : List ℕ) (m by : ℕ) → Cover number history (front_in rec) → blocking history (front_in (only mounts rec)) m ≡ Some by → IsAnothers number history by
-another history number rec mounts m by covers blocks = told (front_in (only mounts rec) m) refl blocks
+another history number rec mounts m by covers blocks = by_front (front_in (only mounts rec) m) refl blocks
   where
-    told : (o : Option ℕ) → front_in (only mounts rec) m ≡ o → option_and_then (first_after history m) o ≡ Some by → IsAnothers number history by
-    told None is e = absurd cc
-    told (Some front) is e =
+    by_front : (o : Option ℕ) → front_in (only mounts rec) m ≡ o → option_and_then (first_after history m) o ≡ Some by → IsAnothers number history by
+    by_front None is e = absurd cc
+    by_front (Some front) is e =
         let behind : front < by = first_after-behind history m front by e in
         let within : by ≤ length history = first_after-within history m front by e in
         let place : ℕ = by - 1 in
@@ -126,8 +107,8 @@ blocked_by_another formats lock plan old new set mount by front is prepared done
     let history = commits_of done.found in
     let m : ℕ = done.judged.0 in
     let fronts : (prepared_of set).fronts ≡ front_in (only (involved_in (points_of store) prepared.parent) (record_of old.rec)) = ap (λ (s : Set). s.fronts) prepared.made.is in
-    let told : conflict history (prepared_of set) ≡ Some (late.Conflict m by) = is_blocked (points_of store) history (replay store.start history) (prepared_of set) m by done.judged.3 in
-    let blocks : blocking history (prepared_of set).fronts m ≡ Some by = blocked_at history (prepared_of set).fronts (prepared_of set).touched m by told in
+    let blocked : conflict history (prepared_of set) ≡ Some (late.Conflict m by) = is_blocked (points_of store) history (replay store.start history) (prepared_of set) m by done.judged.3 in
+    let blocks : blocking history (prepared_of set).fronts m ≡ Some by = blocked_at history (prepared_of set).fronts (prepared_of set).touched m by blocked in
     another history old.number (record_of old.rec) (involved_in (points_of store) prepared.parent) m by
     (cover-seen old.number old.seen done.found (front_in (record_of old.rec)) done.seen (done.own ∙ is.own) is.covers)
     (ap (λ (f : Fronts). blocking history f m) (sym fronts) ∙ blocks)

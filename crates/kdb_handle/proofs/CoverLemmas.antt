@@ -39,7 +39,7 @@ place-append [] ys k x is = inr (k, is)
 place-append (y ∷ xs) ys zero x is = inl is
 place-append (y ∷ xs) ys (suc k) x is = place-append xs ys k x is
 
-left-out : {A : Type 0} (b : Bool) (x : A) (xs : List A) → cond b (x ∷ xs) xs ≡ [] → (b ≡ false) × (xs ≡ [])
+pub left-out : {A : Type 0} (b : Bool) (x : A) (xs : List A) → cond b (x ∷ xs) xs ≡ [] → (b ≡ false) × (xs ≡ [])
 left-out true x xs none = absurd cc
 left-out false x xs none = (refl, none)
 
@@ -55,20 +55,20 @@ none-made number (Committed made ∷ log) (suc place) commit none there own = no
 none-made number (Failed made ∷ log) place commit none there own = none-made number log place commit (left-out _ _ _ none).1 there own
 none-made number (Refused handle ∷ log) place commit none there own = none-made number log place commit (left-out _ _ _ none).1 there own
 
--- the fronts of who sees more, and made nothing more, cover as before
+-- who sees more, and made nothing more, made nothing of what is new
+pub nothing-behind : (number : ℕ) (seen found : List Told) (p : IsPrefix seen found) → made_by maker_of number found ≡ made_by maker_of number seen → made_by maker_of number p.0 ≡ []
+nothing-behind number seen found p same =
+    let twice = sym (made-append maker_of number seen p.0) ∙ ap (made_by maker_of number) p.1 ∙ same in
+    nil_from_length _ (omega (arith, ap length twice, length-append (made_by maker_of number seen) (made_by maker_of number p.0)))
+
+-- its fronts cover as before
 pub cover-seen : (number : ℕ) (seen found : List Told) (fronts : Fronts) → IsPrefix seen found → made_by maker_of number found ≡ made_by maker_of number seen → Cover number (commits_of seen) fronts → Cover number (commits_of found) fronts
 cover-seen number seen found fronts p same covers place m commit there own touched =
     by (place-append (commits_of seen) (commits_of p.0) place commit (subst (λ (l : List Commit). slice_get l place ≡ Some commit) (ap commits_of (sym p.1) ∙ commits-append seen p.0) there))
   where
-    twice : made_by maker_of number seen ++ made_by maker_of number p.0 ≡ made_by maker_of number seen
-    twice = sym (made-append maker_of number seen p.0) ∙ ap (made_by maker_of number) p.1 ∙ same
-
-    nothing : made_by maker_of number p.0 ≡ []
-    nothing = nil_from_length _ (omega (arith, ap length twice, length-append (made_by maker_of number seen) (made_by maker_of number p.0)))
-
     by : (slice_get (commits_of seen) place ≡ Some commit) ⊎ ((j : ℕ) × (slice_get (commits_of p.0) j ≡ Some commit)) → place < front_at fronts m
     by (inl here) = covers place m commit here own touched
-    by (inr far) = absurd (none-made number p.0 far.0 commit nothing far.1 own)
+    by (inr far) = absurd (none-made number p.0 far.0 commit (nothing-behind number seen found p same) far.1 own)
 
 -- ---- what a record keeps
 
@@ -119,10 +119,3 @@ cover-judged store history number set rec (Err (fault.DatabaseFull weight front)
 cover-judged store history number set rec (Err (fault.HistoryFull weight front)) covers = same-history number history _ (front_in rec) refl covers
 cover-judged store history number set rec (Err (fault.DiskFault front)) covers = same-history number history _ (front_in rec) refl covers
 cover-judged store history number set rec (Err fault.Memory) covers = same-history number history _ (front_in rec) refl covers
-
--- a new handle has made nothing
-pub cover-first : (number : ℕ) (log : List Told) (fronts : Fronts) → commits_of log ≡ [] → Cover number (commits_of log) fronts
-cover-first number log fronts none place m commit there own touched = absurd (nowhere place (subst (λ (l : List Commit). slice_get l place ≡ Some commit) none there))
-  where
-    nowhere : (k : ℕ) → slice_get [] k ≡ Some commit → ⊥
-    nowhere k is = absurd cc

@@ -2,7 +2,7 @@
 pub mod StoryLemmas
 pub mod RunLemmas
 mod RecordLemmas
-mod CoverLemmas
+pub mod CoverLemmas
 mod AcceptLemmas
 mod BelongLemmas
 mod SharedLemmas

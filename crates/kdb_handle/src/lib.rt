@@ -8,6 +8,7 @@ mod getting;
 mod handles;
 mod laws;
 mod meeting;
+mod replies;
 mod setting;
 mod shared;
 mod stores;
@@ -19,6 +20,7 @@ pub use handles::Handle;
 pub use laws::{
     a_run_comes_to_its_story, an_accepted_set_is_still_prepared, the_blocking_commit_is_anothers,
 };
+pub use replies::{Reply, Transcripts};
 pub use setting::SetFault;
 pub use shared::Shared;
 pub use stores::{Locked, NewStore, NotShared, SharedStore};

@@ -1,0 +1,29 @@
+//! What the steps of a batch's sessions answer.
+
+use crate::SetFault;
+use key_meta::{List, Text};
+use key_name::KeyName;
+use mounted_files::GetFault;
+use store_core::Done;
+
+/// What one step of a session answers.
+#[derive(Debug, Drop)]
+pub enum Reply {
+    /// A get: how many commits it found, and how many keys it gave.
+    Got { front: u64, count: u64 },
+    GetRefused(GetFault),
+    /// An edit of the working set.
+    Quiet,
+    LookFound { name: KeyName, value: Text },
+    LookNone,
+    SetDone(Done),
+    SetRefused(SetFault),
+    /// Want of memory. The step did nothing.
+    Memory,
+}
+
+/// The replies of a batch: for each phase, and in it for each session with steps, one for each step.
+#[derive(Debug, Drop)]
+pub struct Transcripts {
+    pub phases: List<List<List<Reply>>>,
+}
