@@ -1,0 +1,9 @@
+pub mod OptionLemmas
+pub mod LetterLemmas
+pub mod WordLemmas
+pub mod ItemLemmas
+pub mod ProgressLemmas
+pub mod LineLemmas
+pub mod DecidedLemmas
+pub mod RisingLemmas
+pub mod CountLemmas

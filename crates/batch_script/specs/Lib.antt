@@ -1,0 +1,10 @@
+pub mod MetaTests
+pub mod Letters
+pub mod Words
+pub mod Rows
+pub mod Places
+pub mod Phases
+pub mod Scripts
+pub mod Progresses
+pub mod Rooms
+pub mod Rising

@@ -1,0 +1,60 @@
+//! A few lines and scripts, worked: the definitions at concrete words.
+ghost use Rattle.std.specs.Prelude.{◌≡◌, [], ◌∷◌, codes, false, true, None, Some};
+ghost use Rattle.model_names.specs.declared.namespaces.Namespace.TheVariants.{Cascading, User, Proc as ProcNamespace};
+ghost use Rattle.batch_script.specs.declared.items.Item.TheVariants.{Proc, Session, Phase as PhaseEnd, Does};
+ghost use Rattle.batch_script.specs.declared.steps.Step.TheVariants.{Get, Set};
+ghost use Rattle.batch_script.specs.Letters.{written_at};
+ghost use Rattle.batch_script.specs.Rows.{said, session_of};
+ghost use Rattle.batch_script.specs.Places.{may_follow};
+ghost use Rattle.batch_script.specs.Phases.{script_of};
+
+/// A session is numbered from 1 to 32, without leading zero.
+pub fn sessions_are_numbered_from_1_to_32()
+    ensures first { session_of (codes "1") ≡ Some 1 }
+    ensures last { session_of (codes "32") ≡ Some 32 }
+    ensures none { session_of (codes "0") ≡ None }
+    ensures too_many { session_of (codes "33") ≡ None }
+    ensures leading_zero { session_of (codes "01") ≡ None }
+    ensures sign { session_of (codes "+1") ≡ None }
+{}
+
+/// Words say what their row says. A step that no row has, and a merge, says nothing.
+pub fn words_say_what_their_row_says()
+    ensures session { said (codes "session" ∷ codes "3" ∷ []) ≡ Some (Session 3) }
+    ensures phase { said (codes "phase" ∷ []) ≡ Some PhaseEnd }
+    ensures few { said (codes "put" ∷ codes "user:/sw" ∷ []) ≡ None }
+    ensures cascading { said (codes "cut" ∷ codes "/sw" ∷ []) ≡ None }
+    ensures merge { said (codes "merge" ∷ codes "/" ∷ codes "our" ∷ codes "1" ∷ []) ≡ None }
+{}
+
+/// In quotes a byte is written as it is or by an escape. A control byte is not.
+pub fn bytes_are_written_in_quotes()
+    ensures plain { written_at (codes "a\"") ≡ Some (97, codes "\"") }
+    ensures quote { written_at (codes "\\\"b") ≡ Some (34, codes "b") }
+    ensures digits { written_at (codes "\\x4Ab") ≡ Some (74, codes "b") }
+    ensures beyond_ascii { written_at (codes "\\x80") ≡ None }
+    ensures control { written_at (9 ∷ []) ≡ None }
+    ensures unknown { written_at (codes "\\s") ≡ None }
+{}
+
+/// A key of a handle stands in the header, and a step behind a session of its own phase.
+pub fn lines_have_their_places()
+    ensures header { may_follow (Session 1 ∷ []) (Proc (record { session = 1; key = record { namespace = ProcNamespace; parts = [] }; value = [] })) ≡ false }
+    ensures behind_phase { may_follow (PhaseEnd ∷ []) (Proc (record { session = 1; key = record { namespace = ProcNamespace; parts = [] }; value = [] })) ≡ false }
+    ensures step { may_follow (Session 1 ∷ []) (Does (Get (record { namespace = Cascading; parts = [] }))) ≡ true }
+    ensures next_phase { may_follow (Session 1 ∷ PhaseEnd ∷ []) (Does (Get (record { namespace = Cascading; parts = [] }))) ≡ false }
+{}
+
+/// Sessions stand in ascending order in a phase, with all their steps, and a phase may have none.
+pub fn sessions_ascend_in_a_phase()
+    ensures { script_of (Session 2 ∷ Does (Get (record { namespace = User; parts = [] })) ∷ Session 1 ∷ Does (Set (record { namespace = User; parts = [] })) ∷ Session 2
+        ∷ Does (Set (record { namespace = User; parts = [] })) ∷ PhaseEnd ∷ Session 3 ∷ [])
+        ≡ record {
+          proc = [];
+          phases = record {
+            sessions = record { session = 1; steps = Set (record { namespace = User; parts = [] }) ∷ [] }
+                ∷ record { session = 2; steps = Get (record { namespace = User; parts = [] }) ∷ Set (record { namespace = User; parts = [] }) ∷ [] } ∷ [];
+          }
+              ∷ record { sessions = [] } ∷ [];
+        } }
+{}

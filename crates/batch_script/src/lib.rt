@@ -1,0 +1,27 @@
+//! Scripts of a batch: which sessions take which steps in which phase.
+#![tactic(auto)]
+
+mod examples;
+mod faults;
+mod items;
+mod laws;
+mod letters;
+mod meta_words;
+mod progress;
+mod reading;
+mod rows;
+mod steps;
+mod words;
+
+pub use examples::{
+    bytes_are_written_in_quotes, lines_have_their_places, sessions_are_numbered_from_1_to_32,
+    sessions_ascend_in_a_phase, words_say_what_their_row_says,
+};
+pub use faults::ScriptFault;
+pub use laws::{
+    bytes_read_as_one_script_or_are_bad_at_one_line, lines_are_counted_by_line_feeds,
+    sessions_ascend_in_each_phase,
+};
+pub use meta_words::MetaWord;
+pub use reading::{is_too_long, parse_script};
+pub use steps::{Phase, ProcLine, Script, Step, Steps};
