@@ -1,0 +1,43 @@
+//! Worked rows.
+ghost use Rattle.std.specs.Prelude.{◌≡◌, List, [], ◌∷◌};
+ghost use Rattle.batch_script.specs.declared.steps.Step.{Step};
+ghost use Rattle.kdb_handle.specs.declared.replies.Reply.{Reply};
+ghost use Rattle.kdb_handle.specs.declared.replies.Reply.TheVariants as reply;
+ghost use Rattle.kdb_handle.specs.declared.setting.SetFault.TheVariants as fault;
+ghost use Rattle.model_batch.specs.Replies.{failures_told, fronts_told, numbers_told};
+ghost use Rattle.model_batch.specs.Scripts.{reply_rows, sessions_of, step_rows};
+ghost use Rattle.model_batch.specs.Told.{numbers_by};
+ghost use Rattle.model_names.specs.Name.{Name};
+ghost use Rattle.store_core.specs.declared.committing.CommitFault.TheVariants as commit;
+ghost use Rattle.store_core.specs.declared.committing.Done.TheVariants as done;
+
+/// Of three commits the handle 1 made the first and the last.
+pub fn commits_go_by_their_handles()
+    ensures first { numbers_by 1 (record { handle = 1; touched = 0 ∷ []; changes = [] } ∷ record { handle = 2; touched = 0 ∷ []; changes = [] } ∷ record { handle = 1; touched = 1 ∷ []; changes = [] } ∷ []) ≡ 1 ∷ 3 ∷ [] }
+    ensures second { numbers_by 2 (record { handle = 1; touched = 0 ∷ []; changes = [] } ∷ record { handle = 2; touched = 0 ∷ []; changes = [] } ∷ record { handle = 1; touched = 1 ∷ []; changes = [] } ∷ []) ≡ 2 ∷ [] }
+{}
+
+/// A commit tells its number, and that it found one fewer; a set that the disk failed tells how many it found, and a set that wasn't prepared no front.
+pub fn replies_tell_fronts()
+    ensures number { numbers_told (reply.SetDone (done.Committed 3 0)) ≡ 3 ∷ [] }
+    ensures commit { fronts_told (reply.SetDone (done.Committed 3 0)) ≡ 2 ∷ [] }
+    ensures got { fronts_told (reply.Got 4 2) ≡ 4 ∷ [] }
+    ensures failed { failures_told (reply.SetRefused (fault.Commit (commit.DiskFault 5))) ≡ 1 }
+    ensures found { fronts_told (reply.SetRefused (fault.Commit (commit.DiskFault 5))) ≡ 5 ∷ [] }
+    ensures quiet { fronts_told reply.Quiet ≡ [] }
+{}
+
+/// A script in which the sessions 2 and 5 have steps in the first phase, 5 alone in the second, and 7 has a key in `proc` alone: its sessions, and the rows of their steps
+/// and of their replies.
+pub fn sessions_have_rows()
+    ensures sessions { (name : Name) (one two three : List Step)
+        → sessions_of (record { proc = record { session = 7; key = name; value = [] } ∷ []; phases = record { sessions = record { session = 2; steps = one } ∷ record { session = 5; steps = two } ∷ [] } ∷ record { sessions = record { session = 5; steps = three } ∷ [] } ∷ [] })
+        ≡ 2 ∷ 5 ∷ 7 ∷ [] }
+    ensures steps { (name : Name) (one two three : List Step)
+        → step_rows (record { proc = record { session = 7; key = name; value = [] } ∷ []; phases = record { sessions = record { session = 2; steps = one } ∷ record { session = 5; steps = two } ∷ [] } ∷ record { sessions = record { session = 5; steps = three } ∷ [] } ∷ [] })
+        ≡ (one ∷ two ∷ [] ∷ []) ∷ ([] ∷ three ∷ [] ∷ []) ∷ [] }
+    ensures replies { (name : Name) (one two three : List Step) (a b c : List Reply)
+        → reply_rows (record { proc = record { session = 7; key = name; value = [] } ∷ []; phases = record { sessions = record { session = 2; steps = one } ∷ record { session = 5; steps = two } ∷ [] } ∷ record { sessions = record { session = 5; steps = three } ∷ [] } ∷ [] })
+        (record { phases = (a ∷ b ∷ []) ∷ (c ∷ []) ∷ [] })
+        ≡ (a ∷ b ∷ [] ∷ []) ∷ ([] ∷ c ∷ [] ∷ []) ∷ [] }
+{}
