@@ -1,0 +1,2 @@
+-- How the sessions of a batch go on.
+pub mod Going
