@@ -1,0 +1,239 @@
+-- How the sessions of a batch come from one phase to the next, and what all of it says of the history in the end.
+use Rattle.std.proofs.Common.{◌≡◌, ◌⊎◌, inl, inr, ℕ, zero, suc, ◌+◌, ◌<◌, ◌≤◌, List, [], ◌∷◌, ◌++◌, length, get_or, take, map, slice_get, Some, All, flat_map, sum_by, refl, sym, ap, subst, ◌∙◌, append-nil, arith}
+use Rattle.std.proofs.lemmas.List.{get_or-map, length_push, take-append-le, take_at}
+use Rattle.std.proofs.lemmas.List.Concat.{flat_map-append}
+use Rattle.std.proofs.lemmas.List.Elements.{All-from_recursion}
+use Rattle.std.proofs.lemmas.List.Sums.{sum_by-append}
+use Rattle.std.proofs.lemmas.Option.{slice_get_within}
+use Rattle.std.specs.List.{AllByRecursion}
+use mathlib.Core.List.{IsPrefix}
+use Rattle.general_words.proofs.Places.{last_or_before, there_is}
+use Rattle.batch_script.specs.declared.steps.Step.{Step}
+use Rattle.batch_run.specs.Closes.{Closes, IsFresh}
+use Rattle.batch_run.specs.Going.{IsThrough, count_seen}
+use Rattle.batch_run.specs.Stands.{HasTaken, IsFull, Stand}
+use Rattle.batch_run.specs.Workers.{IsSeated, handle_in}
+use Rattle.batch_run.specs.declared.workers.Worker.{Worker}
+use Rattle.batch_run.proofs.Counting.{covered}
+use Rattle.kdb_handle.specs.Handles.{HandleValue}
+use Rattle.kdb_handle.specs.Story.{Told, commits_of, failures_in, refusals_in}
+use Rattle.kdb_handle.specs.declared.replies.Reply.{Reply}
+use Rattle.kdb_handle.proofs.StoryLemmas.{commits-prefix}
+use Rattle.model_batch.specs.Fair.{IsFair, in_row, of_session, commits_told, count_told}
+use Rattle.model_batch.specs.Replies.{failures_told, numbers_told, refusals_told}
+use Rattle.model_batch.specs.Sessions.{Session, first_session}
+use Rattle.model_batch.specs.Told.{IsAtLeast, Tells, numbers_by}
+use Rattle.model_batch.proofs.Telling.{all-less, tells-append, tells-later, tells-more}
+use Rattle.model_history.specs.History.{Commit}
+use Rattle.model_maps.specs.KeyMap.{KeyMap}
+use Rattle.model_store.specs.Store.{Formats}
+use Rattle.mounted_files.specs.declared.files.MountedFile.{MountedFile}
+use Rattle.seat_lock.specs.Known.{Place}
+use Rattle.session_steps.specs.Going.{GoesOn, session_of}
+use Rattle.store_core.specs.declared.cores.Plan.{Plan}
+use Rattle.store_verdict.specs.RecordView.{proc_of}
+
+-- ---- rows
+
+-- what a session has in one row more
+session-snoc : {A : Type 0} (i : ℕ) (rows : List (List (List A))) (row : List (List A)) → of_session i (rows ++ row ∷ []) ≡ of_session i rows ++ in_row i row
+session-snoc {A} i rows row = flat_map-append (in_row i) rows (row ∷ []) ∙ ap (λ (l : List A). of_session i rows ++ l) (append-nil (in_row i row))
+
+-- what stands at a place of a row
+in_row-at : {A : Type 0} (row : List (List A)) (i : ℕ) (d : List A) → i < length row → in_row i row ≡ get_or row i d
+in_row-at [] i d lt = absurd (omega arith)
+in_row-at (x ∷ row) zero d lt = refl
+in_row-at (x ∷ row) (suc i) d lt = in_row-at row i d (omega arith)
+
+count-none : (n : ℕ) → count_told n [] ≡ 0
+count-none zero = refl
+count-none (suc n) = ap (λ k. k + 0) (count-none n)
+
+-- ---- replies
+
+-- lower floors are kept too
+lower : (low high : ℕ) (replies : List Reply) → low ≤ high → AllByRecursion (IsAtLeast high) replies → All (IsAtLeast low) replies
+lower low high replies le all = All-from_recursion (IsAtLeast low) replies (all-less low high replies le all)
+
+-- as many replies as steps
+tells-length : (formats : Formats) (files : List MountedFile) (procs : KeyMap) (number : ℕ) (history : List Commit) (old new : Session) (steps : List Step) (replies : List Reply) → Tells formats files procs number history old steps replies new
+    → length replies ≡ length steps
+tells-length formats files procs number history old new [] [] h = refl
+tells-length formats files procs number history old new [] (reply ∷ replies) h = absurd h
+tells-length formats files procs number history old new (step ∷ steps) [] h = absurd h
+tells-length formats files procs number history old new (step ∷ steps) (reply ∷ replies) h = ap suc (tells-length formats files procs number history h.0 new steps replies h.2)
+
+module _ (formats : Formats) {F : Type 0} (lock : Place Told) (plan : Plan F) where
+  -- ---- one session
+
+  -- one that has a handle that was just opened
+  pub taken-first : (procs : KeyMap) (number : ℕ) (worker : Worker) → IsFresh lock plan number procs worker.session.handle → IsSeated worker → HasTaken formats lock plan procs number [] [] worker
+  taken-first procs number worker fresh seated =
+      let none : commits_of worker.session.handle.seen ≡ [] = ap commits_of (fresh.seen ∙ fresh.handle_is.started.start) in record {
+        handle = fresh.handle_is;
+        number_is = fresh.number_is;
+        procs_are = fresh.procs_are;
+        last = 0;
+        within = omega arith;
+        tells = λ i. record { working = seated.working i; rec = λ m. fresh.rec m i; told = 0 };
+        own = ap (numbers_by number) none;
+        failures = ap failures_in fresh.own;
+        refusals = ap refusals_in fresh.own;
+        idle = seated.told;
+      }
+
+  -- how a session went on, by its number and its keys in `proc`
+  goes-as : (procs : KeyMap) (number : ℕ) (steps : List Step) (replies : List Reply) (old new : Worker) (told : ℕ) → GoesOn formats lock plan steps replies old.session.handle old.session.working new.session.handle new.session.working
+      → old.session.handle.number ≡ number → proc_of old.session.handle.rec ≡ procs → told ≤ length (commits_of old.session.handle.seen)
+      → (last : ℕ) × (last ≤ length (commits_of new.session.handle.seen)) × Tells formats plan.mounted procs number (commits_of new.session.handle.seen) (session_of old.session.handle old.session.working told) steps replies (session_of new.session.handle new.session.working last)
+  goes-as procs number steps replies old new told goes number_is procs_are le =
+      let history = commits_of new.session.handle.seen in
+      let Says : KeyMap → ℕ → Type 0 = λ p n. (last : ℕ) × (last ≤ length history) × Tells formats plan.mounted p n history (session_of old.session.handle old.session.working told) steps replies (session_of new.session.handle new.session.working last) in
+      subst (λ (p : KeyMap). Says p number) procs_are (subst (λ (n : ℕ). Says (proc_of old.session.handle.rec) n) number_is (goes.tells told le))
+
+  taken-next : (procs : KeyMap) (number : ℕ) (steps more : List Step) (replies told : List Reply) (old new : Worker) → HasTaken formats lock plan procs number steps replies old
+      → GoesOn formats lock plan more told old.session.handle old.session.working new.session.handle new.session.working → new.told.items ≡ [] → HasTaken formats lock plan procs number (steps ++ more) (replies ++ told) new
+  taken-next procs number steps more replies told old new was goes idle =
+      let history = commits_of new.session.handle.seen in
+      let on = goes-as procs number more told old new was.last goes was.number_is was.procs_are was.within in
+      let before = tells-more formats plan.mounted procs number (commits_of old.session.handle.seen) history first_session (session_of old.session.handle old.session.working was.last) steps replies (commits-prefix old.session.handle.seen new.session.handle.seen goes.seen) was.tells in
+      let own : numbers_by number history ≡ numbers_by number (commits_of old.session.handle.seen) ++ flat_map numbers_told told =
+      subst (λ (n : ℕ). numbers_by n history ≡ numbers_by n (commits_of old.session.handle.seen) ++ flat_map numbers_told told) was.number_is goes.own in
+      record {
+        handle = goes.handle;
+        number_is = goes.number ∙ was.number_is;
+        procs_are = goes.procs ∙ was.procs_are;
+        last = on.0;
+        within = on.1;
+        tells = tells-append formats plan.mounted procs number history first_session (session_of old.session.handle old.session.working was.last) (session_of new.session.handle new.session.working on.0) steps more replies told before on.2;
+        own = own ∙ ap (λ (l : List ℕ). l ++ flat_map numbers_told told) was.own ∙ sym (flat_map-append numbers_told replies told);
+        failures = goes.failures ∙ ap (λ k. k + sum_by failures_told told) was.failures ∙ sym (sum_by-append failures_told replies told);
+        refusals = goes.refusals ∙ ap (λ k. k + sum_by refusals_told told) was.refusals ∙ sym (sum_by-append refusals_told replies told);
+        idle = idle;
+      }
+
+  -- each front of a phase is at least what the handle had seen before
+  goes-fronts : (steps : List Step) (replies : List Reply) (old new : Worker) → GoesOn formats lock plan steps replies old.session.handle old.session.working new.session.handle new.session.working
+      → AllByRecursion (IsAtLeast (length (commits_of old.session.handle.seen))) replies
+  goes-fronts steps replies old new goes =
+      let seen = length (commits_of old.session.handle.seen) in
+      let on = goes.tells seen (omega arith) in
+      (tells-later formats plan.mounted (proc_of old.session.handle.rec) old.session.handle.number (commits_of new.session.handle.seen) (session_of old.session.handle old.session.working seen)
+      (session_of new.session.handle new.session.working on.0) steps replies on.2).1
+
+  goes-length : (steps : List Step) (replies : List Reply) (old new : Worker) → GoesOn formats lock plan steps replies old.session.handle old.session.working new.session.handle new.session.working → length replies ≡ length steps
+  goes-length steps replies old new goes =
+      let on = goes.tells 0 (omega arith) in
+      tells-length formats plan.mounted (proc_of old.session.handle.rec) old.session.handle.number (commits_of new.session.handle.seen) (session_of old.session.handle old.session.working 0)
+      (session_of new.session.handle new.session.working on.0) steps replies on.2
+
+  -- ---- all sessions
+
+  pub stand-first : (procs : ℕ → KeyMap) (workers : List Worker) → ((i : ℕ) (d : Worker) → i < length workers → HasTaken formats lock plan (procs (i + 1)) (i + 1) [] [] (get_or workers i d)) → Stand formats lock plan procs [] [] workers
+  stand-first procs workers each = record {
+    long = refl;
+    full = λ p made row at there. absurd cc;
+    each = each;
+    covers = λ i d lt. let none = count-none (length workers) in omega arith;
+    phases = λ p row at. absurd cc;
+  }
+
+  module _ (procs : ℕ → KeyMap) (steps : List (List (List Step))) (replies : List (List (List Reply))) (row : List (List Step)) (told : List (List Reply)) (old new : List Worker) where
+    next-each : Stand formats lock plan procs steps replies old → IsThrough formats lock plan row told old new → (i : ℕ) (d : Worker) → i < length new
+        → HasTaken formats lock plan (procs (i + 1)) (i + 1) (of_session i (steps ++ row ∷ [])) (of_session i (replies ++ told ∷ [])) (get_or new i d)
+    next-each stand through i d lt =
+        let lt' : i < length old = omega (arith, through.many) in
+        let next = taken-next (procs (i + 1)) (i + 1) (of_session i steps) (in_row i row) (of_session i replies) (in_row i told) (get_or old i d) (get_or new i d) (stand.each i d lt') (through.goes i d lt') (through.idle i d lt') in
+        subst (λ (s : List Step). HasTaken formats lock plan (procs (i + 1)) (i + 1) s (of_session i (replies ++ told ∷ [])) (get_or new i d)) (sym (session-snoc i steps row))
+        (subst (λ (r : List Reply). HasTaken formats lock plan (procs (i + 1)) (i + 1) (of_session i steps ++ in_row i row) r (get_or new i d)) (sym (session-snoc i replies told)) next)
+
+    next-covers : Stand formats lock plan procs steps replies old → IsThrough formats lock plan row told old new → (i : ℕ) (d : Worker) → i < length new
+        → count_told (length new) (replies ++ told ∷ []) ≤ length (commits_of (get_or new i d).session.handle.seen)
+    next-covers stand through i d lt =
+        covered (length new) (replies ++ told ∷ []) (commits_of (get_or new i d).session.handle.seen) (λ j lt_j.
+        let made = next-each stand through j d lt_j in
+        let met = through.met i j d (omega (arith, through.many)) (omega (arith, through.many)) in
+        let same : count_seen (get_or new j d).session.handle.number (get_or new j d).session.handle ≡ length (commits_told j (replies ++ told ∷ [])) =
+        ap (λ (n : ℕ). count_seen n (get_or new j d).session.handle) made.number_is ∙ ap length made.own in
+        let there : count_seen (get_or new j d).session.handle.number (get_or new i d).session.handle ≡ count_seen (j + 1) (get_or new i d).session.handle = ap (λ (n : ℕ). count_seen n (get_or new i d).session.handle) made.number_is in
+        omega arith)
+
+    last-phase : Stand formats lock plan procs steps replies old → IsThrough formats lock plan row told old new → All (All (IsAtLeast (count_told (length old) replies))) told
+    last-phase stand through k e lt = subst (All (IsAtLeast (count_told (length old) replies))) (in_row-at told k e lt) each
+      where
+        lt' : k < length old
+        lt' = omega (arith, through.told)
+
+        some : (d : Worker) × (slice_get old k ≡ Some d)
+        some = there_is old k lt'
+
+        each : All (IsAtLeast (count_told (length old) replies)) (in_row k told)
+        each = lower (count_told (length old) replies) (length (commits_of (get_or old k some.0).session.handle.seen)) (in_row k told) (stand.covers k some.0 lt')
+            (goes-fronts (in_row k row) (in_row k told) (get_or old k some.0) (get_or new k some.0) (through.goes k some.0 lt'))
+
+    next-phases : Stand formats lock plan procs steps replies old → IsThrough formats lock plan row told old new → (p : ℕ) (there : List (List Reply)) → slice_get (replies ++ told ∷ []) p ≡ Some there
+        → All (All (IsAtLeast (count_told (length new) (take p (replies ++ told ∷ []))))) there
+    next-phases stand through p there is = by (last_or_before replies told there p is)
+      where
+        Floor : ℕ → List (List (List Reply)) → List (List Reply) → Type 0
+        Floor n rows r = All (All (IsAtLeast (count_told n rows))) r
+
+        by : (slice_get replies p ≡ Some there) ⊎ ((p ≡ length replies) × (told ≡ there)) → Floor (length new) (take p (replies ++ told ∷ [])) there
+        by (inl here) =
+            subst (λ (n : ℕ). Floor n (take p (replies ++ told ∷ [])) there) (sym through.many)
+            (subst (λ (rows : List (List (List Reply))). Floor (length old) rows there) (sym (take-append-le p replies (told ∷ []) (omega (arith, slice_get_within replies p there here)))) (stand.phases p there here))
+        by (inr last) =
+            subst (λ (n : ℕ). Floor n (take p (replies ++ told ∷ [])) there) (sym through.many)
+            (subst (λ (rows : List (List (List Reply))). Floor (length old) rows there) (sym (take_at replies (told ∷ []) p (sym last.0)))
+            (subst (Floor (length old) replies) last.1 (last-phase stand through)))
+
+    last-full : IsThrough formats lock plan row told old new → IsFull (length new) row told
+    last-full through = record {
+      wide = through.told ∙ sym through.many;
+      even = λ i lt.
+          let lt' : i < length old = omega (arith, through.many) in
+          let some = there_is old i lt' in
+          goes-length (in_row i row) (in_row i told) (get_or old i some.0) (get_or new i some.0) (through.goes i some.0 lt');
+    }
+
+    next-full : Stand formats lock plan procs steps replies old → IsThrough formats lock plan row told old new → (p : ℕ) (made : List (List Step)) (there : List (List Reply)) → slice_get (steps ++ row ∷ []) p ≡ Some made
+        → slice_get (replies ++ told ∷ []) p ≡ Some there → IsFull (length new) made there
+    next-full stand through p made there at is = by (last_or_before steps row made p at) (last_or_before replies told there p is)
+      where
+        by : (slice_get steps p ≡ Some made) ⊎ ((p ≡ length steps) × (row ≡ made)) → (slice_get replies p ≡ Some there) ⊎ ((p ≡ length replies) × (told ≡ there)) → IsFull (length new) made there
+        by (inl here) (inl answered) = subst (λ (n : ℕ). IsFull n made there) (sym through.many) (stand.full p made there here answered)
+        by (inl here) (inr last) = absurd (omega (arith, slice_get_within steps p made here, stand.long, last.0))
+        by (inr last) (inl answered) = absurd (omega (arith, slice_get_within replies p there answered, stand.long, last.0))
+        by (inr last) (inr end) = subst (λ (s : List (List Step)). IsFull (length new) s there) last.1 (subst (IsFull (length new) row) end.1 (last-full through))
+
+    pub stand-next : Stand formats lock plan procs steps replies old → IsThrough formats lock plan row told old new → Stand formats lock plan procs (steps ++ row ∷ []) (replies ++ told ∷ []) new
+    stand-next stand through = record {
+      long = length_push replies told ∙ ap (λ k. k + 1) stand.long ∙ sym (length_push steps row);
+      full = next-full stand through;
+      each = next-each stand through;
+      covers = next-covers stand through;
+      phases = next-phases stand through;
+    }
+
+  -- ---- the end
+
+  pub fair-rows : (procs : ℕ → KeyMap) (steps : List (List (List Step))) (replies : List (List (List Reply))) (workers : List Worker) (history : List Commit) → Stand formats lock plan procs steps replies workers
+      → Closes (length workers) history (map handle_in workers) → IsFair formats plan.mounted (length workers) procs history steps replies
+  fair-rows procs steps replies workers history stand closes = record {
+    tells = λ i lt.
+        let some = there_is workers i lt in
+        let made = stand.each i some.0 lt in (
+          session_of (get_or workers i some.0).session.handle (get_or workers i some.0).session.working made.last,
+          tells-more formats plan.mounted (procs (i + 1)) (i + 1) (commits_of (get_or workers i some.0).session.handle.seen) history first_session
+              (session_of (get_or workers i some.0).session.handle (get_or workers i some.0).session.working made.last) (of_session i steps) (of_session i replies) (begins i some.0 lt) made.tells,
+        );
+    own = λ i lt.
+        let some = there_is workers i lt in
+        let made = stand.each i some.0 lt in
+        closes.own i some.0.session.handle lt ∙ ap (λ (h : HandleValue). numbers_by (i + 1) (commits_of h.seen)) (get_or-map handle_in workers i some.0 some.0.session.handle lt) ∙ made.own;
+    only = closes.only;
+    phases = stand.phases;
+  }
+    where
+      begins : (i : ℕ) (d : Worker) → i < length workers → IsPrefix (commits_of (get_or workers i d).session.handle.seen) history
+      begins i d lt = subst (λ (h : HandleValue). IsPrefix (commits_of h.seen) history) (get_or-map handle_in workers i d d.session.handle lt) (closes.seen i d.session.handle lt)

@@ -1,0 +1,43 @@
+-- The four parts of a phase are the phase.
+use Rattle.std.proofs.Common.{◌∙◌, arith}
+use Rattle.std.proofs.lemmas.List.{length-map}
+use Rattle.batch_run.specs.Workers.{number_in}
+use Rattle.batch_run.proofs.Through.{home-handles, ready-handles, ready-rooms, through}
+use Rattle.kdb_handle.specs.Views.{lock_of, plan_of}
+use Rattle.batch_run.proofs.phases.one_phase.Goals as goal
+
+pub exchange-requires : goal.exchange-requires
+exchange-requires g c = c.requires.rooms.many ∙ length-map c.args.workers.now number_in
+
+pub take_all-requires-clause-handles : goal.take_all-requires-clause-handles
+take_all-requires-clause-handles g c κs within = λ i d lt.
+    ready-handles (lock_of c.args.store.now) (plan_of c.args.store.now) c.args.workers.now c.exchange.new.workers c.args.rooms.now c.exchange.new.rooms (c.requires.rooms.many ∙ length-map c.args.workers.now number_in) c.requires.resting c.exchange.ensures i d (omega arith)
+
+pub take_all-requires-clause-rooms : goal.take_all-requires-clause-rooms
+take_all-requires-clause-rooms g c κs within = λ i d lt. ready-rooms c.args.phase.now c.args.workers.now c.exchange.new.workers c.args.rooms.now c.exchange.new.rooms c.requires.rooms c.exchange.ensures i d (omega arith)
+
+pub meet_all-requires : goal.meet_all-requires
+meet_all-requires g c = λ i d lt.
+    home-handles (record { text = g.F.Formats.text; IsStorable = g.F.Formats.is_storable; BreaksAt = g.F.Formats.breaks_at }) (lock_of c.args.store.now) (plan_of c.args.store.now) c.args.phase.now c.exchange.new.workers c.take_all.new.workers
+    c.exchange-2.new.workers c.exchange.new.rooms c.exchange-2.new.rooms (omega arith) (omega (arith, c.requires.rooms.many, length-map c.args.workers.now number_in)) c.take_all.ensures c.exchange-2.ensures i d (omega arith)
+
+pub returns : goal.returns
+returns g c =
+    let rooms = c.requires.rooms.many ∙ length-map c.args.workers.now number_in in
+    through (record { text = g.F.Formats.text; IsStorable = g.F.Formats.is_storable; BreaksAt = g.F.Formats.breaks_at }) (lock_of c.args.store.now) (plan_of c.args.store.now) c.args.phase.now c.args.workers.now c.exchange.new.workers
+    c.take_all.new.workers c.exchange-2.new.workers c.meet_all.new.workers c.args.rooms.now c.exchange.new.rooms c.exchange-2.new.rooms
+    (record {
+      given_many = omega arith;
+      taken_many = omega arith;
+      back_many = omega arith;
+      new_many = omega arith;
+      rooms_many = rooms;
+      left_many = omega (arith, rooms);
+      shown_many = omega (arith, rooms);
+      resting = c.requires.resting;
+      out = c.exchange.ensures;
+      works = c.take_all.ensures;
+      home = c.exchange-2.ensures;
+      meets = c.meet_all.ensures.each;
+      all = c.meet_all.ensures.all;
+    })

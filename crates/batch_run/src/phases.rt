@@ -1,0 +1,183 @@
+//! The phases of a batch: in each the sessions take their steps on threads, and then all handles meet.
+ghost use Rattle.std.specs.Prelude.{◌≡◌, ℕ, ◌<◌, [], length, slice_index_or, map as over};
+ghost use Rattle.batch_run.specs.Going.{IsThrough, Works};
+ghost use Rattle.batch_run.specs.Rooms.{ArePhaseRooms, HaveRoom, IsRoom, KeepShown, row_in, told_in};
+ghost use Rattle.batch_run.specs.Stands.{Stand, rows_of};
+ghost use Rattle.batch_run.specs.Workers.{IsResting, number_in};
+ghost use Rattle.batch_run.specs.declared.workers.Worker.{Worker};
+ghost use Rattle.kdb_handle.specs.Stores.{IsHandle};
+ghost use Rattle.kdb_handle.specs.Views.{lock_of, plan_of};
+ghost use Rattle.model_batch.specs.Scripts.{steps_in};
+ghost use Rattle.model_maps.specs.KeyMap.{KeyMap};
+
+use crate::exchanges::exchange;
+use crate::meetings::meet_all;
+use crate::places::steps_among;
+use crate::rooms::PhaseRooms;
+use crate::workers::Worker;
+use batch_script::{Phase, Steps};
+use kdb_handle::{Reply, SharedStore};
+use kdb_outside::{Disk, Gate};
+use regex_check::Patterns;
+use std::alloc::Global;
+use std::sync::Wait;
+use std::thread;
+use std::thread::Threads;
+use storage_api::Formats;
+
+/// All phases, one after the other.
+pub fn all_phases<
+    G: Gate + Sync,
+    D: Disk + Send,
+    F: Formats + Drop + Sync,
+    P: Patterns + Drop + Send,
+    R: Threads + Wait + Sync,
+>(
+    rt: &R,
+    alloc: Global,
+    gate: &G,
+    store: &SharedStore<D, F, P>,
+    phases: &[Phase],
+    workers: &mut [Worker],
+    rooms: &mut [PhaseRooms],
+)
+    requires resting { (i : ℕ) (d : Worker) → i < length workers.old → IsResting (lock_of store.now) (plan_of store.now) (slice_index_or workers.old i d) }
+    requires rooms { ArePhaseRooms (over number_in workers.old) phases.now rooms.old }
+    ensures stand { (procs : ℕ → KeyMap) → Stand (record { text = F.text; IsStorable = F.is_storable; BreaksAt = F.breaks_at }) (lock_of store.now) (plan_of store.now) procs [] [] workers.old
+        → Stand (record { text = F.text; IsStorable = F.is_storable; BreaksAt = F.breaks_at }) (lock_of store.now) (plan_of store.now) procs (rows_of (over number_in workers.old) phases.now) (over row_in rooms.new) workers.new }
+    ensures shown { KeepShown rooms.old rooms.new }
+{
+    for place in 0..phases.len() {
+        one_phase(
+            rt,
+            alloc,
+            gate,
+            store,
+            phases[place].sessions.as_slice(),
+            workers,
+            rooms[place].told.as_mut_slice(),
+        );
+    }
+}
+
+/// One phase: each session takes its steps in the room of its place, and then all handles meet.
+fn one_phase<
+    G: Gate + Sync,
+    D: Disk + Send,
+    F: Formats + Drop + Sync,
+    P: Patterns + Drop + Send,
+    R: Threads + Wait + Sync,
+>(
+    rt: &R,
+    alloc: Global,
+    gate: &G,
+    store: &SharedStore<D, F, P>,
+    phase: &[Steps],
+    workers: &mut [Worker],
+    rooms: &mut [Vec<Reply>],
+)
+    requires resting { (i : ℕ) (d : Worker) → i < length workers.old → IsResting (lock_of store.now) (plan_of store.now) (slice_index_or workers.old i d) }
+    requires rooms { HaveRoom (over number_in workers.old) phase.now rooms.old }
+    ensures { IsThrough (record { text = F.text; IsStorable = F.is_storable; BreaksAt = F.breaks_at }) (lock_of store.now) (plan_of store.now) (over (steps_in phase.now) (over number_in workers.old)) (over told_in rooms.new) workers.old workers.new }
+{
+    exchange(workers, rooms);
+    take_all(rt, alloc, gate, store, phase, workers);
+    exchange(workers, rooms);
+    meet_all(store, workers);
+}
+
+/// Each session takes its steps of a phase. Where one alone has some no thread is made.
+fn take_all<
+    G: Gate + Sync,
+    D: Disk + Send,
+    F: Formats + Drop + Sync,
+    P: Patterns + Drop + Send,
+    R: Threads + Wait + Sync,
+>(
+    rt: &R,
+    alloc: Global,
+    gate: &G,
+    store: &SharedStore<D, F, P>,
+    phase: &[Steps],
+    workers: &mut [Worker],
+)
+    requires handles { (i : ℕ) (d : Worker) → i < length workers.old → IsHandle (lock_of store.now) (plan_of store.now) (slice_index_or workers.old i d).session.handle }
+    requires rooms { (i : ℕ) (d : Worker) → i < length workers.old → IsRoom (length (steps_in phase.now (slice_index_or workers.old i d).session.number)) (slice_index_or workers.old i d).told }
+    ensures { (i : ℕ) (d : Worker) → i < length workers.old
+        → Works (record { text = F.text; IsStorable = F.is_storable; BreaksAt = F.breaks_at }) (lock_of store.now) (plan_of store.now) (steps_in phase.now (slice_index_or workers.old i d).session.number) (slice_index_or workers.old i d) (slice_index_or workers.new i d) }
+{
+    if phase.len() < 2 {
+        take_in_turn(rt, alloc, gate, store, phase, workers);
+    } else {
+        take_beside(rt, alloc, gate, store, phase, workers);
+    }
+}
+
+fn take_in_turn<G: Gate, D: Disk, F: Formats + Drop, P: Patterns + Drop, R: Wait>(
+    rt: &R,
+    alloc: Global,
+    gate: &G,
+    store: &SharedStore<D, F, P>,
+    phase: &[Steps],
+    workers: &mut [Worker],
+)
+    requires handles { (i : ℕ) (d : Worker) → i < length workers.old → IsHandle (lock_of store.now) (plan_of store.now) (slice_index_or workers.old i d).session.handle }
+    requires rooms { (i : ℕ) (d : Worker) → i < length workers.old → IsRoom (length (steps_in phase.now (slice_index_or workers.old i d).session.number)) (slice_index_or workers.old i d).told }
+    ensures { (i : ℕ) (d : Worker) → i < length workers.old
+        → Works (record { text = F.text; IsStorable = F.is_storable; BreaksAt = F.breaks_at }) (lock_of store.now) (plan_of store.now) (steps_in phase.now (slice_index_or workers.old i d).session.number) (slice_index_or workers.old i d) (slice_index_or workers.new i d) }
+{
+    for worker in workers.iter_mut() {
+        take_own(rt, alloc, gate, store, phase, worker);
+    }
+}
+
+/// Each on a thread of its own.
+fn take_beside<
+    G: Gate + Sync,
+    D: Disk + Send,
+    F: Formats + Drop + Sync,
+    P: Patterns + Drop + Send,
+    R: Threads + Wait + Sync,
+>(
+    rt: &R,
+    alloc: Global,
+    gate: &G,
+    store: &SharedStore<D, F, P>,
+    phase: &[Steps],
+    workers: &mut [Worker],
+)
+    requires handles { (i : ℕ) (d : Worker) → i < length workers.old → IsHandle (lock_of store.now) (plan_of store.now) (slice_index_or workers.old i d).session.handle }
+    requires rooms { (i : ℕ) (d : Worker) → i < length workers.old → IsRoom (length (steps_in phase.now (slice_index_or workers.old i d).session.number)) (slice_index_or workers.old i d).told }
+    ensures { (i : ℕ) (d : Worker) → i < length workers.old
+        → Works (record { text = F.text; IsStorable = F.is_storable; BreaksAt = F.breaks_at }) (lock_of store.now) (plan_of store.now) (steps_in phase.now (slice_index_or workers.old i d).session.number) (slice_index_or workers.old i d) (slice_index_or workers.new i d) }
+{
+    let count = workers.len();
+    if count == 0 {
+        return;
+    }
+    thread::for_each_mut(
+        rt,
+        workers,
+        count,
+        &|_, worker: &mut Worker| take_own(rt, alloc, gate, store, phase, worker),
+    );
+}
+
+/// A session takes its steps of a phase.
+fn take_own<G: Gate, D: Disk, F: Formats + Drop, P: Patterns + Drop, R: Wait>(
+    rt: &R,
+    alloc: Global,
+    gate: &G,
+    store: &SharedStore<D, F, P>,
+    phase: &[Steps],
+    worker: &mut Worker,
+)
+    requires handle { IsHandle (lock_of store.now) (plan_of store.now) worker.old.session.handle }
+    requires room { IsRoom (length (steps_in phase.now worker.old.session.number)) worker.old.told }
+    ensures { Works (record { text = F.text; IsStorable = F.is_storable; BreaksAt = F.breaks_at }) (lock_of store.now) (plan_of store.now) (steps_in phase.now worker.old.session.number) worker.old worker.new }
+{
+    let steps = steps_among(worker.session.number, phase);
+    worker
+        .session
+        .take_steps(gate, rt, alloc, store, steps, &mut worker.told);
+}
