@@ -1,0 +1,275 @@
+-- The words of the line of each reply.
+use Rattle.std.specs.Prelude.{◌≡◌, ℕ, false, ◌||◌, if◌then◌else◌, List, [], ◌∷◌, codes}
+use Rattle.std.proofs.Common.{refl, append_assoc}
+use Rattle.std.specs.Fmt.{decimal}
+use Rattle.general_words.specs.Texts.{is_text}
+use Rattle.kdb_handle.specs.declared.replies.Reply.{Reply}
+use Rattle.kdb_handle.specs.declared.replies.Reply.TheVariants.{Got, GetRefused, Quiet, LookFound, LookNone, SetDone, SetRefused, Memory}
+use Rattle.kdb_handle.specs.declared.setting.SetFault.TheVariants.{Prepare, Commit}
+use Rattle.kdb_print.proofs.Words.{AllSpell, HasWords, Line, Spells, name-IsWord, number-IsWord, word_at}
+use Rattle.kdb_print.specs.Replies.{line_of_commit, line_of_done, line_of_get, line_of_prepare, line_of_table, lines_of_reply}
+use Rattle.kdb_print.specs.Reading.{is_quiet}
+use Rattle.model_quoting.proofs.CutLemmas.{Plain, quoted-IsWord}
+use Rattle.model_quoting.specs.Quoted.{quoted, shown}
+use Rattle.mount_table.specs.declared.faults.TableFault.{TableFault}
+use Rattle.mount_table.specs.declared.faults.TableFault.TheVariants as table
+use Rattle.mounted_files.specs.declared.refusals.GetFault.{GetFault}
+use Rattle.mounted_files.specs.declared.refusals.GetFault.TheVariants as getting
+use Rattle.store_core.specs.declared.committing.CommitFault.{CommitFault}
+use Rattle.store_core.specs.declared.committing.CommitFault.TheVariants as committing
+use Rattle.store_core.specs.declared.committing.Done.{Done}
+use Rattle.store_core.specs.declared.committing.Done.TheVariants.{Committed, Same}
+use Rattle.store_verdict.specs.declared.faults.PrepareFault.{PrepareFault}
+use Rattle.store_verdict.specs.declared.faults.PrepareFault.TheVariants as preparing
+
+-- what kind of line begins with a word: the answers of a get, a look and a set, refusals, and the lines that begin a session, a phase or the
+-- history; 0 is any other
+abbrev pub kind_of : Line → ℕ
+kind_of (first, words) =
+    if is_text first (codes "got") then 1 else
+    (if is_text first (codes "found") then 2 else
+    (if is_text first (codes "none") then 3 else
+    (if is_text first (codes "commit") || is_text first (codes "same") then 4 else
+    (if is_text first (codes "refused") || (is_text first (codes "memory") || is_text first (codes "conflict")) then 5 else
+    (if is_text first (codes "session") || (is_text first (codes "phase") || is_text first (codes "history")) then 6 else 0)))))
+
+-- which refusal of a mount table a line tells, by its fourth word
+abbrev pub table_tag_of : List ℕ → ℕ
+table_tag_of word =
+    if is_text word (codes "bad-mountpoint") then 20 else
+    (if is_text word (codes "no-path") then 21 else
+    (if is_text word (codes "bad-path") then 22 else
+    (if is_text word (codes "unknown-plugin") then 23 else
+    (if is_text word (codes "file-twice") then 24 else
+    (if is_text word (codes "too-many") then 25 else
+    (if is_text word (codes "already-mounted") then 26 else
+    (if is_text word (codes "not-mounted") then 27 else
+    0)))))))
+
+-- which refusal a line tells, by its third word
+abbrev pub refusal_tag_of : Line → ℕ
+refusal_tag_of line =
+    if is_text (word_at 2 line) (codes "bad-file") then 5 else
+    (if is_text (word_at 2 line) (codes "too-long") then 6 else
+    (if is_text (word_at 2 line) (codes "too-heavy") then 7 else
+    (if is_text (word_at 2 line) (codes "not-fetched") then 8 else
+    (if is_text (word_at 2 line) (codes "value-too-long") then 9 else
+    (if is_text (word_at 2 line) (codes "not-storable") then 10 else
+    (if is_text (word_at 2 line) (codes "file-too-large") then 11 else
+    (if is_text (word_at 2 line) (codes "invalid") then 12 else
+    (if is_text (word_at 2 line) (codes "database-full") then 13 else
+    (if is_text (word_at 2 line) (codes "history-full") then 14 else
+    (if is_text (word_at 2 line) (codes "disk-fault") then 15 else
+    table_tag_of (word_at 3 line)))))))))))
+
+-- which refusal or set a line tells, 0 for a want of memory
+abbrev pub tag_of : Line → ℕ
+tag_of line =
+    if is_text (word_at 0 line) (codes "memory") then 0 else
+    (if is_text (word_at 0 line) (codes "conflict") then 1 else
+    (if is_text (word_at 0 line) (codes "commit") then 2 else
+    (if is_text (word_at 0 line) (codes "same") then 3 else refusal_tag_of line)))
+
+abbrev pub words_of_get : GetFault → Line
+words_of_get (getting.BadFile mount number) = (codes "refused", codes "C03100" ∷ codes "bad-file" ∷ shown mount ∷ decimal number ∷ [])
+words_of_get (getting.TooLong mount bytes) = (codes "refused", codes "C01100" ∷ codes "too-long" ∷ shown mount ∷ decimal bytes ∷ [])
+words_of_get (getting.TooHeavy mount weight) = (codes "refused", codes "C01100" ∷ codes "too-heavy" ∷ shown mount ∷ decimal weight ∷ [])
+words_of_get getting.Memory = (codes "memory", [])
+
+abbrev pub words_of_table : TableFault → Line
+words_of_table (table.BadMountpoint entry) = (codes "refused", codes "C03200" ∷ codes "bad-table" ∷ codes "bad-mountpoint" ∷ quoted entry ∷ [])
+words_of_table (table.NoPath entry) = (codes "refused", codes "C03200" ∷ codes "bad-table" ∷ codes "no-path" ∷ quoted entry ∷ [])
+words_of_table (table.BadPath entry) = (codes "refused", codes "C03200" ∷ codes "bad-table" ∷ codes "bad-path" ∷ quoted entry ∷ [])
+words_of_table (table.UnknownPlugin entry) = (codes "refused", codes "C03200" ∷ codes "bad-table" ∷ codes "unknown-plugin" ∷ quoted entry ∷ [])
+words_of_table (table.FileTwice entry) = (codes "refused", codes "C03200" ∷ codes "bad-table" ∷ codes "file-twice" ∷ quoted entry ∷ [])
+words_of_table (table.TooMany count) = (codes "refused", codes "C03200" ∷ codes "bad-table" ∷ codes "too-many" ∷ decimal count ∷ [])
+words_of_table (table.AlreadyMounted entry) = (codes "refused", codes "C03200" ∷ codes "bad-table" ∷ codes "already-mounted" ∷ quoted entry ∷ [])
+words_of_table (table.NotMounted entry) = (codes "refused", codes "C03200" ∷ codes "bad-table" ∷ codes "not-mounted" ∷ quoted entry ∷ [])
+words_of_table table.Memory = (codes "memory", [])
+
+abbrev pub words_of_prepare : PrepareFault → Line
+words_of_prepare (preparing.NotFetched mount) = (codes "refused", codes "C01320" ∷ codes "not-fetched" ∷ shown mount ∷ [])
+words_of_prepare (preparing.ValueTooLong key bytes) = (codes "refused", codes "C01100" ∷ codes "value-too-long" ∷ shown key ∷ decimal bytes ∷ [])
+words_of_prepare (preparing.NotStorable mount key) = (codes "refused", codes "C03200" ∷ codes "not-storable" ∷ shown mount ∷ shown key ∷ [])
+words_of_prepare (preparing.FileTooLarge mount bytes) = (codes "refused", codes "C01100" ∷ codes "file-too-large" ∷ shown mount ∷ decimal bytes ∷ [])
+words_of_prepare (preparing.BadTable fault) = words_of_table fault
+words_of_prepare preparing.Memory = (codes "memory", [])
+
+abbrev pub words_of_commit : CommitFault → Line
+words_of_commit (committing.Conflict mount by front) = (codes "conflict", shown mount ∷ codes "by" ∷ decimal by ∷ codes "front" ∷ decimal front ∷ [])
+words_of_commit (committing.Invalid violation front) = (codes "refused", codes "C03200" ∷ codes "invalid" ∷ shown violation.key ∷ codes "rule" ∷ decimal violation.rule ∷ codes "given" ∷ quoted violation.given ∷ codes "front" ∷ decimal front ∷ [])
+words_of_commit (committing.DatabaseFull weight front) = (codes "refused", codes "C01100" ∷ codes "database-full" ∷ decimal weight ∷ codes "front" ∷ decimal front ∷ [])
+words_of_commit (committing.HistoryFull weight front) = (codes "refused", codes "C01100" ∷ codes "history-full" ∷ decimal weight ∷ codes "front" ∷ decimal front ∷ [])
+words_of_commit (committing.DiskFault front) = (codes "refused", codes "C01100" ∷ codes "disk-fault" ∷ codes "front" ∷ decimal front ∷ [])
+words_of_commit committing.Memory = (codes "memory", [])
+
+abbrev pub words_of_done : Done → Line
+words_of_done (Committed number aside) = (codes "commit", decimal number ∷ codes "aside" ∷ decimal aside ∷ [])
+words_of_done (Same front aside) = (codes "same", decimal front ∷ codes "aside" ∷ decimal aside ∷ [])
+
+-- a reply to an edit has no line; it is given one that no other reply has
+abbrev pub words_of : Reply → Line
+words_of (Got front count) = (codes "got", decimal front ∷ decimal count ∷ [])
+words_of (GetRefused fault) = words_of_get fault
+words_of Quiet = ([], [])
+words_of (LookFound name value) = (codes "found", shown name ∷ quoted value ∷ [])
+words_of LookNone = (codes "none", [])
+words_of (SetDone done) = words_of_done done
+words_of (SetRefused (Prepare fault)) = words_of_prepare fault
+words_of (SetRefused (Commit fault)) = words_of_commit fault
+words_of Memory = (codes "memory", [])
+
+get-kind : (fault : GetFault) → kind_of (words_of_get fault) ≡ 5
+get-kind (getting.BadFile mount number) = refl
+get-kind (getting.TooLong mount bytes) = refl
+get-kind (getting.TooHeavy mount weight) = refl
+get-kind getting.Memory = refl
+
+table-kind : (fault : TableFault) → kind_of (words_of_table fault) ≡ 5
+table-kind (table.BadMountpoint entry) = refl
+table-kind (table.NoPath entry) = refl
+table-kind (table.BadPath entry) = refl
+table-kind (table.UnknownPlugin entry) = refl
+table-kind (table.FileTwice entry) = refl
+table-kind (table.TooMany count) = refl
+table-kind (table.AlreadyMounted entry) = refl
+table-kind (table.NotMounted entry) = refl
+table-kind table.Memory = refl
+
+prepare-kind : (fault : PrepareFault) → kind_of (words_of_prepare fault) ≡ 5
+prepare-kind (preparing.NotFetched mount) = refl
+prepare-kind (preparing.ValueTooLong key bytes) = refl
+prepare-kind (preparing.NotStorable mount key) = refl
+prepare-kind (preparing.FileTooLarge mount bytes) = refl
+prepare-kind (preparing.BadTable fault) = table-kind fault
+prepare-kind preparing.Memory = refl
+
+commit-kind : (fault : CommitFault) → kind_of (words_of_commit fault) ≡ 5
+commit-kind (committing.Conflict mount by front) = refl
+commit-kind (committing.Invalid violation front) = refl
+commit-kind (committing.DatabaseFull weight front) = refl
+commit-kind (committing.HistoryFull weight front) = refl
+commit-kind (committing.DiskFault front) = refl
+commit-kind committing.Memory = refl
+
+done-kind : (fault : Done) → kind_of (words_of_done fault) ≡ 4
+done-kind (Committed number aside) = refl
+done-kind (Same front aside) = refl
+
+-- the kind of the line of a reply
+abbrev pub kind : Reply → ℕ
+kind (Got front count) = 1
+kind (LookFound name value) = 2
+kind LookNone = 3
+kind (SetDone done) = 4
+kind (GetRefused fault) = 5
+kind (SetRefused fault) = 5
+kind Memory = 5
+kind Quiet = 0
+
+pub reply-kind : (reply : Reply) → kind_of (words_of reply) ≡ kind reply
+reply-kind (Got front count) = refl
+reply-kind (GetRefused fault) = get-kind fault
+reply-kind Quiet = refl
+reply-kind (LookFound name value) = refl
+reply-kind LookNone = refl
+reply-kind (SetDone done) = done-kind done
+reply-kind (SetRefused (Prepare fault)) = prepare-kind fault
+reply-kind (SetRefused (Commit fault)) = commit-kind fault
+reply-kind Memory = refl
+
+get-spells : (fault : GetFault) → Spells (words_of_get fault) (line_of_get fault)
+get-spells (getting.BadFile mount number) rest = simp append_assoc
+get-spells (getting.TooLong mount bytes) rest = simp append_assoc
+get-spells (getting.TooHeavy mount weight) rest = simp append_assoc
+get-spells getting.Memory rest = refl
+
+table-spells : (fault : TableFault) → Spells (words_of_table fault) (line_of_table fault)
+table-spells (table.BadMountpoint entry) rest = simp append_assoc
+table-spells (table.NoPath entry) rest = simp append_assoc
+table-spells (table.BadPath entry) rest = simp append_assoc
+table-spells (table.UnknownPlugin entry) rest = simp append_assoc
+table-spells (table.FileTwice entry) rest = simp append_assoc
+table-spells (table.TooMany count) rest = simp append_assoc
+table-spells (table.AlreadyMounted entry) rest = simp append_assoc
+table-spells (table.NotMounted entry) rest = simp append_assoc
+table-spells table.Memory rest = refl
+
+prepare-spells : (fault : PrepareFault) → Spells (words_of_prepare fault) (line_of_prepare fault)
+prepare-spells (preparing.NotFetched mount) rest = simp append_assoc
+prepare-spells (preparing.ValueTooLong key bytes) rest = simp append_assoc
+prepare-spells (preparing.NotStorable mount key) rest = simp append_assoc
+prepare-spells (preparing.FileTooLarge mount bytes) rest = simp append_assoc
+prepare-spells (preparing.BadTable fault) rest = table-spells fault rest
+prepare-spells preparing.Memory rest = refl
+
+commit-spells : (fault : CommitFault) → Spells (words_of_commit fault) (line_of_commit fault)
+commit-spells (committing.Conflict mount by front) rest = simp append_assoc
+commit-spells (committing.Invalid violation front) rest = simp append_assoc
+commit-spells (committing.DatabaseFull weight front) rest = simp append_assoc
+commit-spells (committing.HistoryFull weight front) rest = simp append_assoc
+commit-spells (committing.DiskFault front) rest = simp append_assoc
+commit-spells committing.Memory rest = refl
+
+done-spells : (fault : Done) → Spells (words_of_done fault) (line_of_done fault)
+done-spells (Committed number aside) rest = simp append_assoc
+done-spells (Same front aside) rest = simp append_assoc
+
+pub reply-spells : (reply : Reply) → is_quiet reply ≡ false → AllSpell (words_of reply ∷ []) (lines_of_reply reply)
+reply-spells (Got front count) loud = (λ rest. simp append_assoc, tt)
+reply-spells (GetRefused fault) loud = (get-spells fault, tt)
+reply-spells Quiet loud = absurd cc
+reply-spells (LookFound name value) loud = (λ rest. simp append_assoc, tt)
+reply-spells LookNone loud = (λ rest. refl, tt)
+reply-spells (SetDone done) loud = (done-spells done, tt)
+reply-spells (SetRefused (Prepare fault)) loud = (prepare-spells fault, tt)
+reply-spells (SetRefused (Commit fault)) loud = (commit-spells fault, tt)
+reply-spells Memory loud = (λ rest. refl, tt)
+
+get-HasWords : (fault : GetFault) → HasWords (words_of_get fault)
+get-HasWords (getting.BadFile mount number) = (Plain refl, (Plain refl, (Plain refl, (name-IsWord mount, (number-IsWord number, tt)))))
+get-HasWords (getting.TooLong mount bytes) = (Plain refl, (Plain refl, (Plain refl, (name-IsWord mount, (number-IsWord bytes, tt)))))
+get-HasWords (getting.TooHeavy mount weight) = (Plain refl, (Plain refl, (Plain refl, (name-IsWord mount, (number-IsWord weight, tt)))))
+get-HasWords getting.Memory = (Plain refl, tt)
+
+table-HasWords : (fault : TableFault) → HasWords (words_of_table fault)
+table-HasWords (table.BadMountpoint entry) = (Plain refl, (Plain refl, (Plain refl, (Plain refl, (quoted-IsWord entry, tt)))))
+table-HasWords (table.NoPath entry) = (Plain refl, (Plain refl, (Plain refl, (Plain refl, (quoted-IsWord entry, tt)))))
+table-HasWords (table.BadPath entry) = (Plain refl, (Plain refl, (Plain refl, (Plain refl, (quoted-IsWord entry, tt)))))
+table-HasWords (table.UnknownPlugin entry) = (Plain refl, (Plain refl, (Plain refl, (Plain refl, (quoted-IsWord entry, tt)))))
+table-HasWords (table.FileTwice entry) = (Plain refl, (Plain refl, (Plain refl, (Plain refl, (quoted-IsWord entry, tt)))))
+table-HasWords (table.TooMany count) = (Plain refl, (Plain refl, (Plain refl, (Plain refl, (number-IsWord count, tt)))))
+table-HasWords (table.AlreadyMounted entry) = (Plain refl, (Plain refl, (Plain refl, (Plain refl, (quoted-IsWord entry, tt)))))
+table-HasWords (table.NotMounted entry) = (Plain refl, (Plain refl, (Plain refl, (Plain refl, (quoted-IsWord entry, tt)))))
+table-HasWords table.Memory = (Plain refl, tt)
+
+prepare-HasWords : (fault : PrepareFault) → HasWords (words_of_prepare fault)
+prepare-HasWords (preparing.NotFetched mount) = (Plain refl, (Plain refl, (Plain refl, (name-IsWord mount, tt))))
+prepare-HasWords (preparing.ValueTooLong key bytes) = (Plain refl, (Plain refl, (Plain refl, (name-IsWord key, (number-IsWord bytes, tt)))))
+prepare-HasWords (preparing.NotStorable mount key) = (Plain refl, (Plain refl, (Plain refl, (name-IsWord mount, (name-IsWord key, tt)))))
+prepare-HasWords (preparing.FileTooLarge mount bytes) = (Plain refl, (Plain refl, (Plain refl, (name-IsWord mount, (number-IsWord bytes, tt)))))
+prepare-HasWords (preparing.BadTable fault) = table-HasWords fault
+prepare-HasWords preparing.Memory = (Plain refl, tt)
+
+commit-HasWords : (fault : CommitFault) → HasWords (words_of_commit fault)
+commit-HasWords (committing.Conflict mount by front) = (Plain refl, (name-IsWord mount, (Plain refl, (number-IsWord by, (Plain refl, (number-IsWord front, tt))))))
+commit-HasWords (committing.Invalid violation front) = (Plain refl, (Plain refl, (Plain refl, (name-IsWord (violation.key), (Plain refl, (number-IsWord (violation.rule), (Plain refl, (quoted-IsWord (violation.given), (Plain refl, (number-IsWord front, tt))))))))))
+commit-HasWords (committing.DatabaseFull weight front) = (Plain refl, (Plain refl, (Plain refl, (number-IsWord weight, (Plain refl, (number-IsWord front, tt))))))
+commit-HasWords (committing.HistoryFull weight front) = (Plain refl, (Plain refl, (Plain refl, (number-IsWord weight, (Plain refl, (number-IsWord front, tt))))))
+commit-HasWords (committing.DiskFault front) = (Plain refl, (Plain refl, (Plain refl, (Plain refl, (number-IsWord front, tt)))))
+commit-HasWords committing.Memory = (Plain refl, tt)
+
+done-HasWords : (fault : Done) → HasWords (words_of_done fault)
+done-HasWords (Committed number aside) = (Plain refl, (number-IsWord number, (Plain refl, (number-IsWord aside, tt))))
+done-HasWords (Same front aside) = (Plain refl, (number-IsWord front, (Plain refl, (number-IsWord aside, tt))))
+
+pub reply-HasWords : (reply : Reply) → HasWords (words_of reply)
+reply-HasWords (Got front count) = (Plain refl, (number-IsWord front, (number-IsWord count, tt)))
+reply-HasWords (GetRefused fault) = get-HasWords fault
+reply-HasWords Quiet = (Plain refl, tt)
+reply-HasWords (LookFound name value) = (Plain refl, (name-IsWord name, (quoted-IsWord value, tt)))
+reply-HasWords LookNone = (Plain refl, tt)
+reply-HasWords (SetDone done) = done-HasWords done
+reply-HasWords (SetRefused (Prepare fault)) = prepare-HasWords fault
+reply-HasWords (SetRefused (Commit fault)) = commit-HasWords fault
+reply-HasWords Memory = (Plain refl, tt)

@@ -1,0 +1,103 @@
+-- Where no step wanted memory, what is told of the replies is all of them.
+use Rattle.std.specs.Prelude.{◌≡◌, Bool, true, false, not, ◌||◌, if◌then◌else◌, List, [], ◌∷◌, map as over}
+use Rattle.std.proofs.Common.{refl, sym, ap, ap₂, ◌∙◌, inl, inr}
+use Rattle.std.specs.List.{list_any}
+use Rattle.std.proofs.lemmas.Bool.{cases_Bool, cond-false, cond-true}
+use Rattle.batch_script.specs.declared.steps.Phase.{Phase}
+use Rattle.batch_script.specs.declared.steps.Step.{Step}
+use Rattle.batch_script.specs.declared.steps.Steps.{Steps}
+use Rattle.kdb_handle.specs.declared.replies.Reply.{Reply}
+use Rattle.kdb_handle.specs.declared.replies.Reply.TheVariants.{Quiet, Memory}
+use Rattle.kdb_print.proofs.BatchWords.{loud}
+use Rattle.kdb_print.specs.Replies.{is_memory, some_reply}
+use Rattle.kdb_print.specs.Reading.{AreOfPhases, AreOfSessions, AreOfSteps, IsReplyTo, edits, is_quiet, told, told_of}
+
+memory-told_of : (reply : Reply) → is_memory (told_of reply) ≡ is_memory reply
+memory-told_of reply =
+    elim (cases_Bool (is_memory reply)) [
+      | inl yes_memory ↦ ap is_memory (cond-true (is_memory reply) Memory reply yes_memory) ∙ sym yes_memory
+      | inr no_memory ↦ ap is_memory (cond-false (is_memory reply) Memory reply no_memory)
+    ]
+
+memory-told : (replies : List Reply) → list_any is_memory (told replies) ≡ list_any is_memory replies
+memory-told [] = refl
+memory-told (Quiet ∷ replies) = memory-told replies
+memory-told (reply ∷ replies) = ap₂ (λ a b. a || b) (memory-told_of reply) (memory-told replies)
+
+memory-sessions : (sessions : List (List Reply)) → list_any (list_any is_memory) (over told sessions) ≡ list_any (list_any is_memory) sessions
+memory-sessions [] = refl
+memory-sessions (replies ∷ sessions) = ap₂ (λ a b. a || b) (memory-told replies) (memory-sessions sessions)
+
+memory-phases : (phases : List (List (List Reply))) → some_reply is_memory (over (over told) phases) ≡ some_reply is_memory phases
+memory-phases [] = refl
+memory-phases (sessions ∷ phases) = ap₂ (λ a b. a || b) (memory-sessions sessions) (memory-phases phases)
+
+neither : (a b : Bool) → (a || b) ≡ false → (a ≡ false) × (b ≡ false)
+neither true b e = absurd cc
+neither false b e = (refl, e)
+
+quiet_is : (reply : Reply) → is_quiet reply ≡ true → reply ≡ Quiet
+quiet_is Quiet e = refl
+quiet_is reply e = absurd cc
+
+quiet_where : (step : Step) (reply : Reply) → IsReplyTo step reply → is_memory reply ≡ false → is_quiet reply ≡ edits step
+quiet_where step reply of none =
+    elim of.quiet [
+      | inl same ↦ same
+      | inr is ↦ let wants : is_memory reply ≡ true = ap is_memory is in absurd cc
+    ]
+
+told-quiet : (reply : Reply) (replies : List Reply) → is_quiet reply ≡ true → told (reply ∷ replies) ≡ told replies
+told-quiet reply replies quiet = ap (λ r. told (r ∷ replies)) (quiet_is reply quiet)
+
+told-loud : (reply : Reply) (replies : List Reply) → is_quiet reply ≡ false → is_memory reply ≡ false → told (reply ∷ replies) ≡ reply ∷ told replies
+told-loud reply replies quiet none =
+    ap (λ b. over told_of (if not b then reply ∷ loud replies else loud replies)) quiet ∙ ap (λ b. (if b then Memory else reply) ∷ told replies) none
+
+steps-whole : (steps : List Step) (xs ys : List Reply) → AreOfSteps steps xs → AreOfSteps steps ys → list_any is_memory xs ≡ false → list_any is_memory ys ≡ false → told xs ≡ told ys → xs ≡ ys
+steps-whole [] [] [] hs ks p q e = refl
+steps-whole [] [] (y ∷ ys) hs ks p q e = absurd ks
+steps-whole [] (x ∷ xs) ys hs ks p q e = absurd hs
+steps-whole (step ∷ steps) [] ys hs ks p q e = absurd hs
+steps-whole (step ∷ steps) (x ∷ xs) [] hs ks p q e = absurd ks
+steps-whole (step ∷ steps) (x ∷ xs) (y ∷ ys) hs ks p q e =
+    let no_x = neither (is_memory x) (list_any is_memory xs) p in
+    let no_y = neither (is_memory y) (list_any is_memory ys) q in
+    let quiet_x = quiet_where step x hs.0 no_x.0 in
+    let quiet_y = quiet_where step y ks.0 no_y.0 in
+    elim (cases_Bool (edits step)) [
+      | inl edit ↦
+          let rest = steps-whole steps xs ys hs.1 ks.1 no_x.1 no_y.1 (sym (told-quiet x xs (quiet_x ∙ edit)) ∙ (e ∙ told-quiet y ys (quiet_y ∙ edit))) in
+          ap₂ (λ r rs. r ∷ rs) (quiet_is x (quiet_x ∙ edit) ∙ sym (quiet_is y (quiet_y ∙ edit))) rest
+      | inr other ↦
+          let there : x ∷ told xs ≡ y ∷ told ys = sym (told-loud x xs (quiet_x ∙ other) no_x.0) ∙ (e ∙ told-loud y ys (quiet_y ∙ other) no_y.0) in
+          let rest = steps-whole steps xs ys hs.1 ks.1 no_x.1 no_y.1 cc in
+          let first : x ≡ y = cc in
+          ap₂ (λ r rs. r ∷ rs) first rest
+    ]
+
+sessions-whole : (sessions : List Steps) (xs ys : List (List Reply)) → AreOfSessions sessions xs → AreOfSessions sessions ys → list_any (list_any is_memory) xs ≡ false → list_any (list_any is_memory) ys ≡ false → over told xs ≡ over told ys → xs ≡ ys
+sessions-whole [] [] [] hs ks p q e = refl
+sessions-whole [] [] (y ∷ ys) hs ks p q e = absurd ks
+sessions-whole [] (x ∷ xs) ys hs ks p q e = absurd hs
+sessions-whole (steps ∷ others) [] ys hs ks p q e = absurd hs
+sessions-whole (steps ∷ others) (x ∷ xs) [] hs ks p q e = absurd ks
+sessions-whole (steps ∷ others) (x ∷ xs) (y ∷ ys) hs ks p q e =
+    let no_x = neither (list_any is_memory x) (list_any (list_any is_memory) xs) p in
+    let no_y = neither (list_any is_memory y) (list_any (list_any is_memory) ys) q in
+    ap₂ (λ r rs. r ∷ rs) (steps-whole steps.steps x y hs.0 ks.0 no_x.0 no_y.0 cc) (sessions-whole others xs ys hs.1 ks.1 no_x.1 no_y.1 cc)
+
+phases-whole : (phases : List Phase) (xs ys : List (List (List Reply))) → AreOfPhases phases xs → AreOfPhases phases ys → some_reply is_memory xs ≡ false → some_reply is_memory ys ≡ false → over (over told) xs ≡ over (over told) ys → xs ≡ ys
+phases-whole [] [] [] hs ks p q e = refl
+phases-whole [] [] (y ∷ ys) hs ks p q e = absurd ks
+phases-whole [] (x ∷ xs) ys hs ks p q e = absurd hs
+phases-whole (phase ∷ phases) [] ys hs ks p q e = absurd hs
+phases-whole (phase ∷ phases) (x ∷ xs) [] hs ks p q e = absurd ks
+phases-whole (phase ∷ phases) (x ∷ xs) (y ∷ ys) hs ks p q e =
+    let no_x = neither (list_any (list_any is_memory) x) (some_reply is_memory xs) p in
+    let no_y = neither (list_any (list_any is_memory) y) (some_reply is_memory ys) q in
+    ap₂ (λ r rs. r ∷ rs) (sessions-whole phase.sessions x y hs.0 ks.0 no_x.0 no_y.0 cc) (phases-whole phases xs ys hs.1 ks.1 no_x.1 no_y.1 cc)
+
+pub whole-once : (phases : List Phase) (a b : List (List (List Reply))) → AreOfPhases phases a → AreOfPhases phases b → some_reply is_memory a ≡ false → over (over told) a ≡ over (over told) b → a ≡ b
+whole-once phases a b hs ks none e =
+    phases-whole phases a b hs ks none (sym (memory-phases b) ∙ (ap (some_reply is_memory) (sym e) ∙ (memory-phases a ∙ none))) e

@@ -1,0 +1,10 @@
+-- The lines so far, with those of the phases to come, are the lines of all.
+use Rattle.std.proofs.Common.{◌≡◌, ◌+◌, ◌++◌, drop, string_bytes}
+use Rattle.kdb_print.specs.Printed.{lines_of_phases}
+use Rattle.model_lines.specs.Lines.{ended}
+use Rattle.kdb_print.proofs.printing.push_phases.Given as goal
+
+abbrev pub invariant-loop-i : goal.invariant-loop-i
+invariant-loop-i l =
+    string_bytes l.text ++ ended (lines_of_phases (l.i + 1) (drop l.i l.phases) (drop l.i l.replies))
+    ≡ string_bytes l.fn.text ++ ended (lines_of_phases 1 l.phases l.replies)

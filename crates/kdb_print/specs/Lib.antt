@@ -1,0 +1,4 @@
+pub mod Replies
+pub mod Printed
+pub mod Reading
+pub mod Worked

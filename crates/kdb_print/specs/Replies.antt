@@ -1,0 +1,106 @@
+-- What a batch prints of the replies of its steps, and the status that it ends with. (This project's own.)
+use Rattle.std.specs.Prelude.{ℕ, Bool, true, false, if◌then◌else◌, List, [], ◌∷◌, ◌++◌, codes}
+use Rattle.std.specs.Fmt.{decimal}
+use Rattle.std.specs.List.{list_any}
+use Rattle.kdb_handle.specs.declared.replies.Reply.{Reply}
+use Rattle.kdb_handle.specs.declared.replies.Reply.TheVariants.{Got, GetRefused, Quiet, LookFound, LookNone, SetDone, SetRefused, Memory}
+use Rattle.kdb_handle.specs.declared.setting.SetFault.{SetFault}
+use Rattle.kdb_handle.specs.declared.setting.SetFault.TheVariants.{Prepare, Commit}
+use Rattle.model_quoting.specs.Quoted.{quoted, shown}
+use Rattle.mount_table.specs.declared.faults.TableFault.{TableFault}
+use Rattle.mount_table.specs.declared.faults.TableFault.TheVariants as table
+use Rattle.mounted_files.specs.declared.refusals.GetFault.{GetFault}
+use Rattle.mounted_files.specs.declared.refusals.GetFault.TheVariants as getting
+use Rattle.store_core.specs.declared.committing.CommitFault.{CommitFault}
+use Rattle.store_core.specs.declared.committing.CommitFault.TheVariants as committing
+use Rattle.store_core.specs.declared.committing.Done.{Done}
+use Rattle.store_core.specs.declared.committing.Done.TheVariants.{Committed, Same}
+use Rattle.store_lines.specs.Lines as store
+use Rattle.store_verdict.specs.declared.faults.PrepareFault.{PrepareFault}
+use Rattle.store_verdict.specs.declared.faults.PrepareFault.TheVariants as preparing
+
+-- a want of memory, alone or inside a refusal
+abbrev pub memory : List ℕ
+memory = codes "memory"
+
+-- a refusal that the store has a line for
+abbrev pub refused : List ℕ → List ℕ
+refused text = codes "refused " ++ text
+
+-- the same, with how many commits were found
+abbrev pub refused_at : List ℕ → ℕ → List ℕ
+refused_at text front = codes "refused " ++ (text ++ (codes " front " ++ decimal front))
+
+-- a get that was refused
+abbrev pub line_of_get : GetFault → List ℕ
+line_of_get (getting.BadFile mount number) = refused (store.bad_file mount number)
+line_of_get (getting.TooLong mount bytes) = refused (store.too_long mount bytes)
+line_of_get (getting.TooHeavy mount weight) = refused (store.too_heavy mount weight)
+line_of_get getting.Memory = memory
+
+-- keys that make no mount table
+abbrev pub line_of_table : TableFault → List ℕ
+line_of_table table.Memory = memory
+line_of_table fault = refused (store.bad_table fault)
+
+-- a set that was not prepared
+abbrev pub line_of_prepare : PrepareFault → List ℕ
+line_of_prepare (preparing.NotFetched mount) = refused (store.not_fetched mount)
+line_of_prepare (preparing.ValueTooLong key bytes) = refused (store.value_too_long key bytes)
+line_of_prepare (preparing.NotStorable mount key) = refused (store.not_storable mount key)
+line_of_prepare (preparing.FileTooLarge mount bytes) = refused (store.file_too_large mount bytes)
+line_of_prepare (preparing.BadTable fault) = line_of_table fault
+line_of_prepare preparing.Memory = memory
+
+-- a set that was not committed
+abbrev pub line_of_commit : CommitFault → List ℕ
+line_of_commit (committing.Conflict mount by front) =
+    codes "conflict " ++ (shown mount ++ (codes " by " ++ (decimal by ++ (codes " front " ++ decimal front))))
+line_of_commit (committing.Invalid violation front) = refused_at (store.invalid violation) front
+line_of_commit (committing.DatabaseFull weight front) = refused_at (store.database_full weight) front
+line_of_commit (committing.HistoryFull weight front) = refused_at (store.history_full weight) front
+line_of_commit (committing.DiskFault front) = refused_at store.disk_fault front
+line_of_commit committing.Memory = memory
+
+-- a set that was not stored
+abbrev pub line_of_set : SetFault → List ℕ
+line_of_set (Prepare fault) = line_of_prepare fault
+line_of_set (Commit fault) = line_of_commit fault
+
+-- a set that was stored, or touched no mount; and how many keys were left aside
+abbrev pub line_of_done : Done → List ℕ
+line_of_done (Committed number aside) = codes "commit " ++ (decimal number ++ (codes " aside " ++ decimal aside))
+line_of_done (Same front aside) = codes "same " ++ (decimal front ++ (codes " aside " ++ decimal aside))
+
+-- the lines of a reply: none of an edit of the working set, else one
+abbrev pub lines_of_reply : Reply → List (List ℕ)
+lines_of_reply (Got front count) = (codes "got " ++ (decimal front ++ (32 ∷ decimal count))) ∷ []
+lines_of_reply (GetRefused fault) = line_of_get fault ∷ []
+lines_of_reply Quiet = []
+lines_of_reply (LookFound name value) = (codes "found " ++ (shown name ++ (32 ∷ quoted value))) ∷ []
+lines_of_reply LookNone = codes "none" ∷ []
+lines_of_reply (SetDone done) = line_of_done done ∷ []
+lines_of_reply (SetRefused fault) = line_of_set fault ∷ []
+lines_of_reply Memory = memory ∷ []
+
+-- a reply is a want of memory, alone or inside a refusal
+abbrev pub is_memory : Reply → Bool
+is_memory Memory = true
+is_memory (GetRefused getting.Memory) = true
+is_memory (SetRefused (Prepare preparing.Memory)) = true
+is_memory (SetRefused (Prepare (preparing.BadTable table.Memory))) = true
+is_memory (SetRefused (Commit committing.Memory)) = true
+is_memory reply = false
+
+-- a reply is a fault of the disk
+abbrev pub is_disk_fault : Reply → Bool
+is_disk_fault (SetRefused (Commit (committing.DiskFault front))) = true
+is_disk_fault reply = false
+
+-- some reply of a batch is such
+abbrev pub some_reply : (Reply → Bool) → List (List (List Reply)) → Bool
+some_reply test replies = list_any (list_any (list_any test)) replies
+
+-- how a batch ends: 70 where a step wanted memory, else 74 where the disk failed in one, else 0
+abbrev pub status_of : List (List (List Reply)) → ℕ
+status_of replies = if some_reply is_memory replies then 70 else (if some_reply is_disk_fault replies then 74 else 0)

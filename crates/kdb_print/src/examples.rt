@@ -1,0 +1,48 @@
+//! Worked examples.
+ghost use Rattle.std.specs.Prelude.{◌≡◌, ◌++◌, [], ◌∷◌, codes};
+ghost use Rattle.kdb_handle.specs.declared.replies.Reply.TheVariants.{Got, LookFound, LookNone, Memory, Quiet, SetDone, SetRefused};
+ghost use Rattle.kdb_handle.specs.declared.setting.SetFault.TheVariants.{Commit, Prepare};
+ghost use Rattle.kdb_print.specs.Printed.{printed};
+ghost use Rattle.kdb_print.specs.Replies.{status_of};
+ghost use Rattle.kdb_print.specs.Worked.{mounts, name, phase_of, removes, script_of, sets, sets_with, steps_of};
+ghost use Rattle.model_names.specs.declared.namespaces.Namespace.TheVariants.{System, User};
+ghost use Rattle.store_core.specs.declared.committing.CommitFault.TheVariants.{Conflict, DiskFault};
+ghost use Rattle.store_core.specs.declared.committing.Done.TheVariants.{Committed, Same};
+ghost use Rattle.store_verdict.specs.declared.faults.PrepareFault.TheVariants.{NotFetched, Memory as Unprepared};
+
+/// Three sessions get; then each sets in a phase of its own. The second meets the commit of the first, and the third touches
+/// another mount.
+pub fn a_batch_tells_its_phases_and_its_history()
+    ensures { printed mounts (1 ∷ 2 ∷ 3 ∷ [])
+        (script_of (phase_of (steps_of 1 ∷ steps_of 2 ∷ steps_of 3 ∷ []) ∷ phase_of (steps_of 1 ∷ []) ∷ phase_of (steps_of 2 ∷ []) ∷ phase_of (steps_of 3 ∷ []) ∷ []))
+        (((Got 0 0 ∷ []) ∷ (Got 0 0 ∷ []) ∷ (Got 0 0 ∷ []) ∷ [])
+        ∷ ((Quiet ∷ SetDone (Committed 1 0) ∷ []) ∷ [])
+        ∷ ((Quiet ∷ SetRefused (Commit (Conflict (name User []) 1 1)) ∷ []) ∷ [])
+        ∷ ((Quiet ∷ SetDone (Committed 2 0) ∷ []) ∷ [])
+        ∷ [])
+        (record { handle = 1; touched = 0 ∷ []; changes = sets (name User (codes "sw" ∷ [])) (codes "1") ∷ [] }
+        ∷ record { handle = 3; touched = 1 ∷ []; changes = sets (name System (codes "sw" ∷ [])) (codes "3") ∷ [] }
+        ∷ [])
+        ≡ codes "phase 1\nsession 1\ngot 0 0\nsession 2\ngot 0 0\nsession 3\ngot 0 0\n"
+        ++ (codes "phase 2\nsession 1\ncommit 1 aside 0\nphase 3\nsession 2\nconflict user:/ by 1 front 1\n"
+        ++ (codes "phase 4\nsession 3\ncommit 2 aside 0\nhistory 2\ncommit 1 by 1\ntouched user:/\n+ user:/sw \"1\"\n"
+        ++ codes "commit 2 by 3\ntouched system:/\n+ system:/sw \"3\"\nend\n")) }
+{}
+
+/// Session 7 has the first handle. A metadata has a line of its own behind its key's, and a removed key its name alone.
+pub fn a_commit_tells_its_session_its_metadata_and_its_removals()
+    ensures { printed mounts (7 ∷ []) (script_of (phase_of (steps_of 7 ∷ []) ∷ []))
+        (((LookFound (name User (codes "a b" ∷ [])) (codes "x") ∷ LookNone ∷ SetDone (Same 0 1) ∷ []) ∷ []) ∷ [])
+        (record { handle = 1; touched = 0 ∷ 1 ∷ []; changes = sets_with (name User (codes "a" ∷ [])) (codes "x") (codes "m") (codes "t") ∷ removes (name System (codes "b" ∷ [])) ∷ [] } ∷ [])
+        ≡ codes "phase 1\nsession 7\nfound \"user:/a b\" \"x\"\nnone\nsame 0 aside 1\nhistory 1\n"
+        ++ codes "commit 1 by 7\ntouched user:/ system:/\n+ user:/a \"x\"\n. \"m\" \"t\"\n- system:/b\nend\n" }
+{}
+
+/// A want of memory comes before a fault of the disk, wherever each stands.
+pub fn a_status_tells_the_worst_reply()
+    ensures well { status_of (((Got 0 0 ∷ Quiet ∷ []) ∷ []) ∷ []) ≡ 0 }
+    ensures refused { status_of (((SetRefused (Prepare (NotFetched (name User []))) ∷ []) ∷ []) ∷ []) ≡ 0 }
+    ensures fault { status_of (((SetRefused (Commit (DiskFault 0)) ∷ []) ∷ []) ∷ ((Quiet ∷ []) ∷ []) ∷ []) ≡ 74 }
+    ensures memory { status_of (((SetRefused (Commit (DiskFault 0)) ∷ []) ∷ []) ∷ ((SetRefused (Prepare Unprepared) ∷ []) ∷ []) ∷ []) ≡ 70 }
+    ensures alone { status_of (((Memory ∷ []) ∷ []) ∷ []) ≡ 70 }
+{}

@@ -1,0 +1,19 @@
+//! What a batch prints: the replies of its sessions, phase by phase, and the history of its commits.
+#![tactic(auto)]
+
+mod change_lines;
+mod commit_lines;
+mod examples;
+mod laws;
+mod lines;
+mod printing;
+mod replying;
+mod statuses;
+
+pub use examples::{
+    a_batch_tells_its_phases_and_its_history,
+    a_commit_tells_its_session_its_metadata_and_its_removals, a_status_tells_the_worst_reply,
+};
+pub use laws::the_text_tells_the_batch;
+pub use printing::print_batch;
+pub use statuses::status_of;

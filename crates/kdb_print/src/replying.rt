@@ -1,0 +1,172 @@
+//! The lines of replies.
+ghost use Rattle.std.specs.Prelude.{◌≡◌, ◌++◌, IfOk, OnOk, string_bytes};
+ghost use Rattle.std.specs.List.{flat_map};
+ghost use Rattle.kdb_print.specs.Replies.{line_of_commit, line_of_done, line_of_get, line_of_prepare, line_of_set, line_of_table, lines_of_reply, memory, refused, refused_at};
+ghost use Rattle.model_lines.specs.Lines.{ended};
+
+use crate::lines::push_line;
+use kdb_handle::{Reply, SetFault};
+use kdb_text::{quoted, shown};
+use key_meta::Memory;
+use mount_table::TableFault;
+use mounted_files::GetFault;
+use std::alloc::Global;
+use store_core::{CommitFault, Done};
+use store_lines::{
+    bad_file, bad_table, database_full, file_too_large, history_full, invalid, not_fetched,
+    not_storable, too_heavy, too_long, value_too_long,
+};
+use store_verdict::PrepareFault;
+
+/// Adds the lines of a session's replies.
+pub fn push_replies(alloc: Global, text: &mut String, replies: &[Reply]) -> Result<(), Memory>
+    ensures { OnOk result (string_bytes text.new ≡ string_bytes text.old ++ ended (flat_map lines_of_reply replies.now)) }
+{
+    for reply in replies {
+        push_reply(alloc, text, reply)?;
+    }
+    Ok(())
+}
+
+/// Adds the lines of a reply.
+fn push_reply(alloc: Global, text: &mut String, reply: &Reply) -> Result<(), Memory>
+    ensures { OnOk result (string_bytes text.new ≡ string_bytes text.old ++ ended (lines_of_reply reply.now)) }
+{
+    match reply {
+        Reply::Got { front, count } => {
+            let line = format!(in alloc; "got {front} {count}")?;
+            push_line(text, line.as_str())
+        }
+        Reply::GetRefused(fault) => {
+            let line = line_of_get(alloc, fault)?;
+            push_line(text, line.as_str())
+        }
+        Reply::Quiet => Ok(()),
+        Reply::LookFound { name, value } => {
+            let name = shown(alloc, name)?;
+            let value = quoted(alloc, value.as_str())?;
+            let line = format!(in alloc; "found {name} {value}")?;
+            push_line(text, line.as_str())
+        }
+        Reply::LookNone => push_line(text, "none"),
+        Reply::SetDone(done) => {
+            let line = line_of_done(alloc, done)?;
+            push_line(text, line.as_str())
+        }
+        Reply::SetRefused(fault) => {
+            let line = line_of_set(alloc, fault)?;
+            push_line(text, line.as_str())
+        }
+        Reply::Memory => push_line(text, "memory"),
+    }
+}
+
+/// The line of a get that was refused.
+fn line_of_get(alloc: Global, fault: &GetFault) -> Result<String, Memory>
+    ensures { IfOk result (λ line. string_bytes line ≡ line_of_get fault.now) }
+{
+    match fault {
+        GetFault::BadFile { mount, line } => refused(alloc, bad_file(alloc, mount, *line)?),
+        GetFault::TooLong { mount, bytes } => refused(alloc, too_long(alloc, mount, *bytes)?),
+        GetFault::TooHeavy { mount, weight } => refused(alloc, too_heavy(alloc, mount, *weight)?),
+        GetFault::Memory => memory(alloc),
+    }
+}
+
+/// The line of a set that was stored, or touched no mount.
+fn line_of_done(alloc: Global, done: &Done) -> Result<String, Memory>
+    ensures { IfOk result (λ line. string_bytes line ≡ line_of_done done.now) }
+{
+    match done {
+        Done::Committed { number, left_aside } => {
+            format!(in alloc; "commit {number} aside {left_aside}")
+        }
+        Done::Same { front, left_aside } => format!(in alloc; "same {front} aside {left_aside}"),
+    }
+}
+
+/// The line of a set that was not stored.
+fn line_of_set(alloc: Global, fault: &SetFault) -> Result<String, Memory>
+    ensures { IfOk result (λ line. string_bytes line ≡ line_of_set fault.now) }
+{
+    match fault {
+        SetFault::Prepare(fault) => line_of_prepare(alloc, fault),
+        SetFault::Commit(fault) => line_of_commit(alloc, fault),
+    }
+}
+
+/// The line of a set that was not prepared.
+fn line_of_prepare(alloc: Global, fault: &PrepareFault) -> Result<String, Memory>
+    ensures { IfOk result (λ line. string_bytes line ≡ line_of_prepare fault.now) }
+{
+    match fault {
+        PrepareFault::NotFetched { mount } => refused(alloc, not_fetched(alloc, mount)?),
+        PrepareFault::ValueTooLong { key, bytes } => {
+            refused(alloc, value_too_long(alloc, key, *bytes)?)
+        }
+        PrepareFault::NotStorable { mount, key } => {
+            refused(alloc, not_storable(alloc, mount, key)?)
+        }
+        PrepareFault::FileTooLarge { mount, bytes } => {
+            refused(alloc, file_too_large(alloc, mount, *bytes)?)
+        }
+        PrepareFault::BadTable { fault } => line_of_table(alloc, fault),
+        PrepareFault::Memory => memory(alloc),
+    }
+}
+
+/// The line of keys that make no mount table.
+fn line_of_table(alloc: Global, fault: &TableFault) -> Result<String, Memory>
+    ensures { IfOk result (λ line. string_bytes line ≡ line_of_table fault.now) }
+{
+    match fault {
+        TableFault::Memory => memory(alloc),
+        _ => refused(alloc, bad_table(alloc, fault)?),
+    }
+}
+
+/// The line of a set that was not committed.
+fn line_of_commit(alloc: Global, fault: &CommitFault) -> Result<String, Memory>
+    ensures { IfOk result (λ line. string_bytes line ≡ line_of_commit fault.now) }
+{
+    match fault {
+        CommitFault::Conflict { mount, by, front } => {
+            let mount = shown(alloc, mount)?;
+            format!(in alloc; "conflict {mount} by {by} front {front}")
+        }
+        CommitFault::Invalid { violation, front } => {
+            refused_at(alloc, invalid(alloc, violation)?, *front)
+        }
+        CommitFault::DatabaseFull { weight, front } => {
+            refused_at(alloc, database_full(alloc, *weight)?, *front)
+        }
+        CommitFault::HistoryFull { weight, front } => {
+            refused_at(alloc, history_full(alloc, *weight)?, *front)
+        }
+        CommitFault::DiskFault { front } => {
+            format!(in alloc; "refused C01100 disk-fault front {front}")
+        }
+        CommitFault::Memory => memory(alloc),
+    }
+}
+
+/// The line of a refusal that the store has a line for.
+fn refused(alloc: Global, text: String) -> Result<String, Memory>
+    ensures { IfOk result (λ line. string_bytes line ≡ refused (string_bytes text)) }
+{
+    format!(in alloc; "refused {text}")
+}
+
+/// The same, with how many commits were found.
+fn refused_at(alloc: Global, text: String, front: u64) -> Result<String, Memory>
+    ensures { IfOk result (λ line. string_bytes line ≡ refused_at (string_bytes text) front) }
+{
+    format!(in alloc; "refused {text} front {front}")
+}
+
+/// The line of a want of memory.
+fn memory(alloc: Global) -> Result<String, Memory>
+    ensures { IfOk result (λ line. string_bytes line ≡ memory) }
+{
+    String::from_str(alloc, "memory")
+}

@@ -1,0 +1,151 @@
+//! How a batch ends.
+ghost use Rattle.std.specs.Prelude.{◌≡◌};
+ghost use Rattle.std.specs.List.{list_any};
+ghost use Rattle.kdb_handle.specs.declared.replies.Reply.TheVariants.{SetRefused};
+ghost use Rattle.kdb_handle.specs.declared.setting.SetFault.TheVariants.{Prepare};
+ghost use Rattle.kdb_print.specs.Replies.{is_disk_fault, is_memory, some_reply, status_of};
+
+use kdb_handle::{Reply, SetFault, Transcripts};
+use key_meta::List;
+use mount_table::TableFault;
+use mounted_files::GetFault;
+use store_core::CommitFault;
+use store_verdict::PrepareFault;
+
+/// A step wanted memory.
+const OUT_OF_MEMORY: u8 = 70;
+
+/// The disk failed in a step.
+const FAULT: u8 = 74;
+
+/// How a batch ends.
+pub fn status_of(transcripts: &Transcripts) -> u8
+    ensures { result ≡ status_of transcripts.now.phases }
+{
+    let phases = transcripts.phases.as_slice();
+    if batch_wants_memory(phases) {
+        return OUT_OF_MEMORY;
+    }
+    if batch_meets_fault(phases) {
+        return FAULT;
+    }
+    0
+}
+
+/// Whether a step of a batch wanted memory.
+fn batch_wants_memory(phases: &[List<List<Reply>>]) -> bool
+    ensures { result ≡ some_reply is_memory phases.now }
+{
+    for phase in phases {
+        if phase_wants_memory(phase.as_slice()) {
+            return true;
+        }
+    }
+    false
+}
+
+fn phase_wants_memory(sessions: &[List<Reply>]) -> bool
+    ensures { result ≡ list_any (list_any is_memory) sessions.now }
+{
+    for replies in sessions {
+        if session_wants_memory(replies.as_slice()) {
+            return true;
+        }
+    }
+    false
+}
+
+fn session_wants_memory(replies: &[Reply]) -> bool
+    ensures { result ≡ list_any is_memory replies.now }
+{
+    for reply in replies {
+        if is_memory(reply) {
+            return true;
+        }
+    }
+    false
+}
+
+/// Whether the disk failed in a step of a batch.
+fn batch_meets_fault(phases: &[List<List<Reply>>]) -> bool
+    ensures { result ≡ some_reply is_disk_fault phases.now }
+{
+    for phase in phases {
+        if phase_meets_fault(phase.as_slice()) {
+            return true;
+        }
+    }
+    false
+}
+
+fn phase_meets_fault(sessions: &[List<Reply>]) -> bool
+    ensures { result ≡ list_any (list_any is_disk_fault) sessions.now }
+{
+    for replies in sessions {
+        if session_meets_fault(replies.as_slice()) {
+            return true;
+        }
+    }
+    false
+}
+
+fn session_meets_fault(replies: &[Reply]) -> bool
+    ensures { result ≡ list_any is_disk_fault replies.now }
+{
+    for reply in replies {
+        if is_disk_fault(reply) {
+            return true;
+        }
+    }
+    false
+}
+
+/// Whether a reply is a want of memory, alone or inside a refusal.
+fn is_memory(reply: &Reply) -> bool
+    ensures { result ≡ is_memory reply.now }
+{
+    match reply {
+        Reply::Memory => true,
+        Reply::GetRefused(fault) => matches!(fault, GetFault::Memory),
+        Reply::SetRefused(fault) => set_wants_memory(fault),
+        _ => false,
+    }
+}
+
+fn set_wants_memory(fault: &SetFault) -> bool
+    ensures { result ≡ is_memory (SetRefused fault.now) }
+{
+    match fault {
+        SetFault::Prepare(fault) => prepare_wants_memory(fault),
+        SetFault::Commit(fault) => matches!(fault, CommitFault::Memory),
+    }
+}
+
+fn prepare_wants_memory(fault: &PrepareFault) -> bool
+    ensures { result ≡ is_memory (SetRefused (Prepare fault.now)) }
+{
+    match fault {
+        PrepareFault::BadTable { fault } => matches!(fault, TableFault::Memory),
+        PrepareFault::Memory => true,
+        _ => false,
+    }
+}
+
+/// Whether a reply is a fault of the disk.
+fn is_disk_fault(reply: &Reply) -> bool
+    ensures { result ≡ is_disk_fault reply.now }
+{
+    match reply {
+        Reply::SetRefused(fault) => set_meets_fault(fault),
+        _ => false,
+    }
+}
+
+fn set_meets_fault(fault: &SetFault) -> bool
+    ensures { result ≡ is_disk_fault (SetRefused fault.now) }
+{
+    match fault {
+        SetFault::Commit(fault) => matches!(fault, CommitFault::DiskFault { .. }),
+        SetFault::Prepare(_) => false,
+    }
+}
