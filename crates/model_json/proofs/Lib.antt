@@ -1,0 +1,13 @@
+pub mod TreeLemmas
+pub mod TreeReads
+pub mod TextTokens
+pub mod TreeWritten
+pub mod KeyLeaves
+pub mod TextReads
+pub mod Rising
+pub mod ReadTrees
+pub mod JsonTelling
+pub mod Lawful
+pub mod NamedTree
+pub mod PartOrder
+pub mod ReadAscends
