@@ -1,0 +1,6 @@
+mod ChildNames
+mod AddLemmas
+mod CallLemmas
+mod TextLemmas
+mod ReadLemmas
+mod Behind

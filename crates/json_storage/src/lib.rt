@@ -1,0 +1,9 @@
+//! Reads and writes JSON files.
+#![tactic(auto)]
+
+mod found;
+mod names;
+mod reading;
+mod values;
+
+pub use reading::read;
