@@ -1,8 +1,8 @@
 #!/usr/bin/env bash
-# Proves and builds the program, and reads one key with it in a folder of its own. What the gate or an earlier run of this
-# script proved on this machine is taken, so a run that was cut short goes on where it stopped; and what this run proves, the
-# gate takes. It fails where a proof fails, with what was said of it. It leaves the executable at build/kdb, which stands on
-# the C library alone.
+# Proves and builds the program, and reads one key with it in a folder of its own. What the gate or an earlier run of
+# this script proved on this machine is taken, so a run that was cut short goes on where it stopped; and what this run
+# proves, the gate takes. It fails where a proof fails, with what was said of it. It leaves the executable at build/kdb,
+# which stands on the C library alone.
 set -eu
 cd "$(dirname "$0")"
 program=kdb_main
@@ -34,7 +34,8 @@ for crate in $crates; do
 done
 
 total=$(wc -l <build/program/crates.txt)
-echo "$total crates are proved and built, on all processors. Where none was proved on this machine before, that takes some 100 processor minutes." >&2
+echo "$total crates are proved and built, on all processors. Where none was proved on this machine before," \
+  "that takes some 100 processor minutes." >&2
 number=0
 (cd build/program && rt ci) 2>&1 | tee build/rt.log | while read -r line; do
   case $line in

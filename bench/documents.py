@@ -3,7 +3,8 @@
 
 A page's examples run one after the other in a new folder. What a block is says the line before it:
 
-    <!-- run -->        commands, each behind `$ `, with what they print on out and err below them and, behind `# status N`, how they end
+    <!-- run -->        commands, each behind `$ `, with what they print on out and err below them and, behind
+                        `# status N`, how they end
     <!-- file PATH -->  the block is written to that file
     <!-- is PATH -->    that file has to hold just the block
 """

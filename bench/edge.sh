@@ -1,16 +1,16 @@
 #!/usr/bin/env bash
-# Tries on the real program what no contract can say of files and streams: closed streams, held and removed locks, runs at one time, a
-# folder that is made twice, rights, links, folders of others, full and read-only file systems, fifos, devices, sockets and folders in
-# the place of files, and what hostile files cost. Prints a line for each and how many there are, and ends with 1 where one isn't as it
-# must be. Wants build/kdb (first-use.sh makes it), flock and setpriv (util-linux), python3, and strace where it is installed; what is
-# tried as another user wants root. It takes some two minutes. Not part of the gate.
+# Tries on the real program what no contract can say of files and streams: closed streams, held and removed locks, runs
+# at one time, a folder that is made twice, rights, links, folders of others, full and read-only file systems, fifos,
+# devices, sockets and folders in the place of files, and what hostile files cost. Puts a line for each on err, prints
+# how many there are and those with figures, and ends with 1 where one isn't as it must be. Wants build/kdb
+# (first-use.sh makes it), flock and setpriv (util-linux), python3, and strace where it is installed; what is tried as
+# another user wants root. It takes some two minutes. Not part of the gate.
 set -u
 cd "$(dirname "$0")/.."
-kdb=${KDB:-$PWD/build/kdb}
-[ -x "$kdb" ] || { echo "run ./first-use.sh first" >&2; exit 1; }
-work=$(mktemp -d)
+. bench/words.sh
+put edge "$@"
+program
 chmod 755 "$work"
-trap 'rm -rf "$work"' EXIT
 cp "$kdb" "$work/kdb"
 chmod 755 "$work/kdb"
 kdb=$work/kdb
@@ -18,15 +18,28 @@ wrong=0
 tried=0
 unset KDB_DIR
 
-# told WHAT IS WANTED: compares, and prints a line
+# told WHAT IS WANTED: compares, and puts a line on err
 told() {
   tried=$((tried + 1))
   if [ "$2" = "$3" ]; then
-    printf 'as it must be  %s: %s\n' "$1" "$2"
+    printf 'as it must be  %s: %s\n' "$1" "$2" >&2
   else
     wrong=$((wrong + 1))
-    printf 'WRONG          %s: %s, and not %s\n' "$1" "$2" "$3"
+    printf 'WRONG          %s: %s, and not %s\n' "$1" "$2" "$3" >&2
   fi
+}
+
+# told_with FIGURES WHAT IS WANTED: the same, and a line of the section, with what was measured
+told_with() {
+  told "${@:2}"
+  figures+=("- ${2^}: $3 ($1).")
+}
+figures=()
+
+# not_tried WHAT: a line of the section, too
+not_tried() {
+  printf 'not tried      %s\n' "$1" >&2
+  figures+=("- Not tried: $1.")
 }
 
 # fresh: a new folder to run in, with a store of one key
@@ -111,7 +124,7 @@ for i in $(seq 200); do
     [ "$("$kdb" get "user:/$name")" = "$i" ] || lost=$((lost + 1))
   done
 done
-told "200 times two first sets at one time ($refused of 400 refused)" "$lost lost" '0 lost'
+told_with "$refused of 400 sets refused" '200 times two first sets at one time' "$lost lost" '0 lost'
 
 # What is no regular file.
 for name in user.ecf .lock; do
@@ -166,9 +179,9 @@ if [ "$(id -u)" = 0 ]; then
     [ $status = 0 ] || [ "$(err_of $status)" = "$disk_fault" ] || bad=$((bad + 1))
     "$kdb" rm user:/sw/b
   done
-  told "100 times a get without a lock beside a set ($looked got the value)" "$bad bad" '0 bad'
+  told_with "$looked got the value" '100 times a get without a lock beside a set' "$bad bad" '0 bad'
 else
-  echo 'not tried       rights, since this isn'"'"'t root'
+  not_tried "rights, since this isn't root"
 fi
 
 # Removed locks: what is acknowledged stays, though someone takes the lock's file away again and again.
@@ -188,19 +201,27 @@ wait $workers
 kill $remover
 wait $remover 2>/dev/null
 lost=0
-while read -r name value; do [ "$("$kdb" get "$name")" = "$value" ] || lost=$((lost + 1)); done < <(cat "$work"/acknowledged.*)
-told "240 sets of four workers, with the lock removed 100 times a second ($(cat "$work"/acknowledged.* | wc -l) acknowledged)" "$lost lost" '0 lost'
+while read -r name value; do
+  [ "$("$kdb" get "$name")" = "$value" ] || lost=$((lost + 1))
+done < <(cat "$work"/acknowledged.*)
+told_with "$(cat "$work"/acknowledged.* | wc -l) acknowledged" \
+  '240 sets of four workers, with the lock removed 100 times a second' "$lost lost" '0 lost'
 
 # A reader that takes nothing, as a pager does, keeps no other run out.
 fresh
 for i in $(seq 3000); do printf '$key string 35 1\nlong/name/of/a/key/number/%010d\nv\n' "$i"; done >"$work/records"
-{ printf 'kdbOpen 2\n$key string 4 1\nsw/a\n1\n'; sed 's/^\$key string 35/$key string 36/' "$work/records"; printf '$end\n'; } >.kdb/user.ecf
+{
+  printf 'kdbOpen 2\n$key string 4 1\nsw/a\n1\n'
+  sed 's/^\$key string 35/$key string 36/' "$work/records"
+  printf '$end\n'
+} >.kdb/user.ecf
 "$kdb" ls user:/ | { sleep 3; cat >/dev/null; } & pager=$!
 sleep 0.5
 begun=$(date +%s%N)
 "$kdb" get user:/sw/a >/dev/null
 status=$?
-told 'a get while another run waits for its reader' "$status, $([ $((($(date +%s%N) - begun) / 1000000)) -lt 1500 ] && echo 'at once')" '0, at once'
+[ $((($(date +%s%N) - begun) / 1000000)) -lt 1500 ] && soon='at once'
+told 'a get while another run waits for its reader' "$status, ${soon-}" '0, at once'
 wait $pager
 
 # The folder that a variable names.
@@ -243,17 +264,20 @@ if [ "$(id -u)" = 0 ]; then
   other ln -s "$work/target" .kdb/user.ecf
   open_gate .kdb "$entry"
   "$kdb" get user:/nothing 2>"$work/err"
-  told "a get of root over another's link in the place of a file" "$(err_of $?), $(cat "$work/target")" "$disk_fault, mine"
+  told "a get of root over another's link in the place of a file" "$(err_of $?), $(cat "$work/target")" \
+    "$disk_fault, mine"
   if command -v strace >/dev/null; then
     strace -f -o "$work/calls" "$kdb" get user:/nothing 2>/dev/null
-    told 'its calls that write, cut or make something' "$(grep -c '^[0-9]* *\(pwrite64\|ftruncate\|fchmod\|fchown\)(' "$work/calls")" 0
+    told 'its calls that write, cut or make something' \
+      "$(grep -c '^[0-9]* *\(pwrite64\|ftruncate\|fchmod\|fchown\)(' "$work/calls")" 0
   else
-    echo 'not tried       the calls over a refused link, since strace is not installed'
+    not_tried 'the calls over a refused link, since strace is not installed'
   fi
   theirs
   other ln -s "$work/target" .kdb/journal
   "$kdb" set user:/sw/a 1 2>"$work/err"
-  told "a set of root over another's link in the place of the journal" "$(err_of $?), $(cat "$work/target")" "$disk_fault, mine"
+  told "a set of root over another's link in the place of the journal" "$(err_of $?), $(cat "$work/target")" \
+    "$disk_fault, mine"
   theirs
   other ln -s "$work/made" .kdb/user.ecf
   "$kdb" set user:/sw/a 1 >/dev/null 2>"$work/err"
@@ -267,12 +291,14 @@ if [ "$(id -u)" = 0 ]; then
   mkdir "$work/mine"
   other ln -s "$work/mine" .kdb
   "$kdb" set user:/sw/a 1 2>"$work/err"
-  told "a set of root over another's link in the place of the folder" "$(err_of $?), $(ls "$work/mine" | grep -v lock)" "$disk_fault, "
+  told "a set of root over another's link in the place of the folder" \
+    "$(err_of $?), $(ls "$work/mine" | grep -v lock)" "$disk_fault, "
   theirs
   other touch "$work/run/file"
   other ln -s "$work/run/file" .kdb/user.ecf
   "$kdb" set user:/sw/a 1 >/dev/null 2>"$work/err"
-  told "a set of root over another's link to a file of theirs" "$(err_of $?), $(head -n 1 "$work/run/file")" '0 , kdbOpen 2'
+  told "a set of root over another's link to a file of theirs" "$(err_of $?), $(head -n 1 "$work/run/file")" \
+    '0 , kdbOpen 2'
   theirs
   ln -s "$work/target" .kdb/user.ecf
   printf '' >"$work/target"
@@ -315,7 +341,7 @@ if [ "$(id -u)" = 0 ]; then
     told 'a set there' "$(err_of $?)" "$disk_fault"
     umount "$work/seen"
   else
-    echo 'not tried       a read-only mount, since none can be made here'
+    not_tried 'a read-only mount, since none can be made here'
   fi
 
   # Secrets: nobody reads the journal who may not read the folder.
@@ -342,10 +368,10 @@ if [ "$(id -u)" = 0 ]; then
     cd / || exit 1
     umount "$work/small"
   else
-    echo 'not tried       a small file system, since none can be made here'
+    not_tried 'a small file system, since none can be made here'
   fi
 else
-  echo 'not tried       links and folders of others, since this isn'"'"'t root'
+  not_tried "links and folders of others, since this isn't root"
 fi
 
 # Hostile files: what is too heavy is not kept, and metadata may stand in any order.
@@ -360,11 +386,14 @@ print(round((use.ru_utime + use.ru_stime) * 1000), use.ru_maxrss // 1024)' "$@"
 fresh
 for i in $(seq 59); do "$kdb" mount "m$i.ecf" "user:/m$i"; done
 python3 -c '
+records = "".join(f"$key string 2 65000\n{k:02}\n{65000 * chr(118)}\n" for k in range(16))
 for i in range(1, 60):
     with open(f".kdb/m{i}.ecf", "w") as f:
-        f.write("kdbOpen 2\n" + "".join(f"$key string 2 65000\n{k:02}\n{65000 * chr(118)}\n" for k in range(16)) + "$end\n")'
+        f.write(f"kdbOpen 2\n{records}$end\n")'
 read -r milliseconds mebibytes < <(cost "$kdb" mounts)
-told "mounts over 59 files of 1 MiB ($milliseconds ms, $mebibytes MiB) takes" "$([ "$mebibytes" -le 96 ] && echo 'at most 96 MiB')" 'at most 96 MiB'
+[ "$mebibytes" -le 96 ] && memory='at most 96 MiB'
+told_with "$milliseconds ms of processor time, $mebibytes MiB" '`mounts` over 59 files of 1 MiB' \
+  "${memory-}" 'at most 96 MiB'
 "$kdb" ls user:/m59 2>"$work/err" >/dev/null
 told 'a get past the heavy files' "$(err_of $? | cut -d' ' -f1-4)" '5 kdb: C01100 too-heavy'
 fresh
@@ -373,12 +402,17 @@ for order in rising falling; do
 import sys
 names = [f"{i:05}" for i in range(55000)]
 names = names if sys.argv[1] == "rising" else names[::-1]
+records = "".join(f"$meta 5 1\n{name}\nv\n" for name in names)
 with open(".kdb/user.ecf", "w") as f:
-    f.write("kdbOpen 2\n$key string 4 1\nsw/a\n1\n" + "".join(f"$meta 5 1\n{name}\nv\n" for name in names) + "$end\n")' $order
+    f.write(f"kdbOpen 2\n$key string 4 1\nsw/a\n1\n{records}$end\n")' $order
   read -r taken _ < <(cost "$kdb" get user:/sw/a)
   [ $order = rising ] && rising=$taken
 done
-told "55,000 metadata in falling order ($taken ms, rising $rising ms) take" "$([ "$taken" -le $((5 * rising + 10)) ] && echo 'at most 5 times as much')" 'at most 5 times as much'
+[ "$taken" -le $((5 * rising + 10)) ] && longer='at most 5 times as long'
+told_with "$taken ms, rising $rising ms" 'a get past 55,000 metadata in falling order, beside rising ones' \
+  "${longer-}" 'at most 5 times as long'
 
-echo "$((tried - wrong)) of $tried as it must be"
+echo "$((tried - wrong)) of $tried trials as it must be; those with figures:"
+echo
+printf '%s\n' "${figures[@]}"
 [ $wrong = 0 ]

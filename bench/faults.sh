@@ -1,31 +1,34 @@
 #!/usr/bin/env bash
-# Runs the real program with each of its calls of the system failing in turn, with ENOSPC, EIO and EINTR, and with a kill at
-# each; then over file systems that are nearly full. Prints a table, and ends with 1 where something that must hold doesn't:
+# Runs the real program with each of its calls of the system failing in turn, with ENOSPC, EIO and EINTR, and with a
+# kill at each; then over file systems that are nearly full. Prints a table, with what came of each case on err, and
+# ends with 1 where something that must hold doesn't:
 #
 #   - EINTR changes nothing: status, out, err and files are those of a run without it;
-#   - every other failure is status 74 with its line on err and nothing on out, or comes behind the commit and changes nothing of what
-#     is told; only a failing close tells nothing, since what was written is synced after it by a call that tells;
-#   - whatever failed and whenever the run was killed, its files are the old ones or the new ones once the next run has opened the
-#     store, and the new ones where it told that they are stored;
-#   - each file that a run stores is synced behind its last change, and then its folder; a folder that is made is synced in
-#     the one above before anything is put into it.
+#   - every other failure is status 74 with its line on err and nothing on out, or comes behind the commit and changes
+#     nothing of what is told; only a failing close tells nothing, since what was written is synced after it by a call
+#     that tells;
+#   - whatever failed and whenever the run was killed, its files are the old ones or the new ones once the next run has
+#     opened the store, and the new ones where it told that they are stored;
+#   - each file that a run stores is synced behind its last change, and then its folder; a folder that is made is synced
+#     in the one above before anything is put into it.
 #
-# Files are old, new, mixed (some old and some new) or torn, as the next run leaves them, which is a `kdb mounts`.
-# Wants build/kdb (first-use.sh makes it) and strace of Debian's packages; the full file systems want the right to mount.
-# It takes some minutes. Not part of the gate.
+# Files are old, new, mixed (some old and some new) or torn, as the next run leaves them, which is a `kdb mounts`. Words
+# stand for the commands: get, set, rm, mv, mount, and first for the first set of all. Wants build/kdb (first-use.sh
+# makes it) and strace of Debian's packages; the full file systems want the right to mount. It takes some minutes. Not
+# part of the gate.
 set -u
 cd "$(dirname "$0")/.."
-kdb=${KDB:-$PWD/build/kdb}
-[ -x "$kdb" ] || { echo "run ./first-use.sh first" >&2; exit 1; }
-command -v strace >/dev/null || { echo "install strace first (apt-get install strace)" >&2; exit 1; }
-work=$(mktemp -d)
+. bench/words.sh
+put faults "$@"
+wants strace
+program
 trap 'umount "$work"/full 2>/dev/null; rm -rf "$work"' EXIT
 wrong=0
 
 # complain WORDS: what must hold doesn't
 complain() {
   wrong=$((wrong + 1))
-  printf 'MUST NOT BE: %s\n' "$*"
+  printf 'MUST NOT BE: %s\n' "$*" >&2
 }
 
 # fresh CASE: a folder to run in, with three files, or with none for the first set of all
@@ -51,7 +54,8 @@ words_of() {
   esac
 }
 
-# state: whether the files are old, new, mixed or torn, beside those in old/ and new/. A file that isn't there is an empty one.
+# state: whether the files are old, new, mixed or torn, beside those in old/ and new/. A file that isn't there is an
+# empty one.
 state() {
   local olds=0 news=0 file
   for file in user.ecf app.ecf elektra.ecf; do
@@ -70,17 +74,17 @@ state() {
       return
     fi
   done
-  if [ $((olds + news)) = 0 ]; then echo same; elif [ $news = 0 ]; then echo old; elif [ $olds = 0 ]; then echo new; else echo mixed; fi
+  case $((olds > 0))$((news > 0)) in 00) echo same ;; 10) echo old ;; 01) echo new ;; 11) echo mixed ;; esac
 }
 
-# calls: the program's own calls in a trace, as `name number`: the number counts the calls of that name from the start. Its
-# first one opens the root. The calls of the allocator and the end of the program are left out.
+# calls: the program's own calls in a trace, as `name number`: the number counts the calls of that name from the
+# start. Its first one opens the root. The calls of the allocator and the end of the program are left out.
 calls() {
   awk '
     match($0, /^[a-z0-9_]+\(/) {
       name = substr($0, 1, RLENGTH - 1); number[name]++
       if ($0 ~ /^openat\(AT_FDCWD, "\/", /) own = 1
-      if (own && name !~ /^(exit_group|exit|brk|mmap|munmap|mremap|madvise|mprotect|getrandom)$/) print name, number[name]
+      if (own && name !~ /^(exit_group|exit|brk|m(un|re)?map|madvise|mprotect|getrandom)$/) print name, number[name]
     }' "$1"
 }
 
@@ -91,7 +95,9 @@ synced() {
     function path(line) { match(line, /<[^>]*>/); return substr(line, RSTART + 1, RLENGTH - 2) }
     /^(pwrite64|ftruncate)\(/ { changed[path($0)] = NR }
     /^mkdir\(/ && / = 0/ { made = NR }
-    /^openat\(.*\.lock".*O_CREAT/ && made && !(above > made) { print "a folder was made and not synced above before its lock" }
+    /^openat\(.*\.lock".*O_CREAT/ && made && !(above > made) {
+      print "a folder was made and not synced above before its lock"
+    }
     /^fsync\(/ && / = 0/ {
       it = path($0)
       if (it in changed) delete changed[it]
@@ -114,8 +120,10 @@ cd "$work/make" || exit 1
 "$kdb" set user:/sw/app/host here >/dev/null
 cp .kdb/*.ecf "$work/old/"
 
-printf '%-6s %-7s %5s   %s\n' case fault calls 'what came of them: status, files, how many (line)'
-for case in get set rm mv mount first; do
+printf '%-6s %-7s %5s   %s\n' case fault calls 'what came of them: status, files, how many (line)' >&2
+all=("$@")
+[ $# -gt 0 ] || all=(get set rm mv mount first)
+for case in "${all[@]}"; do
   mapfile -t words < <(words_of $case)
   before=$work/old
   [ $case = first ] && before=$work/empty
@@ -147,10 +155,11 @@ for case in get set rm mv mount first; do
       { timeout 60 strace -qq -o /dev/null -e trace="$name" -e inject="$name:$how:when=$number" \
         "$kdb" "${words[@]}" >"$work/got" 2>"$work/said"; } 2>/dev/null
       status=$?
-      [ $case = first ] && [ ! -e .kdb ] || "$kdb" mounts >/dev/null 2>"$work/next" || complain "$case, $fault at $name $number: the next run says $(cat "$work/next")"
+      at="$case, $fault at $name $number"
+      [ $case = first ] && [ ! -e .kdb ] || "$kdb" mounts >/dev/null 2>"$work/next" ||
+        complain "$at: the next run says $(cat "$work/next")"
       files=$(state)
       line=$(head -c 200 "$work/said" | tr '\n' ' ')
-      at="$case, $fault at $name $number"
       case $fault in
         KILL)
           [ $status = 137 ] || complain "$at: status $status"
@@ -179,14 +188,46 @@ for case in get set rm mv mount first; do
       case $files in mixed | torn) complain "$at: files are $files" ;; esac
       echo "$status $files ($line)" >>"$work/rows"
     done 3<"$work/calls"
-    printf '%-6s %-7s %5s   %s\n' $case $fault "$(wc -l <"$work/rows")" \
-      "$(sort "$work/rows" | uniq -c | awk '{ n = $1; $1 = ""; sub(/^ /, ""); sub(/ \)$/, ")"); sub(/ \(\)$/, ""); printf "%s%s x%d", (NR > 1 ? "; " : ""), $0, n }')"
+    sed "s/^/$case $fault /" "$work/rows" >>"$work/table"
+    printf '%-6s %-7s %5s   ' $case $fault "$(wc -l <"$work/rows")" >&2
+    sort "$work/rows" | uniq -c | awk '
+      { n = $1; $1 = ""; sub(/^ /, ""); sub(/ \)$/, ")"); sub(/ \(\)$/, "") }
+      { printf "%s%s x%d", (NR > 1 ? "; " : ""), $0, n }
+      END { print "" }' >&2
   done
 done
+
+cat <<'TEXT'
+Each call of the system that a command makes fails alone, or the program is killed at it, and then the store is opened
+again. What is counted is in how many cases the files are then the old or the new ones, and how many of the failing
+calls the program told by status 74; no case left files that are neither. `first` is the first set of all, and `mv` goes
+over two files.
+
+| command | its calls | ENOSPC | EIO | a kill | EINTR |
+|---|---|---|---|---|---|
+TEXT
+awk '
+  !($1 in calls) { order[++many] = $1 }
+  $2 == "KILL" { calls[$1]++ }
+  { calls[$1] += 0; seen[$1, $2, $4]++; told[$1, $2] += $3 == 74 }
+  function cell(name, fault,    text, kind, at) {
+    split("old new same", kinds, " ")
+    for (at = 1; at <= 3; at++)
+      if (seen[name, fault, kinds[at]]) text = text (text ? ", " : "") seen[name, fault, kinds[at]] " " kinds[at]
+    return text (told[name, fault] ? "; " told[name, fault] " told" : "")
+  }
+  END {
+    for (at = 1; at <= many; at++) {
+      it = order[at]
+      printf "| `%s` | %d | %s | %s | %s | %s |\n", it, calls[it],
+        cell(it, "ENOSPC"), cell(it, "EIO"), cell(it, "KILL"), cell(it, "EINTR")
+    }
+  }' "$work/table"
 
 # A file system of a few pages, of which so many are left.
 mkdir "$work/full"
 if mount -t tmpfs -o size=32k none "$work/full" 2>/dev/null; then
+  printf '\n| pages left on a file system | a `set` of 20,000 bytes there | the files |\n|---|---|---|\n'
   long=$(head -c 20000 /dev/zero | tr '\0' v)
   for left in 0 1 2 3; do
     umount "$work/full"
@@ -200,19 +241,21 @@ if mount -t tmpfs -o size=32k none "$work/full" 2>/dev/null; then
     "$kdb" set user:/sw/a "$long" >"$work/got" 2>"$work/said"
     status=$?
     rm -f filler
-    "$kdb" mounts >/dev/null 2>"$work/next" || complain "a full file system with $left pages left: the next run says $(cat "$work/next")"
+    at="a full file system with $left pages left"
+    "$kdb" mounts >/dev/null 2>"$work/next" || complain "$at: the next run says $(cat "$work/next")"
     files=torn
     cmp -s .kdb/user.ecf "$work/before.ecf" && files=old
-    printf 'full, %s pages left: %s %s (%s)\n' $left $status $files "$(tr '\n' ' ' <"$work/said" | sed 's/ $//')"
-    [ $status = 74 ] || complain "a full file system with $left pages left: status $status"
-    [ -s "$work/got" ] && complain "a full file system with $left pages left: out has $(cat "$work/got")"
-    [ "$(cat "$work/said")" = 'kdb: C01100 disk-fault' ] || complain "a full file system with $left pages left: err has $(cat "$work/said")"
-    [ $files = torn ] && complain "a full file system with $left pages left: files are torn"
+    echo "| $left | status $status, \`$(tr '\n' ' ' <"$work/said" | sed 's/ $//')\` | $files |"
+    [ $status = 74 ] || complain "$at: status $status"
+    [ -s "$work/got" ] && complain "$at: out has $(cat "$work/got")"
+    [ "$(cat "$work/said")" = 'kdb: C01100 disk-fault' ] || complain "$at: err has $(cat "$work/said")"
+    [ $files = torn ] && complain "$at: files are torn"
     cd "$work" || exit 1
   done
   umount "$work/full"
 else
-  echo 'full: not run, since no file system can be mounted here'
+  printf '\nFull file systems were not tried, since none can be mounted here.\n'
 fi
 
-if [ $wrong = 0 ]; then echo 'all that must hold held'; else echo "$wrong times something didn't hold"; exit 1; fi
+[ $wrong = 0 ] || { echo "$wrong times something didn't hold" >&2; exit 1; }
+echo 'all that must hold held' >&2

@@ -1,8 +1,9 @@
 #!/usr/bin/env python3
-"""help.py [KDB]: looks at the manual page and tries the completions for bash and zsh, over build/kdb where no program is named.
+"""help.py [KDB]: looks at the manual page and tries the completions for bash and zsh, over build/kdb where no program
+is named.
 
-Every command of the tool (the rows of tool_words) has to stand in all three; the page has to be laid out without a complaint;
-each completion of the table has to give just these words. zsh is tried where it is installed.
+Every command of the tool (the rows of tool_words) has to stand in all three; the page has to be laid out without a
+complaint; each completion of the table has to give just these words. zsh is tried where it is installed.
 """
 import os
 import re
@@ -62,7 +63,7 @@ def main():
             if not re.search(rf"(?<![a-z-]){command}(?![a-z-])", text):
                 bad.append(f"{name} lacks {command}")
     tried += 1
-    told = subprocess.run(["groff", "-man", "-ww", "-z", f"{TOP}/share/kdb.1"], stderr=subprocess.PIPE, text=True).stderr
+    told = subprocess.run(["groff", "-man", "-ww", "-z", f"{TOP}/share/kdb.1"], capture_output=True, text=True).stderr
     if told:
         bad.append(f"groff says of share/kdb.1: {told}")
     with tempfile.TemporaryDirectory() as folder:
@@ -72,7 +73,8 @@ def main():
             subprocess.run(["kdb", "set", name, "1"], cwd=folder, env=seen, check=True, stdout=subprocess.DEVNULL)
         for line, wanted in BASH:
             tried += 1
-            ran = subprocess.run(["bash", "-c", ASK_BASH, "bash", f"{TOP}/share/kdb.bash", line], cwd=folder, env=seen, stdout=subprocess.PIPE, text=True)
+            ask = ["bash", "-c", ASK_BASH, "bash", f"{TOP}/share/kdb.bash", line]
+            ran = subprocess.run(ask, cwd=folder, env=seen, stdout=subprocess.PIPE, text=True)
             if sorted(ran.stdout.split()) != sorted(wanted):
                 bad.append(f"bash offers for {line!r}: {ran.stdout.split()}")
         if shutil.which("zsh"):
@@ -80,7 +82,8 @@ def main():
                                  ("kdb merge a b c d -s ", ["abort", "our", "their"]), ("kdb mounts ", []),
                                  ("kdb get ", ["user:/sw/a", "user:/sw/b", "spec:/", "dir:/", "user:/", "system:/"])]:
                 tried += 1
-                ran = subprocess.run(["zsh", "-f", "-c", ASK_ZSH, "zsh", f"{TOP}/share/_kdb", line], cwd=folder, env=seen, stdout=subprocess.PIPE, stderr=subprocess.PIPE, text=True)
+                ask = ["zsh", "-f", "-c", ASK_ZSH, "zsh", f"{TOP}/share/_kdb", line]
+                ran = subprocess.run(ask, cwd=folder, env=seen, capture_output=True, text=True)
                 # The file calls its function once when it is read, as zsh has it: what is asked for stands behind that.
                 if not set(wanted) <= set(ran.stdout.split()) or (not wanted and ran.stdout.split()):
                     bad.append(f"zsh offers for {line!r}: {ran.stdout.split()} {ran.stderr}")

@@ -1,17 +1,18 @@
 #!/usr/bin/env bash
-# Appends and lookups per second of a key set of 1,000, 10,000 and 100,000 names in mixed order, beside a
-# BTreeMap<String, String> of Rust's own on the same names and the same machine, with the ratios and how they grow; then appends in
-# rising and falling order, and copies of a set of 20,000 names beside the making of it.
-# The programs are timed from outside: making the names alone, appending them, and looking each of them up in some rounds.
-# Wants cargo's rustc, and hyperfine of Debian's packages; with valgrind it counts instructions. Not part of the gate.
+# Times appends and lookups of a key set of 1,000, 10,000 and 100,000 names in mixed order, beside a BTreeMap<String,
+# String> of Rust's own on the same names and the same machine, with the ratios; then appends in rising and falling
+# order, and copies of a set of 20,000 names beside the making of it. The programs are timed from outside: making the
+# names alone, appending them, and looking each of them up in some rounds; the least of some runs counts. Words stand
+# for the three sizes, and then the orders and the copies are of the last of them. Wants rustc; with valgrind it
+# counts instructions. Not part of the gate.
 set -eu
 cd "$(dirname "$0")/.."
-for tool in rustc hyperfine; do
-  command -v "$tool" >/dev/null || { echo "install $tool first" >&2; exit 1; }
-done
+. bench/words.sh
+put key_set "$@"
+wants rustc
 mkdir -p build
 (cd crates/key_set_bench && rt run >../../build/rt.log 2>&1) || true
-ours=$PWD/crates/key_set_bench/out/key_set_bench
+ours=${KEY_SET_BENCH:-$PWD/crates/key_set_bench/out/key_set_bench}
 [ -x "$ours" ] || { tail -n 20 build/rt.log >&2; exit 1; }
 work=$(mktemp -d)
 trap 'rm -rf "$work"' EXIT
@@ -46,62 +47,61 @@ fn main() {
 RUST
 rustc -O -o "$work/theirs" "$work/theirs.rs"
 
-# seconds PROGRAM COUNT APPEND ROUNDS ORDER COPIES: the least time of some runs
-seconds() {
-  hyperfine -N --runs 11 --export-csv "$work/times.csv" "$1 $2 $3 $4 ${5:-0} ${6:-0}" >/dev/null 2>&1
-  awk -F, 'NR == 2 { print $(NF - 1) }' "$work/times.csv"
+# taken PROGRAM COUNT ROUNDS ORDER: nanoseconds of an append and of a lookup
+taken() {
+  timed 11 "$1 $2 0 0 $4 0" "$1 $2 1 0 $4 0" "$1 $2 1 $3 $4 0" | awk -v count="$2" -v rounds="$3" '
+    { least[NR] = $3 * 1e6 }
+    END { printf "%.0f %.0f\n", (least[2] - least[1]) / count, rounds ? (least[3] - least[2]) / count / rounds : 0 }'
 }
 
-# rates PROGRAM COUNT ROUNDS: appends and lookups per second
-rates() {
-  made=$(seconds "$1" "$2" 0 0)
-  appended=$(seconds "$1" "$2" 1 0)
-  looked_up=$(seconds "$1" "$2" 1 "$3")
-  awk -v made="$made" -v appended="$appended" -v looked_up="$looked_up" -v count="$2" -v rounds="$3" \
-    'BEGIN { printf "%.0f %.0f", count / (appended - made), count * rounds / (looked_up - appended) }'
-}
-
-# instructions PROGRAM COUNT APPEND ROUNDS ORDER COPIES: how many that takes, where valgrind is there to count them
-instructions() {
-  command -v valgrind >/dev/null || { echo 0; return; }
-  valgrind --tool=callgrind --callgrind-out-file=/dev/null "$@" 2>&1 >/dev/null | awk '/Collected/ { print $4 }'
-}
-
-# counted PROGRAM COUNT ROUNDS ORDER: instructions of an append, and of a lookup
+# counted PROGRAM COUNT ORDER: instructions of an append, and of a lookup
 counted() {
-  made=$(instructions "$1" "$2" 0 0 "$4" 0)
-  appended=$(instructions "$1" "$2" 1 0 "$4" 0)
-  looked_up=$(instructions "$1" "$2" 1 "$3" "$4" 0)
-  echo "$(((appended - made) / $2)) $(((looked_up - appended) / $2 / $3))"
+  local made appended looked_up
+  made=$(instructions "$1" "$2" 0 0 "$3" 0)
+  appended=$(instructions "$1" "$2" 1 0 "$3" 0)
+  looked_up=$(instructions "$1" "$2" 1 1 "$3" 0)
+  echo "$(((appended - made) / $2)) $(((looked_up - appended) / $2))"
 }
 
-for pair in "1000 2000" "10000 200" "100000 100"; do
-  set -- $pair
-  read -r our_appends our_lookups <<<"$(rates "$ours" "$1" "$2")"
-  read -r their_appends their_lookups <<<"$(rates "$work/theirs" "$1" "$2")"
-  awk -v count="$1" -v a="$our_appends" -v b="$their_appends" -v c="$our_lookups" -v d="$their_lookups" 'BEGIN {
-    printf "%d names: appends a second %d, BTreeMap %d, %.2f times its time; lookups a second %d, BTreeMap %d, %.2f times its time\n", count, a, b, b / a, c, d, d / c
-  }'
-done
+# row COUNT ORDER ROUNDS: all of the two, on one line: ns of an append and of a lookup, and instructions of these
+row() {
+  echo "$(taken "$ours" "$1" "$3" "$2") $(taken "$work/theirs" "$1" "$3" "$2")" \
+    "$(counted "$ours" "$1" "$2") $(counted "$work/theirs" "$1" "$2")"
+}
 
-for count in 1000 10000 100000; do
-  read -r our_append our_lookup <<<"$(counted "$ours" "$count" 1 0)"
-  read -r their_append their_lookup <<<"$(counted "$work/theirs" "$count" 1 0)"
-  [ "$our_append" -eq 0 ] || echo "$count names, instructions: an append $our_append, BTreeMap $their_append; a lookup $our_lookup, BTreeMap $their_lookup"
-done
-for order in 1 2; do
-  made=$(seconds "$ours" 100000 0 0 "$order")
-  appended=$(seconds "$ours" 100000 1 0 "$order")
-  read -r append lookup <<<"$(counted "$ours" 100000 1 "$order")"
-  awk -v order="$order" -v made="$made" -v appended="$appended" -v count="$append" 'BEGIN {
-    printf "100000 names in %s order: %.1f ms to append them, %d instructions each\n", order == 1 ? "rising" : "falling", (appended - made) * 1000, count
+[ $# -gt 0 ] || set -- 1000 10000 100000
+cat <<'TEXT'
+An append copies the name and takes an empty value, as the `BTreeMap` clones the name. The aims are 3 times its time for
+an append and 2 times for a lookup. Names are in mixed order.
+TEXT
+echo
+echo "| names | append: ns, and times the other's | instructions | lookup: ns, and times the other's | instructions |"
+echo "|---|---|---|---|---|"
+for count in "$@"; do
+  row "$count" 0 $((10000000 / count / 10 + 1)) | awk -v count="$count" "$numbers"'{
+    printf "| %s | %s, %s | %s, %s ", thousands(count), thousands($1), ratio($1, $3), thousands($5), ratio($5, $7)
+    printf "| %s, %s | %s, %s |\n", thousands($2), ratio($2, $4), thousands($6), ratio($6, $8)
   }'
 done
-made=$(seconds "$ours" 20000 1 0 1 0)
-copied=$(seconds "$ours" 20000 1 0 1 200)
-awk -v made="$made" -v copied="$copied" 'BEGIN {
-  printf "a set of 20000 names: made in %.2f ms with its names, copied in %.4f ms\n", made * 1000, (copied - made) * 1000 / 200
-}'
-made=$(instructions "$ours" 20000 1 0 1 0)
-copied=$(instructions "$ours" 20000 1 0 1 100)
-[ "$made" -eq 0 ] || echo "  instructions: made with $made, copied with $(((copied - made) / 100))"
+last=$count
+echo
+echo "| order of $(shown "$last") names | append, key set | instructions | append, \`BTreeMap\` | instructions |"
+echo "|---|---|---|---|---|"
+orders=(mixed rising falling)
+for order in 1 0 2; do
+  row "$last" $order 0 | awk -v order="${orders[order]}" "$numbers"'{
+    printf "| %s | %s ns | %s | %s ns | %s |\n", order, thousands($1), thousands($5), thousands($3), thousands($7)
+  }'
+done
+made=$((last / 5))
+timed 11 "$ours $made 1 0 1 0" "$ours $made 1 0 1 200" >"$work/copies"
+none=$(instructions "$ours" "$made" 1 0 1 0)
+some=$(instructions "$ours" "$made" 1 0 1 100)
+echo
+awk -v made="$made" -v none="$none" -v some="$some" "$numbers"'
+  { least[NR] = $3 }
+  END {
+    printf "A copy of a set of %s names takes %.1f µs and %s instructions; ", thousands(made),
+      (least[2] - least[1]) * 1000 / 200, thousands((some - none) / 100)
+    printf "to make the set, names included, %.1f ms and %s million.\n", least[1], millions(none)
+  }' "$work/copies"

@@ -1,14 +1,16 @@
 #!/usr/bin/env bash
-# Times `kdb export` and `kdb import` of 1 MiB of simpleini beside `git config --list` on the same data, and beside a look-up of crudini
-# where it is installed, in one run: wall clock, processor time and, with valgrind, instructions. Wants build/kdb (first-use.sh makes it),
-# git, and hyperfine of Debian's packages. Not part of the gate.
+# Times `kdb export` and `kdb import` of 1 MiB of simpleini beside `git config --list` on the same data, and beside a
+# look-up of crudini where it is installed, in turn: wall clock, processor time and, with valgrind, instructions. A
+# word stands for the number of keys. Wants build/kdb (first-use.sh makes it) and git. Not part of the gate.
 set -eu
 cd "$(dirname "$0")/.."
 . bench/words.sh
-wants git hyperfine
+put passing "$@"
+wants git
+program
 cd "$work"
-count=35000
-awk -v count=$count 'BEGIN {
+count=${1:-35000}
+awk -v count="$count" 'BEGIN {
   print "[s]" >"git.cfg"
   for (i = 0; i < count; i++) {
     printf "key%05d = value number %d\n", i, i >"data.ini"
@@ -16,36 +18,40 @@ awk -v count=$count 'BEGIN {
   }
 }'
 
-# millions INPUT COMMAND..: how many millions of instructions it takes, or -
-millions() {
-  input=$1
-  shift
-  instructions "$@" <"$input" | awk '{ if ($1) printf "%.1f", $1 / 1e6; else print "-" }'
-}
-
-# measure NAME PREPARE INPUT COMMAND..: the median of its times and the mean of its processor times, in milliseconds, and its instructions.
-# (the shell that gives the input is measured by hyperfine and taken off)
-measure() {
-  name=$1 prepare=$2 input=$3
-  shift 3
-  hyperfine --shell sh --warmup 1 --runs 15 --prepare "$prepare" --export-csv times.csv "$* <$input" >/dev/null 2>&1
-  $prepare >/dev/null
-  awk -F, -v name="$name" -v count="$(millions "$input" "$@")" 'NR == 2 {
-    printf "  %s: %.1f ms, processor time %.1f ms, %s million instructions\n", name, $(NF - 4) * 1000, ($(NF - 3) + $(NF - 2)) * 1000, count
-  }' times.csv
-}
-
 # (the same keys as a dump are over the limit of a file)
 "$kdb" mount s.ini user:/s simpleini
 "$kdb" import user:/s simpleini <data.ini
 "$kdb" export user:/s simpleini >out.ini
 cmp out.ini data.ini
-echo "$(wc -c <data.ini) bytes, $count keys:"
-measure 'kdb export' true /dev/null "$kdb" export user:/s simpleini
+
 # An import of what is there stores nothing; one that brings another value stores the whole file.
-measure 'kdb import of the same' true data.ini "$kdb" import user:/s simpleini
-measure 'kdb import of one new value' "$kdb set user:/s/key00007 former" data.ini "$kdb" import user:/s simpleini
-measure 'git config --list' true /dev/null git config --file git.cfg --list
+names=('`kdb export`' '`kdb import` of what is there' '`kdb import` of one new value' '`git config --list`')
+commands=(
+  "$kdb export user:/s simpleini"
+  "$kdb import user:/s simpleini < data.ini"
+  "$kdb set user:/s/key00007 former ;; $kdb import user:/s simpleini < data.ini"
+  'git config --file git.cfg --list'
+)
 if command -v crudini >/dev/null; then
-  measure 'crudini --get' true /dev/null "$(command -v crudini)" --get git.cfg s key34999
+  names+=('`crudini --get` of one key')
+  commands+=("$(command -v crudini) --get git.cfg s key00007")
 fi
+timed 15 "${commands[@]}" >times
+for i in "${!commands[@]}"; do
+  command=${commands[i]}
+  case $command in *' ;; '*) ${command%% ;; *} >/dev/null; command=${command#* ;; } ;; esac
+  # shellcheck disable=SC2086
+  case $command in
+    *' < '*) counted=$(instructions ${command%% < *} <"${command#* < }") ;;
+    *) counted=$(instructions $command </dev/null) ;;
+  esac
+  echo "${counted:-0}" >>counted
+done
+awk -v count="$count" -v bytes="$(wc -c <data.ini)" "$numbers"'BEGIN {
+  printf "%s bytes of simpleini with %s keys.\n\n", thousands(bytes), thousands(count)
+  print "| command | ms | processor ms | million instructions |"
+  print "|---|---|---|---|"
+}'
+printf '%s\n' "${names[@]}" >names
+paste -d'|' names times counted | awk -F'|' "$numbers"'
+  { split($2, it, " "); printf "| %s | %s | %s | %s |\n", $1, ms(it[1]), ms(it[2]), millions($3) }'
