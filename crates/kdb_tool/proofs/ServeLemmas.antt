@@ -22,6 +22,7 @@ use Rattle.model_crashes.proofs.Moments.{only_both, only_now}
 use Rattle.model_crashes.proofs.Reached.{only_weaker}
 use Rattle.store_core.specs.Frames.{IsUnwritten}
 use Rattle.store_core.specs.declared.cores.Core.{Core}
+use Rattle.store_phases.specs.Resting.{RestsOn}
 use Rattle.store_phases.specs.Stores.{IsStore}
 use Rattle.tool_commands.specs.Report.{Report}
 use Rattle.tool_commands.specs.StepView.{report_of}
@@ -58,6 +59,7 @@ pub record HasClosed {D P : Type 0} (g : Ghosts D) (core : Core D P) (end : D) :
   pub shown : (opened : D) (run : Run) → IsStore g opened core.journal run → ¬ HasRisen (g.faults core.journal.disk) (g.faults end) → SameFiles (g.seen end) (files_of run)
   pub always : (opened : D) (run : Run) → IsStore g opened core.journal run → LeavesOnly g opened end (IsReached run.files run.commits run.begun)
   pub now : (opened : D) (run : Run) → IsStore g opened core.journal run → EveryImage (g.may_leave end) (HasOnly (IsEither (files_of run) run.doubt))
+  pub rests : (opened : D) (run : Run) → IsStore g opened core.journal run → RestsOn g end (files_of run) run.doubt
   pub settled : (opened : D) (run : Run) → IsStore g opened core.journal run → ¬ HasRisen (g.faults core.journal.disk) (g.faults end)
       → (core.wrote ≡ true) ⊎ (core.journal.state ≢ IsDoubt) → IsSettled (g.may_leave end) (files_of run)
   pub goes : GoesOn g core.journal.disk end
@@ -216,6 +218,7 @@ module _ {D P : Type 0} (g : Ghosts D) (disk end : D) (files : Image) (doubt : O
       goes = has_closed.goes;
       shown = has_closed.shown mid (after_begun first (entry_of stored) begun.doubt) begun.store;
       settled = λ still. has_closed.settled mid (after_begun first (entry_of stored) begun.doubt) begun.store still (inl fails.wrote);
+      left = has_closed.rests mid (after_begun first (entry_of stored) begun.doubt) begun.store;
     };
   }
     where

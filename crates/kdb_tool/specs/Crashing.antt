@@ -10,7 +10,7 @@ use Rattle.kdb_outside.specs.Faults.{HasRisen}
 use Rattle.kdb_outside.specs.Frames.{GoesOn}
 use Rattle.kdb_outside.specs.Images.{Image}
 use Rattle.kdb_outside.specs.declared.disks.Disk.{Ghosts}
-use Rattle.store_phases.specs.Resting.{IsResting}
+use Rattle.store_phases.specs.Resting.{IsResting, RestsOn}
 use Rattle.kdb_tool.specs.Answer.{Texts, entry_of, with_stored}
 
 -- amid a command, on files that were found with a doubt and that its opening left so: the files as they were found, or those of the
@@ -39,7 +39,8 @@ pub record StaysCalm {D : Type 0} (g : Ghosts D) (files : Image) (doubt : Option
   pub found : SameFiles (opened_files (g.seen end)) (with_stored stored (opened_files (g.seen disk)))
 
 -- a disk failed, and no commit was made: it was left with the files of the opening, and at most one entry in doubt, in a journal that only the close
--- behind it may have touched, so that a read and every crash give these files where the disk didn't fail once more
+-- behind it may have touched, so that a read and every crash give these files where the disk didn't fail once more; and where it did, its journal is at
+-- rest with these files still
 pub record IsUncommitted {D : Type 0} (g : Ghosts D) (disk end : D) (opened : Image) : Type 0 where
   pub journal : JournalValue D
   pub doubt : Option (List FileText)
@@ -48,3 +49,4 @@ pub record IsUncommitted {D : Type 0} (g : Ghosts D) (disk end : D) (opened : Im
   pub goes : GoesOn g journal.disk end
   pub shown : ¬ HasRisen (g.faults journal.disk) (g.faults end) → SameFiles (g.seen end) opened
   pub settled : ¬ HasRisen (g.faults journal.disk) (g.faults end) → IsSettled (g.may_leave end) opened
+  pub left : RestsOn g end opened doubt

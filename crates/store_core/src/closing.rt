@@ -8,6 +8,7 @@ ghost use Rattle.intent_journal.specs.Moments.{LeavesOnly};
 ghost use Rattle.intent_journal.specs.Outcomes.{SameFiles, HasOnly, IsEither};
 ghost use Rattle.intent_journal.specs.States.{IsSettled, IsCalm};
 ghost use Rattle.model_crashes.specs.Runs.{Run, files_of, IsReached};
+ghost use Rattle.store_phases.specs.Resting.{RestsOn};
 ghost use Rattle.store_phases.specs.Stores.{IsStore};
 
 use crate::Core;
@@ -42,6 +43,7 @@ impl<D: Disk, P: Patterns + Drop> Core<D, P> {
             → LeavesOnly D.Disk opened result.disk (IsReached run.files run.commits run.begun) }
         ensures now { (opened : D) (run : Run) → IsStore D.Disk opened self.journal run
             → EveryImage (D.may_leave result.disk) (HasOnly (IsEither (files_of run) run.doubt)) }
+        ensures rests { (opened : D) (run : Run) → IsStore D.Disk opened self.journal run → RestsOn D.Disk result.disk (files_of run) run.doubt }
         ensures goes { GoesOn D.Disk self.journal.disk result.disk }
     {
         let Core {

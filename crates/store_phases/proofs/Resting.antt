@@ -107,8 +107,18 @@ rests_read g old new files doubt reads state entry rests = record {
   lag = λ is. behind_kept (g.may_leave old.disk) (g.may_leave new.disk) old.entry new.entry files entry (reads.images rests.tells) (rests.lag (sym state ∙ is));
 }
 
--- behind a closing, settled or not, each image stands for the files, or for these with the doubt
-pub closed_only : {D : Type 0} (g : Ghosts D) (journal : JournalValue D) (files : Image) (doubt : Option (List FileText)) (r : Result Unit Failed) → OnOk r (IsSettled (g.may_leave journal.disk) files)
-    → OnErr r (IsResting g journal files doubt) → (image : Image) → IsImage (g.may_leave journal.disk) image → HasOnly (IsEither files doubt) image
-closed_only g journal files doubt (Ok x) settled rests image is = only_files files image doubt (IsSettled-only (g.may_leave journal.disk) files settled image is)
-closed_only g journal files doubt (Err e) settled rests image is = resting_only g journal files doubt rests image is
+-- a gate that was closed
+rests_settled : {D : Type 0} (g : Ghosts D) (journal : JournalValue D) (files : Image) (doubt : Option (List FileText)) → g.tells journal.disk ≡ true → journal.state ≡ Clean → IsSettled (g.may_leave journal.disk) files
+    → IsResting g journal files doubt
+rests_settled g journal files doubt tells clean settled = record {
+  tells = tells;
+  clean = λ _. settled;
+  doubtful = λ in_doubt. absurd (let both : Clean ≡ Doubt = sym clean ∙ in_doubt in cc);
+  lag = λ lag. absurd (let both : Clean ≡ Lag = sym clean ∙ lag in cc);
+}
+
+-- behind a closing, settled or not, the journal is at rest
+pub closed_rests : {D : Type 0} (g : Ghosts D) (journal : JournalValue D) (files : Image) (doubt : Option (List FileText)) (r : Result Unit Failed) → g.tells journal.disk ≡ true → OnOk r (journal.state ≡ Clean)
+    → OnOk r (IsSettled (g.may_leave journal.disk) files) → OnErr r (IsResting g journal files doubt) → IsResting g journal files doubt
+closed_rests g journal files doubt (Ok x) tells clean settled rests = rests_settled g journal files doubt tells clean settled
+closed_rests g journal files doubt (Err e) tells clean settled rests = rests

@@ -20,3 +20,9 @@ pub record IsResting {D : Type 0} (g : Ghosts D) (journal : JournalValue D) (fil
   pub clean : journal.state ≡ Clean → IsSettled (g.may_leave journal.disk) files
   pub doubtful : journal.state ≡ Doubt → IsDoubtful (g.may_leave journal.disk) files doubt
   pub lag : journal.state ≡ Lag → IsBehind (g.may_leave journal.disk) journal.entry files
+
+-- the disk is as a journal at rest leaves it, with these files and this doubt
+pub record RestsOn {D : Type 0} (g : Ghosts D) (disk : D) (files : Image) (doubt : Option (List FileText)) : Type 0 where
+  pub journal : JournalValue D
+  pub over : journal.disk ≡ disk
+  pub rests : IsResting g journal files doubt

@@ -15,6 +15,7 @@ ghost use Rattle.intent_journal.specs.Opened.{disk_of, fault_of};
 ghost use Rattle.intent_journal.specs.Outcomes.{SameFiles, HasOnly, IsEither};
 ghost use Rattle.intent_journal.specs.States.{IsSettled, IsCalm};
 ghost use Rattle.model_crashes.specs.Runs.{Run, files_of, IsReached, IsAmid, IsOneOf, new_run, after_begun, after_commit};
+ghost use Rattle.store_phases.specs.Resting.{RestsOn};
 ghost use Rattle.store_phases.specs.Stores.{IsStore};
 
 use crate::phases::{make_clean, store};
@@ -101,6 +102,7 @@ pub fn close<D: Disk>(journal: Journal<D>) -> D
         → EveryImage (D.may_leave result) (HasOnly (IsEither (files_of run) run.doubt)) }
     ensures settled { (opened : D) (run : Run) → IsStore D.Disk opened journal run → ¬ HasRisen (D.faults journal.disk) (D.faults result)
         → IsSettled (D.may_leave result) (files_of run) }
+    ensures rests { (opened : D) (run : Run) → IsStore D.Disk opened journal run → RestsOn D.Disk result (files_of run) run.doubt }
     ensures goes { GoesOn D.Disk journal.disk result }
 {
     let mut journal = journal;

@@ -39,7 +39,7 @@ returns-in-Ok-clause-served g c = λ tells files doubt calm.
       wrote = c.in-Ok.ensures.wrote tells;
       state = c.in-Ok.ensures.doubt;
     })
-    (record { alone = c.close-disk.ensures.left_alone; shown = c.close-disk.ensures.shown; always = c.close-disk.ensures.always; now = c.close-disk.ensures.now; settled = c.close-disk.ensures.settled; goes = c.close-disk.ensures.goes; calm = c.close-disk.ensures.calm })
+    (record { alone = c.close-disk.ensures.left_alone; shown = c.close-disk.ensures.shown; always = c.close-disk.ensures.always; now = c.close-disk.ensures.now; rests = c.close-disk.ensures.rests; settled = c.close-disk.ensures.settled; goes = c.close-disk.ensures.goes; calm = c.close-disk.ensures.calm })
     (AnswersOver Refusing question seen) c.answer_in-answer.result c.answer_in-answer.ensures.cause
     (serving_weaker g.D.Disk (AnswersIn Refusing mounted question) (AnswersOver Refusing question seen) c.answer_in-answer.result core c.answer_in-answer.new.core
     (λ answer answers. record { opened = Ok mounted; opens = is_opened; answers = answers }) serving))))

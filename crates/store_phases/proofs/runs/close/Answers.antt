@@ -1,9 +1,10 @@
-use Rattle.std.proofs.Common.{sym, subst}
+-- The journal that is made clean is at rest, whether its gate was closed or not, and its disk is given back.
+use Rattle.std.proofs.Common.{sym, subst, ◌∙◌}
 use Rattle.kdb_outside.specs.Images.{Image, IsImage}
 use Rattle.intent_journal.specs.Outcomes.{HasOnly, IsEither}
 use Rattle.model_crashes.specs.Runs.{files_of, IsReached}
 use Rattle.intent_journal.specs.Moments.{LeavesOnly}
-use Rattle.store_phases.proofs.Resting.{closed_only}
+use Rattle.store_phases.proofs.Resting.{closed_rests, resting_only}
 use Rattle.store_phases.proofs.Stores.{closing_reached}
 use Rattle.store_phases.proofs.runs.close.Goals as goal
 
@@ -15,5 +16,14 @@ returns-clause-always g c opened run store =
 pub returns-clause-now : goal.returns-clause-now
 returns-clause-now g c opened run store =
     subst (λ d. (image : Image) → IsImage (g.D.Disk.may_leave d) image → HasOnly (IsEither (files_of run) run.doubt) image) (sym c.into_disk.ensures)
-    (closed_only g.D.Disk c.make_clean.new.journal (files_of run) run.doubt c.make_clean.result (c.make_clean.ensures.settled (files_of run) run.doubt store.rests)
-    (c.make_clean.ensures.rests (files_of run) run.doubt store.rests))
+    (resting_only g.D.Disk c.make_clean.new.journal (files_of run) run.doubt
+    (closed_rests g.D.Disk c.make_clean.new.journal (files_of run) run.doubt c.make_clean.result (c.make_clean.ensures.goes.tells ∙ store.rests.tells) c.make_clean.ensures.ok
+    (c.make_clean.ensures.settled (files_of run) run.doubt store.rests) (c.make_clean.ensures.rests (files_of run) run.doubt store.rests)))
+
+pub returns-clause-rests : goal.returns-clause-rests
+returns-clause-rests g c opened run store = record {
+  journal = c.make_clean.new.journal;
+  over = sym c.into_disk.ensures;
+  rests = closed_rests g.D.Disk c.make_clean.new.journal (files_of run) run.doubt c.make_clean.result (c.make_clean.ensures.goes.tells ∙ store.rests.tells) c.make_clean.ensures.ok
+      (c.make_clean.ensures.settled (files_of run) run.doubt store.rests) (c.make_clean.ensures.rests (files_of run) run.doubt store.rests);
+}

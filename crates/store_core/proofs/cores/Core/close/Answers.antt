@@ -16,6 +16,9 @@ returns-then-eq-clause-now g c opened run store =
     subst (λ d. (image : Image) → IsImage (g.D.Disk.may_leave d) image → HasOnly (IsEither (files_of run) run.doubt) image) (sym c.into_disk.ensures)
     (resting_only g.D.Disk c.args.self.journal (files_of run) run.doubt store.rests)
 
+pub returns-then-eq-clause-rests : goal.returns-then-eq-clause-rests
+returns-then-eq-clause-rests g c opened run store = record { journal = c.args.self.journal; over = sym c.into_disk.ensures; rests = store.rests }
+
 pub returns-clause-shown : goal.returns-clause-shown
 returns-clause-shown g c opened run store still file own =
     (c.close.ensures.settled opened run store still).same file own (g.D.Disk.seen c.close.result file) (g.D.Disk.read_is_image c.close.result (c.close.ensures.goes.tells ∙ store.rests.tells) file)
