@@ -1,4 +1,5 @@
-//! Tests of the public calls of names, texts, metadata and key sets: of what no contract says, each call with ample memory.
+//! Tests of the public calls of names, texts, metadata and key sets, and of want of memory as a format's refusal: of what no contract
+//! says, each call with ample memory.
 //! Tables of names and shown texts are cases of `kdb_cases`.
 #![tactic(auto)]
 
@@ -12,6 +13,8 @@ mod lists;
 mod metadata;
 #[cfg(test)]
 mod names;
+#[cfg(test)]
+mod refusals;
 #[cfg(test)]
 mod sorted_maps;
 #[cfg(test)]

@@ -39,23 +39,3 @@ impl From<AllocError> for WriteRefusal {
         WriteRefusal::Memory
     }
 }
-
-#[cfg(test)]
-mod tests {
-    use super::*;
-    use std::test::Fail;
-
-    #[test]
-    fn want_of_memory_is_handed_on(rt: HostRuntime) -> Result<(), Fail> {
-        let read: Result<(), ReadRefusal> = from_memory();
-        assert_eq!(rt; read, Err(ReadRefusal::Memory));
-        let written: Result<(), WriteRefusal> = from_memory();
-        assert!(rt; matches!(written, Err(WriteRefusal::Memory)));
-        Ok(())
-    }
-
-    fn from_memory<E: From<AllocError>>() -> Result<(), E> {
-        Err(AllocError)?;
-        Ok(())
-    }
-}
