@@ -10,12 +10,13 @@ use Rattle.model_history.specs.Changes.{after}
 use Rattle.model_history.specs.History.{Commit, history_weight, heaviest_history}
 use Rattle.model_specified.specs.Violations.{checked_keys, is_owned}
 use Rattle.model_specified.specs.declared.violations.Violation.{Violation}
+use Rattle.model_specified.proofs.FirstsOnce.{first_by-none, first_by-once}
 use Rattle.model_specified.proofs.Refusals.{RefusesEach}
 use Rattle.model_specified.proofs.ViolationsOnce.{RefusesNoPattern}
 use Rattle.model_store.specs.Sets.{Prepared}
 use Rattle.model_store.specs.Verdicts.{Late, Same, Conflict, Invalid, DatabaseFull, HistoryFull, Commits, Follows, Checks, IsLate, conflict, commit_of, if_untouched, if_heavy, if_full}
 use Rattle.model_store.proofs.VerdictLemmas.{not_same, not_conflict, not_limited}
-use Rattle.kdb_tool.proofs.FirstRefusals.{first-or_none, none-first, one-first}
+use Rattle.kdb_tool.proofs.FirstRefusals.{first-or_none}
 
 -- a verdict whose violation, if it tells one that goes by a refusal, tells a text that may be refused
 abbrev pub IsPermitted : (List ℕ → Type 0) → Late → Type 0
@@ -80,10 +81,10 @@ module _ (MayRefuse : List ℕ → Type 0) (points : List Name) (history : List 
 
   checked_once : RefusesNoPattern MayRefuse → (late other : Late) → IsPermitted MayRefuse late → IsPermitted MayRefuse other → (Heavy late → Heavy other → told_alone late ≡ told_alone other) → Checked late → Checked other → told_alone late ≡ told_alone other
   checked_once off late other may might once (inl p) (inl q) =
-      let same : p.violation ≡ q.violation = one-first MayRefuse off (T p.risen) (T q.risen) chosen p.violation q.violation (subst (IsPermitted MayRefuse) p.is may) (subst (IsPermitted MayRefuse) q.is might) p.first q.first in
+      let same : p.violation ≡ q.violation = first_by-once MayRefuse off (T p.risen) (T q.risen) chosen p.violation q.violation (subst (IsPermitted MayRefuse) p.is may) (subst (IsPermitted MayRefuse) q.is might) p.first q.first in
       ap told_alone p.is ∙ ap (λ (v : Violation). Invalid v false) same ∙ sym (ap told_alone q.is)
-  checked_once off late other may might once (inl p) (inr q) = absurd (none-first MayRefuse off (T p.risen) chosen p.violation (subst (IsPermitted MayRefuse) p.is may) q.0 p.first)
-  checked_once off late other may might once (inr p) (inl q) = absurd (none-first MayRefuse off (T q.risen) chosen q.violation (subst (IsPermitted MayRefuse) q.is might) p.0 q.first)
+  checked_once off late other may might once (inl p) (inr q) = absurd (first_by-none MayRefuse off (T p.risen) chosen p.violation (subst (IsPermitted MayRefuse) p.is may) q.0 p.first)
+  checked_once off late other may might once (inr p) (inl q) = absurd (first_by-none MayRefuse off (T q.risen) chosen q.violation (subst (IsPermitted MayRefuse) q.is might) p.0 q.first)
   checked_once off late other may might once (inr p) (inr q) = once p.1 q.1
 
   pub verdict-once : RefusesNoPattern MayRefuse → (late other : Late) → IsPermitted MayRefuse late → IsPermitted MayRefuse other → IsLate points history keys set late → IsLate points history keys set other → told_alone late ≡ told_alone other

@@ -21,6 +21,11 @@ pub nothing_of : {A : Type 0} (xs ys : List A) → [] ≡ xs ++ ys → (xs ≡ [
 nothing_of [] ys e = (refl, sym e)
 nothing_of (x ∷ xs) ys e = absurd cc
 
+-- a key without violations has no breaches
+pub no_breaches : (name : Name) (breaches : List Broken) → [] ≡ map (violation_at name) breaches → breaches ≡ []
+no_breaches name [] e = refl
+no_breaches name (broken ∷ breaches) e = absurd cc
+
 no_breach : {M N : Type 0} (value : List ℕ) (meta : Meta) → AreBreaches M value meta [] → AreBreaches N value meta []
 no_breach {M} {N} value meta h = record {
   by_type = h.by_type;
@@ -39,11 +44,7 @@ no_breach {M} {N} value meta h = record {
     by (Some broken) e tells = absurd cc
 
 pub no_violation : {M N : Type 0} (key : Name × Entry) → AreOfKey M key [] → AreOfKey N key []
-no_violation {M} {N} key h = record { breaches = []; are = no_breach key.1.value key.1.meta (subst (AreBreaches M key.1.value key.1.meta) (none h.breaches h.all) h.are); all = refl }
-  where
-    none : (breaches : List Broken) → [] ≡ map (violation_at key.0) breaches → breaches ≡ []
-    none [] e = refl
-    none (broken ∷ breaches) e = absurd cc
+no_violation {M} {N} key h = record { breaches = []; are = no_breach key.1.value key.1.meta (subst (AreBreaches M key.1.value key.1.meta) (no_breaches key.0 h.breaches h.all) h.are); all = refl }
 
 -- to find no violations nothing has to be refused
 pub AreOfKeys-none : (M N : Type 0) (keys : List (Name × Entry)) → AreOfKeys M keys [] → AreOfKeys N keys []
