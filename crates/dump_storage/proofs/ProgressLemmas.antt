@@ -12,7 +12,7 @@ use Rattle.model_maps.specs.KeyMap.{KeyMap, no_keys, weight, key_weight, heavies
 use Rattle.model_dump.specs.Record.{Record, KeyKind, MetaKind, CopyKind}
 use Rattle.model_dump.specs.Adds.{Progress, PutsMeta, Adds}
 use Rattle.general_words.proofs.Maps.{insert-insert, get-insert_same}
-use Rattle.model_dump.proofs.MapLemmas.{weight-insert, weight-no_keys, weight_of_key-plain, weight_of_key-meta}
+use Rattle.model_maps.proofs.MapLemmas.{weight-insert, weight-no_keys, weight_of_key-plain, weight_of_key-meta}
 use Rattle.dump_storage.specs.Texts.{SpellsNothing}
 use Rattle.dump_storage.specs.ProgressView.{AddsNothing, HasMetaNames, IsSound}
 use Rattle.dump_storage.proofs.NameLemmas.{Spells-cascading, spelling-cascading}

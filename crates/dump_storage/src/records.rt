@@ -2,7 +2,7 @@
 ghost use Rattle.std.specs.Prelude.{◌≡◌, [], ◌∷◌, ◌++◌, MatchOption, OnOk};
 ghost use Rattle.std.specs.Fmt.{decimal};
 ghost use Rattle.model_dump.specs.Record.{words_of, spelled_record};
-ghost use Rattle.model_dump.specs.Text.{relative_text};
+ghost use Rattle.model_names.specs.Spelling.{relative_text};
 ghost use Rattle.dump_storage.specs.Pieces.{BeginsWithNoWords, BeginsWithSizes, BeginsWithNoSizes, BeginsWith, BeginsWithNoRecord};
 ghost use Rattle.dump_storage.specs.RecordView.{kind_of, record_of};
 ghost use Rattle.dump_storage.specs.declared.records.Kind.TheVariants as kinds;

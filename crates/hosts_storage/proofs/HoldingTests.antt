@@ -13,7 +13,7 @@ use Rattle.model_names.specs.ArrayPart.{last_index}
 use Rattle.model_names.specs.Name.{Name, Part}
 use Rattle.model_maps.specs.Entry.{Meta, Entry, plain_entry}
 use Rattle.model_maps.specs.KeyMap.{KeyMap}
-use Rattle.model_lines.proofs.MapFacts.{entries-empty}
+use Rattle.general_words.proofs.Maps.{entries-empty}
 use Rattle.key_meta.specs.Same.{same_meta}
 use Rattle.model_hosts.specs.Comments.{comments, texts_of}
 use Rattle.model_hosts.specs.Keys.{family, host_name, IsWord, IsOneLine, IsHostsKey}

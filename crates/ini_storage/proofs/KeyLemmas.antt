@@ -11,7 +11,8 @@ use Rattle.model_names.specs.Spells.{Spells}
 use Rattle.model_names.proofs.SpellsLemmas.{Spells-once}
 use Rattle.model_maps.specs.Entry.{Meta, Entry, plain_entry, IsValue}
 use Rattle.model_maps.specs.KeyMap.{KeyMap, weight, heaviest_map}
-use Rattle.model_lines.proofs.MapFacts.{entries-empty, weight-insert, weight_of_key-plain}
+use Rattle.general_words.proofs.Maps.{entries-empty}
+use Rattle.model_maps.proofs.MapLemmas.{weight-insert, weight_of_key-plain}
 use Rattle.model_ini.specs.Ini.{AddsKey, IsIniKey}
 use Rattle.model_ini.specs.Text.{cover_blank, at_last}
 use Rattle.ini_storage.specs.SideView.{sign_at, first_at, signs_at}

@@ -2,8 +2,7 @@
 ghost use Rattle.std.specs.Prelude.{◌≡◌, ◌<◌, ◌∷◌, [], ◌++◌, length, OnOk, IfOk, MatchResult, map as over};
 ghost use Rattle.std.specs.Bool.{Decides};
 ghost use Rattle.std.specs.List.{flat_map};
-ghost use Rattle.model_names.specs.Spelling.{spelling};
-ghost use Rattle.model_dump.specs.Text.{relative_text};
+ghost use Rattle.model_names.specs.Spelling.{relative_text, spelling};
 ghost use Rattle.model_ini.specs.Signs.{spelled_sign};
 ghost use Rattle.model_ini.specs.Ini.{IsIniKey, IsStorable, BreaksAt};
 ghost use Rattle.model_ini.specs.Text.{value_sign, name_sign, cover_blank, cover_mark, at_last, line_of, text};

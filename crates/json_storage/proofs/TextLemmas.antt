@@ -19,7 +19,7 @@ use Rattle.model_names.specs.WellFormed.{IsName}
 use Rattle.model_names.proofs.OrderLemmas.{name_cmp_total}
 use Rattle.model_maps.specs.Entry.{Entry, plain_entry, longest_value}
 use Rattle.model_maps.specs.KeyMap.{KeyMap, no_keys, weight, weight_of_key, heaviest_map}
-use Rattle.model_lines.proofs.MapFacts.{weight-no_keys}
+use Rattle.model_maps.proofs.MapLemmas.{weight-no_keys}
 use Rattle.model_lines.proofs.SortedKeys.{before_all}
 use Rattle.model_json.specs.Leaves.{Leaf}
 use Rattle.model_json.specs.Tree.{leaf_of}

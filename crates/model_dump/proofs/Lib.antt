@@ -4,7 +4,6 @@ pub mod AddsTold
 pub mod Readings
 pub mod Begins
 pub mod Totality
-pub mod MapLemmas
 pub mod TextReads
 pub mod LimitedReads
 pub mod Lawful

@@ -1,11 +1,7 @@
 -- What some bytes read as is within the limits of a file: each record keeps it so.
-use Rattle.std.specs.Prelude.{◌≡◌, ◌⊎◌, ℕ, Bool, true, false, List, [], ◌∷◌, Option, None, Some}
+use Rattle.std.specs.Prelude.{◌≡◌, ℕ, List, [], ◌∷◌, Option, None, Some}
 use Rattle.std.specs.FinMap as finite
-use Rattle.std.specs.FinMap.{FinMap, IsAntisymmetric}
-use Rattle.std.specs.Cmp.{IsTotalOrder}
-use Rattle.std.specs.Ordering.{eq_by_cmp}
-use Rattle.std.specs.declared.cmp.Ordering.{Ordering}
-use Rattle.std.proofs.Common.{cond, refl, sym, subst, ◌∙◌, arith, inl, inr}
+use Rattle.std.proofs.Common.{refl, sym, subst, ◌∙◌, arith, inl, inr}
 use Rattle.std.proofs.lemmas.Cmp.{nat_list_cmp_total}
 use Rattle.model_names.specs.Name.{Name}
 use Rattle.model_names.specs.Order.{name_cmp}
@@ -13,28 +9,13 @@ use Rattle.model_names.proofs.NameLemmas.{spelled_is_name, slash_is_cascading}
 use Rattle.model_names.proofs.OrderLemmas.{name_cmp_total, name_cmp-IsAntisymmetric}
 use Rattle.general_words.specs.Texts.{text_cmp}
 use Rattle.general_words.proofs.Texts.{text_cmp-IsAntisymmetric}
-use Rattle.general_words.proofs.Orders.{tied}
 use Rattle.model_maps.specs.Entry.{Entry, plain_entry, with_meta}
 use Rattle.model_maps.specs.KeyMap.{KeyMap, no_keys}
 use Rattle.model_maps.specs.Limits.{IsLimitedMeta, IsLimitedKey, IsLimited}
 use Rattle.model_dump.specs.Record.{RecordKind, KeyKind, MetaKind, CopyKind, Record}
 use Rattle.model_dump.specs.Adds.{Progress, start, AddsKey, PutsMeta, AddsBy, Adds}
 use Rattle.model_dump.specs.Dump.{Leads, Reads}
-use Rattle.model_dump.proofs.MapLemmas.{weight-no_keys}
-
--- one of two holds what a choice of them holds
-chosen : {A : Type 0} (b : Bool) (v x : A) (rest : Option A) → cond b (Some v) rest ≡ Some x → ((b ≡ true) × (v ≡ x)) ⊎ (rest ≡ Some x)
-chosen true v x rest e = inl (refl, cc)
-chosen false v x rest e = inr e
-
--- what a map holds after an insertion is what was inserted, or stood there before
-pub found_in_insert : {K X : Type 0} {R : K → K → Ordering} → IsTotalOrder R → IsAntisymmetric R → (m : FinMap R X) (k : K) (v : X) (q : K) (x : X) → finite.get (finite.insert m k v) q ≡ Some x → ((q ≡ k) × (v ≡ x)) ⊎ (finite.get m q ≡ Some x)
-found_in_insert {X = X} {R = R} total same m k v q x e =
-    let which : ((eq_by_cmp R q k ≡ true) × (v ≡ x)) ⊎ (finite.get m q ≡ Some x) = chosen (eq_by_cmp R q k) v x (finite.get m q) (sym (finite.get-insert total m k v q) ∙ e) in
-    elim which as (λ _. ((q ≡ k) × (v ≡ x)) ⊎ (finite.get m q ≡ Some x)) [
-      | inl here ↦ inl (same q k (tied (R q k) here.0), here.1)
-      | inr there ↦ inr there
-    ]
+use Rattle.model_maps.proofs.MapLemmas.{found_in_insert, weight-no_keys}
 
 -- every key of a map is within the limits
 abbrev HasLimitedKeys : KeyMap → Type 0

@@ -1,32 +1,20 @@
 -- For worked dumps: a first key, and records that have no reading.
-use Rattle.std.specs.Prelude.{◌≡◌, ℕ, ◌+◌, ◌<◌, List, [], ◌∷◌, ◌++◌, length, codes, Some}
+use Rattle.std.specs.Prelude.{ℕ, ◌<◌, List, [], ◌∷◌, ◌++◌, length, codes, Some}
 use Rattle.std.specs.FinMap as map
-use Rattle.std.proofs.Common.{refl, sym, ap₂, subst, ◌∙◌, arith, lit≤}
-use Rattle.model_names.specs.declared.namespaces.Namespace.TheVariants.{Cascading}
-use Rattle.model_names.specs.Name.{Name}
+use Rattle.std.proofs.Common.{refl, sym, subst, arith, lit≤}
 use Rattle.model_names.specs.Order.{name_cmp}
 use Rattle.model_names.specs.Spells.{Spells}
-use Rattle.model_names.proofs.OrderLemmas.{name_cmp_total}
 use Rattle.model_names.proofs.SpellsLemmas.{Spells-from_tests}
-use Rattle.model_maps.specs.Entry.{plain_entry}
-use Rattle.model_maps.specs.KeyMap.{KeyMap, no_keys, weight}
+use Rattle.model_maps.proofs.MapLemmas.{IsValue-from_ascii}
+use Rattle.model_maps.proofs.SmallMaps.{name_a, plain_a, plain_a_weighs}
 use Rattle.model_dump.specs.Record.{Record, KeyKind, IsSized, spelled_record}
 use Rattle.model_dump.specs.Adds.{Progress, start, Adds}
 use Rattle.model_dump.specs.Dump.{HasNoNext}
-use Rattle.general_words.proofs.Maps.{get-insert_same}
-use Rattle.model_dump.proofs.MapLemmas.{weight-insert, weight-no_keys, weight_of_key-plain, IsValue-from_ascii}
 use Rattle.model_dump.proofs.SpelledRecords.{spelled_record-once, spelled_record-ending}
 
 -- short texts have sizes that can be written
 pub small : (r : Record) → length r.first < 10 → length r.second < 10 → IsSized r
 small r first second = record { first = omega arith; second = omega arith }
-
--- the key `/a` = `1`
-abbrev pub name_a : Name
-name_a = record { namespace = Cascading; parts = codes "a" ∷ [] }
-
-abbrev pub plain_a : KeyMap
-plain_a = map.insert no_keys name_a (plain_entry (codes "1"))
 
 abbrev pub record_a : Record
 record_a = record { kind = KeyKind; first = codes "a"; second = codes "1" }
@@ -36,12 +24,6 @@ after_a = record { keys = plain_a; present = Some name_a }
 
 pub spells_a : Spells (codes "/a") name_a
 spells_a = Spells-from_tests _ _ (codes "a") refl refl refl (lit≤ tt)
-
-pub plain_a_has : map.get plain_a name_a ≡ Some (plain_entry (codes "1"))
-plain_a_has = get-insert_same name_cmp_total no_keys name_a (plain_entry (codes "1"))
-
-pub plain_a_weighs : weight plain_a ≡ 67
-plain_a_weighs = weight-insert no_keys name_a _ (map.get-empty name_cmp name_a) ∙ ap₂ (λ m n. m + n) weight-no_keys (weight_of_key-plain name_a (codes "1"))
 
 pub adds_a : Adds start record_a after_a
 adds_a = record {

@@ -1,27 +1,23 @@
 -- The text of a map within the limits of a file reads as it.
-use Rattle.std.specs.Prelude.{◌≡◌, ℕ, ◌+◌, ◌≤◌, List, [], ◌∷◌, ◌++◌, length, drop, map, Option, None, Some}
+use Rattle.std.specs.Prelude.{◌≡◌, ℕ, ◌+◌, ◌≤◌, List, [], ◌∷◌, ◌++◌, length, map, Option, None, Some}
 use Rattle.std.specs.FinMap as finite
 use Rattle.std.specs.List.{flat_map}
-use Rattle.std.proofs.Common.{refl, sym, ap, subst, ◌∙◌, arith, length-drop, inr}
+use Rattle.std.proofs.Common.{refl, sym, ap, subst, arith, inr}
 use Rattle.std.proofs.lemmas.Cmp.{nat_list_cmp_total}
-use Rattle.model_names.specs.declared.namespaces.Namespace.{Namespace}
-use Rattle.model_names.specs.declared.namespaces.Namespace.TheVariants.{Cascading}
-use Rattle.model_names.specs.Name.{Part, Name}
-use Rattle.model_names.specs.Spelling.{spelling, word_of, path, path_of_parts}
-use Rattle.model_names.specs.Spells.{Spells, longest_path}
-use Rattle.model_names.specs.WellFormed.{IsName}
-use Rattle.model_names.proofs.NameLemmas.{spelling_spells}
+use Rattle.model_names.specs.Name.{Name}
+use Rattle.model_names.specs.Spelling.{relative_text}
+use Rattle.model_names.proofs.NameLemmas.{length-relative_text, relative_text-spells}
 use Rattle.model_names.proofs.OrderLemmas.{name_cmp_total, name_cmp-IsAntisymmetric}
 use Rattle.model_maps.specs.Entry.{Entry, Meta}
 use Rattle.model_maps.specs.KeyMap.{KeyMap, no_keys, weight, weight_of_key, heaviest_map}
 use Rattle.model_dump.specs.Record.{Record, KeyKind, ending}
 use Rattle.model_dump.specs.Adds.{Progress, Adds}
 use Rattle.model_dump.specs.Dump.{Leads, Reads}
-use Rattle.model_dump.specs.Text.{relative_text, record_of_meta, records_of_key, records_of, text}
+use Rattle.model_dump.specs.Text.{record_of_meta, records_of_key, records_of, text}
 use Rattle.model_maps.specs.Limits.{IsLimitedMeta, IsLimitedKey, IsLimited}
 use Rattle.general_words.proofs.Maps.{get-insert_same, insert-insert}
 use Rattle.general_words.proofs.Fronts.{next_is_new, next_is_there, next_joins, none_left, all_left, sum_by-front}
-use Rattle.model_dump.proofs.MapLemmas.{weight-insert}
+use Rattle.model_maps.proofs.MapLemmas.{weight-insert}
 use Rattle.model_dump.proofs.AddsOnce.{Adds-once}
 use Rattle.model_dump.proofs.Readings.{Reads-once}
 
@@ -29,18 +25,6 @@ use Rattle.model_dump.proofs.Readings.{Reads-once}
 pub Leads-append : (Step : Progress → Record → Progress → Type 0) (rs ss : List Record) (before middle after : Progress) → Leads Step before rs middle → Leads Step middle ss after → Leads Step before (rs ++ ss) after
 Leads-append Step [] ss before middle after p q = subst (λ b. Leads Step b ss after) (sym p) q
 Leads-append Step (r ∷ rs) ss before middle after p q = (p.0, p.1, p.2, Leads-append Step rs ss p.0 middle after p.3 q)
-
--- the first byte of a path is the slash that a file leaves out
-path-slash : (parts : List Part) → path_of_parts parts ≡ 47 ∷ drop 1 (path_of_parts parts)
-path-slash [] = refl
-path-slash (part ∷ parts) = refl
-
--- with it before it, the relative text of a cascading name is its spelling
-pub relative_text-spelling : (name : Name) → name.namespace ≡ Cascading → spelling name ≡ 47 ∷ relative_text name
-relative_text-spelling name cascading = ap (λ (n : Namespace). word_of n ++ path name) cascading ∙ path-slash name.parts
-
-length-relative_text : (name : Name) → IsName name → length (relative_text name) ≤ longest_path
-length-relative_text name is = let limit = is.limit in omega (arith, length-drop 1 (path name))
 
 -- how far a dump was read when the present key had a part of its metadata
 abbrev at : KeyMap → Name → List ℕ → Meta → Progress
@@ -92,7 +76,7 @@ key_adds : (before : KeyMap) (name : Name) (entry : Entry) (present : Option Nam
 key_adds before name entry present new limited light = record {
   adds = record {
     name = name;
-    spelled = subst (λ t. Spells t name) (relative_text-spelling name limited.cascading) (spelling_spells name limited.is_name);
+    spelled = relative_text-spells name limited.is_name limited.cascading;
     is_new = new;
     is_value = limited.is_value;
     added = refl;

@@ -1,16 +1,12 @@
 -- The one text of a map as a dump. (This project's own, made after Elektra's dump storage.)
-use Rattle.std.specs.Prelude.{ℕ, List, [], ◌∷◌, ◌++◌, drop, map}
+use Rattle.std.specs.Prelude.{ℕ, List, [], ◌∷◌, ◌++◌, map}
 use Rattle.std.specs.FinMap as finite
 use Rattle.std.specs.List.{flat_map}
 use Rattle.model_names.specs.Name.{Name}
-use Rattle.model_names.specs.Spelling.{path}
+use Rattle.model_names.specs.Spelling.{relative_text}
 use Rattle.model_maps.specs.Entry.{Entry}
 use Rattle.model_maps.specs.KeyMap.{KeyMap}
 use Rattle.model_dump.specs.Record.{Record, KeyKind, MetaKind, spelled_record, header, ending}
-
--- a name as a file has it: its path without the first slash
-abbrev pub relative_text : Name → List ℕ
-relative_text name = drop 1 (path name)
 
 -- a metadata name and its text
 abbrev pub record_of_meta : List ℕ × List ℕ → Record

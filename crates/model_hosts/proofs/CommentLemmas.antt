@@ -21,7 +21,8 @@ use Rattle.general_words.proofs.Texts.{text_cmp-IsAntisymmetric}
 use Rattle.model_maps.specs.Entry.{Meta, IsValue, IsMetaName}
 use Rattle.model_maps.proofs.ArrayLemmas.{array_texts-items, array_texts-all}
 use Rattle.model_maps.specs.Limits.{IsLimitedMeta}
-use Rattle.model_lines.proofs.MapFacts.{found_in_insert, get-insert_same}
+use Rattle.general_words.proofs.Maps.{get-insert_same}
+use Rattle.model_maps.proofs.MapLemmas.{found_in_insert}
 use Rattle.model_hosts.specs.Comments.{comment_name, comments_from, comments, texts_of}
 
 -- ---- the names of comments

@@ -21,7 +21,8 @@ use Rattle.model_lines.specs.Lines.{lines}
 use Rattle.model_lines.proofs.EachKey.{EachHas-no_keys, EachHas-insert, found_in_grown}
 use Rattle.model_lines.proofs.Leading.{IsFunctional, IsDecided, Leads-kept}
 use Rattle.model_lines.proofs.LineLemmas.{IsInLine, lines-in_line}
-use Rattle.model_lines.proofs.MapFacts.{get-insert_same, weight-no_keys}
+use Rattle.general_words.proofs.Maps.{get-insert_same}
+use Rattle.model_maps.proofs.MapLemmas.{weight-no_keys}
 use Rattle.model_lines.proofs.Telling.{IsTold, IsFound, both-told, either-told, le-told, none-told, texts-told, all-told, utf8-told, value-told, name-told, meta-told}
 use Rattle.model_hosts.specs.Line.{Meaning, Skipped, Comment, Gives, Unreadable, meaning}
 use Rattle.model_hosts.specs.Comments.{comments, texts_of}

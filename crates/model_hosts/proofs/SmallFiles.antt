@@ -13,11 +13,11 @@ use Rattle.model_names.proofs.OrderLemmas.{name_cmp_total, name_cmp-IsAntisymmet
 use Rattle.model_names.proofs.PartLemmas.{text_from_test}
 use Rattle.model_names.proofs.SpellsLemmas.{is_ascii_text_byte, Spells-from_tests}
 use Rattle.general_words.specs.Texts.{text_cmp}
-use Rattle.general_words.proofs.Maps.{sum_by-insert, sum_by-empty}
+use Rattle.general_words.proofs.Maps.{sum_by-insert, sum_by-empty, insert-insert, get-insert_same}
 use Rattle.model_maps.specs.Entry.{Entry, plain_entry, meta_bytes}
 use Rattle.model_maps.specs.KeyMap.{KeyMap, no_keys, weight, heaviest_map}
 use Rattle.model_lines.proofs.EachKey.{found_nowhere, found_in_grown}
-use Rattle.model_lines.proofs.MapFacts.{insert-insert, get-insert_same, weight-insert, weight-no_keys, weight_of_key-plain, IsValue-from_ascii}
+use Rattle.model_maps.proofs.MapLemmas.{weight-insert, weight-no_keys, weight_of_key-plain, IsValue-from_ascii}
 use Rattle.model_hosts.specs.Line.{Meaning, Comment, Gives, meaning}
 use Rattle.model_hosts.specs.Comments.{comment_name, comments, comments_from}
 use Rattle.model_hosts.specs.Keys.{host_name, alias_name, IsHostKey, IsAliasKey, IsHostsKey}

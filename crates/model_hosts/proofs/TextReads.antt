@@ -12,7 +12,7 @@ use Rattle.model_maps.specs.Limits.{IsLimitedKey, IsLimited}
 use Rattle.model_lines.specs.Reading.{Leads}
 use Rattle.model_lines.proofs.Leading.{Leads-append}
 use Rattle.model_lines.proofs.LineLemmas.{IsInLine, lines-ended}
-use Rattle.model_lines.proofs.MapFacts.{next_is_new, next_is_there, next_joins, none_left, all_left, sum_by-front}
+use Rattle.general_words.proofs.Fronts.{next_is_new, next_is_there, next_joins, none_left, all_left, sum_by-front}
 use Rattle.model_hosts.specs.Comments.{texts_of}
 use Rattle.model_hosts.specs.Keys.{family, host_name, alias_name, IsWord, IsHostKey, IsAliasKey, IsStorable}
 use Rattle.model_hosts.specs.Hosts.{Progress, start, host_entry, with_aliases, Step, Reads}

@@ -14,7 +14,7 @@ use Rattle.model_lines.specs.Lines.{lines}
 use Rattle.model_lines.proofs.Leading.{IsFunctional, IsDecided, Leads-kept}
 use Rattle.model_lines.proofs.LineLemmas.{lines-in_line, IsInLine}
 use Rattle.model_lines.proofs.EachKey.{EachHas-no_keys, EachHas-insert}
-use Rattle.model_lines.proofs.MapFacts.{weight-no_keys}
+use Rattle.model_maps.proofs.MapLemmas.{weight-no_keys}
 use Rattle.model_lines.proofs.Telling.{IsTold, IsFound, both-told, le-told, none-told, utf8-told, value-told, spelled-told, meta-told}
 use Rattle.model_ini.specs.Line.{Meaning, Skipped, Pair, Unreadable, meaning}
 use Rattle.model_ini.specs.Ini.{AddsKey, Does, Step, Reads, IsIniKey, IsStorable}

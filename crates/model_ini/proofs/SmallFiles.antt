@@ -11,8 +11,8 @@ use Rattle.model_names.proofs.PartLemmas.{text_from_test}
 use Rattle.model_names.proofs.SpellsLemmas.{is_ascii_text_byte, Spells-once, Spells-from_tests}
 use Rattle.model_maps.specs.Entry.{Entry, plain_entry}
 use Rattle.model_maps.specs.KeyMap.{KeyMap, no_keys}
-use Rattle.model_dump.proofs.SmallDumps.{name_a, plain_a, plain_a_has, plain_a_weighs}
-use Rattle.model_lines.proofs.MapFacts.{IsValue-from_ascii}
+use Rattle.model_maps.proofs.SmallMaps.{name_a, plain_a, plain_a_has, plain_a_weighs}
+use Rattle.model_maps.proofs.MapLemmas.{IsValue-from_ascii}
 use Rattle.model_ini.specs.Line.{Skipped, Pair, meaning}
 use Rattle.model_ini.specs.Ini.{AddsKey, Does, Step}
 

@@ -6,17 +6,17 @@ use Rattle.std.specs.List.{AllByRecursion}
 use Rattle.std.specs.Str.{IsUtf8}
 use Rattle.model_names.specs.declared.namespaces.Namespace.TheVariants.{Cascading}
 use Rattle.model_names.specs.Name.{Name}
-use Rattle.model_names.specs.Spells.{Spells}
 use Rattle.model_names.specs.WellFormed.{IsName}
-use Rattle.model_names.proofs.NameLemmas.{spelling_spells, one_spelling}
+use Rattle.model_names.proofs.NameLemmas.{one_spelling, relative_text-spelling, relative_text-spells}
 use Rattle.model_names.proofs.OrderLemmas.{name_cmp_total}
 use Rattle.model_maps.specs.Entry.{Entry, plain_entry}
 use Rattle.model_maps.specs.KeyMap.{KeyMap, no_keys, weight, weight_of_key, heaviest_map}
 use Rattle.model_maps.specs.Limits.{IsLimitedKey, IsLimited}
-use Rattle.model_dump.specs.Text.{relative_text}
+use Rattle.model_names.specs.Spelling.{relative_text}
 use Rattle.model_lines.specs.Reading.{Leads}
 use Rattle.model_lines.proofs.LineLemmas.{IsInLine, lines-ended}
-use Rattle.model_lines.proofs.MapFacts.{next_is_new, next_is_there, next_joins, none_left, all_left, sum_by-front, weight-insert, relative_text-spelling}
+use Rattle.general_words.proofs.Fronts.{next_is_new, next_is_there, next_joins, none_left, all_left, sum_by-front}
+use Rattle.model_maps.proofs.MapLemmas.{weight-insert}
 use Rattle.model_lines.proofs.Utf8Lemmas.{utf8-behind}
 use Rattle.model_ini.specs.Ini.{AddsKey, Does, Step, Reads, IsIniKey, IsStorable}
 use Rattle.model_ini.specs.Text.{line_of, text}
@@ -43,9 +43,6 @@ below-filled name is cascading below = by (relative_text name) refl
         let same : name ≡ root = one_spelling name root is root-is_name (relative_text-spelling name cascading ∙ ap (λ t. 47 ∷ t) e) in
         absurd (below (ap (λ (n : Name). n.parts) same))
     by (b ∷ bytes) e = tt
-
-relative_text-spells : (name : Name) → IsName name → name.namespace ≡ Cascading → Spells (47 ∷ relative_text name) name
-relative_text-spells name is cascading = subst (λ t. Spells t name) (relative_text-spelling name cascading) (spelling_spells name is)
 
 relative_text-utf8 : (name : Name) → IsName name → name.namespace ≡ Cascading → IsUtf8 (relative_text name)
 relative_text-utf8 name is cascading = utf8-behind 47 [] (relative_text name) (lit< tt) (relative_text-spells name is cascading).utf8

@@ -3,7 +3,7 @@ use Rattle.std.specs.Prelude.{ℕ, true, ◌||◌, ◌==◌, if◌then◌else◌
 use Rattle.std.specs.FinMap as finite
 use Rattle.std.specs.List.{flat_map}
 use Rattle.model_maps.specs.KeyMap.{KeyMap}
-use Rattle.model_dump.specs.Text.{relative_text}
+use Rattle.model_names.specs.Spelling.{relative_text}
 use Rattle.model_lines.specs.Lines.{ended}
 use Rattle.model_formats.specs.Format.{Format}
 use Rattle.model_ini.specs.declared.signs.Sign.{Sign}

@@ -14,7 +14,7 @@ use Rattle.model_maps.specs.Limits.{IsLimited}
 use Rattle.model_formats.specs.Format.{IsLawful}
 use Rattle.model_formats.proofs.HoldingLemmas.{EachHas-entries}
 use Rattle.model_lines.proofs.EachKey.{found_nowhere, EachHas-no_keys}
-use Rattle.model_lines.proofs.MapFacts.{weight-no_keys}
+use Rattle.model_maps.proofs.MapLemmas.{weight-no_keys}
 use Rattle.json.specs.Json.{value}
 use Rattle.json.specs.Lex.{lex, punctuate}
 use Rattle.serde_json.specs.Data.{Data, object}

@@ -8,7 +8,8 @@ use Rattle.model_names.proofs.OrderLemmas.{name_cmp_total, name_cmp-IsAntisymmet
 use Rattle.model_maps.specs.Entry.{Entry}
 use Rattle.model_maps.specs.KeyMap.{KeyMap, no_keys}
 use Rattle.model_formats.specs.Holding.{EachHas}
-use Rattle.model_lines.proofs.MapFacts.{found_in_insert, get-insert_same}
+use Rattle.general_words.proofs.Maps.{get-insert_same}
+use Rattle.model_maps.proofs.MapLemmas.{found_in_insert}
 
 pub found_nowhere : (name : Name) (entry : Entry) → finite.get no_keys name ≡ Some entry → ⊥
 found_nowhere name entry found = let none : ◌≡◌ {A = Option Entry} None (Some entry) = sym (finite.get-empty name_cmp name) ∙ found in absurd cc

@@ -1,4 +1,3 @@
-pub mod MapFacts
 pub mod AllLemmas
 pub mod LineLemmas
 pub mod Leading

@@ -1,2 +1,4 @@
 pub mod ArrayLemmas
 pub mod TogetherLemmas
+pub mod MapLemmas
+pub mod SmallMaps

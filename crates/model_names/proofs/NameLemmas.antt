@@ -1,6 +1,6 @@
 -- The canonical spelling of a well-formed name spells it, and what a text spells is well formed.
-use Rattle.std.specs.Prelude.{◌≡◌, ◌≢◌, ℕ, ◌<◌, true, false, ◌||◌, ◌==◌, List, [], ◌∷◌, ◌++◌, length, map, Option, Some, option_and_then, codes, encode_utf8, encode_utf8_all}
-use Rattle.std.proofs.Common.{refl, sym, ap, subst, ◌∙◌, inl, inr, arith, lit<, append_assoc}
+use Rattle.std.specs.Prelude.{◌≡◌, ◌≢◌, ℕ, ◌<◌, ◌≤◌, true, false, ◌||◌, ◌==◌, List, [], ◌∷◌, ◌++◌, length, drop, map, Option, Some, option_and_then, codes, encode_utf8, encode_utf8_all}
+use Rattle.std.proofs.Common.{refl, sym, ap, subst, ◌∙◌, inl, inr, arith, lit<, append_assoc, length-drop}
 use Rattle.std.specs.List.{AllByRecursion, flat_map, onto_first}
 use Rattle.std.specs.Option.{option_map}
 use Rattle.std.specs.Str.{IsUtf8, all_scalars}
@@ -15,9 +15,9 @@ use Rattle.model_names.specs.ArrayPart.{is_array_like, canonical_part}
 use Rattle.model_names.specs.Name.{Name, Part}
 use Rattle.model_names.specs.RawParts.{raw_parts, raw_parts_from, put_before}
 use Rattle.model_names.specs.Refuses.{begins_with_slash}
-use Rattle.model_names.specs.Spells.{Spells, Adds, walked, moved, meaning, part_of_text, unescaped}
+use Rattle.model_names.specs.Spells.{Spells, Adds, longest_path, walked, moved, meaning, part_of_text, unescaped}
 use Rattle.general_words.specs.Texts.{is_text}
-use Rattle.model_names.specs.Spelling.{spelling, spelled, escaped, is_reserved, word_of, path_of_parts}
+use Rattle.model_names.specs.Spelling.{spelling, spelled, escaped, is_reserved, word_of, path, path_of_parts, relative_text}
 use Rattle.model_names.specs.WellFormed.{IsName, IsPart}
 use Rattle.model_names.proofs.ArrayLemmas.{canonical_part-own}
 use Rattle.model_names.proofs.EscapeLemmas.{flat_map-escaped-letter}
@@ -302,3 +302,20 @@ path_begins (part ∷ parts) = refl
 -- the spelling of a cascading name begins with a slash
 pub cascading_begins : (name : Name) → name.namespace ≡ Cascading → begins_with_slash (spelling name) ≡ true
 cascading_begins name e = ap (λ n. begins_with_slash (word_of n ++ path_of_parts name.parts)) e ∙ path_begins name.parts
+
+-- ---- a name as a file has it
+
+-- the first byte of a path is the slash that a file leaves out
+path-slash : (parts : List Part) → path_of_parts parts ≡ 47 ∷ drop 1 (path_of_parts parts)
+path-slash [] = refl
+path-slash (part ∷ parts) = refl
+
+-- with it before it, the relative text of a cascading name is its spelling
+pub relative_text-spelling : (name : Name) → name.namespace ≡ Cascading → spelling name ≡ 47 ∷ relative_text name
+relative_text-spelling name cascading = ap (λ (n : Namespace). word_of n ++ path name) cascading ∙ path-slash name.parts
+
+pub relative_text-spells : (name : Name) → IsName name → name.namespace ≡ Cascading → Spells (47 ∷ relative_text name) name
+relative_text-spells name is cascading = subst (λ t. Spells t name) (relative_text-spelling name cascading) (spelling_spells name is)
+
+pub length-relative_text : (name : Name) → IsName name → length (relative_text name) ≤ longest_path
+length-relative_text name is = let limit = is.limit in omega (arith, length-drop 1 (path name))

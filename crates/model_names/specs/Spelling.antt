@@ -1,5 +1,5 @@
 -- The one canonical text of a name. (After Elektra's page on key names; the escapes are this project's own.)
-use Rattle.std.specs.Prelude.{ℕ, Bool, ◌||◌, ◌==◌, if◌then◌else◌, List, [], ◌∷◌, ◌++◌, length, codes}
+use Rattle.std.specs.Prelude.{ℕ, Bool, ◌||◌, ◌==◌, if◌then◌else◌, List, [], ◌∷◌, ◌++◌, length, drop, codes}
 use Rattle.std.specs.List.{flat_map}
 use Rattle.model_names.specs.declared.namespaces.Namespace.{Namespace}
 use Rattle.model_names.specs.declared.namespaces.Namespace.TheVariants.{Cascading, Spec, Proc, Dir, User, System, Default}
@@ -40,3 +40,7 @@ path name = path_of_parts name.parts
 -- the canonical spelling of a name
 abbrev pub spelling : Name → List ℕ
 spelling name = word_of name.namespace ++ path name
+
+-- a name as a file has it, whose names have no namespace: its path without the first slash
+abbrev pub relative_text : Name → List ℕ
+relative_text name = drop 1 (path name)

@@ -3,7 +3,8 @@ use Rattle.std.proofs.Common.{◌≡◌, ◌++◌, List, ℕ, ap, sym, ◌∙◌
 use Rattle.std.specs.FinMap as map
 use Rattle.std.specs.List.{flat_map}
 use Rattle.model_dump.specs.Record.{KeyKind, Record, spelled_record}
-use Rattle.model_dump.specs.Text.{relative_text, record_of_meta, records_of_key}
+use Rattle.model_names.specs.Spelling.{relative_text}
+use Rattle.model_dump.specs.Text.{record_of_meta, records_of_key}
 use Rattle.key_set.specs.EntryView.{entry_of}
 use Rattle.dump_storage.proofs.WritingLemmas.{OnOk-then, spelled_metadata}
 use Rattle.dump_storage.proofs.writing.push_key.Goals as goal

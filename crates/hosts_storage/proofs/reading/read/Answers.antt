@@ -3,7 +3,7 @@ use Rattle.std.proofs.Common.{sym, ap, subst, arith}
 use Rattle.model_maps.specs.KeyMap.{weight}
 use Rattle.model_formats.specs.Holding.{EachHas}
 use Rattle.model_lines.proofs.EachKey.{EachHas-no_keys}
-use Rattle.model_lines.proofs.MapFacts.{weight-no_keys}
+use Rattle.model_maps.proofs.MapLemmas.{weight-no_keys}
 use Rattle.model_hosts.specs.Hosts.{Progress, start, Step}
 use Rattle.hosts_storage.specs.WeighedView.{IsPlainAlias}
 use Rattle.hosts_storage.specs.ProgressView.{progress_of, LeadsBy}

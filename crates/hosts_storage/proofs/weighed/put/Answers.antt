@@ -6,7 +6,7 @@ use Rattle.key_set.specs.EntryView.{entry_of}
 use Rattle.model_maps.specs.KeyMap.{weight}
 use Rattle.model_formats.specs.Holding.{EachHas}
 use Rattle.model_lines.proofs.EachKey.{EachHas-insert}
-use Rattle.model_lines.proofs.MapFacts.{weight-insert}
+use Rattle.model_maps.proofs.MapLemmas.{weight-insert}
 use Rattle.file_lines.proofs.Lookups.{new-by_test, found-by_test}
 use Rattle.hosts_storage.specs.WeighedView.{IsPlainAlias}
 use Rattle.hosts_storage.proofs.WeighedLemmas.{insert-there}

@@ -1,7 +1,7 @@
 -- Each turn reads one line more, or stops at the first that has no reading.
 use Rattle.std.proofs.Common.{sym, ap, subst, ◌∙◌, arith}
 use Rattle.model_maps.specs.KeyMap.{KeyMap, no_keys, weight}
-use Rattle.model_lines.proofs.MapFacts.{weight-no_keys}
+use Rattle.model_maps.proofs.MapLemmas.{weight-no_keys}
 use Rattle.ini_storage.specs.Steps.{Steps}
 use Rattle.file_lines.proofs.Reading.{HasRead, HasRead-start, HasRead-more, HasRead-stops}
 use Rattle.model_ini.specs.Ini.{Step}

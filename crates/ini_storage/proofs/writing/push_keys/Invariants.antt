@@ -1,6 +1,6 @@
 -- The keys so far were appended, and the text of those that are left follows.
 use Rattle.std.proofs.Common.{◌≡◌, ◌++◌, map}
-use Rattle.model_dump.specs.Text.{relative_text}
+use Rattle.model_names.specs.Spelling.{relative_text}
 use Rattle.model_lines.specs.Lines.{ended}
 use Rattle.model_ini.specs.Text.{line_of, text}
 use Rattle.ini_storage.proofs.writing.push_keys.Given as goal

@@ -1,5 +1,5 @@
 use Rattle.std.proofs.Common.{arith}
-use Rattle.model_lines.proofs.MapFacts.{weight_of_key-plain}
+use Rattle.model_maps.proofs.MapLemmas.{weight_of_key-plain}
 use Rattle.json_storage.proofs.found.weight_of.Goals as goal
 
 pub returns : goal.returns

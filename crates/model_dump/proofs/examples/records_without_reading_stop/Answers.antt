@@ -16,8 +16,9 @@ use Rattle.model_dump.specs.Adds.{Progress, start, Adds}
 use Rattle.model_dump.specs.Dump.{Begins, Inside}
 use Rattle.model_dump.proofs.Begins.{Begins-start, Begins-more}
 use Rattle.general_words.proofs.Maps.{get-insert_same, insert-insert}
-use Rattle.model_dump.proofs.MapLemmas.{weight-insert, weight-no_keys, weight_of_key-plain, weight_of_key-meta, IsValue-from_ascii}
-use Rattle.model_dump.proofs.SmallDumps.{small, name_a, plain_a, record_a, after_a, spells_a, plain_a_has, adds_a, HasNoNext-record}
+use Rattle.model_maps.proofs.MapLemmas.{weight-insert, weight-no_keys, weight_of_key-plain, weight_of_key-meta, IsValue-from_ascii}
+use Rattle.model_maps.proofs.SmallMaps.{name_a, plain_a, plain_a_has}
+use Rattle.model_dump.proofs.SmallDumps.{small, record_a, after_a, spells_a, adds_a, HasNoNext-record}
 use Rattle.model_dump.proofs.examples.records_without_reading_stop.Goals as goal
 use Rattle.general_words.proofs.Lists.{some_is, none_is_no_some}
 

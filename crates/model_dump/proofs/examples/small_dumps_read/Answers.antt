@@ -16,9 +16,10 @@ use Rattle.model_dump.specs.Record.{Record, KeyKind, MetaKind, CopyKind}
 use Rattle.model_dump.specs.Adds.{Progress, start, Adds}
 use Rattle.model_dump.specs.Dump.{Leads}
 use Rattle.model_dump.proofs.Begins.{Begins-start}
-use Rattle.model_dump.proofs.SmallDumps.{small, name_a, plain_a, record_a, after_a, plain_a_has, adds_a}
+use Rattle.model_maps.proofs.SmallMaps.{name_a, plain_a, plain_a_has}
+use Rattle.model_dump.proofs.SmallDumps.{small, record_a, after_a, adds_a}
 use Rattle.general_words.proofs.Maps.{insert-insert}
-use Rattle.model_dump.proofs.MapLemmas.{weight-insert, weight-no_keys, weight_of_key-plain, weight_of_key-meta, IsValue-from_ascii}
+use Rattle.model_maps.proofs.MapLemmas.{weight-insert, weight-no_keys, weight_of_key-plain, weight_of_key-meta, IsValue-from_ascii}
 use Rattle.model_dump.proofs.examples.small_dumps_read.Goals as goal
 
 pub returns-clause-no_line_feed : goal.returns-clause-no_line_feed

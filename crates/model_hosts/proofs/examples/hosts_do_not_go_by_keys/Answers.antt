@@ -2,7 +2,7 @@ use Rattle.std.specs.Prelude.{[], codes}
 use Rattle.model_names.proofs.OrderLemmas.{name_cmp_total}
 use Rattle.model_maps.specs.Entry.{plain_entry}
 use Rattle.model_maps.specs.KeyMap.{no_keys}
-use Rattle.model_lines.proofs.MapFacts.{get-insert_same}
+use Rattle.general_words.proofs.Maps.{get-insert_same}
 use Rattle.model_hosts.proofs.HostsLemmas.{Reads-storable}
 use Rattle.model_hosts.proofs.SmallFiles.{alias_b, a_and_b, entry_reads, alias_b_alone}
 use Rattle.model_hosts.proofs.examples.hosts_do_not_go_by_keys.Goals as goal

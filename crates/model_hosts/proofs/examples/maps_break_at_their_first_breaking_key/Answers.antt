@@ -6,7 +6,7 @@ use Rattle.model_names.specs.Order.{name_cmp}
 use Rattle.model_names.proofs.OrderLemmas.{name_cmp_total}
 use Rattle.model_maps.specs.Entry.{Entry, plain_entry}
 use Rattle.model_maps.specs.KeyMap.{no_keys}
-use Rattle.model_lines.proofs.MapFacts.{entries-empty}
+use Rattle.general_words.proofs.Maps.{entries-empty}
 use Rattle.model_hosts.specs.Keys.{host_name, IsHostKey, IsAliasKey}
 use Rattle.model_hosts.proofs.SmallFiles.{alias_b, alias_b_alone}
 use Rattle.model_hosts.proofs.examples.maps_break_at_their_first_breaking_key.Goals as goal

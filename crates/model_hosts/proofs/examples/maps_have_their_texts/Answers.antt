@@ -8,7 +8,7 @@ use Rattle.model_names.proofs.OrderLemmas.{name_cmp_total}
 use Rattle.model_maps.specs.Entry.{Entry, plain_entry}
 use Rattle.model_maps.specs.KeyMap.{KeyMap, no_keys}
 use Rattle.model_lines.specs.Lines.{ended}
-use Rattle.model_lines.proofs.MapFacts.{entries-empty}
+use Rattle.general_words.proofs.Maps.{entries-empty}
 use Rattle.model_hosts.specs.Comments.{comments, texts_of}
 use Rattle.model_hosts.specs.Keys.{host_name, alias_name}
 use Rattle.model_hosts.specs.Hosts.{host_entry}

@@ -4,7 +4,7 @@ use Rattle.std.specs.Str.{is_utf8, chars}
 use Rattle.std.proofs.Common.{refl, lit≤}
 use Rattle.model_names.proofs.SpellsLemmas.{Spells-from_tests}
 use Rattle.model_maps.specs.KeyMap.{no_keys}
-use Rattle.model_dump.proofs.SmallDumps.{name_a, plain_a}
+use Rattle.model_maps.proofs.SmallMaps.{name_a, plain_a}
 use Rattle.model_lines.proofs.Utf8Lemmas.{not_utf8}
 use Rattle.model_ini.proofs.SmallFiles.{adds_a, adds_a-once, adds_no_root, skips, enters}
 use Rattle.model_ini.proofs.examples.files_are_bad_at_their_first_bad_line.Goals as goal

@@ -9,7 +9,7 @@ use Rattle.model_names.proofs.OrderLemmas.{name_cmp_total}
 use Rattle.general_words.specs.Texts.{text_cmp}
 use Rattle.model_maps.specs.Entry.{Entry, Meta, plain_entry}
 use Rattle.model_maps.specs.KeyMap.{KeyMap, no_keys}
-use Rattle.model_lines.proofs.MapFacts.{entries-empty, get-insert_same}
+use Rattle.general_words.proofs.Maps.{entries-empty, get-insert_same}
 use Rattle.model_ini.proofs.examples.maps_break_at_their_first_breaking_key.Goals as goal
 
 abbrev named : List ℕ → Name

@@ -7,9 +7,9 @@ use Rattle.model_names.specs.Order.{name_cmp}
 use Rattle.model_names.proofs.OrderLemmas.{name_cmp_total}
 use Rattle.model_maps.specs.Entry.{Entry, plain_entry}
 use Rattle.model_maps.specs.KeyMap.{KeyMap, no_keys}
-use Rattle.model_dump.specs.Text.{relative_text}
+use Rattle.model_names.specs.Spelling.{relative_text}
 use Rattle.model_lines.specs.Lines.{ended}
-use Rattle.model_lines.proofs.MapFacts.{entries-empty}
+use Rattle.general_words.proofs.Maps.{entries-empty}
 use Rattle.model_ini.specs.Text.{line_of}
 use Rattle.model_ini.proofs.examples.maps_have_their_texts.Goals as goal
 

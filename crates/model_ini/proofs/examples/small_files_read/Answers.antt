@@ -2,7 +2,7 @@ use Rattle.std.specs.Prelude.{[], codes}
 use Rattle.std.proofs.Common.{refl, lit≤}
 use Rattle.model_names.proofs.SpellsLemmas.{Spells-from_tests}
 use Rattle.model_maps.specs.KeyMap.{no_keys}
-use Rattle.model_dump.proofs.SmallDumps.{name_a, plain_a}
+use Rattle.model_maps.proofs.SmallMaps.{name_a, plain_a}
 use Rattle.model_ini.proofs.SmallFiles.{adds_a, skips, enters}
 use Rattle.model_ini.proofs.examples.small_files_read.Goals as goal
 

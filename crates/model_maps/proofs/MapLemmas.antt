@@ -1,7 +1,11 @@
--- Maps of keys: what they weigh, and a key that is inserted again.
-use Rattle.std.specs.Prelude.{◌≡◌, ℕ, ◌+◌, ◌<◌, ◌≤◌, List, length, None}
-use Rattle.std.proofs.Common.{arith}
+-- Maps of keys: what they hold behind an insertion, and what they weigh.
+use Rattle.std.specs.Prelude.{◌≡◌, ◌⊎◌, ℕ, ◌+◌, ◌<◌, ◌≤◌, Bool, true, false, List, length, Option, None, Some}
+use Rattle.std.proofs.Common.{cond, refl, sym, ◌∙◌, arith, inl, inr}
 use Rattle.std.specs.FinMap as map
+use Rattle.std.specs.FinMap.{FinMap, IsAntisymmetric}
+use Rattle.std.specs.Cmp.{IsTotalOrder}
+use Rattle.std.specs.Ordering.{eq_by_cmp}
+use Rattle.std.specs.declared.cmp.Ordering.{Ordering}
 use Rattle.std.specs.List.{AllByRecursion}
 use Rattle.std.proofs.lemmas.List.Elements.{All-from_recursion}
 use Rattle.std.proofs.lemmas.Cmp.{nat_list_cmp_total}
@@ -11,10 +15,25 @@ use Rattle.model_names.specs.Name.{Name}
 use Rattle.model_names.specs.Order.{name_cmp}
 use Rattle.model_names.proofs.OrderLemmas.{name_cmp_total}
 use Rattle.general_words.specs.Texts.{text_cmp}
+use Rattle.general_words.proofs.Orders.{tied}
 use Rattle.model_maps.specs.Entry.{Entry, plain_entry, IsValue, longest_value, with_meta}
 use Rattle.model_names.specs.Spelling.{spelling}
 use Rattle.general_words.proofs.Maps.{sum_by-insert, sum_by-empty}
 use Rattle.model_maps.specs.KeyMap.{KeyMap, no_keys, key_weight, weight, weight_of_key}
+
+-- one of two holds what a choice of them holds
+chosen : {A : Type 0} (b : Bool) (v x : A) (rest : Option A) → cond b (Some v) rest ≡ Some x → ((b ≡ true) × (v ≡ x)) ⊎ (rest ≡ Some x)
+chosen true v x rest e = inl (refl, cc)
+chosen false v x rest e = inr e
+
+-- what a map holds after an insertion is what was inserted, or stood there before
+pub found_in_insert : {K X : Type 0} {R : K → K → Ordering} → IsTotalOrder R → IsAntisymmetric R → (m : FinMap R X) (k : K) (v : X) (q : K) (x : X) → map.get (map.insert m k v) q ≡ Some x → ((q ≡ k) × (v ≡ x)) ⊎ (map.get m q ≡ Some x)
+found_in_insert {X = X} {R = R} total same m k v q x e =
+    let which : ((eq_by_cmp R q k ≡ true) × (v ≡ x)) ⊎ (map.get m q ≡ Some x) = chosen (eq_by_cmp R q k) v x (map.get m q) (sym (map.get-insert total m k v q) ∙ e) in
+    elim which as (λ _. ((q ≡ k) × (v ≡ x)) ⊎ (map.get m q ≡ Some x)) [
+      | inl here ↦ inl (same q k (tied (R q k) here.0), here.1)
+      | inr there ↦ inr there
+    ]
 
 -- a new key's own weight is added
 pub weight-insert : (keys : KeyMap) (name : Name) (entry : Entry) → map.get keys name ≡ None → weight (map.insert keys name entry) ≡ weight keys + weight_of_key name entry
