@@ -1,6 +1,6 @@
 -- A plain path: what stands between its slashes are the parts that it leads to, and it is spelled as it is.
-use Rattle.std.proofs.Common.{◌≡◌, ◌≢◌, ℕ, ◌+◌, ◌<◌, nat_lt, inl, inr, Bool, true, false, true≢false, cond, not, ◌==◌, ◌&&◌, ◌||◌, List, [], ◌∷◌, ◌++◌, length, drop, codes, Some, None, option_and_then, refl, sym, ap, ap₂, subst, ◌∙◌, arith, append_assoc, length-append}
-use Rattle.std.specs.List.{AllByRecursion, flat_map, onto_first, position, position_or_len}
+use Rattle.std.proofs.Common.{◌≡◌, ◌≢◌, ℕ, ◌+◌, ◌<◌, nat_lt, inl, inr, Bool, true, false, cond, not, ◌==◌, ◌&&◌, ◌||◌, List, [], ◌∷◌, ◌++◌, length, drop, codes, Some, None, option_and_then, refl, sym, ap, ap₂, subst, ◌∙◌, arith, append_assoc, length-append}
+use Rattle.std.specs.List.{AllByRecursion, flat_map, list_all, onto_first, position, position_or_len}
 use Rattle.std.specs.Option.{option_map}
 use Rattle.std.specs.Str.{IsUtf8}
 use Rattle.std.proofs.lemmas.Bool.{and_left, and_parts, cases_Bool, cond-false, eqb-false, le-ltb, lt-ltb, ltb-false, ltb-true, ne_eqb, or_from, or_parts}
@@ -20,7 +20,7 @@ use Rattle.model_names.proofs.EscapeLemmas.{IsUnescaped, flat_map-escaped-same}
 use Rattle.model_names.proofs.NameLemmas.{spelled-text}
 use Rattle.model_names.proofs.PartLemmas.{IsText, slashed-raw_parts, text_from_test}
 use Rattle.model_names.proofs.ReadLemmas.{meaning-by_form, unescaped-plain}
-use Rattle.key_name.specs.Plain.{begins_plainly, fits, is_plain, is_plain_byte, is_plain_from, plain_parts}
+use Rattle.key_name.specs.Plain.{begins_plainly, is_plain, is_plain_byte, is_plain_part, plain_parts}
 use Rattle.key_name.specs.PartList.{between_slashes}
 use Rattle.key_name.proofs.SlashLemmas.{split_all}
 use Rattle.key_name.specs.Raws.{text_behind}
@@ -66,13 +66,12 @@ pub record IsOrdinary (raw : List ℕ) : Type 0 where
 -- by its first byte
 begun_plainly : (b : ℕ) (raw : List ℕ) → begins_plainly b ≡ true → IsOrdinary (b ∷ raw)
 begun_plainly b raw h =
-    let last = and_parts (not (b == 47) && not (b == 46) && not (b == 37)) (not (b == 35)) h in
-    let percent = and_parts (not (b == 47) && not (b == 46)) (not (b == 37)) last.0 in
-    let dot = and_parts (not (b == 47)) (not (b == 46)) percent.0 in
-    let no_dot = not_is (b == 46) dot.1 in
+    let last = and_parts (not (b == 46) && not (b == 37)) (not (b == 35)) h in
+    let first = and_parts (not (b == 46)) (not (b == 37)) last.0 in
+    let no_dot = not_is (b == 46) first.0 in
     record {
       filled = ne_eqb (length (b ∷ raw)) 0 (omega arith);
-      no_reserved = or_from _ _ (or_from _ _ (and_left (b == 37) _ (not_is (b == 37) percent.1)) (and_left (b == 46) _ no_dot)) (and_left (b == 46) _ no_dot);
+      no_reserved = or_from _ _ (or_from _ _ (and_left (b == 37) _ (not_is (b == 37) first.1)) (and_left (b == 46) _ no_dot)) (and_left (b == 46) _ no_dot);
       no_array = and_left (b == 35) _ (not_is (b == 35) last.1);
     }
 
@@ -132,49 +131,78 @@ utf8_behind namespace path h = subst IsUtf8 (joined_word (word_of namespace) pat
 pub no_nul_behind : (namespace : Namespace) (path : List ℕ) → AllByRecursion (λ b. 0 < b) path → AllByRecursion (λ b. 0 < b) (text_behind namespace path)
 no_nul_behind namespace path h = subst (AllByRecursion (λ b. 0 < b)) (joined_word (word_of namespace) path) (all_append (λ b. 0 < b) (word_of namespace ++ 47 ∷ []) path (text_of_word namespace).no_nul h)
 
--- ---- what one pass over the bytes tells
+-- ---- what the tests tell
 
--- the parts of a path; the first part of what is left of one behind the first byte of a part is looked at already
-abbrev AreOrdinary : Bool → List Part → Type 0
-AreOrdinary true parts = AllByRecursion IsOrdinary parts
-AreOrdinary false parts = AllByRecursion IsOrdinary (drop 1 parts)
+plain_bytes : (bytes : List ℕ) → list_all is_plain_byte bytes ≡ true → AllByRecursion IsPlainByte bytes
+plain_bytes [] h = tt
+plain_bytes (b ∷ bytes) h =
+    let tests = and_parts (is_plain_byte b) (list_all is_plain_byte bytes) h in
+    (plain_byte b tests.0, plain_bytes bytes tests.1)
 
-begun : (is_first is_slash : Bool) (b : ℕ) (parts : List Part) → (is_slash ≡ true → (b == 47) ≡ true) → (not is_first || begins_plainly b) ≡ true → AreOrdinary is_slash parts → AreOrdinary is_first (cond is_slash ([] ∷ parts) (onto_first b parts))
-begun true true b parts slash h o =
-    let last = and_parts (not (b == 47) && not (b == 46) && not (b == 37)) (not (b == 35)) h in
-    let percent = and_parts (not (b == 47) && not (b == 46)) (not (b == 37)) last.0 in
-    let dot = and_parts (not (b == 47)) (not (b == 46)) percent.0 in
-    absurd (true≢false (sym (slash refl) ∙ not_is (b == 47) dot.0))
-begun true false b [] slash h o = (begun_plainly b [] h, tt)
-begun true false b (part ∷ parts) slash h o = (begun_plainly b part h, o)
-begun false true b parts slash h o = o
-begun false false b [] slash h o = tt
-begun false false b (part ∷ parts) slash h o = o
+ordinary_parts : (parts : List Part) → list_all is_plain_part parts ≡ true → AllByRecursion IsOrdinary parts
+ordinary_parts [] h = tt
+ordinary_parts ([] ∷ parts) h = absurd cc
+ordinary_parts ((b ∷ part) ∷ parts) h =
+    let tests = and_parts (begins_plainly b) (list_all is_plain_part parts) h in
+    (begun_plainly b part tests.0, ordinary_parts parts tests.1)
 
-plain_from : (is_first : Bool) (bytes : List ℕ) → is_plain_from is_first bytes ≡ true → AllByRecursion IsPlainByte bytes × AreOrdinary is_first (between_slashes bytes)
-plain_from true [] h = absurd cc
-plain_from false [] h = (tt, tt)
-plain_from is_first (b ∷ bytes) h =
-    let tests = and_parts (fits is_first b) (is_plain_from (b == 47) bytes) h in
-    let byte = and_parts (is_plain_byte b) (not is_first || begins_plainly b) tests.0 in
-    let rest = plain_from (b == 47) bytes tests.1 in
-    ((plain_byte b byte.0, rest.0), begun is_first (b == 47) b (between_slashes bytes) (λ e. e) byte.1 rest.1)
+plain_tests : (path : List ℕ) → is_plain path ≡ true → AllByRecursion IsPlainByte path × AllByRecursion IsOrdinary (between_slashes path)
+plain_tests path h =
+    let tests = and_parts (list_all is_plain_byte path) (list_all is_plain_part (between_slashes path)) h in
+    (plain_bytes path tests.0, ordinary_parts (between_slashes path) tests.1)
+
+-- ---- one pass over the bytes makes them
+
+-- the parts whose first byte is still ahead, at the first byte of a part or behind it
+abbrev ahead : Bool → List Part → List Part
+ahead true parts = parts
+ahead false parts = drop 1 parts
+
+-- what is left of a path is plain
+abbrev pub plain_rest : Bool → List ℕ → Bool
+plain_rest is_first bytes = list_all is_plain_byte bytes && list_all is_plain_part (ahead is_first (between_slashes bytes))
+
+in_pairs : (a b c d : Bool) → ((a && b) && (c && d)) ≡ ((a && c) && (b && d))
+in_pairs true true c d = refl
+in_pairs true false true d = refl
+in_pairs true false false d = refl
+in_pairs false b c d = refl
+
+rest_next : (is_first is_slash : Bool) (b : ℕ) (bytes : List ℕ) (parts : List Part)
+    → (list_all is_plain_byte (b ∷ bytes) && list_all is_plain_part (ahead is_first (cond is_slash ([] ∷ parts) (onto_first b parts))))
+    ≡ ((is_plain_byte b && (not is_first || (not is_slash && begins_plainly b))) && (list_all is_plain_byte bytes && list_all is_plain_part (ahead is_slash parts)))
+rest_next true true b bytes parts = in_pairs (is_plain_byte b) (list_all is_plain_byte bytes) false (list_all is_plain_part parts)
+rest_next true false b bytes [] = in_pairs (is_plain_byte b) (list_all is_plain_byte bytes) (begins_plainly b) true
+rest_next true false b bytes (part ∷ parts) = in_pairs (is_plain_byte b) (list_all is_plain_byte bytes) (begins_plainly b) (list_all is_plain_part parts)
+rest_next false true b bytes parts = in_pairs (is_plain_byte b) (list_all is_plain_byte bytes) true (list_all is_plain_part parts)
+rest_next false false b bytes [] = in_pairs (is_plain_byte b) (list_all is_plain_byte bytes) true true
+rest_next false false b bytes (part ∷ parts) = in_pairs (is_plain_byte b) (list_all is_plain_byte bytes) true (list_all is_plain_part parts)
+
+-- the next byte fits, and what is left behind it is plain
+pub plain_rest-next : (is_first : Bool) (b : ℕ) (bytes : List ℕ)
+    → plain_rest is_first (b ∷ bytes) ≡ ((is_plain_byte b && (not is_first || (not (b == 47) && begins_plainly b))) && plain_rest (b == 47) bytes)
+plain_rest-next is_first b bytes = rest_next is_first (b == 47) b bytes (between_slashes bytes)
+
+-- at its end a path must not wait for the first byte of a part
+pub plain_rest-end : (is_first : Bool) → plain_rest is_first [] ≡ not is_first
+plain_rest-end true = refl
+plain_rest-end false = refl
 
 pub no_nul_in : (path : List ℕ) → is_plain path ≡ true → AllByRecursion (λ b. 0 < b) path
-no_nul_in path h = no_nuls path (plain_from true path h).0
+no_nul_in path h = no_nuls path (plain_tests path h).0
 
 -- ---- the name
 
 pub path-plain : (path : List ℕ) → is_plain path ≡ true → path_of_parts (between_slashes path) ≡ 47 ∷ path
 path-plain path h =
-    let tests = plain_from true path h in
+    let tests = plain_tests path h in
     let bytes = tests.0 in
     let raws = split_all IsUnescaped path (unescaped_bytes path bytes) in
     path_of_slashed (between_slashes path) path (slashed-ordinary (between_slashes path) raws tests.1 ∙ ap (flat_map (λ raw. 47 ∷ raw)) (sym (raw_parts-plain path bytes)) ∙ slashed-raw_parts false path)
 
 pub Spells-plain : (namespace : Namespace) (path : List ℕ) → IsUtf8 path → is_plain path ≡ true → length path < longest_path → Spells (text_behind namespace path) (record { namespace = namespace; parts = between_slashes path })
 Spells-plain namespace path utf8 h short =
-    let tests = plain_from true path h in
+    let tests = plain_tests path h in
     let bytes = tests.0 in
     let raws = split_all IsUnescaped path (unescaped_bytes path bytes) in
     let long = ap length (path-plain path h) in

@@ -1,5 +1,6 @@
--- Paths that are taken as they are, seen in one pass over their bytes. (This project's own.)
-use Rattle.std.specs.Prelude.{ℕ, Bool, true, not, ◌&&◌, ◌||◌, ◌==◌, if◌then◌else◌, List, [], ◌∷◌, Option, Some, None}
+-- Paths that are taken as they are: what stands between their slashes are the parts that they lead to. (This project's own.)
+use Rattle.std.specs.Prelude.{ℕ, Bool, false, not, ◌&&◌, ◌==◌, if◌then◌else◌, List, [], ◌∷◌, Option, Some, None}
+use Rattle.std.specs.List.{list_all}
 use Rattle.model_names.specs.Name.{Part}
 use Rattle.key_name.specs.PartList.{between_slashes}
 
@@ -7,22 +8,18 @@ use Rattle.key_name.specs.PartList.{between_slashes}
 abbrev pub is_plain_byte : ℕ → Bool
 is_plain_byte b = not (b == 92) && not (b == 0)
 
--- a byte with which no part begins that is empty, reserved or like an array's: no slash, dot, `%` or `#`
+-- a byte with which no part begins that is reserved or like an array's: no dot, `%` or `#`
 abbrev pub begins_plainly : ℕ → Bool
-begins_plainly b = not (b == 47) && not (b == 46) && not (b == 37) && not (b == 35)
+begins_plainly b = not (b == 46) && not (b == 37) && not (b == 35)
 
--- a byte that may stand in a plain path, as the first one of a part or as another
-abbrev pub fits : Bool → ℕ → Bool
-fits is_first b = is_plain_byte b && (not is_first || begins_plainly b)
+-- a part that is not empty, and neither reserved nor like an array's by its first byte
+abbrev pub is_plain_part : Part → Bool
+is_plain_part [] = false
+is_plain_part (b ∷ part) = begins_plainly b
 
--- each byte fits, and no part is empty
-abbrev pub is_plain_from : Bool → List ℕ → Bool
-is_plain_from is_first [] = not is_first
-is_plain_from is_first (b ∷ bytes) = fits is_first b && is_plain_from (b == 47) bytes
-
--- a path that is taken as it is
+-- a path that is taken as it is: each of its bytes and each of its parts is plain
 abbrev pub is_plain : List ℕ → Bool
-is_plain path = is_plain_from true path
+is_plain path = list_all is_plain_byte path && list_all is_plain_part (between_slashes path)
 
 -- its parts
 abbrev pub plain_parts : List ℕ → Option (List Part)

@@ -1,6 +1,6 @@
 //! Paths that are taken as they are.
-ghost use Rattle.std.specs.Prelude.{◌≡◌, IfOk};
-ghost use Rattle.key_name.specs.Plain.{begins_plainly, fits, is_plain, plain_parts};
+ghost use Rattle.std.specs.Prelude.{◌≡◌, not, ◌&&◌, ◌||◌, ◌==◌, IfOk};
+ghost use Rattle.key_name.specs.Plain.{begins_plainly, is_plain, is_plain_byte, plain_parts};
 
 use crate::Memory;
 use crate::part_list::PartList;
@@ -31,16 +31,17 @@ fn is_plain(path: &str) -> bool
     !is_first
 }
 
-/// Whether a byte may stand in a plain path, as the first one of a part or as another.
+/// Whether a byte may stand in a plain path, as the first one of a part or as another. A slash in the place of a first one leaves the
+/// part empty.
 fn fits(is_first: bool, byte: u8) -> bool
-    ensures { result ≡ fits is_first byte }
+    ensures { result ≡ (is_plain_byte byte && (not is_first || (not (byte == 47) && begins_plainly byte))) }
 {
-    byte != b'\\' && byte != 0 && (!is_first || begins_plainly(byte))
+    byte != b'\\' && byte != 0 && (!is_first || (byte != b'/' && begins_plainly(byte)))
 }
 
-/// Whether no part begins with a byte that is empty, reserved or like an array's.
+/// Whether no part begins with a byte that is reserved or like an array's.
 fn begins_plainly(byte: u8) -> bool
     ensures { result ≡ begins_plainly byte }
 {
-    byte != b'/' && byte != b'.' && byte != b'%' && byte != b'#'
+    byte != b'.' && byte != b'%' && byte != b'#'
 }
