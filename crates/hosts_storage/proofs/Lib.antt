@@ -2,7 +2,6 @@ pub mod WordCuts
 pub mod PartLemmas
 pub mod CommentUtf8
 pub mod NulBytes
-pub mod ChildNames
 pub mod WeighedLemmas
 pub mod HostLemmas
 pub mod HoldingTests

@@ -1,14 +1,14 @@
 -- What the parts of a value add, one after another, is what the value adds.
-use Rattle.std.specs.Prelude.{◌≡◌, ◌≢◌, ℕ, ◌+◌, Bool, true, false, List, [], ◌∷◌, ◌++◌, map, Option, None, Some, option_map, option_and_then}
+use Rattle.std.specs.Prelude.{◌≡◌, ◌≢◌, ℕ, ◌+◌, Bool, true, false, List, [], ◌∷◌, ◌++◌, Option, None, Some, option_map, option_and_then}
 use Rattle.std.proofs.Common.{refl, sym, ap, subst, ◌∙◌, append_assoc}
+use Rattle.std.proofs.lemmas.List.{append-nil}
 use Rattle.general_words.proofs.Lists.{some_is, none_is_no_some}
 use Rattle.model_names.specs.ArrayPart.{is_array_like, array_part}
 use Rattle.model_names.specs.Name.{Part}
-use Rattle.model_maps.specs.KeyMap.{KeyMap}
 use Rattle.serde_json.specs.Data.{Num, Data, number, array, object, Items, no_items, item, Members, no_members, member}
 use Rattle.model_json.specs.Leaves.{Leaf, within, one_leaf, integer_text, if_some, joined, leaves, items_leaves, members_leaves}
 use Rattle.model_json.specs.Reading.{AreNamed}
-use Rattle.model_json.proofs.ReadTrees.{Gives, gives, gives-member, some-leaves}
+use Rattle.model_json.proofs.ReadTrees.{gives, gives-member, some-leaves}
 use Rattle.json_storage.specs.Found.{Fill, leaves_in, IsSound, Joined, HasAdded}
 use Rattle.json_storage.specs.Reading.{under, ValueAdds, ItemAdds, ItemsAdd, MemberAdds, MembersAdd}
 use Rattle.json_storage.specs.declared.found.Found.{Found}
@@ -108,11 +108,7 @@ element-parts before index d ds = record {
 }
 
 pub no-elements : (before : List Part) (index : ℕ) (found : Found) → IsSound found → HasAdded (ItemsAdd before index no_items) found found true
-no-elements before index found sound = record { added = []; adds = record { here = []; named = tt; are = refl; all = refl }; joined = sym (append_nothing (leaves_in found.keys)); sound = sound }
-  where
-    append_nothing : (xs : List Leaf) → xs ++ [] ≡ xs
-    append_nothing [] = refl
-    append_nothing (x ∷ xs) = ap (λ l. x ∷ l) (append_nothing xs)
+no-elements before index found sound = record { added = []; adds = record { here = []; named = tt; are = refl; all = refl }; joined = sym (append-nil (leaves_in found.keys)); sound = sound }
 
 -- ---- members
 
@@ -144,20 +140,12 @@ member-parts before name d ms = record {
 }
 
 pub no-more-members : (before : List Part) (found : Found) → IsSound found → HasAdded (MembersAdd before no_members) found found true
-no-more-members before found sound = record { added = []; adds = record { here = []; named = tt; are = refl; all = refl }; joined = sym (append_nothing (leaves_in found.keys)); sound = sound }
-  where
-    append_nothing : (xs : List Leaf) → xs ++ [] ≡ xs
-    append_nothing [] = refl
-    append_nothing (x ∷ xs) = ap (λ l. x ∷ l) (append_nothing xs)
+no-more-members before found sound = record { added = []; adds = record { here = []; named = tt; are = refl; all = refl }; joined = sym (append-nil (leaves_in found.keys)); sound = sound }
 
 -- ---- values
 
-append_none : (parts : List Part) → parts ++ [] ≡ parts
-append_none [] = refl
-append_none (part ∷ parts) = ap (λ rest. part ∷ rest) (append_none parts)
-
 one-under : (before : List Part) (text : List ℕ) → under before (one_leaf text) ≡ (before, text) ∷ []
-one-under before text = ap (λ parts. (parts, text) ∷ []) (append_none before)
+one-under before text = ap (λ parts. (parts, text) ∷ []) (append-nil before)
 
 pub value-none : (before : List Part) (d : Data) → leaves d ≡ None → (found after : Found) → HasAdded (ValueAdds before d) found after false
 value-none before d none found after = λ added more keys adds fill. none_is_no_some adds.here (sym none ∙ adds.are)

@@ -1,4 +1,3 @@
-mod ChildNames
 mod AddLemmas
 mod CallLemmas
 mod TextLemmas

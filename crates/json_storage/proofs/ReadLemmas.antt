@@ -1,19 +1,21 @@
 -- Bytes read as the keys that their object adds, or have no reading.
-use Rattle.std.specs.Prelude.{◌≡◌, ◌≢◌, ◌≤◌, ℕ, false, List, [], ◌∷◌, ◌++◌, length, map, Option, None, Some}
-use Rattle.std.proofs.Common.{refl, sym, ap, subst, ◌∙◌, inl, inr}
+use Rattle.std.specs.Prelude.{◌≡◌, ◌≢◌, ◌≤◌, ℕ, false, List, [], ◌++◌, length, map, None, Some}
+use Rattle.std.proofs.Common.{sym, ap, subst, ◌∙◌, inl, inr}
 use Rattle.std.specs.FinMap as finite
 use Rattle.std.specs.List.{AllByRecursion}
 use Rattle.std.specs.Str.{IsUtf8}
+use Rattle.std.proofs.lemmas.List.{append-nil}
 use Rattle.general_words.proofs.Lists.{some_is, none_is_no_some}
 use Rattle.model_maps.specs.KeyMap.{KeyMap}
-use Rattle.serde_json.specs.Data.{Num, Data, null, boolean, number, string, array, object, Items, Members}
+use Rattle.serde_json.specs.Data.{Data, null, boolean, number, string, array, object, Members}
 use Rattle.serde_json.specs.Find.{as_object}
 use Rattle.serde_json.specs.Read.{read}
-use Rattle.model_json.specs.Leaves.{Leaf, members_leaves}
+use Rattle.model_json.specs.Leaves.{Leaf}
 use Rattle.model_json.specs.Keys.{most_parts}
 use Rattle.model_json.specs.Reading.{key_of, ReadsObject, Reads, IsBadAt}
-use Rattle.json_storage.specs.Found.{Fill, leaves_in, IsSound, Joined, HasAdded}
-use Rattle.json_storage.specs.Reading.{under, MembersAdd}
+use Rattle.model_json.proofs.JsonTelling.{object-is}
+use Rattle.json_storage.specs.Found.{Fill, leaves_in, Joined, HasAdded}
+use Rattle.json_storage.specs.Reading.{MembersAdd}
 use Rattle.json_storage.specs.declared.found.Found.{Found}
 use Rattle.json_storage.proofs.AddLemmas.{under-nothing}
 
@@ -24,10 +26,6 @@ object-of (number n) ms e = absurd (none_is_no_some ms e)
 object-of (string s) ms e = absurd (none_is_no_some ms e)
 object-of (array ds) ms e = absurd (none_is_no_some ms e)
 object-of (object other) ms e = ap object (some_is other ms e)
-
-append_none : (xs : List Leaf) → xs ++ [] ≡ xs
-append_none [] = refl
-append_none (x ∷ xs) = ap (λ l. x ∷ l) (append_none xs)
 
 -- the keys that were added are those that the bytes read as
 pub reads-added : (bytes : List ℕ) (ms : Members) (before after : Found) → IsUtf8 bytes → read bytes ≡ Some (object ms) → leaves_in before.keys ≡ [] → Joined (MembersAdd [] ms) before after → Reads bytes after.keys
@@ -50,14 +48,11 @@ reads-added bytes ms before after utf8 is none j =
 pub bad-unless : (bytes : List ℕ) → bytes ≢ [] → ((keys : KeyMap) → ReadsObject bytes keys → ⊥) → (line : ℕ) → line ≡ 1 → IsBadAt bytes line
 bad-unless bytes some none line one = (one, λ keys reads. elim reads [ inl empty ↦ some empty.0 | inr r ↦ none keys r ])
 
-object-is : (ms other : Members) → object ms ≡ object other → ms ≡ other
-object-is ms other e = cc
-
 pub bad-added : (bytes : List ℕ) (ms : Members) (before after : Found) → read bytes ≡ Some (object ms) → leaves_in before.keys ≡ [] → HasAdded (MembersAdd [] ms) before after false → (keys : KeyMap) → ReadsObject bytes keys → ⊥
 bad-added bytes ms before after is none fails keys r =
     let same : r.members ≡ ms = object-is r.members ms (some_is (object r.members) (object ms) (sym r.is_object ∙ is)) in
     let adds : MembersAdd [] ms r.found = subst (λ m. MembersAdd [] m r.found) same (record { here = r.found; named = r.are_named; are = r.are_leaves; all = sym (under-nothing r.found) }) in
-    let all : r.found ≡ leaves_in before.keys ++ (r.found ++ []) = sym (append_none r.found) ∙ ap (λ l. l ++ (r.found ++ [])) (sym none) in
+    let all : r.found ≡ leaves_in before.keys ++ (r.found ++ []) = sym (append-nil r.found) ∙ ap (λ l. l ++ (r.found ++ [])) (sym none) in
     fails r.found [] keys adds (subst (λ l. Fill l keys) all (record { all = r.all; few = r.few_parts; limited = r.limited }))
 
 pub bad-value : (bytes : List ℕ) (d : Data) → read bytes ≡ Some d → as_object d ≡ None → (keys : KeyMap) → ReadsObject bytes keys → ⊥

@@ -1,19 +1,18 @@
 -- A text joins the keys where it stands behind them and is within the limits with them.
-use Rattle.std.specs.Prelude.{◌≡◌, ◌≢◌, ℕ, ◌+◌, ◌<◌, ◌≤◌, T, true, false, List, [], ◌∷◌, ◌++◌, length, map, sum_by}
-use Rattle.std.proofs.Common.{refl, sym, ap, subst, ◌∙◌, arith, append_assoc, length-append}
+use Rattle.std.specs.Prelude.{◌≡◌, ℕ, ◌+◌, ◌≤◌, T, true, false, List, [], ◌∷◌, ◌++◌, length, map, sum_by}
+use Rattle.std.proofs.Common.{refl, sym, ap, subst, ◌∙◌, arith}
 use Rattle.std.specs.FinMap as finite
 use Rattle.std.specs.FinMap.{is_sorted}
 use Rattle.std.specs.FinMap.Entries.{put, by_order}
 use Rattle.std.specs.List.{AllByRecursion}
 use Rattle.std.specs.Ordering.{ordering_reverse}
-use Rattle.std.specs.declared.cmp.Ordering.{Ordering}
 use Rattle.std.specs.declared.cmp.Ordering.TheVariants.{Less, Greater}
 use Rattle.std.specs.Str.{IsUtf8}
 use Rattle.std.proofs.lemmas.List.Sums.{sum_by-cons, sum_by-append}
 use Rattle.general_words.proofs.Lists.{all_append, all_back}
 use Rattle.general_words.proofs.Maps.{entries-empty}
 use Rattle.model_names.specs.declared.namespaces.Namespace.TheVariants.{Cascading}
-use Rattle.model_names.specs.Name.{Part, Name}
+use Rattle.model_names.specs.Name.{Name}
 use Rattle.model_names.specs.Order.{name_cmp}
 use Rattle.model_names.specs.WellFormed.{IsName}
 use Rattle.model_names.proofs.OrderLemmas.{name_cmp_total}
@@ -24,12 +23,10 @@ use Rattle.model_lines.proofs.SortedKeys.{before_all}
 use Rattle.model_json.specs.Leaves.{Leaf}
 use Rattle.model_json.specs.Tree.{leaf_of}
 use Rattle.model_json.specs.Keys.{most_parts}
-use Rattle.model_json.specs.Reading.{name_at, key_of}
-use Rattle.model_json.proofs.KeyLeaves.{leaves-of}
-use Rattle.model_json.proofs.TreeLemmas.{all_front}
+use Rattle.model_json.specs.Reading.{key_of}
 use Rattle.model_json.proofs.Lawful.{no-limits}
 use Rattle.model_json.proofs.JsonTelling.{IsLimitedLeaf, limited-leaves, limited-keys}
-use Rattle.json_storage.specs.Found.{Fill, leaves_in, IsSound, Joined, HasAdded}
+use Rattle.json_storage.specs.Found.{Fill, leaves_in, IsSound, HasAdded}
 use Rattle.json_storage.specs.Placing.{IsBehind}
 use Rattle.json_storage.specs.declared.found.Found.{Found}
 

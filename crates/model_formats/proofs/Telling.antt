@@ -1,5 +1,5 @@
 -- What can be told: each fact here holds or it doesn't.
-use Rattle.std.specs.Prelude.{◌≡◌, ◌⊎◌, ℕ, zero, suc, ◌<◌, ◌≤◌, Bool, true, false, List, [], ◌∷◌, length, Option, None, Some}
+use Rattle.std.specs.Prelude.{◌≡◌, ◌≢◌, ◌⊎◌, ℕ, zero, suc, ◌<◌, ◌≤◌, Bool, true, false, List, [], ◌∷◌, length, Option, None, Some}
 use Rattle.std.specs.Str.{IsUtf8, is_utf8}
 use Rattle.std.specs.Cmp.{tied_itself}
 use Rattle.std.specs.declared.cmp.Ordering.{Ordering}
@@ -91,6 +91,11 @@ texts-told (x ∷ a) (y ∷ b) = elim (equal-told x y) as (λ _. IsTold (x ∷ a
   | inl same ↦ told-along (λ rest. λ i. same i ∷ rest i) (λ e. cc) (texts-told a b)
   | inr other ↦ inr (λ e. other cc)
 ]
+
+-- a list has an element, or none
+pub some-told : {A : Type 0} (xs : List A) → IsTold (xs ≢ [])
+some-told [] = inr (λ h. h refl)
+some-told (x ∷ xs) = inl (λ e. absurd cc)
 
 -- some number below a bound has a property, or none
 pub below-told : (Has : ℕ → Type 0) → ((n : ℕ) → IsTold (Has n)) → (bound : ℕ) → IsTold ((n : ℕ) × (n < bound) × Has n)

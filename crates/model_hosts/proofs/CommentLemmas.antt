@@ -1,20 +1,18 @@
 -- Texts that became metadata are read back from it.
-use Rattle.std.specs.Prelude.{◌≡◌, ◌≢◌, ℕ, zero, suc, ◌+◌, ◌-◌, ◌^◌, ◌<◌, ◌≤◌, false, List, [], ◌∷◌, length, drop, replicate, Option, None, Some, codes, slice_get}
+use Rattle.std.specs.Prelude.{◌≡◌, ◌≢◌, ℕ, zero, suc, ◌+◌, ◌-◌, ◌<◌, ◌≤◌, false, List, [], ◌∷◌, length, drop, replicate, Option, None, Some, codes, slice_get}
 use Rattle.std.proofs.Common.{cond, refl, sym, ap, subst, ◌∙◌, arith, inl, inr, length-append}
 use Rattle.std.specs.FinMap as finite
 use Rattle.std.specs.Fmt.{decimal}
 use Rattle.std.specs.List.{AllByRecursion}
 use Rattle.std.specs.Ordering.{is_eq, eq_by_cmp}
-use Rattle.std.specs.Str.Parse.{digits_value}
 use Rattle.std.specs.declared.cmp.Ordering.{Ordering}
 use Rattle.std.specs.declared.cmp.Ordering.TheVariants.{Less, Equal, Greater}
 use Rattle.std.proofs.lemmas.Cmp.{nat_list_cmp_total}
-use Rattle.std.proofs.lemmas.Fmt.{decimal_is_IsNumeral, length-decimal-le}
+use Rattle.std.proofs.lemmas.Fmt.{length-decimal-le}
 use Rattle.std.proofs.lemmas.List.{length-replicate}
 use Rattle.std.proofs.lemmas.Str.{IsUtf8-append}
-use Rattle.model_names.specs.ArrayPart.{last_index, digits_of, array_part}
-use Rattle.model_names.specs.Name.{Part}
-use Rattle.model_names.proofs.ArrayLemmas.{index_decimal, digits_of-part_of_digits, ascii-part_of_digits}
+use Rattle.model_names.specs.ArrayPart.{last_index, array_part}
+use Rattle.model_names.proofs.ArrayLemmas.{array_part-once, index_decimal, ascii-part_of_digits}
 use Rattle.model_names.proofs.PartLemmas.{text_from_ascii, text_from_test}
 use Rattle.general_words.specs.Texts.{text_cmp}
 use Rattle.general_words.proofs.Texts.{text_cmp-IsAntisymmetric}
@@ -27,20 +25,9 @@ use Rattle.model_hosts.specs.Comments.{comment_name, comments_from, comments, te
 
 -- ---- the names of comments
 
--- the number that the digits of a part write
-abbrev index_of : Part → ℕ
-index_of part = digits_value 10 (digits_of part)
-
-index_of-array_part : (index : ℕ) → index ≤ last_index → index_of (array_part index) ≡ index
-index_of-array_part index within =
-    let small : index < 2 ^ 64 = omega (arith, within) in
-    ap (digits_value 10) (digits_of-part_of_digits (decimal index) ((index_decimal index within).0)) ∙ (decimal_is_IsNumeral index small).1
-
 -- different comments have different names
 pub comment_name-once : (i j : ℕ) → i ≤ last_index → j ≤ last_index → comment_name i ≡ comment_name j → i ≡ j
-comment_name-once i j p q e =
-    let parts : array_part i ≡ array_part j = ap (drop 8) e in
-    sym (index_of-array_part i p) ∙ ap index_of parts ∙ index_of-array_part j q
+comment_name-once i j p q e = array_part-once i j p q (ap (drop 8) e)
 
 not_tied : (r : Ordering) → (r ≡ Equal → ⊥) → is_eq r ≡ false
 not_tied Less h = refl

@@ -2,7 +2,7 @@
 use Rattle.std.specs.Prelude.{◌≡◌, ◌≢◌, ℕ, ◌≤◌, List, [], ◌∷◌, Option, Some, None}
 use Rattle.std.proofs.Common.{refl, sym, ap, subst, ◌∙◌, arith, inl, inr}
 use Rattle.std.specs.FinMap as finite
-use Rattle.model_names.specs.Name.{Part, Name}
+use Rattle.model_names.specs.Name.{Name}
 use Rattle.model_names.specs.Spells.{Spells}
 use Rattle.model_names.proofs.NameLemmas.{spelled_is_name, slash_is_cascading}
 use Rattle.model_names.proofs.SpellsLemmas.{Spells-once}
@@ -15,7 +15,7 @@ use Rattle.model_lines.proofs.Leading.{IsFunctional, IsDecided, Leads-kept}
 use Rattle.model_lines.proofs.LineLemmas.{lines-in_line, IsInLine}
 use Rattle.model_lines.proofs.EachKey.{EachHas-no_keys, EachHas-insert}
 use Rattle.model_maps.proofs.MapLemmas.{weight-no_keys}
-use Rattle.model_lines.proofs.Telling.{IsTold, IsFound, both-told, le-told, none-told, utf8-told, value-told, spelled-told, meta-told}
+use Rattle.model_lines.proofs.Telling.{IsTold, IsFound, both-told, le-told, none-told, some-told, utf8-told, value-told, spelled-told, meta-told}
 use Rattle.model_ini.specs.Line.{Meaning, Skipped, Pair, Unreadable, meaning}
 use Rattle.model_ini.specs.Ini.{AddsKey, Does, Step, Reads, IsIniKey, IsStorable}
 use Rattle.std.specs.List.{AllByRecursion}
@@ -37,16 +37,12 @@ Step-once before line a b p q = Does-once (meaning line) before a b p.does q.doe
 
 -- ---- whether there is one
 
-no_parts-told : (parts : List Part) → IsTold (parts ≢ [])
-no_parts-told [] = inr (λ h. h refl)
-no_parts-told (part ∷ parts) = inl (λ e. absurd cc)
-
 -- an entry's conditions, beside the name that it spells
 abbrev Fits : KeyMap → List ℕ → Name → Type 0
 Fits before value name = (name.parts ≢ []) × ((finite.get before name ≡ None) × (IsValue value × (weight (finite.insert before name (plain_entry value)) ≤ heaviest_map)))
 
 fits-told : (before : KeyMap) (value : List ℕ) (name : Name) → IsTold (Fits before value name)
-fits-told before value name = both-told (no_parts-told name.parts) (both-told (none-told (finite.get before name)) (both-told (value-told value) (le-told (weight (finite.insert before name (plain_entry value))) heaviest_map)))
+fits-told before value name = both-told (some-told name.parts) (both-told (none-told (finite.get before name)) (both-told (value-told value) (le-told (weight (finite.insert before name (plain_entry value))) heaviest_map)))
 
 AddsKey-told : (before : KeyMap) (text value : List ℕ) → IsFound (AddsKey before text value)
 AddsKey-told before text value =
@@ -91,7 +87,7 @@ Step-told before line =
 
 pub IsIniKey-told : (name : Name) (entry : Entry) → IsTold (IsIniKey name entry)
 IsIniKey-told name entry =
-    elim (both-told (no_parts-told name.parts) (empty-told entry)) [
+    elim (both-told (some-told name.parts) (empty-told entry)) [
       | inl h ↦ inl (record { below = h.0; no_meta = h.1 })
       | inr bad ↦ inr (λ key. bad (key.below, key.no_meta))
     ]

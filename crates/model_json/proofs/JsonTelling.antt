@@ -1,5 +1,5 @@
 -- Bytes have a reading or none, and a key can be held or not.
-use Rattle.std.specs.Prelude.{◌≡◌, ◌≢◌, ℕ, ◌+◌, ◌≤◌, Bool, true, false, T, List, [], ◌∷◌, ◌++◌, length, map, Option, None, Some}
+use Rattle.std.specs.Prelude.{◌≡◌, ℕ, ◌+◌, ◌≤◌, Bool, true, false, T, List, [], ◌∷◌, ◌++◌, length, map, Option, None, Some}
 use Rattle.std.proofs.Common.{refl, sym, ap, subst, ◌∙◌, inl, inr}
 use Rattle.std.specs.FinMap as finite
 use Rattle.std.specs.FinMap.{is_sorted}
@@ -17,7 +17,7 @@ use Rattle.model_maps.specs.KeyMap.{KeyMap, weight, heaviest_map}
 use Rattle.model_maps.specs.Limits.{IsLimitedMeta, IsLimitedKey, IsLimited}
 use Rattle.model_formats.proofs.HoldingLemmas.{EachHas-entries}
 use Rattle.model_lines.proofs.AllLemmas.{all-weaker}
-use Rattle.model_lines.proofs.Telling.{IsTold, le-told, texts-told, utf8-told, value-told, both-told, either-told, all-told, name-told, meta-told}
+use Rattle.model_lines.proofs.Telling.{IsTold, le-told, some-told, texts-told, utf8-told, value-told, both-told, either-told, all-told, name-told, meta-told}
 use Rattle.serde_json.specs.Data.{Data, null, boolean, number, string, array, object, Items, no_items, item, Members, no_members, member}
 use Rattle.serde_json.specs.Read.{read}
 use Rattle.model_json.specs.Leaves.{Leaf, leaves}
@@ -75,7 +75,7 @@ three-told (inr bad) q r = inr (λ h. bad h.0)
 abbrev pub HasMap : List ℕ → Type 0
 HasMap bytes = (keys : KeyMap) × ReadsObject bytes keys
 
-object-is : (ms other : Members) → object ms ≡ object other → ms ≡ other
+pub object-is : (ms other : Members) → object ms ≡ object other → ms ≡ other
 object-is ms other e = cc
 
 found-once : (bytes : List ℕ) (keys : KeyMap) (ms : Members) (found : List Leaf) → read bytes ≡ Some (object ms) → leaves (object ms) ≡ Some found → (r : ReadsObject bytes keys) → r.found ≡ found
@@ -177,10 +177,6 @@ text-told (object ms) = inr (λ h. h)
 fits-told : (parts : List Part) (d : Data) → IsTold (Fits parts d)
 fits-told [] d = text-told d
 fits-told (part ∷ parts) d = both-told (either-told (names-told (members_in d)) (items-told 0 (members_in d))) (fits-told parts (child part d))
-
-some-told : (parts : List Part) → IsTold (parts ≢ [])
-some-told [] = inr (λ h. h refl)
-some-told (part ∷ parts) = inl (λ e. absurd cc)
 
 member-told : (b : Bool) → IsTold (b ≡ false)
 member-told false = inl refl

@@ -1,5 +1,5 @@
 -- The keys of a map as leaves: in name order, and back.
-use Rattle.std.specs.Prelude.{◌≡◌, ◌+◌, ◌≤◌, T, List, [], ◌∷◌, ◌++◌, length, map, sum_by}
+use Rattle.std.specs.Prelude.{◌≡◌, ◌≤◌, T, List, [], ◌∷◌, ◌++◌, length, map, sum_by}
 use Rattle.std.proofs.Common.{refl, sym, ap, ◌∙◌, arith, append_assoc}
 use Rattle.std.specs.FinMap as finite
 use Rattle.std.specs.FinMap.{is_sorted}

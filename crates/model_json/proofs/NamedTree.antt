@@ -9,12 +9,13 @@ use Rattle.model_names.specs.ArrayPart.{is_array_like}
 use Rattle.model_names.specs.Name.{Part}
 use Rattle.model_names.specs.Spelling.{spelled, path_of_parts}
 use Rattle.model_names.specs.WellFormed.{IsPart, IsName}
+use Rattle.model_names.proofs.PartLemmas.{all_front}
 use Rattle.serde_json.specs.Data.{Data, null, boolean, number, string, array, object, Members, no_members, member}
 use Rattle.model_json.specs.Leaves.{Leaf, within}
 use Rattle.model_json.specs.Tree.{members_in, tree, AreNames, AreItems, AreOfOneKind, Fits}
 use Rattle.model_json.specs.Reading.{name_at, IsNamed, AreNamed, ItemsNamed, MembersNamed}
 use Rattle.model_json.specs.Text.{begin_as_items, with_arrays, elements, members_with_arrays}
-use Rattle.model_json.proofs.TreeLemmas.{Ascend, all_front}
+use Rattle.model_json.proofs.TreeLemmas.{Ascend}
 use Rattle.model_json.proofs.TreeReads.{Goes, kind-of, all-go, Cut, cut, first-fits, no-text, no-leaves, names-begin, first-item}
 
 -- ---- a front of a name's parts is a name

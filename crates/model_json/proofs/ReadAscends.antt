@@ -1,19 +1,17 @@
 -- The leaves of a value that was read stand in name order.
-use Rattle.std.specs.Prelude.{◌≡◌, ◌≢◌, ℕ, ◌+◌, ◌<◌, ◌≤◌, T, List, [], ◌∷◌, ◌++◌, length, map, Option, Some, option_and_then}
-use Rattle.std.proofs.Common.{refl, sym, ap, subst, ◌∙◌, arith}
+use Rattle.std.specs.Prelude.{◌≡◌, ℕ, ◌+◌, ◌<◌, ◌≤◌, T, List, [], ◌∷◌, ◌++◌, length, map, Some, option_and_then}
+use Rattle.std.proofs.Common.{sym, ap, subst, ◌∙◌, arith}
 use Rattle.std.specs.FinMap.{is_sorted}
 use Rattle.std.specs.FinMap.Entries.{below_all}
 use Rattle.std.specs.List.{AllByRecursion}
 use Rattle.std.specs.Ordering.{is_lt, ordering_then}
 use Rattle.std.specs.declared.cmp.Ordering.TheVariants.{Less}
-use Rattle.general_words.specs.Texts.{text_cmp}
 use Rattle.general_words.proofs.Lists.{some_is, none_is_no_some, all_append}
 use Rattle.general_words.proofs.Tests.{both}
 use Rattle.model_names.specs.ArrayPart.{last_index, is_array_like, array_part}
-use Rattle.model_names.specs.Name.{Part, Name}
+use Rattle.model_names.specs.Name.{Part}
 use Rattle.model_names.specs.Order.{name_cmp}
 use Rattle.model_names.proofs.RefusesLemmas.{from_map}
-use Rattle.model_maps.specs.Entry.{Entry}
 use Rattle.serde_json.specs.Data.{Data, null, boolean, number, string, array, object, Items, no_items, item, Members, no_members, member}
 use Rattle.model_json.specs.Leaves.{Leaf, within, one_leaf, boolean_text, integer_text, if_some, leaves, items_leaves, members_leaves}
 use Rattle.model_json.specs.Reading.{key_of}

@@ -1,16 +1,13 @@
 -- The leaves of a value that was read fit into their object.
-use Rattle.std.specs.Prelude.{◌≡◌, ◌≢◌, ℕ, ◌+◌, ◌<◌, ◌≤◌, ◌^◌, Bool, true, false, List, [], ◌∷◌, ◌++◌, length, Option, Some, None, option_map, option_and_then}
+use Rattle.std.specs.Prelude.{◌≡◌, ◌≢◌, ℕ, ◌+◌, ◌<◌, ◌≤◌, Bool, true, false, List, [], ◌∷◌, ◌++◌, length, Option, Some, None, option_map, option_and_then}
 use Rattle.std.proofs.Common.{refl, sym, ap, subst, ◌∙◌, cond, arith, inl, inr, length-append}
-use Rattle.std.specs.Fmt.{decimal}
 use Rattle.std.specs.List.{AllByRecursion}
-use Rattle.std.specs.Str.Parse.{digits_value}
 use Rattle.std.specs.declared.cmp.Ordering.TheVariants.{Less}
-use Rattle.std.proofs.lemmas.Fmt.{decimal_is_IsNumeral}
 use Rattle.general_words.specs.Texts.{text_cmp}
 use Rattle.general_words.proofs.Lists.{some_is, none_is_no_some, all_append}
-use Rattle.model_names.specs.ArrayPart.{last_index, digits_of, is_array_like, array_part}
+use Rattle.model_names.specs.ArrayPart.{last_index, is_array_like, array_part}
 use Rattle.model_names.specs.Name.{Part}
-use Rattle.model_names.proofs.ArrayLemmas.{index_decimal, digits_of-part_of_digits}
+use Rattle.model_names.proofs.ArrayLemmas.{array_part-once}
 use Rattle.model_names.proofs.RefusesLemmas.{from_map, from_and_then}
 use Rattle.serde_json.specs.Data.{Data, null, boolean, number, string, array, object, Items, no_items, item, Members, no_members, member}
 use Rattle.model_json.specs.Leaves.{Leaf, within, one_leaf, boolean_text, integer_text, if_some, joined, leaves, items_leaves, members_leaves}
@@ -20,19 +17,6 @@ use Rattle.model_json.proofs.TreeLemmas.{child-here, child-later, FirstIsOther, 
 use Rattle.model_json.proofs.TreeReads.{Goes}
 use Rattle.model_json.proofs.TextTokens.{AllBelow}
 use Rattle.model_json.proofs.Rising.{IsRising, AreRising, HaveRising}
-
--- ---- different indexes have different parts
-
-abbrev index_of : Part → ℕ
-index_of part = digits_value 10 (digits_of part)
-
-index_of-array_part : (index : ℕ) → index ≤ last_index → index_of (array_part index) ≡ index
-index_of-array_part index within_limit =
-    let small : index < 2 ^ 64 = omega (arith, within_limit) in
-    ap (digits_value 10) (digits_of-part_of_digits (decimal index) ((index_decimal index within_limit).0)) ∙ (decimal_is_IsNumeral index small).1
-
-array_part-once : (i j : ℕ) → i ≤ last_index → j ≤ last_index → array_part i ≡ array_part j → i ≡ j
-array_part-once i j p q e = sym (index_of-array_part i p) ∙ ap index_of e ∙ index_of-array_part j q
 
 -- ---- one part's leaves before those of others
 

@@ -12,6 +12,7 @@ use Rattle.std.proofs.lemmas.Cmp.{nat_list_cmp_total}
 use Rattle.general_words.specs.Texts.{is_text, text_cmp}
 use Rattle.general_words.proofs.Texts.{is_text-Decides, other_text, text_cmp-IsAntisymmetric}
 use Rattle.model_names.specs.Name.{Part}
+use Rattle.model_names.proofs.PartLemmas.{all_front}
 use Rattle.serde_json.specs.Data.{Data, object, Members, no_members, member}
 use Rattle.serde_json.specs.Find.{get_member}
 use Rattle.model_json.specs.Leaves.{Leaf, within}
@@ -172,11 +173,6 @@ pub split : (part : Part) (parts : List Part) (text : List ℕ) (found : List Le
 split part parts text [] ascend = record { part = part; first = (parts, text); here = []; more = []; all = refl; later = tt }
 split part parts text (([], other) ∷ found) ascend = absurd (let clash = ascend.0.0 in cc)
 split part parts text ((next ∷ later, other) ∷ found) ascend = split-next part parts text next later other found ascend (split next later other found ascend.1)
-
--- what holds of each element of two lists together holds of each of the first
-pub all_front : {A : Type 0} (P : A → Type 0) (xs ys : List A) → AllByRecursion P (xs ++ ys) → AllByRecursion P xs
-all_front P [] ys h = tt
-all_front P (x ∷ xs) ys h = (h.0, all_front P xs ys h.1)
 
 -- both halves of a split are in name order
 Ascend-front : (xs ys : List Leaf) → Ascend (xs ++ ys) → Ascend xs

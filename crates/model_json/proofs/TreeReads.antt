@@ -6,11 +6,12 @@ use Rattle.std.specs.List.{AllByRecursion}
 use Rattle.std.proofs.lemmas.Bool.{cond-true, cond-false}
 use Rattle.model_names.specs.ArrayPart.{is_array_like, array_part}
 use Rattle.model_names.specs.Name.{Part}
+use Rattle.model_names.proofs.PartLemmas.{all_front}
 use Rattle.serde_json.specs.Data.{Data, null, boolean, number, string, array, object, Members, no_members, member}
 use Rattle.model_json.specs.Leaves.{Leaf, within, joined, if_some, leaves, items_leaves, members_leaves}
 use Rattle.model_json.specs.Tree.{empty, members_in, tree, AreNames, AreItems, AreOfOneKind, IsText, child, Fits}
 use Rattle.model_json.specs.Text.{begin_as_items, with_arrays, elements, members_with_arrays}
-use Rattle.model_json.proofs.TreeLemmas.{child-here, child-later, FirstIsOther, BeginOther, BeginLater, later-are-others, tree-within, Ascend, Split, split, here-ascends, more-ascends, all_front}
+use Rattle.model_json.proofs.TreeLemmas.{child-here, child-later, FirstIsOther, BeginOther, BeginLater, later-are-others, tree-within, Ascend, Split, split, here-ascends, more-ascends}
 use Rattle.general_words.proofs.Lists.{all_back}
 
 -- nothing fits into nothing

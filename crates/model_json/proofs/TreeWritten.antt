@@ -6,11 +6,12 @@ use Rattle.std.specs.Str.{IsUtf8}
 use Rattle.general_words.specs.Texts.{is_text}
 use Rattle.general_words.proofs.Lists.{all_back}
 use Rattle.model_names.specs.Name.{Part}
+use Rattle.model_names.proofs.PartLemmas.{all_front}
 use Rattle.serde_json.specs.Data.{Data, null, boolean, number, string, array, object, Items, Members, no_members, member, depth, items_depth, members_depth}
 use Rattle.model_json.specs.Leaves.{Leaf, within}
 use Rattle.model_json.specs.Tree.{empty, members_in, text_or, into, with_leaf, tree, Fits}
 use Rattle.model_json.specs.Text.{begin_as_items, with_arrays, elements, members_with_arrays}
-use Rattle.model_json.proofs.TreeLemmas.{BeginLater, Ascend, all_front}
+use Rattle.model_json.proofs.TreeLemmas.{BeginLater, Ascend}
 use Rattle.model_json.proofs.TreeReads.{Goes, all-go, cut, first-fits, no-text, text-leaves}
 use Rattle.model_json.proofs.TextTokens.{AllBelow, IsWritten, AreWritten, HaveWritten}
 

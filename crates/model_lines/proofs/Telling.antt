@@ -1,5 +1,5 @@
 -- What can be told: each condition that the line of a file or a key of a map must meet holds or doesn't.
-pub use Rattle.model_formats.proofs.Telling.{IsTold, le-told, texts-told, utf8-told, value-told}
+pub use Rattle.model_formats.proofs.Telling.{IsTold, le-told, some-told, texts-told, utf8-told, value-told}
 use Rattle.std.specs.Prelude.{◌≡◌, ◌⊎◌, ℕ, ◌<◌, Bool, true, false, List, [], ◌∷◌, length, Option, Some, None}
 use Rattle.std.proofs.Common.{refl, sym, ap, ◌∙◌, inl, inr}
 use Rattle.std.specs.FinMap as finite

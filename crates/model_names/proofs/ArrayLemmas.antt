@@ -211,3 +211,17 @@ pub IsArrayPart-array_part : (index : ℕ) → index ≤ last_index → IsArrayP
 IsArrayPart-array_part index within =
     let tests = index_decimal index within in
     and_from (is_array_like (array_part index)) _ (is_array_like-part_of_digits (decimal index) tests.0) (is_canonical-part_of_digits (decimal index) tests.0 tests.1)
+
+-- ---- different indexes have different parts
+
+-- the number that the digits of a part write
+abbrev index_of : Part → ℕ
+index_of part = digits_value 10 (digits_of part)
+
+index_of-array_part : (index : ℕ) → index ≤ last_index → index_of (array_part index) ≡ index
+index_of-array_part index within =
+    let small : index < 2 ^ 64 = omega (arith, within) in
+    ap (digits_value 10) (digits_of-part_of_digits (decimal index) ((index_decimal index within).0)) ∙ (decimal_is_IsNumeral index small).1
+
+pub array_part-once : (i j : ℕ) → i ≤ last_index → j ≤ last_index → array_part i ≡ array_part j → i ≡ j
+array_part-once i j p q e = sym (index_of-array_part i p) ∙ ap index_of e ∙ index_of-array_part j q

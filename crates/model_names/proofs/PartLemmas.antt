@@ -41,7 +41,8 @@ IsUtf8-byte b small = IsUtf8-from_ascii (b ∷ []) (IsAscii-from_all (b ∷ []) 
 pub IsUtf8-cons : (b : ℕ) (bytes : List ℕ) → b < 128 → IsUtf8 bytes → IsUtf8 (b ∷ bytes)
 IsUtf8-cons b bytes small h = IsUtf8-append (b ∷ []) bytes (IsUtf8-byte b small) h
 
-all_front : {A : Type 0} (P : A → Type 0) (xs ys : List A) → AllByRecursion P (xs ++ ys) → AllByRecursion P xs
+-- what holds of each element of two lists together holds of each of the first
+pub all_front : {A : Type 0} (P : A → Type 0) (xs ys : List A) → AllByRecursion P (xs ++ ys) → AllByRecursion P xs
 all_front P [] ys h = tt
 all_front P (x ∷ xs) ys h = (h.0, all_front P xs ys h.1)
 

@@ -25,6 +25,7 @@ use Rattle.model_specified.specs.SpecMeta.{is_pattern_of, laid_over, said_of, sp
 use Rattle.model_specified.specs.Specified.{default_at, default_name, default_text, is_specified, specified, specified_entry, specified_key, with_defaults}
 use Rattle.model_specified.proofs.DefaultLemmas.{get-with_defaults}
 use Rattle.model_specified.proofs.SpecifiedLemmas.{entries-specified, get-specified}
+use Rattle.plugin_chain.proofs.SpecLemmas.{metas_of}
 use Rattle.spec_cascade.specs.Candidates.{candidates}
 use Rattle.spec_cascade.specs.Found.{default_said, first_present, found, found_at, present}
 use Rattle.spec_cascade.specs.Needed.{AreKeysFor, sought}
@@ -88,11 +89,7 @@ entries-specs keys =
 abbrev metas : List Entry → List Meta
 metas = map (λ spec. spec.meta)
 
--- the metadata of the patterns of a path among some keys
-abbrev of_patterns : List Part → List (Name × Entry) → List Meta
-of_patterns path keys = metas (map (λ key. key.1) (filter (λ key. is_pattern_of path key.0) keys))
-
-patterns_stay : (specs : KeyMap) (path : List Part) (es : List (Name × Entry)) → of_patterns path (map (specified_key specs) (where_key name_cmp in_spec es)) ≡ of_patterns path (where_key name_cmp in_spec es)
+patterns_stay : (specs : KeyMap) (path : List Part) (es : List (Name × Entry)) → metas_of path (map (specified_key specs) (where_key name_cmp in_spec es)) ≡ metas_of path (where_key name_cmp in_spec es)
 patterns_stay specs path [] = refl
 patterns_stay specs path (e ∷ es) = by (in_spec e.0) refl (where_key name_cmp in_spec es) (patterns_stay specs path es)
   where
@@ -101,8 +98,8 @@ patterns_stay specs path (e ∷ es) = by (in_spec e.0) refl (where_key name_cmp 
     one true changed xs ys is rest = ap₂ (λ m ms. m ∷ ms) is rest
     one false changed xs ys is rest = rest
 
-    by : (b : Bool) → in_spec e.0 ≡ b → (xs : List (Name × Entry)) → of_patterns path (map (specified_key specs) xs) ≡ of_patterns path xs
-        → of_patterns path (map (specified_key specs) (cond b (e ∷ xs) xs)) ≡ of_patterns path (cond b (e ∷ xs) xs)
+    by : (b : Bool) → in_spec e.0 ≡ b → (xs : List (Name × Entry)) → metas_of path (map (specified_key specs) xs) ≡ metas_of path xs
+        → metas_of path (map (specified_key specs) (cond b (e ∷ xs) xs)) ≡ metas_of path (cond b (e ∷ xs) xs)
     by true is xs rest = one (is_pattern_of path e.0) (specified_entry specs e.0 e.1) (filter (λ key. is_pattern_of path key.0) (map (specified_key specs) xs)) (filter (λ key. is_pattern_of path key.0) xs) (meta_stays specs e.0 e.1 is) rest
     by false is xs rest = rest
 
@@ -124,7 +121,7 @@ pub spec_meta-specified : (keys : KeyMap) (path : List Part) → spec_meta (spec
 spec_meta-specified keys path = ap laid_over (
     map-append (λ spec. spec.meta) (option_to_list (finite.get (spec_keys (specified keys)) (spec_name path))) _
     ∙ ap₂ (λ xs ys. xs ++ ys) (own_stays keys path)
-    (ap (of_patterns path) (entries-specs keys) ∙ patterns_stay (spec_keys keys) path (finite.entries keys) ∙ ap (of_patterns path) (sym (entries-spec_keys keys)))
+    (ap (metas_of path) (entries-specs keys) ∙ patterns_stay (spec_keys keys) path (finite.entries keys) ∙ ap (metas_of path) (sym (entries-spec_keys keys)))
     ∙ sym (map-append (λ spec. spec.meta) (option_to_list (finite.get (spec_keys keys) (spec_name path))) _))
 
 -- ---- what is found

@@ -1,7 +1,7 @@
 -- A word that is refused makes no name.
 use Rattle.std.proofs.Common.{◌≡◌, rules, subst}
 use Rattle.key_name.specs.Refused.{IsChildRefusal}
-use Rattle.hosts_storage.proofs.ChildNames.{refused-no_name}
+use Rattle.key_name.proofs.ChildLemmas.{refused-no_name}
 use Rattle.hosts_storage.proofs.names.child.Goals as goal
 
 pub returns-in_ok-hand_on_memory-in-Err : goal.returns-in_ok-hand_on_memory-in-Err

@@ -1,5 +1,5 @@
 -- A part that is refused makes no name.
-use Rattle.json_storage.proofs.ChildNames.{refused-no_name}
+use Rattle.key_name.proofs.ChildLemmas.{refused-no_name}
 use Rattle.json_storage.proofs.names.child.Goals as goal
 
 pub returns-in_ok-hand_on_memory-in-Err : goal.returns-in_ok-hand_on_memory-in-Err

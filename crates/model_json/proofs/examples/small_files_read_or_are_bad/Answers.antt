@@ -1,6 +1,5 @@
 use Rattle.std.specs.Prelude.{◌≡◌, [], codes, Some}
 use Rattle.std.proofs.Common.{refl, sym, ap, ◌∙◌, inl, inr}
-use Rattle.std.specs.FinMap as finite
 use Rattle.model_names.specs.Order.{name_cmp}
 use Rattle.model_names.proofs.PartLemmas.{text_from_test}
 use Rattle.model_maps.specs.Entry.{Entry}
