@@ -95,7 +95,7 @@ is_committed points history keys set commit aside late =
     same : (c d : past.Commit) (n k : ℕ) → Commits c n ≡ Commits d k → c ≡ d
     same c d n k e = cc
 
-abbrev is_invalid : Late → Bool
+abbrev pub is_invalid : Late → Bool
 is_invalid (Invalid violation risen) = true
 is_invalid late = false
 

@@ -1,8 +1,7 @@
 -- A set has one early and one late verdict, over formats that store a map or break at one key of it.
 use Rattle.std.proofs.Common.{◌≡◌, ◌⊎◌, ℕ, ◌≤◌, Bool, true, false, not, T, List, [], ◌∷◌, ◌++◌, length, slice_get, Option, Some, None, refl, sym, ap, ap₂, subst, ◌∙◌, inl, inr}
 use Rattle.std.specs.List.{AllByRecursion}
-use Rattle.std.specs.Option.{option_map, option_or}
-use Rattle.general_words.specs.Searches.{first_some}
+use Rattle.std.proofs.lemmas.Bool.{true≢false}
 use Rattle.general_words.proofs.Lists.{some_is}
 use Rattle.kdb_outside.specs.declared.kinds.Kind.{Kind}
 use Rattle.key_name.specs.Joining.{joined}
@@ -20,8 +19,9 @@ use Rattle.model_specified.proofs.Refusals.{AreOfKeys-none, first-as, first-caus
 use Rattle.model_store.specs.Fitting.{Early, NotStorable, IsStorableAt, BreaksAtMount}
 use Rattle.model_store.specs.Sets.{Prepared}
 use Rattle.model_store.specs.Store.{Store, Formats, contents}
-use Rattle.model_store.specs.Verdicts.{Late, Conflict, Invalid, Commits, Follows, Checks, BreaksRules, IsEarly, IsLate, BreaksFirst, FromFormats, wanted_in, before_formats, behind_formats, blocking, conflict, conflict_at, commit_of, if_untouched, if_heavy, if_full, is_certain}
-use Rattle.model_store.proofs.Judged.{is_breach}
+use Rattle.model_store.specs.Verdicts.{Late, Invalid, Commits, Follows, Checks, BreaksRules, IsEarly, IsLate, BreaksFirst, FromFormats, wanted_in, before_formats, behind_formats, conflict, commit_of, if_untouched, if_heavy, if_full, is_certain}
+use Rattle.model_store.proofs.Judged.{is_breach, is_invalid}
+use Rattle.model_store.proofs.VerdictLemmas.{not_conflict, not_same}
 
 -- what follows a step is told once where it is told once without it
 follows-once : {A : Type 0} (o : Option A) (a b : Option A) (P Q : Type 0) → (P → Q → a ≡ b) → Follows o a P → Follows o b Q → a ≡ b
@@ -224,23 +224,11 @@ module _ (points : List Name) (history : List Commit) (keys : KeyMap) (set : Pre
       by true first = refl
       by false first = absurd (first-caused ⊥ chosen violation first six short)
 
-  -- the steps before the rules tell no violation
-  untouched_no : (touched : List ℕ) (aside : ℕ) (violation : Violation) (risen : Bool) → if_untouched touched aside ≡ Some (Invalid violation risen) → ⊥
-  untouched_no [] aside violation risen e = absurd cc
-  untouched_no (m ∷ touched) aside violation risen e = absurd cc
-
-  conflict_no : (mounts : List ℕ) (violation : Violation) (risen : Bool) → first_some (conflict_at history set.fronts) mounts ≡ Some (Invalid violation risen) → ⊥
-  conflict_no [] violation risen e = absurd cc
-  conflict_no (m ∷ mounts) violation risen e = elim (blocking history set.fronts m) as (λ (o : Option ℕ). option_or (option_map (Conflict m) o) (first_some (conflict_at history set.fronts) mounts) ≡ Some (Invalid violation risen) → ⊥) [
-    | None ↦ λ h. conflict_no mounts violation risen h
-    | Some by ↦ λ h. absurd cc
-  ] e
-
   -- of a violation's own pattern alone it matters whether it was refused
   pub breach-as : (violation : Violation) (risen other : Bool) → (violation.rule ≡ 6 → length violation.given ≤ longest_pattern → T risen → T other) → IsLate points history keys set (Invalid violation risen) → IsLate points history keys set (Invalid violation other)
   breach-as violation risen other so late =
-      passes (if_untouched set.touched set.aside) (untouched_no set.touched set.aside violation risen)
-      (passes (conflict history set) (conflict_no set.touched violation risen)
+      passes (if_untouched set.touched set.aside) (λ e. true≢false (not_same is_invalid set.touched set.aside (Invalid violation risen) refl e))
+      (passes (conflict history set) (λ e. true≢false (not_conflict is_invalid history set.fronts set.touched (Invalid violation risen) (λ m by. refl) e))
       (λ _. inl (record { violation = violation; risen = other; first = first-as (T risen) (T other) chosen violation so (is_breach points history keys set violation risen late); is = refl }))) late
     where
       passes : {P Q : Type 0} (o : Option Late) → (o ≡ Some (Invalid violation risen) → ⊥) → (P → Q) → Follows o (Some (Invalid violation risen)) P → Follows o (Some (Invalid violation other)) Q
