@@ -6,4 +6,5 @@ pub mod ProgressLemmas
 pub mod LineLemmas
 pub mod DecidedLemmas
 pub mod RisingLemmas
+pub mod ProcLemmas
 pub mod CountLemmas

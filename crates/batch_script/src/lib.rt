@@ -20,7 +20,7 @@ pub use examples::{
 pub use faults::ScriptFault;
 pub use laws::{
     bytes_read_as_one_script_or_are_bad_at_one_line, lines_are_counted_by_line_feeds,
-    sessions_ascend_in_each_phase,
+    proc_lines_have_keys_in_proc, sessions_ascend_in_each_phase,
 };
 pub use meta_words::MetaWord;
 pub use reading::{is_too_long, parse_script};
