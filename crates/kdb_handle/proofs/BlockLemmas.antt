@@ -35,7 +35,7 @@ use Rattle.store_verdict.specs.declared.prepared.Prepared.{Prepared}
 -- ---- where a conflict comes from
 
 -- the conflict of a touched mount is what the history tells of the set
-is_blocked : (points : List Name) (history : List Commit) (keys : KeyMap) (set : Set) (m by : ℕ) → late.IsLate points history keys set (late.Conflict m by) → conflict history set ≡ Some (late.Conflict m by)
+pub is_blocked : (points : List Name) (history : List Commit) (keys : KeyMap) (set : Set) (m by : ℕ) → late.IsLate points history keys set (late.Conflict m by) → conflict history set ≡ Some (late.Conflict m by)
 is_blocked points history keys set m by judged =
     let is : Late = late.Conflict m by in
     let w : ℕ = weight (after keys set.changes) in
@@ -59,7 +59,7 @@ abbrev number_in : Late → ℕ
 number_in (late.Conflict m by) = by
 number_in other = 0
 
-blocked_at : (history : List Commit) (fronts : Fronts) (mounts : List ℕ) (m by : ℕ) → first_some (conflict_at history fronts) mounts ≡ Some (late.Conflict m by) → blocking history fronts m ≡ Some by
+pub blocked_at : (history : List Commit) (fronts : Fronts) (mounts : List ℕ) (m by : ℕ) → first_some (conflict_at history fronts) mounts ≡ Some (late.Conflict m by) → blocking history fronts m ≡ Some by
 blocked_at history fronts [] m by e = absurd cc
 blocked_at history fronts (n ∷ mounts) m by e = at_mount (blocking history fronts n) refl (blocked_at history fronts mounts m by) e
   where
@@ -71,7 +71,7 @@ blocked_at history fronts (n ∷ mounts) m by e = at_mount (blocking history fro
         ap (blocking history fronts) (sym (ap mount_in one)) ∙ is ∙ ap Some (ap number_in one)
 
 -- the front that a prepared set has of a mount is its record's
-own_front : (mounts : List ℕ) (rec : Record) (m front : ℕ) → front_in (only mounts rec) m ≡ Some front → front_in rec m ≡ Some front
+pub own_front : (mounts : List ℕ) (rec : Record) (m front : ℕ) → front_in (only mounts rec) m ≡ Some front → front_in rec m ≡ Some front
 own_front mounts rec m front is = by (is_among mounts m) is
   where
     by : (b : Bool) → option_map (λ (fetched : Fetched). fetched.front) (cond b (rec m) None) ≡ Some front → front_in rec m ≡ Some front

@@ -9,4 +9,7 @@ mod SharedLemmas
 mod HandleLemmas
 mod BlockLemmas
 mod CloseLemmas
+mod RemakeLemmas
+mod MergeLemmas
+mod RisingLemmas
 pub mod Crossing

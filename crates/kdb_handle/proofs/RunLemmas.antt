@@ -1,6 +1,7 @@
 -- A run goes on by one more entry of the story.
 use Rattle.std.proofs.Common.{◌≡◌, ◌⊎◌, ℕ, ◌+◌, ◌<◌, ◌≤◌, zero, suc, inl, inr, List, [], ◌∷◌, ◌++◌, length, slice_index_or, Contains, Option, Some, None, refl, sym, ap, subst, ◌∙◌, append-nil, append_assoc, arith, length-append}
 use Rattle.std.proofs.lemmas.List.Elements.{Contains-append_cases}
+use Rattle.kdb_outside.proofs.Rises.{risen_still}
 use Rattle.kdb_outside.specs.Faults.{HasRisen}
 use Rattle.journal_codec.specs.declared.files.FileText.{FileText}
 use Rattle.kdb_handle.specs.Rising.{HasRisenBy}
@@ -202,9 +203,15 @@ module _ (formats : Formats) (store : Store) where
 -- a count that rises once more, and one that doesn't fall
 pub risen-once : (n before mid now : ℕ) → HasRisenBy n before mid → HasRisen mid now → mid ≤ now → HasRisenBy (n + 1) before now
 risen-once n before mid now (inl so) (inl rose) later = inl (omega arith)
-risen-once n before mid now (inl so) (inr stands) later = inr (omega arith)
-risen-once n before mid now (inr stands) rose later = inr (omega arith)
+risen-once n before mid now (inl so) (inr stands) later = inr (record { later = omega arith; rose = inr stands; top = omega arith })
+risen-once n before mid now (inr at_top) rose later =
+    let above = at_top.top in
+    let first = at_top.later in
+    inr (record { later = omega arith; rose = risen_still before mid now first later at_top.rose; top = omega arith })
 
 pub risen-still : (n before mid now : ℕ) → HasRisenBy n before mid → mid ≤ now → HasRisenBy n before now
 risen-still n before mid now (inl so) later = inl (omega arith)
-risen-still n before mid now (inr stands) later = inr (omega arith)
+risen-still n before mid now (inr at_top) later =
+    let above = at_top.top in
+    let first = at_top.later in
+    inr (record { later = omega arith; rose = risen_still before mid now first later at_top.rose; top = omega arith })

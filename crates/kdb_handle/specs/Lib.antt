@@ -13,3 +13,5 @@ pub mod Turns
 pub mod Gets
 pub mod Sets
 pub mod Closing
+pub mod Remaking
+pub mod Merging

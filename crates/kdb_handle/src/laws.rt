@@ -1,15 +1,19 @@
-//! Laws of handles: when a set that was prepared earlier may still be committed, whose commit blocks one, and what a story makes of a run. Nothing here
-//! runs: each function stands for its contract.
-ghost use Rattle.std.specs.Prelude.{◌≡◌, ℕ, List, true, Err};
+//! Laws of handles: when a set that was prepared earlier may still be committed, whose commit blocks one, that the commits in the way of a merged set have
+//! rising numbers, and what a story makes of a run. Nothing here runs: each function stands for its contract.
+ghost use Rattle.std.specs.Prelude.{◌≡◌, ℕ, List, Result, true, Err};
 ghost use mathlib.Core.List.{IsPrefix};
 ghost use Rattle.kdb_handle.specs.Fronts.{IsAnothers};
 ghost use Rattle.kdb_handle.specs.Handles.{HandleValue};
+ghost use Rattle.kdb_handle.specs.Merging.{IsMergedSet, Rise, in_the_way};
 ghost use Rattle.kdb_handle.specs.Opened.{store_at};
 ghost use Rattle.kdb_handle.specs.Runs.{ComesTo, RunsBy};
 ghost use Rattle.kdb_handle.specs.Sets.{IsDone};
 ghost use Rattle.kdb_handle.specs.Stores.{IsHandle};
 ghost use Rattle.kdb_handle.specs.Story.{Told, commits_of};
 ghost use Rattle.kdb_handle.specs.Turns.{IsPrepared};
+ghost use Rattle.kdb_handle.specs.declared.merging.MergeEnd.{MergeEnd};
+ghost use Rattle.kdb_handle.specs.declared.merging.Tried.{Tried};
+ghost use Rattle.key_merge.specs.declared.strategies.Strategy.{Strategy};
 ghost use Rattle.model_crashes.specs.Runs.{Run};
 ghost use Rattle.model_history.specs.History.{Commit};
 ghost use Rattle.model_maps.specs.KeyMap.{KeyMap};
@@ -21,6 +25,7 @@ ghost use Rattle.model_store.specs.Store.{Store};
 ghost use Rattle.mounted_files.specs.declared.files.MountedFile.{MountedFile};
 ghost use Rattle.seat_lock.specs.Known.{Place};
 ghost use Rattle.store_core.specs.declared.committing.CommitFault.TheVariants as fault;
+ghost use Rattle.store_core.specs.declared.committing.Done.{Done};
 ghost use Rattle.store_core.specs.declared.cores.Plan.{Plan};
 ghost use Rattle.store_verdict.specs.Preparing.{IsMade};
 ghost use Rattle.store_verdict.specs.PreparedView.{prepared_of};
@@ -45,6 +50,13 @@ pub fn the_blocking_commit_is_anothers<F: Formats + Drop>(_formats: &F)
         → IsHandle lock plan old → IsPrepared (record { text = F.text; IsStorable = F.is_storable; BreaksAt = F.breaks_at }) plan.mounted old.number (record_of old.rec) set
         → (done : IsDone (record { text = F.text; IsStorable = F.is_storable; BreaksAt = F.breaks_at }) plan.mounted old new set (Err (fault.Conflict mount by front)))
         → IsAnothers old.number (commits_of done.found) by }
+{}
+
+/// The commits in the way of a merged set have rising numbers, from 1 on: each lies behind all that the get before it found.
+pub fn the_commits_in_the_way_rise<F: Formats>(_formats: &F)
+    ensures { (files : List MountedFile) (parent : Name) (strategy : Strategy) (tries : ℕ) (old new : HandleValue) (ours after : KeyMap) (tried : List Tried) (end : Result Done MergeEnd)
+        → IsMergedSet (record { text = F.text; IsStorable = F.is_storable; BreaksAt = F.breaks_at }) files parent strategy tries old ours new after tried end
+        → Rise 0 (in_the_way tried end) }
 {}
 
 /// What a run comes to by a story: its files stay, its commits gain those of the story, and what was begun or is in doubt had been, or is a set of the story.

@@ -8,6 +8,7 @@ mod getting;
 mod handles;
 mod laws;
 mod meeting;
+mod merging;
 mod replies;
 mod setting;
 mod shared;
@@ -19,7 +20,9 @@ pub use entries::StoryEntry;
 pub use handles::Handle;
 pub use laws::{
     a_run_comes_to_its_story, an_accepted_set_is_still_prepared, the_blocking_commit_is_anothers,
+    the_commits_in_the_way_rise,
 };
+pub use merging::{MergeEnd, MergeFault, Merging, Tried};
 pub use replies::{Reply, Transcripts};
 pub use setting::SetFault;
 pub use shared::Shared;
