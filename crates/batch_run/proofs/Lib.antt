@@ -1,4 +1,8 @@
--- What the sessions of a batch come to together.
+-- How a session goes on, what the sessions of a batch come to together, and how a script comes to be played.
+pub mod CommitNumbers
+pub mod Joining
+mod EditLemmas
+mod TurnLemmas
 mod Growing
 mod Hearing
 mod Rising
@@ -9,3 +13,7 @@ mod Through
 mod Standing
 mod Phasing
 mod Fairness
+mod Totals
+mod Making
+mod Opened
+pub mod Ending

@@ -29,7 +29,7 @@ use Rattle.model_maps.specs.KeyMap.{KeyMap}
 use Rattle.model_store.specs.Store.{Formats}
 use Rattle.mounted_files.specs.declared.files.MountedFile.{MountedFile}
 use Rattle.seat_lock.specs.Known.{Place}
-use Rattle.session_steps.specs.Going.{GoesOn, session_of}
+use Rattle.batch_run.specs.Stepping.{GoesOn, session_of}
 use Rattle.store_core.specs.declared.cores.Plan.{Plan}
 use Rattle.store_verdict.specs.RecordView.{proc_of}
 

@@ -23,9 +23,9 @@ use Rattle.model_maps.specs.KeyMap.{KeyMap}
 use Rattle.model_store.specs.Store.{Formats}
 use Rattle.seat_lock.specs.Known.{Place}
 use Rattle.seat_lock.specs.Story.{made_by}
-use Rattle.session_steps.specs.Going.{GoesOn}
-use Rattle.session_steps.proofs.Joining.{goes-met}
-use Rattle.session_steps.proofs.Numbers.{numbers-same}
+use Rattle.batch_run.specs.Stepping.{GoesOn}
+use Rattle.batch_run.proofs.Joining.{goes-met}
+use Rattle.batch_run.proofs.CommitNumbers.{numbers-same}
 use Rattle.store_core.specs.declared.cores.Plan.{Plan}
 
 -- with the rooms of the phase all may take their steps

@@ -13,7 +13,7 @@ use Rattle.model_batch.specs.Fair.{in_row}
 use Rattle.model_batch.specs.Told.{numbers_by}
 use Rattle.model_store.specs.Store.{Formats}
 use Rattle.seat_lock.specs.Known.{Place}
-use Rattle.session_steps.specs.Going.{GoesOn}
+use Rattle.batch_run.specs.Stepping.{GoesOn}
 use Rattle.store_core.specs.declared.cores.Plan.{Plan}
 
 -- how many commits of a number there are in what a handle has seen

@@ -1,4 +1,5 @@
--- What the sessions of a batch do together.
+-- What the sessions of a batch do together, and what comes of a script.
+pub mod Stepping
 pub mod Workers
 pub mod Going
 pub mod Stands
@@ -6,3 +7,5 @@ pub mod Rooms
 pub mod Shown
 pub mod Needs
 pub mod Closes
+pub mod Played
+pub mod Opening

@@ -15,7 +15,7 @@ use Rattle.model_batch.specs.Told.{IsAtLeast, Tells, numbers_by}
 use Rattle.model_maps.specs.KeyMap.{KeyMap}
 use Rattle.model_store.specs.Store.{Formats}
 use Rattle.seat_lock.specs.Known.{Place}
-use Rattle.session_steps.specs.Going.{session_of}
+use Rattle.batch_run.specs.Stepping.{session_of}
 use Rattle.store_core.specs.declared.cores.Plan.{Plan}
 use Rattle.store_verdict.specs.RecordView.{proc_of}
 

@@ -3,9 +3,9 @@ ghost use Rattle.std.specs.Prelude.{◌≡◌, ◌≤◌, [], length, map as ove
 ghost use Rattle.std.specs.Vec.{vec_capacity};
 ghost use Rattle.batch_run.specs.Workers.{AreSeated, handle_in};
 
+use crate::sessions::Session;
 use kdb_handle::{Handle, Reply};
 use key_set::KeySet;
-use session_steps::Session;
 use std::alloc::Global;
 
 /// A session, and its replies in the present phase.

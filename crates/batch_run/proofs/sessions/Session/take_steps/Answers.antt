@@ -1,0 +1,60 @@
+-- Step by step.
+use Rattle.std.proofs.Common.{[], ◌∷◌, ◌+◌, List, length, take, refl, sym, ap, subst, ◌∙◌, arith, length-append}
+use Rattle.std.proofs.lemmas.List.{take_all}
+use Rattle.batch_script.specs.declared.steps.Step.{Step}
+use Rattle.general_words.proofs.Lists.{at_place}
+use Rattle.kdb_handle.specs.declared.replies.Reply.{Reply}
+use Rattle.model_store.specs.Store.{Formats}
+use Rattle.batch_run.specs.Stepping.{GoesOn}
+use Rattle.batch_run.proofs.Joining.{goes-more, goes-nowhere}
+use Rattle.batch_run.proofs.sessions.Session.take_steps.Goals as goal
+
+pub loop-step-init : goal.loop-step-init
+loop-step-init g c =
+    let formats : Formats = record { text = g.F.Formats.text; IsStorable = g.F.Formats.is_storable; BreaksAt = g.F.Formats.breaks_at } in
+    let store = c.args.store.now in
+    let handle = c.args.self.now.handle in
+    let working = c.args.self.now.working in
+    record {
+      room = refl;
+      count = ap length c.requires.none;
+      number = refl;
+      passed = λ fits. omega arith;
+      goes = subst (λ (answers : List Reply). GoesOn formats store.lock store.plan [] answers handle working handle working) (sym c.requires.none)
+          (goes-nowhere formats store.lock store.plan handle working c.requires.handle);
+    }
+
+pub take_step-reply-requires : goal.take_step-reply-requires
+take_step-reply-requires g c = c.loop-step.invariant.goes.handle
+
+pub push_reserved-requires : goal.push_reserved-requires
+push_reserved-requires g c = omega (arith, c.loop-step.replies.ok.0, c.loop-step.invariant.room, c.loop-step.invariant.count, c.loop-step-test.true, c.requires.room)
+
+pub loop-step-preserved : goal.loop-step-preserved
+loop-step-preserved g c =
+    let formats : Formats = record { text = g.F.Formats.text; IsStorable = g.F.Formats.is_storable; BreaksAt = g.F.Formats.breaks_at } in
+    let store = c.args.store.now in
+    let first = c.args.self.now in
+    let so_far = c.loop-step in
+    let step = c.step-item.result in
+    let taken = c.take_step-reply in
+    let pushed = c.push_reserved.ensures in
+    let there = at_place c.args.steps.now so_far.step-index step c.loop-step-test.true c.step-item.is in
+    record {
+      room = pushed.capacity ∙ so_far.invariant.room;
+      count = omega (arith, ap (λ (answers : List Reply). length answers) pushed.items, length-append so_far.replies.items (taken.result ∷ []), so_far.invariant.count);
+      number = so_far.invariant.number;
+      passed = λ fits. omega (arith, fits, c.saturating_add-self.ensures, so_far.invariant.passed fits, c.loop-step-test.true);
+      goes = subst (λ (answers : List Reply). GoesOn formats store.lock store.plan (take (so_far.step-index + 1) c.args.steps.now) answers first.handle first.working taken.new.handle taken.new.working) (sym pushed.items)
+          (goes-more formats store.lock store.plan c.args.steps.now so_far.step-index step so_far.replies.items taken.result first.handle so_far.self.handle taken.new.handle
+          first.working so_far.self.working taken.new.working there so_far.invariant.goes taken.ensures);
+    }
+
+pub returns-clause-goes : goal.returns-clause-goes
+returns-clause-goes g c =
+    let formats : Formats = record { text = g.F.Formats.text; IsStorable = g.F.Formats.is_storable; BreaksAt = g.F.Formats.breaks_at } in
+    let store = c.args.store.now in
+    let first = c.args.self.now in
+    let last = c.loop-step in
+    subst (λ (steps : List Step). GoesOn formats store.lock store.plan steps last.replies.items first.handle first.working last.self.handle last.self.working)
+    (take_all last.step-index c.args.steps.now c.loop-step-test.false) last.invariant.goes

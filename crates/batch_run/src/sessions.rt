@@ -1,0 +1,55 @@
+//! A session, and how it takes some steps.
+ghost use Rattle.std.specs.Prelude.{◌≡◌, ◌+◌, ◌^◌, ◌<◌, ◌≤◌, [], length};
+ghost use Rattle.std.specs.Vec.{vec_capacity};
+ghost use Rattle.kdb_handle.specs.Stores.{IsHandle};
+ghost use Rattle.kdb_handle.specs.Views.{lock_of, plan_of};
+ghost use Rattle.batch_run.specs.Stepping.{GoesOn};
+
+use crate::turns::take_step;
+use batch_script::Step;
+use kdb_handle::{Handle, Reply, SharedStore};
+use kdb_outside::{Disk, Gate};
+use key_set::KeySet;
+use regex_check::Patterns;
+use std::alloc::Global;
+use std::sync::Wait;
+use storage_api::Formats;
+
+/// A session between its steps.
+#[derive(Drop)]
+pub struct Session {
+    /// Its number in the script.
+    pub number: u32,
+    /// How many of its steps the gate has let pass.
+    pub passed: u32,
+    pub handle: Handle,
+    /// The working set.
+    pub working: KeySet,
+}
+
+impl Session {
+    /// Takes some steps, each behind the gate, with one reply for each. A step that finds no memory does nothing, and the session goes on.
+    pub fn take_steps<G: Gate, D: Disk, F: Formats + Drop, P: Patterns + Drop, R: Wait>(
+        &mut self,
+        gate: &G,
+        rt: &R,
+        alloc: Global,
+        store: &SharedStore<D, F, P>,
+        steps: &[Step],
+        replies: &mut Vec<Reply>,
+    )
+        requires handle { IsHandle (lock_of store.now) (plan_of store.now) self.old.handle }
+        requires none { replies.old.items ≡ [] }
+        requires room { length steps.now ≤ vec_capacity replies.old }
+        ensures goes { GoesOn (record { text = F.text; IsStorable = F.is_storable; BreaksAt = F.breaks_at }) (lock_of store.now) (plan_of store.now) steps.now replies.new.items self.old.handle self.old.working self.new.handle self.new.working }
+        ensures number { self.new.number ≡ self.old.number }
+        ensures passed { self.old.passed + length steps.now < 2 ^ 32 → self.new.passed ≡ self.old.passed + length steps.now }
+    {
+        for step in steps {
+            self.passed = self.passed.saturating_add(1);
+            gate.pass(self.number, self.passed);
+            let reply = take_step(rt, alloc, store, step, &mut self.handle, &mut self.working);
+            replies.push_reserved(reply);
+        }
+    }
+}

@@ -1,5 +1,0 @@
--- How a session goes on.
-pub mod Numbers
-pub mod Joining
-mod EditLemmas
-mod TurnLemmas

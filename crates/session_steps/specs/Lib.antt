@@ -1,2 +1,0 @@
--- How the sessions of a batch go on.
-pub mod Going
