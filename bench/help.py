@@ -2,8 +2,9 @@
 """help.py [KDB]: looks at the manual page and tries the completions for bash and zsh, over build/kdb where no program
 is named.
 
-Every command of the tool (the rows of tool_words) has to stand in all three; the page has to be laid out without a
-complaint; each completion of the table has to give just these words. zsh is tried where it is installed.
+Every command of the tool (the rows of tool_words, and that of kdb_tool) has to stand in all three; the page has to be
+laid out without a complaint; each completion of the table has to give just these words. zsh is tried where it is
+installed.
 """
 import os
 import re
@@ -25,6 +26,8 @@ BASH = [
     ("kdb export user:/sw s", ["simpleini"]),
     ("kdb mount us", ["user.ecf"]),
     ("kdb mounts ", []),
+    ("kdb b", ["batch"]),
+    ("kdb batch ", []),
 ]
 ASK_BASH = r"""
 source "$1"; line=$2
@@ -48,8 +51,13 @@ _kdb
 
 
 def commands():
-    with open(f"{TOP}/crates/tool_words/src/words.rt", encoding="utf-8") as it:
-        return sorted(set(re.findall(r'^\s*"([a-z-]+)" =>', it.read(), re.M)))
+    """The single commands, and the one that is told from them by the top call."""
+    found = set()
+    rows = [("tool_words/src/words.rt", r'^\s*"([a-z-]+)" =>'), ("kdb_tool/src/top.rt", r'== "([a-z-]+)"')]
+    for file, row in rows:
+        with open(f"{TOP}/crates/{file}", encoding="utf-8") as it:
+            found.update(re.findall(row, it.read(), re.M))
+    return sorted(found)
 
 
 def main():
@@ -80,6 +88,7 @@ def main():
         if shutil.which("zsh"):
             for line, wanted in [("kdb ", commands()), ("kdb export user:/sw ", ["dump", "simpleini", "hosts"]),
                                  ("kdb merge a b c d -s ", ["abort", "our", "their"]), ("kdb mounts ", []),
+                                 ("kdb batch ", []),
                                  ("kdb get ", ["user:/sw/a", "user:/sw/b", "spec:/", "dir:/", "user:/", "system:/"])]:
                 tried += 1
                 ask = ["zsh", "-f", "-c", ASK_ZSH, "zsh", f"{TOP}/share/_kdb", line]

@@ -6,6 +6,8 @@ use crate::sets::Keys;
 use crate::{bodies, folders, formats, merges, names, streams, texts};
 use key_meta::Memory;
 use std::alloc::Global;
+use std::sync::Wait;
+use std::thread::Threads;
 
 /// What the lines of a file were so far.
 #[derive(Drop)]
@@ -30,15 +32,19 @@ impl Cases {
     }
 
     /// What comes of a line. Nothing comes of a blank one and of a comment.
-    pub fn answer_to(&mut self, line: &str) -> Result<String, Memory> {
+    pub fn answer_to<R: Threads + Wait + Sync>(
+        &mut self,
+        threads: &R,
+        line: &str,
+    ) -> Result<String, Memory> {
         if line.is_empty() || line.starts_with('#') {
             return Ok(String::new(self.alloc));
         }
         let (word, rest) = line.split_once(' ').unwrap_or((line, ""));
-        if let Some(answer) = self.reals.answer_to(word, rest)? {
+        if let Some(answer) = self.reals.answer_to(threads, word, rest)? {
             return Ok(answer);
         }
-        if let Some(answer) = self.runs.answer_to(word, rest)? {
+        if let Some(answer) = self.runs.answer_to(threads, word, rest)? {
             return Ok(answer);
         }
         if let Some(answer) = self.keys.answer_to(word, rest)? {

@@ -20,21 +20,27 @@ mod tables;
 mod texts;
 
 use cases::Cases;
+use std::sync::Wait;
+use std::thread::Threads;
 use std::{env, fs, io};
 
 fn main(rt: HostRuntime) -> io::Result<()> {
     for path in env::args(&rt)?.skip(1) {
-        tell_cases(rt, path.as_str())?;
+        tell_cases(rt, &rt, path.as_str())?;
     }
     Ok(())
 }
 
 /// Prints each line of a file with what came of it.
-fn tell_cases(rt: HostRuntime, path: &str) -> io::Result<()> {
+fn tell_cases<R: Threads + Wait + Sync>(
+    rt: HostRuntime,
+    threads: &R,
+    path: &str,
+) -> io::Result<()> {
     let text = fs::read_to_string(&rt, path)?;
     let mut cases = Cases::new(rt);
     for line in text.lines() {
-        let answer = cases.answer_to(line)?;
+        let answer = cases.answer_to(threads, line)?;
         print!(rt; "{line}\n{answer}")?;
     }
     Ok(())

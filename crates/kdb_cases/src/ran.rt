@@ -2,10 +2,12 @@
 
 use crate::notation::push_line;
 use kdb_outside::{Disk, MemSink, MemSource, OpenGate};
-use kdb_tool::run;
+use kdb_process::run;
 use key_meta::{Memory, Text};
 use regex_check::RegexPatterns;
 use std::alloc::Global;
+use std::sync::Wait;
+use std::thread::Threads;
 
 /// What a run reads and writes.
 #[derive(Drop)]
@@ -26,13 +28,15 @@ impl Streams {
 }
 
 /// Runs the tool, and gives its status and the disk.
-pub fn run_over<D: Disk + Send>(
+pub fn run_over<D: Disk + Send, R: Threads + Wait + Sync>(
+    threads: &R,
     alloc: Global,
     words: &[Text],
     streams: &mut Streams,
     disk: D,
 ) -> (u8, D) {
     let (status, disk, _) = run(
+        threads,
         alloc,
         words,
         &mut streams.input,

@@ -6,6 +6,8 @@ use crate::runs::words_of;
 use disk_real::RealDisk;
 use key_meta::Memory;
 use std::mem;
+use std::sync::Wait;
+use std::thread::Threads;
 
 /// The real disk that calls and runs are made over, and one that waits beside it.
 #[derive(Drop)]
@@ -25,13 +27,18 @@ impl Reals {
     }
 
     /// What comes of a line, if it is one of real disks, or of any disk while there is a real one.
-    pub fn answer_to(&mut self, word: &str, rest: &str) -> Result<Option<String>, Memory> {
+    pub fn answer_to<R: Threads + Wait + Sync>(
+        &mut self,
+        threads: &R,
+        word: &str,
+        rest: &str,
+    ) -> Result<Option<String>, Memory> {
         match word {
             "real" => self.begin(rest)?,
             "other" => mem::swap(&mut self.disk, &mut self.beside),
             "done" => self.disk = self.beside.take(),
             "disk" => return Ok(self.end()),
-            "run" => return self.run(rest),
+            "run" => return self.run(threads, rest),
             _ => return self.call(word, rest),
         }
         Ok(Some(String::new(self.rt.alloc())))
@@ -67,14 +74,18 @@ impl Reals {
     }
 
     /// Runs the tool without an input.
-    fn run(&mut self, words: &str) -> Result<Option<String>, Memory> {
+    fn run<R: Threads + Wait + Sync>(
+        &mut self,
+        threads: &R,
+        words: &str,
+    ) -> Result<Option<String>, Memory> {
         let Some(disk) = self.disk.take() else {
             return Ok(None);
         };
         let alloc = self.rt.alloc();
         let words = words_of(alloc, words)?;
         let mut streams = Streams::new(alloc);
-        let (status, disk) = run_over(alloc, &words, &mut streams, disk);
+        let (status, disk) = run_over(threads, alloc, &words, &mut streams, disk);
         self.disk = Some(disk);
         Ok(Some(ended(alloc, status, &streams)?))
     }

@@ -9,6 +9,8 @@ use disk_memory::MemDisk;
 use kdb_outside::{FileName, MemSink, MemSource, Source};
 use key_meta::{Memory, Text};
 use std::alloc::Global;
+use std::sync::Wait;
+use std::thread::Threads;
 
 /// A disk, what it begins with, and what the last run put on out.
 #[derive(Drop)]
@@ -42,7 +44,12 @@ impl Runs {
     }
 
     /// What comes of a line, if it is one of a disk.
-    pub fn answer_to(&mut self, word: &str, rest: &str) -> Result<Option<String>, Memory> {
+    pub fn answer_to<R: Threads + Wait + Sync>(
+        &mut self,
+        threads: &R,
+        word: &str,
+        rest: &str,
+    ) -> Result<Option<String>, Memory> {
         match word {
             "disk" => *self = Runs::new(self.alloc),
             "file" => self.add_file(rest)?,
@@ -50,10 +57,10 @@ impl Runs {
             "fail" => self.fail(rest)?,
             "stop" => self.start.stop(rest.parse().ok()),
             "crash" => self.crash(rest.parse().unwrap_or(0))?,
-            "run" => return Ok(Some(self.run(rest)?)),
+            "run" => return Ok(Some(self.run(threads, rest)?)),
             "stops" => {
                 let words = words_of(self.alloc, rest)?;
-                return Ok(Some(rows_of(self.alloc, &self.start, &words)?));
+                return Ok(Some(rows_of(threads, self.alloc, &self.start, &words)?));
             }
             "write" | "cut" | "sync" | "length" | "read" | "whole" => {
                 return Ok(Some(self.call(word, rest)?));
@@ -126,11 +133,15 @@ impl Runs {
     }
 
     /// Runs the tool, and tells how it ends.
-    fn run(&mut self, words: &str) -> Result<String, Memory> {
+    fn run<R: Threads + Wait + Sync>(
+        &mut self,
+        threads: &R,
+        words: &str,
+    ) -> Result<String, Memory> {
         let words = words_of(self.alloc, words)?;
         let mut streams = self.streams()?;
         let disk = self.disk()?;
-        let (status, disk) = run_over(self.alloc, &words, &mut streams, disk);
+        let (status, disk) = run_over(threads, self.alloc, &words, &mut streams, disk);
         self.disk = Some(disk);
         self.hear(&mut streams)?;
         ended(self.alloc, status, &streams)

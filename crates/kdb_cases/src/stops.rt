@@ -6,6 +6,8 @@ use crate::starts::Start;
 use disk_memory::MemDisk;
 use key_meta::{Memory, Text};
 use std::alloc::Global;
+use std::sync::Wait;
+use std::thread::Threads;
 
 /// How many crashes are tried behind each stop.
 const CRASHES: u64 = 10;
@@ -23,17 +25,22 @@ struct Found {
 }
 
 /// A row for each range of stops of which the same came, up to the first that stops nothing.
-pub fn rows_of(alloc: Global, start: &Start, words: &[Text]) -> Result<String, Memory> {
+pub fn rows_of<R: Threads + Wait + Sync>(
+    threads: &R,
+    alloc: Global,
+    start: &Start,
+    words: &[Text],
+) -> Result<String, Memory> {
     let whole = start.copy_disk(None)?;
     let old = start.bytes_of(&whole)?;
-    let (_, whole) = run_alone(alloc, words, whole);
+    let (_, whole) = run_alone(threads, alloc, words, whole);
     let calls = whole.calls();
     let new = start.bytes_of(&whole)?;
     let mut rows = String::new(alloc);
     let mut from = 0;
-    let mut last = found_at(alloc, start, words, 0, &old, &new)?;
+    let mut last = found_at(threads, alloc, start, words, 0, &old, &new)?;
     for stop in 1..MOST_CALLS {
-        let found = found_at(alloc, start, words, stop, &old, &new)?;
+        let found = found_at(threads, alloc, start, words, stop, &old, &new)?;
         if found != last {
             push_row(alloc, &mut rows, from, stop.saturating_sub(1), last)?;
             from = stop;
@@ -48,7 +55,8 @@ pub fn rows_of(alloc: Global, start: &Start, words: &[Text]) -> Result<String, M
 }
 
 /// What came of the runs that are stopped behind so many calls.
-fn found_at(
+fn found_at<R: Threads + Wait + Sync>(
+    threads: &R,
     alloc: Global,
     start: &Start,
     words: &[Text],
@@ -64,9 +72,9 @@ fn found_at(
     };
     for number in 0..CRASHES {
         let disk = start.copy_disk(Some(stop))?;
-        let (status, disk) = run_alone(alloc, words, disk);
+        let (status, disk) = run_alone(threads, alloc, words, disk);
         let next = vec![in alloc; Text::new(alloc, "mounts")?]?;
-        let (_, disk) = run_alone(alloc, &next, disk.crash(number)?);
+        let (_, disk) = run_alone(threads, alloc, &next, disk.crash(number)?);
         let bytes = start.bytes_of(&disk)?;
         found.status = status;
         if bytes.as_slice() == old {
@@ -81,8 +89,13 @@ fn found_at(
 }
 
 /// Runs the tool without an input, and leaves what it tells.
-fn run_alone(alloc: Global, words: &[Text], disk: MemDisk) -> (u8, MemDisk) {
-    run_over(alloc, words, &mut Streams::new(alloc), disk)
+fn run_alone<R: Threads + Wait + Sync>(
+    threads: &R,
+    alloc: Global,
+    words: &[Text],
+    disk: MemDisk,
+) -> (u8, MemDisk) {
+    run_over(threads, alloc, words, &mut Streams::new(alloc), disk)
 }
 
 fn push_row(

@@ -6,12 +6,14 @@ mod streams;
 
 use disk_real::RealDisk;
 use kdb_outside::{OpenGate, ReaderSource, Sink, WriterSink};
-use kdb_tool::run;
+pub use kdb_tool::run;
 use key_meta::Text;
 use regex_check::RegexPatterns;
 use std::env::VarError;
 use std::io::ErrorKind;
 use std::process::ExitCode;
+use std::sync::Wait;
+use std::thread::Threads;
 use std::{env, io};
 pub use streams::{dead_end, taken_streams};
 
@@ -41,12 +43,12 @@ fn words(rt: HostRuntime) -> io::Result<Vec<Text>> {
 }
 
 /// Runs the tool with the words of the command line over the files of `.kdb`, in the folder that `KDB_DIR` names or else in the one that the
-/// program was started in, and answers the status that it is to end with.
-pub fn start(rt: HostRuntime) -> ExitCode {
+/// program was started in, and answers the status that it is to end with. `threads` is the runtime as `main` has it, which may start threads and wait.
+pub fn start<R: Threads + Wait + Sync>(rt: HostRuntime, threads: &R) -> ExitCode {
     let mut err = WriterSink::new(rt.stderr());
     match taken_streams(rt) {
         Ok(taken) => {
-            let status = run_words(rt, &mut err);
+            let status = run_words(rt, threads, &mut err);
             drop(taken);
             status
         }
@@ -55,10 +57,14 @@ pub fn start(rt: HostRuntime) -> ExitCode {
 }
 
 /// Runs the tool with the words of the command line.
-fn run_words<E: Sink>(rt: HostRuntime, err: &mut E) -> ExitCode {
+fn run_words<E: Sink, R: Threads + Wait + Sync>(
+    rt: HostRuntime,
+    threads: &R,
+    err: &mut E,
+) -> ExitCode {
     match words(rt) {
         Ok(words) => match folder(rt) {
-            Ok(folder) => run_in(rt, folder.as_str(), &words, err),
+            Ok(folder) => run_in(rt, threads, folder.as_str(), &words, err),
             Err(error) => refuse_to_start(error, err),
         },
         Err(error) => refuse_words(error, err),
@@ -66,13 +72,20 @@ fn run_words<E: Sink>(rt: HostRuntime, err: &mut E) -> ExitCode {
 }
 
 /// Runs the tool over a folder and the real input and output.
-fn run_in<E: Sink>(rt: HostRuntime, folder: &str, words: &[Text], err: &mut E) -> ExitCode {
+fn run_in<E: Sink, R: Threads + Wait + Sync>(
+    rt: HostRuntime,
+    threads: &R,
+    folder: &str,
+    words: &[Text],
+    err: &mut E,
+) -> ExitCode {
     let Ok(disk) = RealDisk::new(rt, folder) else {
         return end(70, "kdb: C01110 out of memory\n", err);
     };
     let mut input = ReaderSource::new(rt.stdin());
     let mut out = WriterSink::new(rt.stdout());
     let (status, _, _) = run(
+        threads,
         rt.alloc(),
         words,
         &mut input,

@@ -4,5 +4,5 @@
 use std::process::ExitCode;
 
 fn main(rt: HostRuntime) -> ExitCode {
-    kdb_process::start(rt)
+    kdb_process::start(rt, &rt)
 }

@@ -1,22 +1,7 @@
-pub mod RiseLemmas
-pub mod FirstRefusals
-pub mod VerdictsBy
-pub mod SetLemmas
-pub mod AnswersOnce
-pub mod AnswersExist
-pub mod AnswersMore
-pub mod AnswerLemmas
-pub mod CalmLemmas
-pub mod CrashLemmas
-pub mod ServeLemmas
-pub mod GetLemmas
-pub mod CommitLemmas
+-- What a batch comes to, from its words to its end.
+pub mod CountLemmas
+pub mod PlayLemmas
 pub mod OpeningLemmas
-pub mod InputLemmas
+pub mod TaskLemmas
+pub mod WorkLemmas
 pub mod EndLemmas
-pub mod BrokenLemmas
-pub mod BrokenPlaces
-pub mod RunLemmas
-pub mod TakeLemmas
-pub mod LegalLemmas
-pub mod RunsLemmas

@@ -1,41 +1,38 @@
--- How a run ends, as the top call says it. (This project's own.)
-use Rattle.std.specs.Prelude.{◌≡◌, ◌⊎◌, ℕ, []}
-use Rattle.tool_commands.specs.Lines.{line, read_fault, write_fault}
-use Rattle.store_lines.specs.Lines.{disk_fault, out_of_memory}
-use Rattle.tool_words.specs.Lines.{not_writable}
-use Rattle.tool_commands.specs.Report.{IsAnswered, IsEnd, Report, warned}
-use Rattle.tool_words.specs.Request.{Request, Refuses, Bars, Asks, Imports}
-use Rattle.kdb_tool.specs.Untold.{IsStatusOf}
+-- How a batch ends. (This project's own.)
+use Rattle.std.specs.Prelude.{◌≡◌, ◌⊎◌, ℕ, true, false, List, []}
+use Rattle.batch_script.specs.declared.steps.Script.{Script}
 use Rattle.kdb_outside.specs.SinkChange.{SinkChange as Change}
-use Rattle.kdb_tool.specs.Outcome.{Failed, Gives, Gains}
+use Rattle.store_lines.specs.Lines.{bad_journal, out_of_memory}
+use Rattle.tool_commands.specs.Report.{IsAnswered, Report, warned}
+use Rattle.tool_words.specs.Lines.{options_refused}
+use Rattle.tool_single.specs.Answer.{tells}
+use Rattle.tool_single.specs.Ends.{EndsRefused, FaultCause}
+use Rattle.tool_single.specs.Outcome.{Gives}
+use Rattle.kdb_tool.specs.Scripts.{AsksFor, takes_words}
+use Rattle.kdb_tool.specs.Unplayed.{RefusesScript}
 
--- a sink failed, so that the status is that of a fault
-abbrev pub LosesSink : ℕ → Change → Change → Type 0
-LosesSink status out err = (status ≡ 74) × (Failed out ⊎ Failed err)
+-- the whole text of a batch stands on out with a status, and nothing on err
+abbrev pub GivesText : ℕ → ℕ → Change → Change → Type 0
+GivesText code status out err = (text : List ℕ) × Gives (record { status = code; out = text; err = [] }) status out err
 
--- words that are refused end a run so: it told the line, memory was wanting, or a sink failed
-pub data EndsRefused (report : Report) (status : ℕ) (out err : Change) : Type 0 where
-  Refused : Gives report status out err → EndsRefused report status out err
-  NoMemory : status ≡ 70 → EndsRefused report status out err
-  SinkFails : LosesSink status out err → EndsRefused report status out err
+-- words that are refused decide alone
+abbrev pub EndsByWords : List (List ℕ) → ℕ → Change → Change → Type 0
+EndsByWords words status out err = takes_words words ≡ false → EndsRefused (warned 1 options_refused) status out err
 
--- words that ask the store for nothing decide how a run ends; a question to the store ends with its own statuses alone, and an
--- import with 0 or 5
-abbrev pub EndsByWords : Request → ℕ → Change → Change → Type 0
-EndsByWords (Refuses code text) status out err = EndsRefused (warned code text) status out err
-EndsByWords (Bars name) status out err = EndsRefused (warned 2 (not_writable name)) status out err
-EndsByWords (Asks question) status out err = IsAnswered status → IsStatusOf question status
-EndsByWords (Imports name kind) status out err = IsAnswered status → IsEnd [] status
-
+-- want of memory is told on err, with nothing on out, or is that of a step, among the replies
 abbrev pub EndsWithoutMemory : ℕ → Change → Change → Type 0
-EndsWithoutMemory status out err = status ≡ 70 → Gives (warned 70 out_of_memory) status out err
+EndsWithoutMemory status out err = status ≡ 70 → Gives (warned 70 out_of_memory) status out err ⊎ GivesText 70 status out err
 
--- which fault ended a run: the disk's, the input's or out's, of which err tells, or err's
-pub data FaultCause (disk_failed input_failed : Type 0) (status : ℕ) (out err : Change) : Type 0 where
-  OfDisk : disk_failed → Gives (warned 74 disk_fault) status out err → FaultCause disk_failed input_failed status out err
-  OfInput : input_failed → Gives (warned 74 read_fault) status out err → FaultCause disk_failed input_failed status out err
-  OfOut : Failed out → Gains err.held_before err.held_now (line write_fault) → FaultCause disk_failed input_failed status out err
-  OfErr : Failed err → FaultCause disk_failed input_failed status out err
-
+-- a fault has its cause in this call, or is that of a set, among the replies
 abbrev pub EndsInFault : Type 0 → Type 0 → ℕ → Change → Change → Type 0
-EndsInFault disk_failed input_failed status out err = status ≡ 74 → FaultCause disk_failed input_failed status out err
+EndsInFault disk_failed input_failed status out err = status ≡ 74 → FaultCause disk_failed input_failed status out err ⊎ (disk_failed × GivesText 74 status out err)
+
+-- what is told where the journal's gate is open, and no whole body of an entry stands behind it: a script that is refused is told before that
+pub data TellsBroken (words : List (List ℕ)) (input : List ℕ) (at : ℕ) (report : Report) : Type 0 where
+  WordsRefused : takes_words words ≡ false → report ≡ warned 1 options_refused → TellsBroken words input at report
+  ScriptRefused : takes_words words ≡ true → RefusesScript input (tells report) → TellsBroken words input at report
+  Broken : (script : Script) → AsksFor words input script → report ≡ warned 5 (bad_journal at) → TellsBroken words input at report
+
+-- a run that ends neither in want of memory nor in a fault ends so
+abbrev pub EndsBroken : List (List ℕ) → List ℕ → ℕ → ℕ → Change → Change → Type 0
+EndsBroken words input at status out err = IsAnswered status → (report : Report) × TellsBroken words input at report × Gives report status out err

@@ -1,18 +1,11 @@
-pub mod Answer
-pub mod Input
+-- What a run of the tool promises: that of a batch, from its words to its end, and that of a single command.
 pub mod Lines
-pub mod Sets
-pub mod Answers
-pub mod Untold
-pub mod Crashing
-pub mod Serving
-pub mod Outcome
-pub mod Ran
+pub mod Scripts
+pub mod Unplayed
+pub mod Plays
 pub mod Ends
-pub mod Broken
-pub mod Ending
-pub mod Delivery
-pub mod Stops
-pub mod Refusing
-pub mod OneCommit
 pub mod Runs
+pub mod Tasks
+pub mod Reported
+pub mod Working
+pub mod RunsOne

@@ -1,14 +1,11 @@
--- The lines of what refuses an opening. (This project's own.)
-use Rattle.std.specs.Prelude.{ℕ, List}
-use Rattle.mount_table.specs.Points.{own_point}
-use Rattle.store_core.specs.declared.faults.OpenFault.{OpenFault}
-use Rattle.store_core.specs.declared.faults.OpenFault.TheVariants.{DiskFault, BadJournal, BadTable, TooLong, BadFile, Memory}
-use Rattle.store_lines.specs.Lines.{bad_file, bad_journal, bad_table, disk_fault, too_long, out_of_memory}
+-- The lines that tell why a script isn't played. (This project's own; the codes are Elektra's.)
+use Rattle.std.specs.Prelude.{ℕ, List, ◌++◌, codes}
+use Rattle.std.specs.Fmt.{decimal}
 
-abbrev pub line_of_store : OpenFault → List ℕ
-line_of_store DiskFault = disk_fault
-line_of_store (BadJournal at) = bad_journal at
-line_of_store (BadTable fault) = bad_table fault
-line_of_store (TooLong bytes) = too_long own_point bytes
-line_of_store (BadFile number) = bad_file own_point number
-line_of_store Memory = out_of_memory
+-- the script has too many bytes or too many lines
+abbrev pub script_too_long : List ℕ
+script_too_long = codes "C01100 script-too-long"
+
+-- the first line of the script that has no meaning, counted from 1
+abbrev pub bad_line : ℕ → List ℕ
+bad_line number = codes "C03100 bad-line " ++ decimal number

@@ -1,55 +1,16 @@
-//! The tool `kdb`: from the words of a command line to what it prints and the status that it ends with.
+//! The top call of the tool: a single command, or a batch of sessions, from the words of a command line to what it prints and the status that it ends with.
 #![tactic(auto)]
 
-ghost use Rattle.std.specs.Prelude.{◌≡◌, ◌≢◌, ◌<◌, List, [], All, take, drop, Some, ℕ};
-ghost use Rattle.intent_journal.specs.BadJournals.{bad_place, open_length};
-ghost use Rattle.kdb_outside.specs.Faults.{HasRisen};
-ghost use Rattle.kdb_tool.specs.Answer.{Answer};
-ghost use Rattle.kdb_tool.specs.Answers.{Answers};
-ghost use Rattle.kdb_tool.specs.Broken.{IsBrokenAt};
-ghost use Rattle.kdb_tool.specs.OneCommit.{IsOneCommit};
-ghost use Rattle.model_specified.specs.Violations.{IsNoPattern, MayBeRefused};
-
-mod answering;
-mod answers;
-mod checking;
-mod delivery;
-mod importing;
-mod questions;
-mod reading;
-mod runs;
-mod setting;
-mod tool;
+mod playing;
+mod reporting;
+mod running;
+mod tasks;
+mod top;
 mod work;
 
-pub use runs::{one_run, runs_have_one_history};
-pub use tool::run;
-pub use tool_commands::Status;
-
-/// A command line has one answer over its input and the files of a store, where a text is refused as a pattern only if it is none. That is the answer
-/// which a run tells by which the matcher's count of refusals didn't rise. Where it rose, a run tells one of those that there are if besides the texts that
-/// are no patterns others may be refused.
-pub fn words_have_one_answer()
-    ensures one { (words : List (List ℕ)) (input : List ℕ) (files : List ℕ → List ℕ) (a b : Answer) → Answers IsNoPattern words input files a → Answers IsNoPattern words input files b → a ≡ b }
-    ensures told { (before now : ℕ) → (HasRisen before now → ⊥) → (words : List (List ℕ)) (input : List ℕ) (files : List ℕ → List ℕ) (a : Answer)
-        → Answers (λ _. HasRisen before now) words input files a → Answers IsNoPattern words input files a }
-    ensures among { (before now : ℕ) (words : List (List ℕ)) (input : List ℕ) (files : List ℕ → List ℕ) (a : Answer)
-        → Answers (λ _. HasRisen before now) words input files a → Answers (MayBeRefused (HasRisen before now)) words input files a }
-{}
-
-/// A command line is never without an answer over an input and files, whatever its words and the bytes of the files: no pattern need be refused for that.
-pub fn words_have_an_answer()
-    ensures { (words : List (List ℕ)) (input : List ℕ) (files : List ℕ → List ℕ) → ¬ ((answer : Answer) → ¬ Answers IsNoPattern words input files answer) }
-{}
-
-/// What a command line stores is one commit, which is legal on what the files mean: of mounts that aren't bad, within the limits, and by the rules.
-pub fn what_is_stored_is_one_legal_commit()
-    ensures { (words : List (List ℕ)) (input : List ℕ) (files : List ℕ → List ℕ) (answer : Answer) → Answers (λ _. Unit {0}) words input files answer → answer.stored ≢ [] → IsOneCommit files answer.stored }
-{}
-
-/// The place that `run` tells of a broken journal, of one of bytes whose gate is open: a length over that of every entry is told at the front, bytes that
-/// go wrong at the place where they do, and bytes of an entry that are fewer than the length at their end; and at no other place.
-pub fn a_broken_journal_is_told_by_its_place()
-    ensures told { (journal : List ℕ) (size at : ℕ) → All (λ b. b < 256) (take size (drop 5 journal)) → open_length journal ≡ Some size → bad_place journal ≡ Some at → IsBrokenAt size (take size (drop 5 journal)) at }
-    ensures alone { (journal : List ℕ) (size at : ℕ) → All (λ b. b < 256) (take size (drop 5 journal)) → open_length journal ≡ Some size → IsBrokenAt size (take size (drop 5 journal)) at → bad_place journal ≡ Some at }
-{}
+pub use running::run_batch;
+pub use tool_single::{
+    Status, a_broken_journal_is_told_by_its_place, one_run, run_one, runs_have_one_history,
+    what_is_stored_is_one_legal_commit, words_have_an_answer, words_have_one_answer,
+};
+pub use top::run;

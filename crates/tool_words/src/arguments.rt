@@ -1,9 +1,10 @@
 //! The arguments behind a command's word, as many as the command takes, and which keys it is for.
-ghost use Rattle.std.specs.Prelude.{◌≡◌, ℕ, List, Option, true, false, IfOk, MatchOption};
+ghost use Rattle.std.specs.Prelude.{◌≡◌, ℕ, List, Option, not, IfOk, MatchOption};
 ghost use Rattle.std.specs.Option.{option_map};
 ghost use Rattle.clap.specs.Words.{found_of, rows_of};
+ghost use Rattle.tool_words.specs.CommandLines.{no_arguments, refuses};
 ghost use Rattle.tool_words.specs.Lines.{options_refused};
-ghost use Rattle.tool_words.specs.Request.{Request, Refuses, extent_in, on_none, on_one, on_two, on_three, on_two_or_three, on_one_extended, on_two_extended, on_four_by_strategy};
+ghost use Rattle.tool_words.specs.Request.{Request, Refuses, extent_in, on_one, on_two, on_three, on_two_or_three, on_one_extended, on_two_extended, on_four_by_strategy};
 ghost use Rattle.tool_words.specs.RequestView.{texts_of};
 
 use crate::command_lines::{
@@ -17,9 +18,8 @@ use key_meta::Memory;
 use std::alloc::Global;
 
 /// Whether there are no arguments.
-pub fn none(alloc: Global, words: &[&str]) -> Result<bool, Memory>
-    ensures none { IfOk result (λ none. none ≡ true → (asked : Request) → on_none asked (texts_of words.now) ≡ asked) }
-    ensures some { IfOk result (λ none. none ≡ false → (asked : Request) → on_none asked (texts_of words.now) ≡ Refuses 1 options_refused) }
+pub fn are_none(alloc: Global, words: &[&str]) -> Result<bool, Memory>
+    ensures { IfOk result (λ none. none ≡ not (refuses no_arguments (texts_of words.now))) }
 {
     match values_in(no_arguments(alloc), words)? {
         Some(_) => Ok(true),

@@ -15,6 +15,7 @@ mod values;
 mod ways;
 mod words;
 
+pub use arguments::are_none;
 pub use extents::Extent;
 pub use flows::Flow;
 pub use laws::a_file_is_asked_for_of_keys_in_files;

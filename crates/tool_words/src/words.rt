@@ -7,7 +7,7 @@ ghost use Rattle.tool_words.specs.RequestView.{IsSeenAs, action_of, texts_of};
 ghost use Rattle.tool_words.specs.declared.uses.Use.TheVariants.{Looks, Writes};
 
 use crate::arguments::{
-    four_and_strategy, none, one, one_and_extent, three, two, two_and_extent, two_or_three,
+    are_none, four_and_strategy, one, one_and_extent, three, two, two_and_extent, two_or_three,
 };
 use crate::asking::{
     ask, ask_for_file, ask_for_violations, ask_to_bring, ask_to_merge, ask_to_mount, ask_to_pass,
@@ -158,7 +158,7 @@ fn read_mounting<'a>(alloc: Global, words: &'a [&'a str]) -> Result<Request<'a>,
 fn read_none<'a>(alloc: Global, words: &'a [&'a str]) -> Result<Request<'a>, Memory>
     ensures { IfOk result (λ read. IsSeenAs read (on_none (asked.Asks asked.Mounts) (texts_of words.now))) }
 {
-    if none(alloc, words)? {
+    if are_none(alloc, words)? {
         Ok(Request::Asks(Question::Mounts))
     } else {
         Ok(Request::Refuses(Refusal::OptionsRefused))

@@ -1,0 +1,72 @@
+-- What is told of words and an input that ask for no script, and what is asked for by those that do.
+use Rattle.std.specs.Prelude.{◌≡◌, ℕ, Bool, true, false, List, Option, Some}
+use Rattle.std.proofs.Common.{refl, ap, arith}
+use Rattle.batch_script.specs.declared.steps.Script.{Script}
+use Rattle.kdb_outside.specs.declared.sources.Source.{Ghosts}
+use Rattle.kdb_tool.specs.Ends.{TellsBroken}
+use Rattle.kdb_tool.specs.Ends as ends
+use Rattle.kdb_tool.specs.Scripts.{AsksFor, IsGiven, LeavesInput, most_taken, taken}
+use Rattle.kdb_tool.specs.Tasks.{IsTask, IsTaskOf, OfInput, OfWords, warning_of}
+use Rattle.kdb_tool.specs.Unplayed.{AnswersUnplayed, RefusesScript, ScriptRefused, WordsRefused}
+use Rattle.kdb_tool.specs.Unplayed as unplayed
+use Rattle.kdb_tool.specs.declared.tasks.NoScript.{NoScript}
+use Rattle.kdb_tool.specs.declared.tasks.NoScript.TheVariants.{OptionsRefused, TooLong, BadLine}
+use Rattle.kdb_tool.specs.declared.tasks.Task.{Task}
+use Rattle.kdb_tool.specs.declared.tasks.Task.TheVariants.{Play, Refuse}
+use Rattle.tool_single.specs.Answer.{tells}
+use Rattle.tool_single.specs.Input.{TakesAll, TakesFront}
+
+-- why there is no script
+abbrev pub why_in : Task → NoScript
+why_in (Play script) = OptionsRefused
+why_in (Refuse why) = why
+
+pub no_play : (script : Script) (why : NoScript) → Play script ≡ Refuse why → ⊥
+no_play script why same = absurd cc
+
+refuses-script : (input : List ℕ) (why : NoScript) → IsTaskOf (taken input) (Refuse why) → RefusesScript input (tells (warning_of why))
+refuses-script input OptionsRefused is = absurd is
+refuses-script input TooLong is = unplayed.TooLong is refl
+refuses-script input (BadLine line) is = unplayed.BadLine is.0 line is.1 refl
+
+-- the answer
+pub refused-answers : (words : List (List ℕ)) (input : List ℕ) (bytes_of : List ℕ → List ℕ) (why : NoScript) → IsTask words input (Refuse why) → AnswersUnplayed words input bytes_of (tells (warning_of why))
+refused-answers words input bytes_of why (OfWords refused same) = WordsRefused refused (ap (λ (t : Task). tells (warning_of (why_in t))) same)
+refused-answers words input bytes_of why (OfInput takes is) = ScriptRefused takes (refuses-script input why is)
+
+-- what is told where the journal is broken
+pub refused-broken : (words : List (List ℕ)) (input : List ℕ) (at : ℕ) (why : NoScript) → IsTask words input (Refuse why) → TellsBroken words input at (warning_of why)
+refused-broken words input at why (OfWords refused same) = ends.WordsRefused refused (ap (λ (t : Task). warning_of (why_in t)) same)
+refused-broken words input at why (OfInput takes is) = ends.ScriptRefused takes (refuses-script input why is)
+
+-- and what is asked for
+pub play-asks : (words : List (List ℕ)) (input : List ℕ) (script : Script) → IsTask words input (Play script) → AsksFor words input script
+play-asks words input script (OfWords refused same) = absurd cc
+play-asks words input script (OfInput takes is) = record { takes = takes; is_script = is }
+
+-- ---- the input
+
+-- an input that is given where words are taken is the one that its source tells
+pub given-left : (takes : Bool) (left : Option (List ℕ)) (given : List ℕ) → takes ≡ true → IsGiven takes left given → left ≡ Some given
+given-left true left given is fed = fed
+given-left false left given is fed = absurd cc
+
+-- how a call leaves the input that takes nothing more
+pub leaves-more : {S : Type 0} (g : Ghosts S) (takes : Bool) (now_done done : Type 0) (before now : S) → (now_done → done) → LeavesInput g takes done before now → LeavesInput g takes now_done before now
+leaves-more g false now_done done before now weaker leaves = leaves
+leaves-more g true now_done done before now weaker leaves = record { front = leaves.front; all = λ answered. leaves.all (weaker answered) }
+
+-- where words are refused it is left alone
+pub leaves-alone : {S : Type 0} (g : Ghosts S) (takes : Bool) (done : Type 0) (source : S) → takes ≡ false → LeavesInput g takes done source source
+leaves-alone g false done source is = refl
+leaves-alone g true done source is = absurd cc
+
+-- and where no answer comes of it
+pub leaves-none : {S : Type 0} (g : Ghosts S) (takes : Bool) (done : Type 0) (source : S) → (done → ⊥) → LeavesInput g takes done source source
+leaves-none g false done source none = refl
+leaves-none g true done source none = record { front = λ bytes told. record { count = 0; few = omega arith; is = told }; all = λ yes. absurd (none yes) }
+
+pub leaves-taken : {S : Type 0} (g : Ghosts S) (takes : Bool) (done : Type 0) (before now : S) → takes ≡ true → ((bytes : List ℕ) → g.left before ≡ Some bytes → TakesFront most_taken bytes (g.left now))
+    → ((bytes : List ℕ) → g.left before ≡ Some bytes → done → TakesAll most_taken bytes (g.left now)) → LeavesInput g takes done before now
+leaves-taken g true done before now is front all = record { front = front; all = λ answered bytes left. all bytes left answered }
+leaves-taken g false done before now is front all = absurd cc

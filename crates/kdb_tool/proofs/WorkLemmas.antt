@@ -1,0 +1,61 @@
+-- What was done for a batch, under other answers, and what it leaves of a calm disk.
+use Rattle.std.specs.Prelude.{◌≡◌, ℕ, List, Option, Result, Ok, Err, IfOk}
+use Rattle.std.proofs.Common.{refl, sym, subst}
+use Rattle.batch_script.specs.declared.steps.Script.{Script}
+use Rattle.intent_journal.specs.BadJournals.{opened_files}
+use Rattle.journal_codec.specs.declared.files.FileText.{FileText}
+use Rattle.kdb_outside.specs.Faults.{HasRisen}
+use Rattle.kdb_outside.specs.Images.{Image}
+use Rattle.kdb_outside.specs.declared.disks.Disk.{Ghosts}
+use Rattle.model_crashes.specs.Runs.{files_of}
+use Rattle.store_lines.specs.Lines.{bad_journal}
+use Rattle.kdb_tool.specs.Ends.{Broken, TellsBroken}
+use Rattle.kdb_tool.specs.Reported.{IsReported, Own}
+use Rattle.kdb_tool.specs.Runs.{IsAtRest}
+use Rattle.kdb_tool.specs.Scripts.{AsksFor}
+use Rattle.kdb_tool.specs.Working.{HasPlayed, NotPlayed, Works}
+use Rattle.tool_commands.specs.Report.{IsAnswered, Report, warned}
+use Rattle.tool_commands.specs.StepView.{report_of}
+use Rattle.tool_commands.specs.declared.reports.Report as code
+use Rattle.tool_single.proofs.ServeLemmas.{serve_calm, serve_weaker}
+use Rattle.tool_single.specs.Answer.{Answer, Texts, with_stored}
+use Rattle.tool_single.specs.Crashing.{StaysCalm}
+use Rattle.tool_single.specs.Refusing.{Tells}
+use Rattle.tool_single.specs.Stops.{or_memory}
+use Rattle.tool_single.specs.declared.answers.Stop.{Stop}
+use Rattle.tool_single.specs.declared.answers.Stop.TheVariants as stops
+
+-- a calm disk is at rest
+pub at-rest : {D : Type 0} (g : Ghosts D) (files : Image) (doubt : Option (List FileText)) (disk end : D) → (stored : Texts) × StaysCalm g files doubt stored disk end → IsAtRest g end
+at-rest g files doubt disk end stays = record { files = with_stored stays.0 (opened_files (g.seen disk)); doubt = stays.1.rest; calm = stays.1.calm }
+
+module _ {D : Type 0} (g : Ghosts D) (files : Image) (doubt : Option (List FileText)) (before now : ℕ) where
+  pub works-more : (P Q : Answer → Type 0) (IsAsked AsksToo : Script → Type 0) (answer : Result code.Report Stop) (disk end : D) → ((one : Answer) → P one → Q one) → ((script : Script) → IsAsked script → AsksToo script)
+      → Works g files doubt before now P IsAsked answer disk end → Works g files doubt before now Q AsksToo answer disk end
+  works-more P Q IsAsked AsksToo answer disk end follows more (NotPlayed serves) = NotPlayed (serve_weaker g files doubt P Q answer disk end follows serves)
+  works-more P Q IsAsked AsksToo answer disk end follows more (HasPlayed script asked told) = HasPlayed script (more script asked) told
+
+  pub works-calm : (P : Answer → Type 0) (IsAsked : Script → Type 0) (answer : Result code.Report Stop) (disk end : D) → Works g files doubt before now P IsAsked answer disk end
+      → (answer ≡ Err stops.DiskFault → HasRisen (g.faults disk) (g.faults end)) → ¬ HasRisen (g.faults disk) (g.faults end) → IsAtRest g end
+  works-calm P IsAsked answer disk end (NotPlayed serves) cause still = at-rest g files doubt disk end (serve_calm g files doubt P answer disk end serves cause still)
+  works-calm P IsAsked answer disk end (HasPlayed script asked told) cause still = record { files = files_of told.plays.last; doubt = told.plays.last.doubt; calm = told.plays.calm still }
+
+-- a broken journal is told where a script was asked for
+pub broken-asked : (words : List (List ℕ)) (input : List ℕ) (at : ℕ) (script : Script) (answer : Result code.Report Stop) → AsksFor words input script → IfOk answer (λ report. report_of report ≡ warned 5 (bad_journal at))
+    → IfOk answer (λ report. TellsBroken words input at (report_of report))
+broken-asked words input at script (Ok report) asks told = Broken script asks told
+broken-asked words input at script (Err stop) asks told = tt
+
+-- ---- what is told without the store
+
+pub made-tells : {E : Type 0} (wanted : Report) (made : Result code.Report E) (answer : Result code.Report Stop) → answer ≡ or_memory made → IfOk made (λ report. report_of report ≡ wanted) → Tells wanted answer
+made-tells wanted (Ok report) answer same told = subst (Tells wanted) (sym same) told
+made-tells wanted (Err why) answer same told = subst (Tells wanted) (sym same) refl
+
+pub made-is : {E : Type 0} (P : Report → Type 0) (wanted : Report) (made : Result code.Report E) (answer : Result code.Report Stop) → answer ≡ or_memory made → IfOk made (λ report. report_of report ≡ wanted) → P wanted → IfOk answer (λ report. P (report_of report))
+made-is P wanted (Ok report) answer same told holds = subst (λ (r : Result code.Report Stop). IfOk r (λ report. P (report_of report))) (sym same) (subst P (sym told) holds)
+made-is P wanted (Err why) answer same told holds = subst (λ (r : Result code.Report Stop). IfOk r (λ report. P (report_of report))) (sym same) tt
+
+pub made-reported : {E : Type 0} (failed : Type 0) (made : Result code.Report E) (answer : Result code.Report Stop) → answer ≡ or_memory made → IfOk made (λ report. IsAnswered report.status) → IfOk answer (λ report. IsReported failed (report_of report))
+made-reported failed (Ok report) answer same own = subst (λ (r : Result code.Report Stop). IfOk r (λ report. IsReported failed (report_of report))) (sym same) (Own own)
+made-reported failed (Err why) answer same own = subst (λ (r : Result code.Report Stop). IfOk r (λ report. IsReported failed (report_of report))) (sym same) tt

@@ -1,9 +1,0 @@
-use Rattle.kdb_tool.proofs.RunsLemmas.{any_input}
-use Rattle.kdb_tool.proofs.runs.one_run.Goals as goal
-
-pub returns : goal.returns
-returns g c tells given ending input = record {
-  tells = tells;
-  goes = c.run.ensures.goes;
-  ran = λ files doubt calm. any_input g.D.Disk files doubt _ _ _ _ _ _ _ (c.run.ensures.ran tells files doubt calm given input);
-}

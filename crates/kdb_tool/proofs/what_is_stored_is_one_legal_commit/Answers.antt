@@ -1,5 +1,0 @@
-use Rattle.kdb_tool.proofs.LegalLemmas.{stores_one}
-use Rattle.kdb_tool.proofs.what_is_stored_is_one_legal_commit.Goals as goal
-
-pub returns : goal.returns
-returns c = stores_one (λ _. Unit {0})

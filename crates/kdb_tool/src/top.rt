@@ -1,0 +1,56 @@
+//! The run of a command line: a batch by its first word, or else a single command.
+ghost use Rattle.std.specs.Prelude.{◌≡◌, true, false};
+ghost use Rattle.kdb_tool.specs.RunsOne.{RunsOne};
+ghost use Rattle.kdb_tool.specs.Runs.{RunsBatch};
+ghost use Rattle.kdb_tool.specs.Scripts.{is_batch};
+
+use crate::running::run_batch;
+use kdb_outside::{Disk, Gate, Sink, Source};
+use key_meta::Text;
+use regex_check::Patterns;
+use std::alloc::Global;
+use std::sync::Wait;
+use std::thread::Threads;
+use tool_commands::Status;
+use tool_single::run_one;
+
+/// Carries out a command line, whose words come without the program's name, and gives the disk and the matcher back. Each step of a session of a batch
+/// passes the gate; threads are started and wait for each other in a batch alone.
+pub fn run<
+    S: Source,
+    K: Sink,
+    E: Sink,
+    D: Disk + Send,
+    P: Patterns + Drop + Send,
+    G: Gate + Sync,
+    R: Threads + Wait + Sync,
+>(
+    rt: &R,
+    alloc: Global,
+    words: &[Text],
+    input: &mut S,
+    out: &mut K,
+    err: &mut E,
+    disk: D,
+    patterns: P,
+    gate: &G,
+) -> (Status, D, P)
+    ensures single { is_batch words.now ≡ false → RunsOne S.Source K.Sink E.Sink D.Disk P.Patterns words.now input.old input.new out.old out.new err.old err.new disk result.1 patterns result.2 result.0 }
+    ensures batch { is_batch words.now ≡ true → RunsBatch S.Source K.Sink E.Sink D.Disk P.Patterns words.now input.old input.new out.old out.new err.old err.new disk result.1 patterns result.2 result.0 }
+{
+    if is_batch(words) {
+        run_batch(rt, alloc, words, input, out, err, disk, patterns, gate)
+    } else {
+        run_one(alloc, words, input, out, err, disk, patterns)
+    }
+}
+
+/// Whether a command line is a batch's.
+fn is_batch(words: &[Text]) -> bool
+    ensures { result ≡ is_batch words.now }
+{
+    match words.first() {
+        Some(command) => command.as_str() == "batch",
+        None => false,
+    }
+}
