@@ -1,0 +1,71 @@
+#!/usr/bin/env bash
+# Steps a second of a batch of 1, 2, 4, 8, 16 and 32 sessions, on the disk of the temporary folder and in memory, each
+# session at a mount of its own and all at one mount, beside as many runs of the single command: the best of three runs.
+# A word stands for the count of sets, 512 without one. Wants build/kdb (first-use.sh makes it). Not part of the gate.
+set -eu
+cd "$(dirname "$0")/.."
+. bench/words.sh
+put batch "$@"
+program
+sets=${1:-512}
+# What lies in memory goes with the script, too.
+memory=$(mktemp -d -p /dev/shm)
+trap 'rm -rf "$work" "$memory"' EXIT
+[ "$(stat -f -c %T "$memory")" = tmpfs ] || { echo "/dev/shm is not in memory" >&2; exit 1; }
+
+# begin FOLDER: a store with 32 mounts; and a script that brings it back to that
+begin() {
+  for number in $(seq 32); do
+    KDB_DIR=$1 "$kdb" mount "s$number.ecf" "user:/s$number"
+  done
+  mv "$1/.kdb" "$1/begun"
+  printf 'rm -rf %s/.kdb\ncp -r %s/begun %s/.kdb\n' "$1" "$1" "$1" >"$1/back.sh"
+}
+
+# script SESSIONS KIND: so many sets, each behind a get and a put, each session at its own mount or all at the first one
+script() {
+  awk -v sessions="$1" -v kind="$2" -v sets="$sets" 'BEGIN {
+    for (session = 1; session <= sessions; session++) {
+      print "session " session
+      mount = "user:/s" (kind == "own" ? session : 1)
+      for (turn = session; turn <= sets; turn += sessions)
+        printf "get %s\nput %s/key%d %d\nset %s\n", mount, mount, session, turn, mount
+    }
+  }'
+}
+
+# rate FOLDER COMMAND: steps a second of a command on the store of a folder
+rate() {
+  timed 3 "sh $1/back.sh ;; env KDB_DIR=$1 $2" | awk -v steps=$((sets * 3)) "$numbers"'
+    { printf "%s", thousands(steps * 1000 / $3) }'
+}
+
+# singles FOLDER: as many runs of the single command, one after the other
+singles() {
+  awk -v sets="$sets" -v kdb="$kdb" 'BEGIN {
+    for (turn = 1; turn <= sets; turn++) printf "%s set user:/s1/key1 %d >/dev/null\n", kdb, turn
+  }' >"$1/singles.sh"
+  rate "$1" "sh $1/singles.sh"
+}
+
+begin "$work"
+begin "$memory"
+cat <<TEXT
+Each step is one of a get, a put and a set, of which there are $(shown "$sets") between all sessions. In memory means in a tmpfs. A
+set at a mount of its own is a commit; at one mount it is refused where another came since its get, and not tried
+again. \`kdb set\`, which is three such steps in a run of its own, makes $(singles "$work") steps a second on the disk and
+$(singles "$memory") in memory.
+TEXT
+echo
+echo "| sessions | steps a second on the disk, mounts of their own | in memory | in memory, all at one mount | conflicts there |"
+echo "|---|---|---|---|---|"
+for sessions in 1 2 4 8 16 32; do
+  script $sessions own >"$work/own"
+  script $sessions one >"$work/one"
+  on_disk=$(rate "$work" "$kdb batch < $work/own")
+  in_memory=$(rate "$memory" "$kdb batch < $work/own")
+  at_one=$(rate "$memory" "$kdb batch < $work/one")
+  sh "$memory/back.sh"
+  conflicts=$(KDB_DIR=$memory "$kdb" batch <"$work/one" | grep -c '^conflict ' || true)
+  echo "| $sessions | $on_disk | $in_memory | $at_one | $(shown "$conflicts") |"
+done

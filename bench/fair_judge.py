@@ -1,0 +1,397 @@
+"""Whether a printed text is one that the definitions of a batch allow; and a store that plays scripts, to try that.
+"""
+import collections
+import re
+
+from fair_files import NotOpened, Store, outcomes
+from fair_keys import Beyond, name_of, plain, quoted, shown, unquoted_at, with_meta
+from fair_scripts import BadScript, script_of
+from fair_steps import EDITS, Commit, History, Judge, Session, edited, looked_up
+
+
+class Unfair(Exception):
+    """What a text says that no fair one says: the rule that it breaks, and where."""
+
+    def __init__(self, rule, why):
+        super().__init__(f"{rule}: {why}")
+        self.rule = rule
+
+
+# ---- the printed text
+
+Text = collections.namedtuple("Text", "replies commits")
+
+
+def rendered(script, text, points):
+    """The whole printed text."""
+    lines = []
+    for number, phase in enumerate(script.phases, 1):
+        lines.append(f"phase {number}")
+        for session in sorted(phase):
+            lines += [f"session {session}", *text.replies[number - 1][session]]
+    lines.append(f"history {len(text.commits)}")
+    for number, commit in enumerate(text.commits, 1):
+        lines += [f"commit {number} by {commit.session}", *lines_of_commit(commit, points)]
+    return "".join(f"{line}\n" for line in [*lines, "end"])
+
+
+def lines_of_commit(commit, points):
+    lines = ["touched" + "".join(f" {shown(points[m])}" for m in commit.touched)]
+    for name, entry in commit.changes:
+        if entry is None:
+            lines.append(f"- {shown(name)}")
+        else:
+            lines.append(f"+ {shown(name)} {quoted(entry[0])}")
+            lines += [f". {quoted(meta)} {quoted(said)}" for meta, said in entry[1]]
+    return lines
+
+
+class Lines:
+    """The lines of a printed text, one after the other."""
+
+    def __init__(self, data):
+        try:
+            text = data.decode()
+        except UnicodeDecodeError:
+            raise Unfair("text", "it is not UTF-8") from None
+        if not text.endswith("\n"):
+            raise Unfair("text", "its last line has no end")
+        self.lines, self.at = text[:-1].split("\n"), 0
+
+    def next(self):
+        self.at += 1
+        if self.at > len(self.lines):
+            raise Unfair("text", "it ends too early")
+        return self.lines[self.at - 1]
+
+    def want(self, line):
+        if self.next() != line:
+            raise Unfair("text", f"line {self.at}: {self.lines[self.at - 1]!r} where {line!r} is wanted")
+
+    def match(self, pattern):
+        line = self.next()
+        found = re.fullmatch(pattern, line)
+        if not found:
+            raise Unfair("text", f"line {self.at}: {line!r} doesn't stand there")
+        return found
+
+    def until(self, *begins):
+        """The lines up to the first that begins so."""
+        first = self.at
+        while self.at < len(self.lines) and not self.lines[self.at].startswith(begins):
+            self.at += 1
+        return self.lines[first : self.at]
+
+
+NUMBER = "(0|[1-9][0-9]*)"
+
+
+def shown_words(line, at):
+    """The words of a line from a place on, each shown or quoted."""
+    words = []
+    while at < len(line):
+        if line[at] != " ":
+            raise Unfair("text", f"{line!r} has no blank at {at}")
+        at += 1
+        found = unquoted_at(line, at)
+        if line[at : at + 1] == '"' and not found:
+            raise Unfair("text", f"{line!r} has no text at {at}")
+        if not found:
+            word = line[at:].split(" ", 1)[0]
+            found = word, at + len(word)
+        words.append(found[0])
+        at = found[1]
+    return words
+
+
+def change_of(line, is_new):
+    words = shown_words(line, 1)
+    name = name_of(words[0]) if len(words) == (2 if is_new else 1) else None
+    if not name:
+        raise Unfair("text", f"{line!r} is no change")
+    return name, plain(words[1]) if is_new else None
+
+
+def commit_in(lines, number, points):
+    """The next commit of a text, its lines as they stand."""
+    session = int(lines.match(f"commit {number} by {NUMBER}")[1])
+    line = lines.next()
+    touched = [points.get(name_of(it)) for it in shown_words(line, 7)] if line.startswith("touched") else []
+    if not touched or None in touched:
+        raise Unfair("text", f"{line!r} tells no mounts")
+    changes = []
+    for line in lines.until("commit ", "end"):
+        if line.startswith("+ ") or line.startswith("- "):
+            changes.append(change_of(line, line[0] == "+"))
+        elif line.startswith(". ") and changes and changes[-1][1]:
+            words = shown_words(line, 1)
+            if len(words) != 2:
+                raise Unfair("text", f"{line!r} is no metadata")
+            changes[-1] = changes[-1][0], with_meta(changes[-1][1], *words)
+        else:
+            raise Unfair("text", f"{line!r} is no change")
+    return Commit(session, touched, changes)
+
+
+def text_of(data, script, store):
+    """A printed text: the replies by phase and session, and the commits."""
+    lines, replies, points = Lines(data), [], {point: m for m, point in enumerate(store.points)}
+    for number, phase in enumerate(script.phases, 1):
+        lines.want(f"phase {number}")
+        replies.append({})
+        for session in sorted(phase):
+            lines.want(f"session {session}")
+            replies[-1][session] = lines.until("session ", "phase ", "history ")
+    count = int(lines.match(f"history {NUMBER}")[1])
+    commits = [commit_in(lines, number, points) for number in range(1, count + 1)]
+    lines.want("end")
+    if lines.at < len(lines.lines):
+        raise Unfair("text", f"line {lines.at + 1} stands behind the end")
+    text = Text(replies, commits)
+    if rendered(script, text, store.points).encode() != data:
+        raise Unfair("text", "a name or a text is not printed as it should be")
+    return text
+
+
+# ---- judging
+
+FRONT = re.compile(rf"(?:got|same) {NUMBER} |(?:conflict|refused) .* front {NUMBER}$")
+COMMITTED = re.compile(rf"commit {NUMBER} aside {NUMBER}$")
+DISK_FAULT = "C01100 disk-fault"
+
+
+def front_of(line):
+    """The front that a reply tells, or None."""
+    committed = COMMITTED.match(line)
+    if committed:
+        return int(committed[1]) - 1
+    found = FRONT.match(line)
+    return found and int(found[1] or found[2])
+
+
+class Trial:
+    """The judging of one text."""
+
+    def __init__(self, script, store, text):
+        self.script, self.store, self.text = script, store, text
+        self.history, self.judge = History(store), None
+        self.counts, self.failed = collections.Counter(), []
+
+    def replay(self):
+        """The printed commits, each by a session of the script and of mounts that own its names."""
+        for number, commit in enumerate(self.text.commits, 1):
+            if commit.session not in self.script.sessions:
+                raise Unfair("own", f"commit {number} is by no session")
+            if any(self.store.owner(name) not in commit.touched for name, _ in commit.changes):
+                raise Unfair("history", f"commit {number} changes a key that no touched mount owns")
+            self.history.push(commit)
+        self.judge = Judge(self.store, self.history)
+
+    def told(self, session):
+        """The numbers of the commits that the replies of a session tell."""
+        lines = (line for phase in self.text.replies for line in phase.get(session, []))
+        return [int(it[1]) for it in map(COMMITTED.match, lines) if it]
+
+    def own(self):
+        for session in self.script.sessions:
+            made = [n for n, commit in enumerate(self.text.commits, 1) if commit.session == session]
+            if made != self.told(session):
+                raise Unfair("own", f"session {session} made {made} and tells {self.told(session)}")
+
+    def all(self):
+        self.replay()
+        self.own()
+        states = {session: Session({}, {}, 0) for session in self.script.sessions}
+        made = 0
+        for number, phase in enumerate(self.script.phases):
+            floor = made
+            made += sum(1 for lines in self.text.replies[number].values() for line in lines if COMMITTED.match(line))
+            for session, steps in phase.items():
+                replies = self.text.replies[number][session]
+                states[session] = self.steps(number, session, states[session], steps, replies, (floor, made))
+        return self.counts
+
+    def steps(self, phase, number, state, steps, lines, made):
+        """A session after its steps of a phase. An edit that found no memory tells so: then it is tried either way."""
+        tries, why = [(0, 0, state)], None
+        limit = 100_000 + 2 * len(steps)
+        while tries and limit:
+            at, line, state = tries.pop()
+            try:
+                while at < len(steps):
+                    limit -= 1
+                    step = steps[at]
+                    at += 1
+                    if step.word in EDITS:
+                        if lines[line : line + 1] == ["memory"]:
+                            tries.append((at, line + 1, state))
+                        state = Session(edited(state.working, step), state.fronts, state.told)
+                        continue
+                    if line == len(lines):
+                        raise Unfair("text", "a reply is missing")
+                    state = self.reply(number, state, step, lines[line], made)
+                    line += 1
+                if line < len(lines):
+                    raise Unfair("text", f"{lines[line]!r} answers no step")
+                self.counts.update(line.split(" ")[0] for line in lines)
+                return state
+            except Unfair as it:
+                why = why or Unfair(it.rule, f"phase {phase + 1}, session {number}, step {at} there: {it}")
+        raise why or Beyond("too many edits without memory")
+
+    def reply(self, number, state, step, line, made):
+        """A session after a step that has this line. So many commits were made before its phase, and by its end."""
+        if line == "memory":
+            return state
+        front = front_of(line)
+        if front is not None:
+            if not state.told <= front <= len(self.history):
+                raise Unfair("front", f"{line!r} lies not between {state.told} and {len(self.history)}")
+            if front < made[0]:
+                raise Unfair("floor", f"{line!r} where earlier phases made {made[0]} commits")
+            if front > made[1]:
+                raise Unfair("ceiling", f"{line!r} where only {made[1]} commits were made by the end of the phase")
+        tell = {"get": self.get, "look": self.look, "set": self.set}[step.word]
+        return tell(number, state, step.name, line, front)
+
+    def want(self, line, wanted, rule):
+        if line != wanted:
+            raise Unfair(rule, f"{line!r} where {wanted!r} is wanted")
+
+    def get(self, number, state, parent, line, front):
+        bad = self.judge.bad(parent)
+        if bad:
+            self.want(line, f"refused {bad}", "get")
+            return state
+        if front is None:
+            raise Unfair("get", f"{line!r} is no answer to a get")
+        state = self.judge.fetched(state, parent, self.script.procs.get(number, {}), front)
+        self.want(line, f"got {front} {len(state.working)}", "get")
+        return state
+
+    def look(self, number, state, name, line, front):
+        self.want(line, looked_up(state.working, name), "look")
+        return state
+
+    def set(self, number, state, parent, line, front):
+        refusal, wanted = self.judge.early(state, parent)
+        if refusal:
+            self.want(line, f"refused {refusal}", "early")
+            return state
+        if front is None:
+            raise Unfair("set", f"{line!r} where the set is judged by the history")
+        verdict, commit = self.judge.verdict(number, state, wanted, front)
+        if commit and line == f"refused {DISK_FAULT} front {front}":
+            self.failed.append((front, wanted))
+            return Session(state.working, state.fronts, front)
+        self.want(line, verdict, "set")
+        if not commit:
+            return Session(state.working, state.fronts, front)
+        if front >= len(self.history) or self.history.commits[front] != commit:
+            raise Unfair("commit", f"commit {front + 1} of the history is not the one of session {number}")
+        return self.judge.stored(state, commit, front + 1)
+
+    def status(self):
+        lines = [line for phase in self.text.replies for replies in phase.values() for line in replies]
+        return 70 if "memory" in lines else 74 if any(DISK_FAULT in line for line in lines) else 0
+
+    # ---- files
+
+    def files(self, more=None, front=None):
+        """What the files hold behind the first so many commits, or behind all and one set more."""
+        texts, front = dict(self.store.files), len(self.history) if front is None else front
+        for mount in self.history.touched(front):
+            texts[self.store.mounts[mount][1]] = self.store.text(mount, self.history.owned(mount, front))
+        for mount in more.touched if more else []:
+            texts[self.store.mounts[mount][1]] = self.store.text(mount, more.wants[mount])
+        return {name: data for name, data in texts.items() if data}
+
+    def hold(self, after, has_failed):
+        """The files behind are those of the history. A set that failed last may be there whole, or come back."""
+        wanted = [self.files()]
+        wanted += [self.files(it) for front, it in self.failed if front == len(self.history)]
+        found = held(after)
+        if not (self.failed or has_failed) and after.get("journal", b"\0")[:1] not in (b"", b"\0"):
+            raise Unfair("files", "the journal is left open")
+        if not found or any(it not in wanted for it in found):
+            names = {name for it in found for name in {*it, *wanted[0]} if it.get(name) != wanted[0].get(name)}
+            raise Unfair("files", f"they are not those of the history: {' '.join(sorted(names)) or 'a broken journal'}")
+
+
+def held(files):
+    """What the files of an image stand for, without those that hold nothing."""
+    return [{name: data for name, data in it.items() if data} for it in outcomes(files)]
+
+
+def judged(script_bytes, data, status, before, after, has_failed=False):
+    """Judges a run, in which some call of the disk may have failed; gives how many replies there were of each kind."""
+    try:
+        script = script_of(script_bytes)
+        store = Store(before)
+    except (BadScript, NotOpened) as why:
+        # A script without a reading leaves the files alone; an opening may bring an open entry in before it is refused.
+        is_left = after == before if isinstance(why, BadScript) else outcomes(after)[:1] == outcomes(before)[:1]
+        if data or status != 5 or not is_left:
+            told = f"a batch that isn't played ({why}) prints, stores, or ends with {status}"
+            raise Unfair("refused", told) from None
+        return collections.Counter()
+    trial = Trial(script, store, text_of(data, script, store))
+    counts = trial.all()
+    if status != trial.status():
+        raise Unfair("status", f"{status} where {trial.status()} is wanted")
+    trial.hold(after, has_failed)
+    counts["commits"] = len(trial.history)
+    return counts
+
+
+# ---- a store that plays scripts: one step after the other, in any order that the phases allow
+
+class Play:
+    """A run of a script in an order that numbers decide. Some sets fail for the disk, if that is asked for."""
+
+    def __init__(self, script, store, chance, fails=0):
+        self.script, self.store, self.chance, self.fails = script, store, chance, fails
+        self.history = History(store)
+        self.judge = Judge(store, self.history)
+        self.states = {session: Session({}, {}, 0) for session in script.sessions}
+
+    def text(self):
+        replies = []
+        for phase in self.script.phases:
+            lines, left = {session: [] for session in phase}, [s for s, steps in phase.items() for _ in steps]
+            self.chance.shuffle(left)
+            places = dict.fromkeys(phase, 0)
+            for session in left:
+                line = self.step(session, phase[session][places[session]])
+                places[session] += 1
+                lines[session] += [line] if line else []
+            replies.append(lines)
+        return Text(replies, self.history.commits)
+
+    def step(self, number, step):
+        state, front = self.states[number], len(self.history)
+        if step.word in EDITS:
+            self.states[number] = Session(edited(state.working, step), state.fronts, state.told)
+            return None
+        if step.word == "look":
+            return looked_up(state.working, step.name)
+        if step.word == "get":
+            bad = self.judge.bad(step.name)
+            if bad:
+                return f"refused {bad}"
+            self.states[number] = self.judge.fetched(state, step.name, self.script.procs.get(number, {}), front)
+            return f"got {front} {len(self.states[number].working)}"
+        return self.set(number, state, step.name, front)
+
+    def set(self, number, state, parent, front):
+        refusal, wanted = self.judge.early(state, parent)
+        if refusal:
+            return f"refused {refusal}"
+        line, commit = self.judge.verdict(number, state, wanted, front)
+        self.states[number] = Session(state.working, state.fronts, front)
+        if commit and self.chance.random() < self.fails:
+            return f"refused {DISK_FAULT} front {front}"
+        if commit:
+            self.history.push(commit)
+            self.states[number] = self.judge.stored(state, commit, front + 1)
+        return line

@@ -1,0 +1,238 @@
+"""What the steps of a session mean for bench/fair.py, by the history that the store comes to have."""
+import bisect
+import collections
+
+from fair_files import ELEKTRA, LONGEST_FILE, NotStorable, table_of
+from fair_keys import (HEAVIEST_HISTORY, HEAVIEST_MAP, LONGEST_TEXT, Specified, broken, is_below_or_same, joined,
+                       quoted, shown, size, weight, weight_of_entry, weight_of_name, with_meta, with_value)
+
+EDITS = ("put", "meta", "del", "cut")
+
+
+# ---- histories
+
+# the session whose commit it is, the mounts that it touches, and its changes: names, each with its entry or None
+Commit = collections.namedtuple("Commit", "session touched changes")
+
+
+def weight_of_commit(commit):
+    each = (16 + weight_of_name(name) + (weight_of_entry(entry) if entry else 0) for name, entry in commit.changes)
+    return 64 + sum(each)
+
+
+class History:
+    """The commits of a store, and what each mount owns after so many of them."""
+
+    def __init__(self, store):
+        self.store, self.commits, self.weights = store, [], [0]
+        # for each mount the numbers of the commits that touch it, and the keys that it owns then; the weight of these
+        self.numbers = [[0] for _ in store.mounts]
+        self.maps = [[keys] for keys in store.start]
+        self.heavy = [[weight(keys)] for keys in store.start]
+
+    def __len__(self):
+        return len(self.commits)
+
+    def push(self, commit):
+        self.commits.append(commit)
+        self.weights.append(self.weights[-1] + weight_of_commit(commit))
+        for mount in commit.touched:
+            changes = [it for it in commit.changes if self.store.owner(it[0]) == mount]
+            keys, heavy = changed(self.maps[mount][-1], self.heavy[mount][-1], changes)
+            self.numbers[mount].append(len(self.commits))
+            self.maps[mount].append(keys)
+            self.heavy[mount].append(heavy)
+
+    def place(self, mount, front):
+        return bisect.bisect_right(self.numbers[mount], front) - 1
+
+    def owned(self, mount, front):
+        """What a mount owns after the first so many commits."""
+        return self.maps[mount][self.place(mount, front)]
+
+    def weighed(self, mount, front):
+        return self.heavy[mount][self.place(mount, front)]
+
+    def first_after(self, mount, front, most):
+        """The first commit behind a front that touches a mount, among the first so many; or None."""
+        at = self.place(mount, front) + 1
+        numbers = self.numbers[mount]
+        return numbers[at] if at < len(numbers) and numbers[at] <= most else None
+
+    def touched(self, front):
+        return {mount for commit in self.commits[:front] for mount in commit.touched}
+
+
+def changed(keys, heavy, changes):
+    """Keys with changes, and their weight."""
+    keys = dict(keys)
+    for name, entry in changes:
+        if name in keys:
+            heavy -= weight({name: keys.pop(name)})
+        if entry:
+            keys[name] = entry
+            heavy += weight({name: entry})
+    return keys, heavy
+
+
+# ---- what a set comes to
+
+Wanted = collections.namedtuple("Wanted", "touched changes aside wants")
+
+
+def differing(before, wants):
+    return [(name, wants.get(name)) for name in {*before, *wants} if before.get(name) != wants.get(name)]
+
+
+class Session:
+    """A session between two steps: its working set, the front of each mount that it fetched, and s."""
+
+    def __init__(self, working, fronts, told):
+        self.working, self.fronts, self.told = working, fronts, told
+
+
+class Judge:
+    """The definitions of steps, over a store and a history."""
+
+    def __init__(self, store, history):
+        self.store, self.history = store, history
+
+    def bad(self, parent):
+        """Why a get is refused, or None."""
+        return next((self.store.bad[m] for m in self.store.involved(parent) if m in self.store.bad), None)
+
+    def got(self, parent, procs, front):
+        keys = {}
+        for mount in self.store.involved(parent):
+            keys.update(self.history.owned(mount, front))
+        if self.store.in_proc(parent):
+            keys.update(procs)
+        return keys
+
+    def fetched(self, session, parent, procs, front):
+        """A session after a get."""
+        fronts = {**session.fronts, **{m: front for m in self.store.involved(parent)}}
+        return Session(self.got(parent, procs, front), fronts, front)
+
+    def wanted(self, session, parent):
+        """The mounts that a set touches, with its changes; how many keys it leaves aside; what it wants for each."""
+        involved = self.store.involved(parent)
+        wants, aside = {m: {} for m in involved}, 0
+        for name, entry in session.working.items():
+            mount = self.store.owner(name)
+            if mount in wants:
+                wants[mount][name] = entry
+            else:
+                aside += 1
+        touched, changes = [], []
+        for mount in involved:
+            kept = self.history.owned(mount, session.fronts[mount])
+            if kept != wants[mount]:
+                touched.append(mount)
+                changes += differing(kept, wants[mount])
+        return Wanted(touched, sorted(changes), aside, wants)
+
+    def unfetched(self, session, parent):
+        mounts = (m for m in self.store.involved(parent) if m not in session.fronts)
+        return next((f"C01320 not-fetched {shown(self.store.points[m])}" for m in mounts), None)
+
+    def long_text(self, session, parent):
+        involved = self.store.involved(parent)
+        for name, (value, meta) in sorted(session.working.items()):
+            if self.store.owner(name) in involved:
+                for text in (value, *(it for _, it in meta)):
+                    if len(text) > LONGEST_TEXT // 4 and size(text) > LONGEST_TEXT:
+                        return f"C01100 value-too-long {shown(name)} {size(text)}"
+        return None
+
+    def unfiled(self, wanted):
+        """What a file can't hold: it is too heavy, its format can't, or its text is too long; in this order."""
+        store, points = self.store, [shown(it) for it in self.store.points]
+        for mount in wanted.touched:
+            heavy = weight(store.filed(mount, wanted.wants[mount]))
+            if heavy > HEAVIEST_MAP:
+                return f"C01100 file-too-large {points[mount]} {heavy}"
+        texts = {}
+        for mount in wanted.touched:
+            try:
+                texts[mount] = store.text(mount, wanted.wants[mount])
+            except NotStorable as why:
+                key = joined(store.points[mount], why.args[0])
+                return f"C03200 not-storable {points[mount]} {shown(key)}"
+        for mount, text in texts.items():
+            if len(text) > LONGEST_FILE:
+                return f"C01100 file-too-large {points[mount]} {len(text)}"
+        return None
+
+    def bad_table(self, wanted):
+        elektra = self.store.points.index(ELEKTRA)
+        fault = table_of(wanted.wants[elektra])[1] if elektra in wanted.touched else None
+        return fault and f"C03200 bad-table {fault}"
+
+    def early(self, session, parent):
+        """What a set is refused with before the history is asked, or what it wants."""
+        refusal = self.unfetched(session, parent) or self.long_text(session, parent)
+        if refusal:
+            return refusal, None
+        wanted = self.wanted(session, parent)
+        return self.unfiled(wanted) or self.bad_table(wanted), wanted
+
+    def invalid(self, wanted, front):
+        """The first key of a touched mount that would break a rule, or None."""
+        keys = {}
+        for mount in range(len(self.store.mounts)):
+            keys.update(self.history.owned(mount, front))
+        keys, _ = changed(keys, 0, wanted.changes)
+        specified = Specified(keys)
+        for name in sorted(it for it in keys if self.store.owner(it) in wanted.touched and it[0] not in (0, 1)):
+            breach = broken(*specified.at(name))
+            if breach:
+                return f"C03200 invalid {shown(name)} rule {breach[0]} given {quoted(breach[1])}"
+        return None
+
+    def full(self, wanted, commit, front):
+        heavy = 0
+        for mount in range(len(self.store.mounts)):
+            keys, now = self.history.owned(mount, front), self.history.weighed(mount, front)
+            own = [it for it in wanted.changes if self.store.owner(it[0]) == mount]
+            heavy += changed(keys, now, own)[1] if own else now
+        if heavy > HEAVIEST_MAP:
+            return f"C01100 database-full {heavy}"
+        heavy = self.history.weights[front] + weight_of_commit(commit)
+        return f"C01100 history-full {heavy}" if heavy > HEAVIEST_HISTORY else None
+
+    def verdict(self, number, session, wanted, front):
+        """The line of what becomes of a set behind so many commits, and the commit, if it is one."""
+        if not wanted.touched:
+            return f"same {front} aside {wanted.aside}", None
+        for mount in wanted.touched:
+            by = self.history.first_after(mount, session.fronts[mount], front)
+            if by:
+                return f"conflict {shown(self.store.points[mount])} by {by} front {front}", None
+        commit = Commit(number, wanted.touched, wanted.changes)
+        refusal = self.invalid(wanted, front) or self.full(wanted, commit, front)
+        if refusal:
+            return f"refused {refusal} front {front}", None
+        return f"commit {front + 1} aside {wanted.aside}", commit
+
+    def stored(self, session, commit, number):
+        """A session whose set became a commit."""
+        return Session(session.working, {**session.fronts, **{m: number for m in commit.touched}}, number)
+
+
+def edited(keys, step):
+    """A working set after an edit."""
+    if step.word == "cut":
+        return {name: entry for name, entry in keys.items() if not is_below_or_same(name, step.name)}
+    keys = dict(keys)
+    entry = keys.pop(step.name, None)
+    if step.word == "put":
+        keys[step.name] = with_value(entry, step.value)
+    if step.word == "meta":
+        keys[step.name] = with_meta(entry, step.meta, step.value)
+    return keys
+
+
+def looked_up(keys, name):
+    found = Specified(keys).found(name)
+    return f"found {shown(found[0])} {quoted(found[1])}" if found else "none"

@@ -1,0 +1,7 @@
+//! Tests of the sessions of a script on threads over a disk in memory.
+#![tactic(auto)]
+
+#[cfg(test)]
+mod gates;
+#[cfg(test)]
+mod sessions;

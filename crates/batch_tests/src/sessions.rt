@@ -1,0 +1,86 @@
+//! Sessions at a gate, over a disk in memory.
+use crate::gates::{CountingGate, MeetingGate};
+use all_formats::AllFormats;
+use batch_run::{Played, play_on, what_bytes_read_as_can_be_played};
+use batch_script::parse_script;
+use disk_memory::MemDisk;
+use kdb_outside::Gate;
+use regex_check::RegexPatterns;
+use std::alloc::Global;
+use std::sync::Wait;
+use std::test::*;
+use std::thread::Threads;
+use store_core::{Opened, open_store};
+
+/// Plays a script on an empty disk.
+fn play<G: Gate + Sync, R: Threads + Wait + Sync>(
+    rt: &R,
+    alloc: Global,
+    gate: &G,
+    text: &str,
+) -> Option<Played<MemDisk, RegexPatterns>> {
+    what_bytes_read_as_can_be_played();
+    let Ok(script) = parse_script(alloc, text.as_bytes()) else {
+        return None;
+    };
+    let disk = MemDisk::new(alloc, Vec::new(alloc), Vec::new(alloc), None).ok()?;
+    let Ok(Opened { plan, core }) = open_store(alloc, disk, AllFormats, RegexPatterns::new()) else {
+        return None;
+    };
+    Some(play_on(rt, alloc, gate, plan, core, &script))
+}
+
+/// A script in which so many sessions each get all keys twice, in one phase.
+fn two_gets_each(alloc: Global, sessions: u32) -> Result<String, Fail> {
+    let mut text = String::new(alloc);
+    for session in 1..=sessions {
+        text.push_str(&format!(in alloc; "session {session}\nget /\nget /\n")?)?;
+    }
+    Ok(text)
+}
+
+/// How many of so many sessions missed the others at their second step, and whether all steps were taken.
+fn missed_of<R: Threads + Wait + Sync>(
+    rt: &R,
+    alloc: Global,
+    sessions: u32,
+    text: &str,
+) -> Result<(u64, bool), Fail> {
+    let gate = MeetingGate::new(sessions as u64);
+    let played = play(rt, alloc, &gate, text).ok_or("it is played")?;
+    Ok((gate.missed(), played.transcripts.is_some()))
+}
+
+#[test]
+fn two_sessions_of_a_phase_meet_amid_their_steps(rt: HostRuntime) -> Result<(), Fail> {
+    let text = two_gets_each(rt.alloc(), 2)?;
+    assert_eq!(rt; missed_of(&rt, rt.alloc(), 2, &text)?, (0, true));
+    Ok(())
+}
+
+#[test]
+fn so_do_as_many_sessions_as_a_script_may_have(rt: HostRuntime) -> Result<(), Fail> {
+    let text = two_gets_each(rt.alloc(), 32)?;
+    assert_eq!(rt; missed_of(&rt, rt.alloc(), 32, &text)?, (0, true));
+    Ok(())
+}
+
+/// The first one has ended when the second one begins: what the gate notes of sessions that run one after the other.
+#[test]
+fn sessions_of_two_phases_do_not_meet(rt: HostRuntime) -> Result<(), Fail> {
+    let text = "session 1\nget /\nget /\nphase\nsession 2\nget /\nget /\n";
+    assert_eq!(rt; missed_of(&rt, rt.alloc(), 2, text)?, (1, true));
+    Ok(())
+}
+
+/// The number of a step is its place among all steps of its session. Edits are steps, and so is a set that is refused.
+#[test]
+fn the_gate_is_asked_before_each_step(rt: HostRuntime) -> Result<(), Fail> {
+    let gate = CountingGate::new();
+    let text =
+        "session 3\nput user:/a 1\nset user:/\nphase\nsession 7\nlook /a\nphase\nsession 3\nget /\n";
+    let played = play(&rt, rt.alloc(), &gate, text).ok_or("it is played")?;
+    assert!(rt; played.transcripts.is_some());
+    assert_eq!(rt; (gate.calls(), gate.told()), (4, 301 + 302 + 701 + 303));
+    Ok(())
+}
