@@ -106,12 +106,11 @@ fn push_digits(bytes: &mut Vec<u8>, text: &str) -> Result<(), Memory> {
     }
 }
 
-/// What a digit of sixteen counts, of which no other letter is one.
+/// What a digit of sixteen counts, and another letter nothing.
 fn digit(letter: u8) -> u8 {
-    match letter {
-        b'0'..=b'9' => letter - b'0',
-        b'a'..=b'f' => letter - b'a' + 10,
-        _ => 0,
+    match char::from(letter).to_digit(16) {
+        Some(digit) => digit as u8,
+        None => 0,
     }
 }
 
