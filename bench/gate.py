@@ -311,7 +311,8 @@ def run_gate(command):
         f"with `{version.strip()}`, on {len(os.sched_getaffinity(0))} processors and {memory:.0f} GiB of memory,",
         f"at a mean load of {machine['load']:.1f}; other programs took {machine['others']:.1f} processor minutes"
         " meanwhile.",
-        f"{done[-1][0].upper()}{done[-1][1:]}{'; what was kept cost nothing here' if kept else ''}.",
+        f"{done[-1][0].upper()}{done[-1][1:]}.",
+        *(["What was kept cost nothing here."] if kept else []),
         *([f"It ended with status {status}, so it is no whole gate."] if status else []),
         "",
         *rows,

@@ -101,7 +101,7 @@ echo
 awk -v made="$made" -v none="$none" -v some="$some" "$numbers"'
   { least[NR] = $3 }
   END {
-    printf "A copy of a set of %s names takes %.1f µs and %s instructions; ", thousands(made),
+    printf "A copy of a set of %s names takes %.1f µs and %s instructions;\n", thousands(made),
       (least[2] - least[1]) * 1000 / 200, thousands((some - none) / 100)
     printf "to make the set, names included, %.1f ms and %s million.\n", least[1], millions(none)
   }' "$work/copies"
