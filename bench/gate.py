@@ -12,18 +12,21 @@ ticks of the system's clock, and a row to a second for each of its processes.
 gate.py --join PAGE.. joins what runs wrote into copies of that page, each of which proved a part: a later page's figure
 stands in the place of an earlier one's.
 
-gate.py --functions CRATE.. proves each of these crates once more by one job, a crate of tests with its tests, and lists
-the functions that take over ten seconds between two further lines there: the gate itself tells nothing of a function's
-time. The libraries below must stand in crates/*/out, where `rt ci` leaves them. It is no part of the gate.
+gate.py --functions CRATE.. proves each of these crates once more by one job, as many crates at a time as there are
+processors, a crate of tests with its tests, and lists the functions that take over ten seconds between two further
+lines there: the gate itself tells nothing of a function's time. The libraries below must stand in crates/*/out, where
+`rt ci` leaves them. It is no part of the gate.
 
 Where the marking lines are missing, what would stand between them goes to out.
 """
 import collections
+import concurrent.futures
 import datetime
 import os
 import re
 import subprocess
 import sys
+import textwrap
 import threading
 import time
 
@@ -264,16 +267,21 @@ def slow_functions(crates):
     sys.path.insert(0, f"{os.path.dirname(said.strip())}/bin")
     import rtlib
 
-    slow = []
-    for name in crates:
-        crate = rtlib.Crate(os.path.abspath(f"crates/{name}"), os.getcwd(), {})
-        words = crate.words(["--jobs", "1"], tests=crate.has_tests(), keeps=False)
-        slow += [(ticks, name, it) for ticks, it in times([rtlib.RATTLE, "check", *words], crate.folder)]
-        print(f"{name}: {sum(it[0] for it in slow if it[1] == name) / TICKS:.0f} s", file=sys.stderr, flush=True)
+    made = [rtlib.Crate(os.path.abspath(f"crates/{name}"), os.getcwd(), {}) for name in crates]
+    checks = [(it, it.words(["--jobs", "1"], tests=it.has_tests(), keeps=False)) for it in made]
+
+    def took(check):
+        crate, words = check
+        found = [(ticks, crate.name, it) for ticks, it in times([rtlib.RATTLE, "check", *words], crate.folder)]
+        print(f"{crate.name}: {sum(it[0] for it in found) / TICKS:.0f} s", file=sys.stderr, flush=True)
+        return found
+
+    with concurrent.futures.ThreadPoolExecutor(len(os.sched_getaffinity(0))) as pool:
+        slow = [it for found in pool.map(took, checks) for it in found]
     slow = [it for it in sorted(slow, reverse=True) if it[0] >= LONG * TICKS]
-    head = f"Functions of {', '.join(f'`{it}`' for it in crates)} that take over {LONG} seconds"
+    head = f"Functions that take over {LONG} seconds of processor time, of {', '.join(f'`{it}`' for it in crates)}"
     lines = [f"- {ticks / TICKS:.0f} s: `{crate}`, `{it}`" for ticks, crate, it in slow]
-    return [f"{head}:", "", *lines] if slow else [f"{head}: none."]
+    return [*textwrap.wrap(f"{head}{':' if slow else ': none.'}", 118, break_on_hyphens=False), "", *lines]
 
 
 def marks(who):
