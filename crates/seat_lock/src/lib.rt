@@ -2,6 +2,7 @@
 //! maker's number. What a turn finds begins with all that its seat had seen.
 #![tactic(auto)]
 
+mod bells;
 mod board;
 mod locks;
 mod openings;

@@ -4,6 +4,7 @@ ghost use mathlib.Core.List.{IsPrefix};
 ghost use Rattle.seat_lock.specs.Known.{knowledge};
 ghost use Rattle.seat_lock.specs.Story.{made_by, longer, HasNoMaker, IsOneTurn, AreNew, IsClosed};
 
+use crate::bells::Bells;
 use crate::board::{Board, Sitter};
 use crate::openings::{deal_all, gather, make, shut};
 use crate::seats::Seat;
@@ -19,6 +20,7 @@ use std::sync::Wait;
 /// A lock with its value. To contracts it is which lock it is, how many seats it has, and the entries with which it began.
 pub struct Lock<V: Storied> {
     board: Board<V>,
+    bells: Bells,
 }
 
 impl<V: Storied> Model for Lock<V> {
@@ -60,10 +62,13 @@ impl<V: Storied> Lock<V> {
         let Ok(room) = Vec::with_capacity(alloc, seats as usize) else {
             return Err(NoLock { value });
         };
+        let Ok(bells) = Bells::new(alloc) else {
+            return Err(NoLock { value });
+        };
         let (board, first) = make(alloc, value, seats)?;
         let seats = deal_all(&board, first, seats, front, room);
         Ok(NewLock {
-            lock: Lock { board },
+            lock: Lock { board, bells },
             seats,
         })
     }
@@ -79,7 +84,7 @@ impl<V: Storied> Lock<V> {
     {
         let Seat { badge, number, .. } = seat;
         let mut sitter: Sitter<V> = badge.into_seat();
-        let value = enter(rt, &self.board, &mut sitter);
+        let value = enter(rt, &self.board, &self.bells, &mut sitter);
         Turn {
             seat: sitter,
             number,
@@ -100,7 +105,8 @@ impl<V: Storied> Lock<V> {
             value,
         } = turn;
         let front = value.count();
-        end(&self.board, &mut seat, value);
+        let next = end(&self.board, &mut seat, value);
+        self.bells.ring(next);
         Seat {
             badge: seat.into_badge(),
             number,
@@ -133,7 +139,10 @@ impl<V: Storied> Lock<V> {
         requires all { length seats.items ≡ self.seats }
         ensures { IsClosed V.maker V.stands self seats.items result }
     {
-        let Lock { board } = self;
+        let Lock {
+            board,
+            bells: _bells,
+        } = self;
         let all = gather(&board, seats);
         shut(board, all)
     }

@@ -6,10 +6,10 @@ ghost use Rattle.seat_lock.specs.Boards.{IsBoard, IsOutside, IsWaiting, HasEnter
 ghost use Rattle.seat_lock.specs.Rule.{IsWithin};
 ghost use Rattle.seat_lock.specs.Steps.{Enters};
 
+use crate::bells::Bells;
 use crate::board::{Board, Compare, Deal, Draw, End, Gather, Look, Note, Sitter};
 use crate::story::Storied;
 use std::sync::Wait;
-use std::thread;
 
 /// Draws a ticket.
 pub fn draw<V: Storied>(board: &Board<V>, seat: &mut Sitter<V>) -> u64
@@ -46,7 +46,12 @@ fn take<V: Storied>(board: &Board<V>, seat: &mut Sitter<V>) -> V
 }
 
 /// Waits for a turn, and gives the value.
-pub fn enter<V: Storied, R: Wait>(rt: &R, board: &Board<V>, seat: &mut Sitter<V>) -> V
+pub fn enter<V: Storied, R: Wait>(
+    rt: &R,
+    board: &Board<V>,
+    bells: &Bells,
+    seat: &mut Sitter<V>,
+) -> V
     requires board { IsBoard board.now.shared.table_id × (seat.old.table_id ≡ board.now.shared.table_id) }
     requires outside { IsOutside seat.old.me }
     requires number { 0 < length seat.old.me.0.mine }
@@ -54,17 +59,19 @@ pub fn enter<V: Storied, R: Wait>(rt: &R, board: &Board<V>, seat: &mut Sitter<V>
     ensures found { HasEntered V.maker V.stands seat.old.me seat.new.me result }
 {
     let ticket = draw(board, seat);
+    let mut looks: u32 = 0;
     for _ in rt.forever() {
         if look(board, seat, ticket) {
             return take(board, seat);
         }
-        thread::yield_now();
+        bells.wait(rt, ticket, looks);
+        looks = looks.saturating_add(1);
     }
     unreachable!()
 }
 
-/// Ends the turn: the value goes back, and the next ticket has its turn.
-pub fn end<V: Storied>(board: &Board<V>, seat: &mut Sitter<V>, value: V)
+/// Ends the turn: the value goes back, and the next ticket, which is answered, has its turn.
+pub fn end<V: Storied>(board: &Board<V>, seat: &mut Sitter<V>, value: V) -> u64
     requires board { IsBoard board.now.shared.table_id × (seat.old.table_id ≡ board.now.shared.table_id) }
     requires holds { (seat.old.me.0.holds ≡ true) × (seat.old.me.1 ≡ (0, None) ∷ []) }
     requires story { V.stands value (seat.old.me.0.seen ++ V.more value) }
@@ -74,7 +81,7 @@ pub fn end<V: Storied>(board: &Board<V>, seat: &mut Sitter<V>, value: V)
 {
     let empty = board.shared.exchange(seat, 0, Some(value));
     let None = empty else { unreachable!() };
-    board.shared.fetch_add::<End<V>>(seat, 0, 1);
+    board.shared.fetch_add::<End<V>>(seat, 0, 1).wrapping_add(1)
 }
 
 /// A new seat with the first number.
