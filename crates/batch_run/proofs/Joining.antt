@@ -7,7 +7,7 @@ use mathlib.Core.List.{IsPrefix}
 use Rattle.batch_script.specs.declared.steps.Step.{Step}
 use Rattle.general_words.proofs.Lists.{appended, take-next}
 use Rattle.kdb_handle.specs.Handles.{HandleValue}
-use Rattle.kdb_handle.specs.Story.{Told, maker_of, commits_of, failures_in, refusals_in}
+use Rattle.kdb_handle.specs.Story.{Told, commits_of, failures_in, refusals_in}
 use Rattle.kdb_handle.specs.Stores.{IsHandle}
 use Rattle.kdb_handle.specs.declared.replies.Reply.{Reply}
 use Rattle.kdb_handle.proofs.StoryLemmas.{commits-prefix}
@@ -20,10 +20,9 @@ use Rattle.model_maps.specs.KeyMap.{KeyMap}
 use Rattle.model_store.specs.Records.{Record}
 use Rattle.model_store.specs.Store.{Formats}
 use Rattle.seat_lock.specs.Known.{Place}
-use Rattle.seat_lock.specs.Story.{made_by}
 use Rattle.seat_lock.proofs.Prefixes.{prefix-self, prefix-trans}
 use Rattle.batch_run.specs.Stepping.{GoesOn, session_of}
-use Rattle.batch_run.proofs.CommitNumbers.{longer-commits, numbers-same}
+use Rattle.batch_run.proofs.CommitNumbers.{longer-commits, numbers-since}
 use Rattle.store_core.specs.declared.cores.Plan.{Plan}
 use Rattle.store_verdict.specs.RecordView.{proc_of, record_of}
 
@@ -114,7 +113,7 @@ module _ (formats : Formats) {F : Type 0} (lock : Place Told) (plan : Plan F) wh
   }
     where
       same : numbers_by mid.number (commits_of new.seen) ≡ numbers_by mid.number (commits_of mid.seen)
-      same = numbers-same mid.number mid.seen new.seen seen (ap (λ (n : ℕ). made_by maker_of n new.seen) (sym number) ∙ sym is.own ∙ own ∙ was.own)
+      same = numbers-since mid new was.own is.own (record { number = number; seen = seen; own = own })
 
       met : (told : ℕ) → told ≤ length (commits_of old.seen)
           → (last : ℕ) × (last ≤ length (commits_of new.seen)) × Tells formats plan.mounted (proc_of old.rec) old.number (commits_of new.seen) (session_of old before told) steps answers (session_of new after last)

@@ -2,7 +2,9 @@
 pub mod CommitNumbers
 pub mod Joining
 mod EditLemmas
-mod TurnLemmas
+mod GetTurns
+mod SetTurns
+mod MergeTurns
 mod Growing
 mod Hearing
 mod Rising

@@ -6,9 +6,10 @@ ghost use Rattle.kdb_handle.specs.Views.{lock_of, plan_of};
 ghost use Rattle.batch_run.specs.Stepping.{GoesOn};
 
 use crate::editing::{cut, delete, look, put, set_meta};
-use batch_script::Step;
+use batch_script::{Step, Tries};
 use kdb_handle::{Handle, Reply, SharedStore};
 use kdb_outside::Disk;
+use key_merge::Strategy;
 use key_name::KeyName;
 use key_set::KeySet;
 use regex_check::Patterns;
@@ -36,6 +37,11 @@ pub(crate) fn take_step<D: Disk, F: Formats + Drop, P: Patterns + Drop, R: Wait>
         Step::Cut { name } => cut(name, working),
         Step::Look { name } => look(name, working),
         Step::Set { parent } => set(rt, alloc, store, parent, handle, working),
+        Step::Merge {
+            parent,
+            strategy,
+            tries,
+        } => merge(rt, alloc, store, parent, *strategy, tries, handle, working),
     }
 }
 
@@ -79,5 +85,25 @@ fn set<D: Disk, F: Formats + Drop, P: Patterns + Drop, R: Wait>(
     match handle.kdb_set(rt, alloc, store, parent, working) {
         Ok(done) => Reply::SetDone(done),
         Err(why) => Reply::SetRefused(why),
+    }
+}
+
+/// Sets the working set in some tries, each merged with what was in the way of the one before. It becomes what was set.
+fn merge<D: Disk, F: Formats + Drop, P: Patterns + Drop, R: Wait>(
+    rt: &R,
+    alloc: Global,
+    store: &SharedStore<D, F, P>,
+    parent: &KeyName,
+    strategy: Strategy,
+    tries: &Tries,
+    handle: &mut Handle,
+    working: &mut KeySet,
+) -> Reply
+    requires { IsHandle (lock_of store.now) (plan_of store.now) handle.old }
+    ensures { GoesOn (record { text = F.text; IsStorable = F.is_storable; BreaksAt = F.breaks_at }) (lock_of store.now) (plan_of store.now) (step.Merge parent.now strategy tries.now ∷ []) (result ∷ []) handle.old working.old handle.new working.new }
+{
+    match handle.kdb_set_merged(rt, alloc, store, parent, working, strategy, tries.get()) {
+        Ok(merging) => Reply::Merged(merging),
+        Err(fault) => Reply::MergeRefused(fault),
     }
 }

@@ -5,20 +5,22 @@ use Rattle.std.specs.Option.{option_map}
 use Rattle.std.proofs.Common.{drop, refl, sym, subst, inl, inr}
 use Rattle.general_words.proofs.Lists.{all_append}
 use Rattle.general_words.specs.Texts.{is_text}
+use Rattle.key_merge.specs.declared.strategies.Strategy.{Strategy}
 use Rattle.model_lines.specs.Lines.{without_return}
 use Rattle.model_lines.specs.Reading.{Leads}
 use Rattle.model_names.specs.Name.{Name}
 use Rattle.model_names.specs.NameOf.{name_of}
 use Rattle.model_names.specs.declared.namespaces.Namespace.TheVariants.{Proc as ProcNamespace}
+use Rattle.batch_script.specs.Counts.{tries_of}
 use Rattle.batch_script.specs.MetaTests.{is_meta}
 use Rattle.batch_script.specs.Phases.{proc_of}
-use Rattle.batch_script.specs.Rows.{Row, is_cascading, on_meta, on_name, on_none, on_one, on_plain_name, on_proc, on_three, on_two, plain_name_of, proc_name_of, rows, said, said_by, session_of}
+use Rattle.batch_script.specs.Rows.{Row, is_cascading, on_merge, on_meta, on_name, on_none, on_one, on_plain_name, on_proc, on_three, on_two, plain_name_of, proc_name_of, rows, said, said_by, session_of, strategy_of}
 use Rattle.batch_script.specs.Scripts.{Adds, Means}
 use Rattle.batch_script.specs.declared.items.Item.{Item}
 use Rattle.batch_script.specs.declared.items.Item.TheVariants.{Proc, Session, Phase, Does}
 use Rattle.batch_script.specs.declared.steps.ProcLine.{ProcLine}
 use Rattle.batch_script.specs.declared.steps.Step.{Step}
-use Rattle.batch_script.specs.declared.steps.Step.TheVariants.{Get, Put, MetaStep, Del, Cut, Look, Set}
+use Rattle.batch_script.specs.declared.steps.Step.TheVariants.{Get, Put, MetaStep, Del, Cut, Look, Set, Merge}
 
 abbrev IsInProc : ProcLine → Type 0
 IsInProc line = line.key.namespace ≡ ProcNamespace
@@ -68,6 +70,16 @@ either false one other says rest = rest
 meta-in : (word meta value : List ℕ) → SaysInProc (on_meta word meta value)
 meta-in word meta value = either (is_meta meta) (on_name (λ name. MetaStep name meta value) word) None (map-in (λ name. Does (MetaStep name meta value)) (name_of word) (λ name. tt)) tt
 
+merge-in : (word strategy tries : List ℕ) → SaysInProc (on_merge word strategy tries)
+merge-in word strategy tries = by (name_of word) (strategy_of strategy) (tries_of tries)
+  where
+    by : (parent : Option Name) (strategy : Option Strategy) (tries : Option ℕ)
+        → SaysInProc (option_and_then (λ parent. option_and_then (λ by. option_map (λ most. Does (Merge parent by most)) tries) strategy) parent)
+    by None strategy tries = tt
+    by (Some parent) None tries = tt
+    by (Some parent) (Some strategy) None = tt
+    by (Some parent) (Some strategy) (Some tries) = tt
+
 -- a name that is one in `proc`
 proc-name : (found : Option Name) → IfSome (option_and_then (λ (name : Name). if is_cascading name then Some (record { namespace = ProcNamespace; parts = name.parts }) else None) found) (λ (name : Name). name.namespace ≡ ProcNamespace)
 proc-name None = tt
@@ -106,7 +118,7 @@ IsRowInProc row = (words : List (List ℕ)) → SaysInProc (row.says words)
 
 rows-in : AllByRecursion IsRowInProc rows
 rows-in =
-    let keys : AllByRecursion IsRowInProc (drop 7 rows) = (cut-row, (name-row Look, (name-row Set, tt))) in
+    let keys : AllByRecursion IsRowInProc (drop 7 rows) = (cut-row, (name-row Look, (name-row Set, ((λ words. three-in on_merge words merge-in), tt)))) in
     let steps : AllByRecursion IsRowInProc (drop 3 rows) = (name-row Get, (put-row, (λ words. three-in on_meta words meta-in, (name-row Del, keys)))) in
     (λ words. three-in on_proc words proc-in, (session-row, (λ words. none-in (Some Phase) words tt, steps)))
 

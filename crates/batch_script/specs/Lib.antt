@@ -1,6 +1,7 @@
 pub mod MetaTests
 pub mod Letters
 pub mod Words
+pub mod Counts
 pub mod Rows
 pub mod Places
 pub mod Phases

@@ -1,27 +1,33 @@
 -- What the words of a line say: a row for each first word. (This project's own.)
-use Rattle.std.specs.Prelude.{ℕ, ◌≤◌, nat_le, nat_eq, Bool, not, ◌&&◌, if◌then◌else◌, List, [], ◌∷◌, Option, Some, None, option_and_then, codes}
+use Rattle.std.specs.Prelude.{ℕ, ◌≤◌, nat_eq, Bool, if◌then◌else◌, List, [], ◌∷◌, Option, Some, None, option_and_then, codes}
 use Rattle.std.specs.Option.{option_map}
-use Rattle.std.specs.Str.Parse.{digits_value}
 use Rattle.general_words.specs.Texts.{is_text}
+use Rattle.key_merge.specs.declared.strategies.Strategy.{Strategy}
+use Rattle.key_merge.specs.declared.strategies.Strategy.TheVariants.{Abort, Our, Their}
 use Rattle.model_names.specs.declared.namespaces.Namespace.TheVariants.{Cascading, Proc as ProcNamespace}
-use Rattle.model_names.specs.ArrayPart.{are_digits, has_leading_zero}
 use Rattle.model_names.specs.Name.{Name, rank}
 use Rattle.model_names.specs.NameOf.{name_of}
+use Rattle.batch_script.specs.Counts.{count_of, tries_of}
 use Rattle.batch_script.specs.MetaTests.{is_meta}
 use Rattle.batch_script.specs.declared.items.Item.{Item}
 use Rattle.batch_script.specs.declared.items.Item.TheVariants.{Proc, Session, Phase, Does}
 use Rattle.batch_script.specs.declared.steps.Step.{Step}
-use Rattle.batch_script.specs.declared.steps.Step.TheVariants.{Get, Put, MetaStep, Del, Cut, Look, Set}
+use Rattle.batch_script.specs.declared.steps.Step.TheVariants.{Get, Put, MetaStep, Del, Cut, Look, Set, Merge}
 
 -- the most sessions of a script
 abbrev pub most_sessions : ℕ
 most_sessions = 32
 
--- a word that numbers a session: from 1 on in decimal, without leading zero
+-- a word that numbers a session
 abbrev pub session_of : List ℕ → Option ℕ
-session_of word =
-    let number = digits_value 10 word in
-    if are_digits word && not (has_leading_zero word) && nat_le 1 number && nat_le number most_sessions then Some number else None
+session_of word = count_of most_sessions word
+
+-- a word that names a strategy
+abbrev pub strategy_of : List ℕ → Option Strategy
+strategy_of word =
+    if is_text word (codes "abort") then Some Abort else
+    (if is_text word (codes "our") then Some Our else
+    (if is_text word (codes "their") then Some Their else None))
 
 abbrev pub is_cascading : Name → Bool
 is_cascading name = nat_eq (rank name.namespace) (rank Cascading)
@@ -45,6 +51,13 @@ on_plain_name step word = option_map (λ name. Does (step name)) (plain_name_of 
 -- one that sets metadata
 abbrev pub on_meta : List ℕ → List ℕ → List ℕ → Option Item
 on_meta word meta value = if is_meta meta then on_name (λ name. MetaStep name meta value) word else None
+
+-- one that sets the working set in some tries
+abbrev pub merge_of : Name → List ℕ → List ℕ → Option Item
+merge_of parent strategy tries = option_and_then (λ by. option_map (λ most. Does (Merge parent by most)) (tries_of tries)) (strategy_of strategy)
+
+abbrev pub on_merge : List ℕ → List ℕ → List ℕ → Option Item
+on_merge word strategy tries = option_and_then (λ parent. merge_of parent strategy tries) (name_of word)
 
 -- the handle of a numbered session is opened with a key
 abbrev pub on_proc : List ℕ → List ℕ → List ℕ → Option Item
@@ -94,6 +107,7 @@ rows =
     ∷ row (codes "cut") (on_one (on_plain_name Cut))
     ∷ row (codes "look") (on_one (on_name Look))
     ∷ row (codes "set") (on_one (on_name Set))
+    ∷ row (codes "merge") (on_three on_merge)
     ∷ []
 
 -- what the words behind a first word say, if they say something

@@ -2,9 +2,11 @@
 ghost use Rattle.std.specs.Prelude.{◌≡◌, [], ◌∷◌, codes, false, true, None, Some};
 ghost use Rattle.model_names.specs.declared.namespaces.Namespace.TheVariants.{Cascading, User, Proc as ProcNamespace};
 ghost use Rattle.batch_script.specs.declared.items.Item.TheVariants.{Proc, Session, Phase as PhaseEnd, Does};
-ghost use Rattle.batch_script.specs.declared.steps.Step.TheVariants.{Get, Set};
+ghost use Rattle.batch_script.specs.declared.steps.Step.TheVariants.{Get, Set, Merge};
+ghost use Rattle.key_merge.specs.declared.strategies.Strategy.TheVariants.{Our};
+ghost use Rattle.batch_script.specs.Counts.{tries_of};
 ghost use Rattle.batch_script.specs.Letters.{written_at};
-ghost use Rattle.batch_script.specs.Rows.{said, session_of};
+ghost use Rattle.batch_script.specs.Rows.{merge_of, said, session_of};
 ghost use Rattle.batch_script.specs.Places.{may_follow};
 ghost use Rattle.batch_script.specs.Phases.{script_of};
 
@@ -18,13 +20,27 @@ pub fn sessions_are_numbered_from_1_to_32()
     ensures sign { session_of (codes "+1") ≡ None }
 {}
 
-/// Words say what their row says. A step that no row has, and a merge, says nothing.
+/// A merge is tried from 1 to 100,000 times.
+pub fn merges_are_tried_from_1_to_100000_times()
+    ensures once { tries_of (codes "1") ≡ Some 1 }
+    ensures last { tries_of (codes "100000") ≡ Some 100000 }
+    ensures none { tries_of (codes "0") ≡ None }
+    ensures too_many { tries_of (codes "100001") ≡ None }
+    ensures leading_zero { tries_of (codes "07") ≡ None }
+{}
+
+/// Words say what their row says. A step that no row has says nothing.
 pub fn words_say_what_their_row_says()
     ensures session { said (codes "session" ∷ codes "3" ∷ []) ≡ Some (Session 3) }
     ensures phase { said (codes "phase" ∷ []) ≡ Some PhaseEnd }
     ensures few { said (codes "put" ∷ codes "user:/sw" ∷ []) ≡ None }
     ensures cascading { said (codes "cut" ∷ codes "/sw" ∷ []) ≡ None }
-    ensures merge { said (codes "merge" ∷ codes "/" ∷ codes "our" ∷ codes "1" ∷ []) ≡ None }
+    ensures unknown { said (codes "fetch" ∷ codes "/" ∷ []) ≡ None }
+    ensures merge { merge_of (record { namespace = Cascading; parts = [] }) (codes "our") (codes "7") ≡ Some (Does (Merge (record { namespace = Cascading; parts = [] }) Our 7)) }
+    ensures strategy { said (codes "merge" ∷ codes "/" ∷ codes "ours" ∷ codes "7" ∷ []) ≡ None }
+    ensures no_tries { said (codes "merge" ∷ codes "/" ∷ codes "our" ∷ codes "0" ∷ []) ≡ None }
+    ensures too_many_tries { said (codes "merge" ∷ codes "/" ∷ codes "our" ∷ codes "100001" ∷ []) ≡ None }
+    ensures leading_zero { said (codes "merge" ∷ codes "/" ∷ codes "our" ∷ codes "07" ∷ []) ≡ None }
 {}
 
 /// In quotes a byte is written as it is or by an escape. A control byte is not.

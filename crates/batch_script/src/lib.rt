@@ -1,6 +1,7 @@
 //! Scripts of a batch: which sessions take which steps in which phase.
 #![tactic(auto)]
 
+mod counts;
 mod examples;
 mod faults;
 mod items;
@@ -11,11 +12,13 @@ mod progress;
 mod reading;
 mod rows;
 mod steps;
+mod tries;
 mod words;
 
+pub use counts::count_of;
 pub use examples::{
-    bytes_are_written_in_quotes, lines_have_their_places, sessions_are_numbered_from_1_to_32,
-    sessions_ascend_in_a_phase, words_say_what_their_row_says,
+    bytes_are_written_in_quotes, lines_have_their_places, merges_are_tried_from_1_to_100000_times,
+    sessions_are_numbered_from_1_to_32, sessions_ascend_in_a_phase, words_say_what_their_row_says,
 };
 pub use faults::ScriptFault;
 pub use laws::{
@@ -25,3 +28,4 @@ pub use laws::{
 pub use meta_words::MetaWord;
 pub use reading::{is_too_long, parse_script};
 pub use steps::{Phase, ProcLine, Script, Step, Steps};
+pub use tries::{MOST_TRIES, Tries};

@@ -7,8 +7,9 @@ ghost use Rattle.batch_script.specs.Rows.{most_sessions, IsNumbered};
 ghost use Rattle.batch_script.specs.Progresses.{Follows, GoesOn, HasRooms, IsKept, IsProgress};
 ghost use Rattle.batch_script.specs.Rooms.{gathered};
 
+use crate::counts::MOST_SESSIONS;
 use crate::items::Item;
-use crate::rows::{MOST_SESSIONS, said};
+use crate::rows::said;
 use crate::steps::{Phase, ProcLine, Script, Step, Steps};
 use crate::words::{behind_blanks, is_nothing, words_of};
 use file_lines::without_return;

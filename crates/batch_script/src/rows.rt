@@ -1,22 +1,20 @@
 //! What the words of a line say.
-ghost use Rattle.std.specs.Prelude.{◌≡◌, ◌≤◌, Some, IfOk, IfSome};
+ghost use Rattle.std.specs.Prelude.{◌≡◌, Some, IfOk, IfSome};
 ghost use Rattle.std.specs.Option.{option_map};
-ghost use Rattle.model_names.specs.ArrayPart.{are_digits, has_leading_zero};
 ghost use Rattle.model_names.specs.NameOf.{name_of};
-ghost use Rattle.batch_script.specs.Rows.{is_cascading, most_sessions, on_meta, on_name, on_none, on_one, on_plain_name, on_proc, on_three, on_two, plain_name_of, proc_name_of, rows, said, said_by, session_of, IsNumbered};
+ghost use Rattle.batch_script.specs.Rows.{is_cascading, merge_of, on_merge, on_meta, on_name, on_none, on_one, on_plain_name, on_proc, on_three, on_two, plain_name_of, proc_name_of, rows, said, said_by, session_of, strategy_of, IsNumbered};
 ghost use Rattle.batch_script.specs.declared.items.Item.TheVariants.{Session, Phase as PhaseEnd};
 ghost use Rattle.batch_script.specs.declared.steps.Step.TheVariants as steps;
 
+use crate::counts::{session_of, tries_of};
 use crate::items::Item;
 use crate::meta_words::MetaWord;
 use crate::steps::{ProcLine, Step};
+use key_merge::Strategy;
 use key_meta::{Memory, Text};
 use key_name::{KeyName, NameFault};
 use model_names::Namespace;
 use std::alloc::{AllocError, Global};
-
-/// The most sessions of a script.
-pub const MOST_SESSIONS: u32 = 32;
 
 /// What the words of a line say.
 pub fn said(alloc: Global, words: &[Text]) -> Result<Option<Item>, Memory>
@@ -45,6 +43,7 @@ fn said_behind(alloc: Global, first: &str, words: &[Text]) -> Result<Option<Item
         "cut" => cut(alloc, words),
         "look" => look(alloc, words),
         "set" => set(alloc, words),
+        "merge" => merge(alloc, words),
         _ => Ok(None),
     }
 }
@@ -200,6 +199,50 @@ fn set(alloc: Global, words: &[Text]) -> Result<Option<Item>, Memory>
     Ok(Some(Item::Does(Step::Set { parent })))
 }
 
+/// The words behind `merge`.
+fn merge(alloc: Global, words: &[Text]) -> Result<Option<Item>, Memory>
+    ensures said { IfOk result (λ found. found ≡ on_three on_merge words.now) }
+    ensures numbered { IfOk result (λ found. IfSome found IsNumbered) }
+{
+    let [word, strategy, tries] = words else {
+        return Ok(None);
+    };
+    let Some(parent) = name_of(alloc, word.as_str())? else {
+        return Ok(None);
+    };
+    Ok(merge_of(parent, strategy.as_str(), tries.as_str()))
+}
+
+/// A merge by the words behind its parent.
+fn merge_of(parent: KeyName, strategy: &str, tries: &str) -> Option<Item>
+    ensures said { result ≡ merge_of parent strategy.now tries.now }
+    ensures numbered { IfSome result IsNumbered }
+{
+    let Some(strategy) = strategy_of(strategy) else {
+        return None;
+    };
+    let Some(tries) = tries_of(tries) else {
+        return None;
+    };
+    Some(Item::Does(Step::Merge {
+        parent,
+        strategy,
+        tries,
+    }))
+}
+
+/// The strategy of a word.
+fn strategy_of(word: &str) -> Option<Strategy>
+    ensures { result ≡ strategy_of word.now }
+{
+    match word {
+        "abort" => Some(Strategy::Abort),
+        "our" => Some(Strategy::Our),
+        "their" => Some(Strategy::Their),
+        _ => None,
+    }
+}
+
 /// The name that a word spells.
 fn name_of(alloc: Global, word: &str) -> Result<Option<KeyName>, Memory>
     ensures { IfOk result (λ found. found ≡ name_of word.now) }
@@ -244,40 +287,4 @@ fn is_cascading(name: &KeyName) -> bool
         Namespace::Cascading => true,
         _ => false,
     }
-}
-
-/// The session that a word numbers.
-fn session_of(word: &str) -> Option<u32>
-    ensures session { result ≡ session_of word.now }
-    ensures limits { IfSome result (λ session. (1 ≤ session) × (session ≤ most_sessions)) }
-{
-    if !are_digits(word) {
-        return None;
-    }
-    if has_leading_zero(word) {
-        return None;
-    }
-    match word.parse::<u32>() {
-        Ok(number) => {
-            if 1 <= number && number <= MOST_SESSIONS {
-                Some(number)
-            } else {
-                None
-            }
-        }
-        Err(_) => None,
-    }
-}
-
-/// Whether a zero stands before other digits.
-fn has_leading_zero(digits: &str) -> bool
-    ensures { result ≡ has_leading_zero digits.now }
-{
-    digits.len() > 1 && digits.as_bytes()[0] == b'0'
-}
-
-fn are_digits(text: &str) -> bool
-    ensures { result ≡ are_digits text.now }
-{
-    !text.is_empty() && text.as_bytes().iter().all(|b| b.is_ascii_digit())
 }

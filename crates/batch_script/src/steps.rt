@@ -1,5 +1,6 @@
 //! What a script says: the keys that handles are opened with, and phase by phase the steps of the sessions that have some.
-use crate::MetaWord;
+use crate::{MetaWord, Tries};
+use key_merge::Strategy;
 use key_meta::{List, Text};
 use key_name::KeyName;
 
@@ -44,6 +45,13 @@ pub enum Step {
     /// Sets the working set.
     Set {
         parent: KeyName,
+    },
+    /// Sets the working set in so many tries, each merged with what blocked the one before. The working set becomes
+    /// what was set.
+    Merge {
+        parent: KeyName,
+        strategy: Strategy,
+        tries: Tries,
     },
 }
 

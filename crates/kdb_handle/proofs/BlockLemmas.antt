@@ -18,6 +18,7 @@ use Rattle.model_history.specs.History.{Commit, first_after, heaviest_history, h
 use Rattle.model_history.proofs.HistoryLemmas.{first_after-behind, first_after-there, first_after-within}
 use Rattle.model_maps.specs.KeyMap.{KeyMap, heaviest_map, weight}
 use Rattle.model_names.specs.Name.{Name}
+use Rattle.model_store.specs.Cores.{keeping}
 use Rattle.model_store.specs.Records.{Fetched, Fronts, Record}
 use Rattle.model_store.specs.Sets.{Prepared as Set, front_in, only}
 use Rattle.model_store.specs.Store.{Formats, points_of}
@@ -78,8 +79,38 @@ own_front mounts rec m front is = by (is_among mounts m) is
     by true e = e
     by false e = absurd cc
 
+-- a front that a set has of a mount is of an involved one
+among_front : (mounts : List ℕ) (rec : Record) (m front : ℕ) → front_in (only mounts rec) m ≡ Some front → is_among mounts m ≡ true
+among_front mounts rec m front is = by (is_among mounts m) is
+  where
+    by : (b : Bool) → option_map (λ (fetched : Fetched). fetched.front) (cond b (rec m) None) ≡ Some front → b ≡ true
+    by true e = refl
+    by false e = absurd cc
+
+-- the fronts of some mounts lie at or above a number
+abbrev pub SeesTo : List ℕ → ℕ → Record → Type 0
+SeesTo mounts n rec = (m front : ℕ) → is_among mounts m ≡ true → front_in rec m ≡ Some front → n ≤ front
+
+-- a record that sees these mounts anew
+pub sees-keeping : (mounts : List ℕ) (front : ℕ) (kept : ℕ → KeyMap) (rec : Record) → SeesTo mounts front (keeping mounts front kept rec)
+sees-keeping mounts front kept rec m other among is =
+    let here : front_in (keeping mounts front kept rec) m ≡ Some front = ap (λ (b : Bool). option_map (λ (f : Fetched). f.front) (cond b (Some (record { front = front; kept = kept m })) (rec m))) among in
+    let same : front ≡ other = some_is front other (sym here ∙ is) in
+    omega (arith, same)
+
+-- the commit that blocks a mount lies behind the fronts, and within the history
+pub blocks-behind : (history : List Commit) (mounts : List ℕ) (rec : Record) (m by n : ℕ) → SeesTo mounts n rec → blocking history (front_in (only mounts rec)) m ≡ Some by → (n < by) × (by ≤ length history)
+blocks-behind history mounts rec m by n sees blocks = by_front (front_in (only mounts rec) m) refl blocks
+  where
+    by_front : (o : Option ℕ) → front_in (only mounts rec) m ≡ o → option_and_then (first_after history m) o ≡ Some by → (n < by) × (by ≤ length history)
+    by_front None is e = absurd cc
+    by_front (Some front) is e =
+        let least : n ≤ front = sees m front (among_front mounts rec m front is) (own_front mounts rec m front is) in
+        let behind : front < by = first_after-behind history m front by e in
+        (omega (arith, least, behind), first_after-within history m front by e)
+
 -- the commit that blocks a mount isn't one that a front there covers
-another : (history : List Commit) (number : ℕ) (rec : Record) (mounts : List ℕ) (m by : ℕ) → Cover number history (front_in rec) → blocking history (front_in (only mounts rec)) m ≡ Some by → IsAnothers number history by
+pub another : (history : List Commit) (number : ℕ) (rec : Record) (mounts : List ℕ) (m by : ℕ) → Cover number history (front_in rec) → blocking history (front_in (only mounts rec)) m ≡ Some by → IsAnothers number history by
 another history number rec mounts m by covers blocks = by_front (front_in (only mounts rec) m) refl blocks
   where
     by_front : (o : Option ℕ) → front_in (only mounts rec) m ≡ o → option_and_then (first_after history m) o ≡ Some by → IsAnothers number history by

@@ -7,7 +7,7 @@ mod AcceptLemmas
 mod BelongLemmas
 mod SharedLemmas
 mod HandleLemmas
-mod BlockLemmas
+pub mod BlockLemmas
 mod CloseLemmas
 mod RemakeLemmas
 mod MergeLemmas

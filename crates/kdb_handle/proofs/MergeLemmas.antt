@@ -9,9 +9,9 @@ use Rattle.key_merge.specs.declared.merging.Merge3Fault.TheVariants as merge_fau
 use Rattle.key_merge.specs.declared.strategies.Strategy.{Strategy}
 use Rattle.kdb_handle.specs.Gets.{Gives, IsGotAt}
 use Rattle.kdb_handle.specs.Handles.{HandleValue}
-use Rattle.kdb_handle.specs.Merging.{IsAgain, IsAttempt, IsCut, IsEnd, IsIdle, IsMergedSet, IsOther, IsRetry, IsTry, keys_after}
+use Rattle.kdb_handle.specs.Merging.{IsAgain, IsAttempt, IsCut, IsEnd, IsIdle, IsMergedSet, IsRetry, IsTry}
 use Rattle.kdb_handle.specs.Opened.{store_at}
-use Rattle.kdb_handle.specs.Remaking.{AreInTheWay, AreTries, IsKept}
+use Rattle.kdb_handle.specs.Remaking.{AreInTheWay, AreTries, IsKept, IsOther, keys_after}
 use Rattle.kdb_handle.specs.Sets.{IsSet, IsStored}
 use Rattle.kdb_handle.specs.Stores.{IsHandle}
 use Rattle.kdb_handle.specs.Story.{Told, commits_of}
@@ -84,9 +84,9 @@ module _ (formats : Formats) {F : Type 0} (lock : Place Told) (plan : Plan F) (p
     abbrev item : Tried
     item = record { mount = mount; by = by; front = front; again = got.front }
 
-    retry : (first : HandleValue) → IsMet first → IsRetry formats plan.mounted parent first ours item new base theirs
-    retry first met =
-        record { between = between; stored = met; base_is = base_is; number = number; proc = proc; seen = seen; own = own; got = got; is_got = is_got; again = refl; theirs_is = theirs_is }
+    retry : (first : HandleValue) → between.number ≡ first.number → IsMet first → IsRetry formats plan.mounted parent first ours item new base theirs
+    retry first numbered met =
+        record { between = between; stored = met; numbered = numbered; base_is = base_is; number = number; proc = proc; seen = seen; own = own; got = got; is_got = is_got; again = refl; theirs_is = theirs_is }
 
     no_base : (name : Name) → is_reached points parent name ≡ false → map.get base name ≡ None
     no_base = base-outside (store_at plan.mounted) (commits_of between.seen) (record_of between.rec) parent base is.keeps base_is
@@ -94,10 +94,10 @@ module _ (formats : Formats) {F : Type 0} (lock : Place Told) (plan : Plan F) (p
     no_theirs : (name : Name) → is_reached points parent name ≡ false → map.get theirs name ≡ None
     no_theirs name off = ap (λ (k : KeyMap). map.get k name) theirs_is ∙ reach-outside points parent (replay (store_at plan.mounted).start (commits_of new.seen)) name off
 
-    module _ (strategy : Strategy) (first : HandleValue) (met : IsMet first) (made tried : List Tried) (tried_is : tried ≡ made ++ item ∷ []) where
+    module _ (strategy : Strategy) (first : HandleValue) (numbered : between.number ≡ first.number) (met : IsMet first) (made tried : List Tried) (tried_is : tried ≡ made ++ item ∷ []) where
       pub made_again : (next : KeyMap) → IsMerged strategy base ours theirs next → IsAgain formats plan.mounted parent strategy first ours made new tried next
       made_again next merged =
-          record { item = item; tried_is = tried_is; is_try = record { base = base; theirs = theirs; retry = retry first met; remade = remade points parent strategy base ours theirs no_base no_theirs next merged } }
+          record { item = item; tried_is = tried_is; is_try = record { base = base; theirs = theirs; retry = retry first numbered met; remade = remade points parent strategy base ours theirs no_base no_theirs next merged } }
 
       clash : (names : List Name) → HasConflicts strategy base ours theirs (merge_fault.Conflicts names) → AreInTheWay points parent strategy base ours theirs names
       clash names has = in_the_way points parent strategy base ours theirs no_base no_theirs has.abort names (subst (AreConflicts base ours theirs) (sym (ap names_in has.is)) has.conflicts)
@@ -105,10 +105,10 @@ module _ (formats : Formats) {F : Type 0} (lock : Place Told) (plan : Plan F) (p
       pub made_clash : (names : List Name) → RefusesMerge strategy base ours theirs (merge_fault.Conflicts names)
           → IsCut formats plan.mounted parent first ours made new tried (λ b t. AreInTheWay points parent strategy b ours t names)
       made_clash names refuses =
-          record { item = item; tried_is = tried_is; base = base; theirs = theirs; retry = retry first met; unmade = clash names (refuses (λ e. absurd cc)) }
+          record { item = item; tried_is = tried_is; base = base; theirs = theirs; retry = retry first numbered met; unmade = clash names (refuses (λ e. absurd cc)) }
 
       pub made_none : IsCut formats plan.mounted parent first ours made new tried (λ b t. Unit {0})
-      made_none = record { item = item; tried_is = tried_is; base = base; theirs = theirs; retry = retry first met; unmade = tt }
+      made_none = record { item = item; tried_is = tried_is; base = base; theirs = theirs; retry = retry first numbered met; unmade = tt }
 
 -- ---- the tries
 

@@ -15,7 +15,7 @@ use Rattle.kdb_handle.specs.Story.{Told, commits_of}
 use Rattle.kdb_handle.specs.declared.merging.MergeEnd.{MergeEnd}
 use Rattle.kdb_handle.specs.declared.merging.MergeEnd.TheVariants as merge_end
 use Rattle.kdb_handle.specs.declared.merging.Tried.{Tried}
-use Rattle.kdb_handle.proofs.BlockLemmas.{blocked_at, is_blocked, own_front}
+use Rattle.kdb_handle.proofs.BlockLemmas.{SeesTo, blocked_at, blocks-behind, is_blocked, sees-keeping}
 use Rattle.kdb_handle.proofs.StoryLemmas.{commits-prefix}
 use Rattle.model_history.specs.History.{Commit, first_after, is_among, replay}
 use Rattle.model_history.proofs.HistoryLemmas.{first_after-behind, first_after-within}
@@ -28,34 +28,19 @@ use Rattle.model_store.specs.Verdicts as late
 use Rattle.model_store.specs.Verdicts.{blocking, conflict}
 use Rattle.mounted_files.specs.declared.files.MountedFile.{MountedFile}
 use Rattle.set_split.specs.Involved.{involved_in}
+use Rattle.seat_lock.proofs.Prefixes.{prefix-length}
 use Rattle.store_core.specs.Plans.{store_of}
 use Rattle.store_core.specs.declared.committing.CommitFault.TheVariants as commit_fault
 use Rattle.store_core.specs.declared.committing.Done.{Done}
 use Rattle.store_verdict.specs.PreparedView.{prepared_of}
 use Rattle.store_verdict.specs.RecordView.{proc_of, record_of}
 
--- what begins a list is no longer
-prefix-length : {A : Type 0} (xs ys : List A) → IsPrefix xs ys → length xs ≤ length ys
-prefix-length xs ys p = omega (arith, ap length p.1, length-append xs p.0)
-
--- a front that a set has of a mount is of an involved one
-among_front : (mounts : List ℕ) (rec : Record) (m front : ℕ) → front_in (only mounts rec) m ≡ Some front → is_among mounts m ≡ true
-among_front mounts rec m front is = by (is_among mounts m) is
-  where
-    by : (b : Bool) → option_map (λ (fetched : Fetched). fetched.front) (cond b (rec m) None) ≡ Some front → b ≡ true
-    by true e = refl
-    by false e = absurd cc
-
 module _ (formats : Formats) (files : List MountedFile) (parent : Name) (strategy : Strategy) where
   abbrev involved : List ℕ
   involved = involved_in (points_of (store_at files)) parent
 
-  -- the fronts of the involved mounts lie at or above a number
-  abbrev SeesTo : ℕ → Record → Type 0
-  SeesTo n rec = (m front : ℕ) → is_among involved m ≡ true → front_in rec m ≡ Some front → n ≤ front
-
   -- the commit in the way lies behind the fronts, and the set found it
-  met-behind : (first between : HandleValue) (ours : KeyMap) (mount : Name) (by front n : ℕ) → (stored : IsStored formats files first between parent ours (Err (commit_fault.Conflict mount by front))) → SeesTo n (record_of first.rec)
+  met-behind : (first between : HandleValue) (ours : KeyMap) (mount : Name) (by front n : ℕ) → (stored : IsStored formats files first between parent ours (Err (commit_fault.Conflict mount by front))) → SeesTo involved n (record_of first.rec)
       → (n < by) × (by ≤ length (commits_of stored.done.found))
   met-behind first between ours mount by front n stored sees =
       let store = store_at files in
@@ -66,37 +51,30 @@ module _ (formats : Formats) (files : List MountedFile) (parent : Name) (strateg
       let fronts : set.fronts ≡ front_in (only involved (record_of first.rec)) = ap (λ (s : Set). s.fronts) stored.made.is in
       let blocked : conflict history set ≡ Some (late.Conflict m by) = is_blocked (points_of store) history (replay store.start history) set m by done.judged.3 in
       let blocks : blocking history set.fronts m ≡ Some by = blocked_at history set.fronts set.touched m by blocked in
-      by_front history m (front_in (only involved (record_of first.rec)) m) refl (ap (λ (f : Fronts). blocking history f m) (sym fronts) ∙ blocks)
-    where
-      by_front : (history : List Commit) (m : ℕ) (o : Option ℕ) → front_in (only involved (record_of first.rec)) m ≡ o → option_and_then (first_after history m) o ≡ Some by → (n < by) × (by ≤ length history)
-      by_front history m None is e = absurd cc
-      by_front history m (Some f) is e =
-          let least : n ≤ f = sees m f (among_front involved (record_of first.rec) m f is) (own_front involved (record_of first.rec) m f is) in
-          let behind : f < by = first_after-behind history m f by e in
-          (omega (arith, least, behind), first_after-within history m f by e)
+      blocks-behind history involved (record_of first.rec) m by n sees (ap (λ (f : Fronts). blocking history f m) (sym fronts) ∙ blocks)
 
   -- the get behind it sees so far
-  seen-behind : (old : HandleValue) (ours : KeyMap) (item : Tried) (new : HandleValue) (base theirs : KeyMap) → (retry : IsRetry formats files parent old ours item new base theirs) → item.by ≤ length (commits_of retry.stored.done.found) → SeesTo item.by (record_of new.rec)
+  seen-behind : (old : HandleValue) (ours : KeyMap) (item : Tried) (new : HandleValue) (base theirs : KeyMap) → (retry : IsRetry formats files parent old ours item new base theirs) → item.by ≤ length (commits_of retry.stored.done.found) → SeesTo involved item.by (record_of new.rec)
   seen-behind old ours item new base theirs retry within m front among is =
-      let gives : Gives (store_of files (λ n. proc_of retry.between.rec)) (commits_of new.seen) retry.between.number parent (record_of retry.between.rec) (record_of new.rec) retry.got = retry.is_got (λ n. proc_of retry.between.rec) refl in
-      let here : front_in (record_of new.rec) m ≡ Some (length (commits_of new.seen)) =
-      ap (λ (r : Record). front_in r m) gives.kept
-      ∙ ap (λ (b : Bool). option_map (λ (f : Fetched). f.front) (cond b (Some (record { front = length (commits_of new.seen); kept = wants (points_of (store_at files)) (replay (store_at files).start (commits_of new.seen)) m })) (record_of retry.between.rec m))) among in
-      let same : length (commits_of new.seen) ≡ front = some_is (length (commits_of new.seen)) front (sym here ∙ is) in
+      let store = store_at files in
+      let present : List Commit = commits_of new.seen in
+      let gives : Gives (store_of files (λ n. proc_of retry.between.rec)) present retry.between.number parent (record_of retry.between.rec) (record_of new.rec) retry.got = retry.is_got (λ n. proc_of retry.between.rec) refl in
+      let least : length present ≤ front =
+      sees-keeping involved (length present) (wants (points_of store) (replay store.start present)) (record_of retry.between.rec) m front among (ap (λ (r : Record). front_in r m) (sym gives.kept) ∙ is) in
       let found : length (commits_of retry.stored.done.found) ≡ length (commits_of retry.between.seen) = ap (λ (l : List Told). length (commits_of l)) (sym (retry.stored.done.sees ∙ append-nil retry.stored.done.found)) in
-      omega (arith, within, found, same, prefix-length (commits_of retry.between.seen) (commits_of new.seen) (commits-prefix retry.between.seen new.seen retry.seen))
+      omega (arith, within, found, least, prefix-length (commits_of retry.between.seen) (commits_of new.seen) (commits-prefix retry.between.seen new.seen retry.seen))
 
   -- the numbers of the tries rise, and what comes behind them
-  rise-tries : (old : HandleValue) (ours : KeyMap) (items : List Tried) (new : HandleValue) (last : KeyMap) (n : ℕ) (more : List ℕ) → AreTries (IsTry formats files parent strategy) old ours items new last → SeesTo n (record_of old.rec)
-      → ((k : ℕ) → SeesTo k (record_of new.rec) → Rise k more) → Rise n (over (λ (item : Tried). item.by) items ++ more)
-  rise-tries old ours [] new last n more same sees rest = rest n (subst (λ (h : HandleValue). SeesTo n (record_of h.rec)) (sym same.0) sees)
+  rise-tries : (old : HandleValue) (ours : KeyMap) (items : List Tried) (new : HandleValue) (last : KeyMap) (n : ℕ) (more : List ℕ) → AreTries (IsTry formats files parent strategy) old ours items new last → SeesTo involved n (record_of old.rec)
+      → ((k : ℕ) → SeesTo involved k (record_of new.rec) → Rise k more) → Rise n (over (λ (item : Tried). item.by) items ++ more)
+  rise-tries old ours [] new last n more same sees rest = rest n (subst (λ (h : HandleValue). SeesTo involved n (record_of h.rec)) (sym same.0) sees)
   rise-tries old ours (item ∷ items) new last n more leads sees rest =
       let retry = leads.is_try.retry in
       let met = met-behind old retry.between ours item.mount item.by item.front n retry.stored sees in
       (met.0, rise-tries leads.mid leads.next items new last item.by more leads.rest (seen-behind old ours item leads.mid leads.is_try.base leads.is_try.theirs retry met.1) rest)
 
   module _ (tries : ℕ) (old : HandleValue) (ours : KeyMap) (new : HandleValue) (after : KeyMap) (tried : List Tried) where
-    from_all : (made : List Tried) (last : HandleValue) (keys : KeyMap) → AreTries (IsTry formats files parent strategy) old ours made last keys → (more : List ℕ) → ((k : ℕ) → SeesTo k (record_of last.rec) → Rise k more)
+    from_all : (made : List Tried) (last : HandleValue) (keys : KeyMap) → AreTries (IsTry formats files parent strategy) old ours made last keys → (more : List ℕ) → ((k : ℕ) → SeesTo involved k (record_of last.rec) → Rise k more)
         → Rise 0 (over (λ (item : Tried). item.by) made ++ more)
     from_all made last keys retries more rest = rise-tries old ours made last keys 0 more retries (λ m front among is. omega arith) rest
 

@@ -1,11 +1,11 @@
--- What a merged set of a handle does: tries that met a conflict and were merged, one after another, and then its end. (This project's own.)
-use Rattle.std.specs.Prelude.{◌≡◌, ◌⊎◌, ℕ, ◌+◌, ◌<◌, List, [], ◌∷◌, ◌++◌, length, map as over, Result, Ok, Err}
+-- What a merged set of a handle does: tries that met a conflict and were merged, one after another, and then its end, each a turn of the handle. (This project's own.)
+use Rattle.std.specs.Prelude.{◌≡◌, ℕ, ◌<◌, List, [], ◌∷◌, ◌++◌, map as over, Result, Ok, Err}
 use mathlib.Core.List.{IsPrefix}
 use Rattle.key_merge.specs.declared.strategies.Strategy.{Strategy}
 use Rattle.kdb_handle.specs.Gets.{IsGotAt}
 use Rattle.kdb_handle.specs.Handles.{HandleValue}
 use Rattle.kdb_handle.specs.Opened.{store_at}
-use Rattle.kdb_handle.specs.Remaking.{AreInTheWay, AreTries, IsKept, IsRemade}
+use Rattle.kdb_handle.specs.Remaking.{IsCutBy, IsEndBy, IsKept, IsMergedBy, IsTryBy}
 use Rattle.kdb_handle.specs.Sets.{IsSet, IsStored}
 use Rattle.kdb_handle.specs.Story.{commits_of}
 use Rattle.kdb_handle.specs.declared.merging.Attempt.{Attempt}
@@ -16,7 +16,6 @@ use Rattle.kdb_handle.specs.declared.merging.MergeFault.{MergeFault}
 use Rattle.kdb_handle.specs.declared.merging.Merging.{Merging}
 use Rattle.kdb_handle.specs.declared.merging.Tried.{Tried}
 use Rattle.kdb_handle.specs.declared.setting.SetFault.{SetFault}
-use Rattle.kdb_handle.specs.declared.setting.SetFault.TheVariants as set_fault
 use Rattle.model_history.specs.History.{replay}
 use Rattle.model_maps.specs.KeyMap.{KeyMap}
 use Rattle.model_names.specs.Name.{Name}
@@ -38,16 +37,6 @@ abbrev pub end_of : Result Merging MergeFault → Result Done MergeEnd
 end_of (Ok merging) = Ok merging.done
 end_of (Err fault) = Err fault.end
 
--- the caller's keys become those that were stored, and stay where none were
-abbrev pub keys_after : KeyMap → KeyMap → Result Done MergeEnd → KeyMap
-keys_after ours last (Ok done) = last
-keys_after ours last (Err end) = ours
-
--- a refusal is no conflict
-abbrev pub IsOther : SetFault → Type 0
-IsOther (set_fault.Commit (commit_fault.Conflict mount by front)) = ⊥
-IsOther why = Unit {0}
-
 -- the numbers of the commits that were in the way, of the tries and of the last one
 abbrev pub in_the_way : List Tried → Result Done MergeEnd → List ℕ
 in_the_way tried (Err (merge_end.TriesSpent mount by front)) = over (λ item. item.by) tried ++ by ∷ []
@@ -58,11 +47,12 @@ abbrev pub Rise : ℕ → List ℕ → Type 0
 Rise before [] = Unit {0}
 Rise before (number ∷ numbers) = (before < number) × Rise number numbers
 
--- A set that met the conflict of an item, and the get behind it. The base is what the record kept of the involved mounts before that get, and theirs
+-- A set that met the conflict of an item, and the get behind it; both leave the number. The base is what the record kept of the involved mounts before that get, and theirs
 -- is what these mounts have in the commits that it found
 pub record IsRetry (formats : Formats) (files : List MountedFile) (parent : Name) (old : HandleValue) (ours : KeyMap) (item : Tried) (new : HandleValue) (base theirs : KeyMap) : Type 0 where
   pub between : HandleValue
   pub stored : IsStored formats files old between parent ours (Err (commit_fault.Conflict item.mount item.by item.front))
+  pub numbered : between.number ≡ old.number
   pub base_is : IsKept (points_of (store_at files)) parent (record_of between.rec) base
   pub number : new.number ≡ between.number
   pub proc : proc_of new.rec ≡ proc_of between.rec
@@ -74,21 +64,13 @@ pub record IsRetry (formats : Formats) (files : List MountedFile) (parent : Name
   pub again : item.again ≡ got.front
   pub theirs_is : theirs ≡ in_reach (points_of (store_at files)) parent (replay (store_at files).start (commits_of new.seen))
 
--- one try: a set with a conflict, the get behind it, and what is made of ours by both
-pub record IsTry (formats : Formats) (files : List MountedFile) (parent : Name) (strategy : Strategy) (old : HandleValue) (ours : KeyMap) (item : Tried) (new : HandleValue) (next : KeyMap) : Type 0 where
-  pub base : KeyMap
-  pub theirs : KeyMap
-  pub retry : IsRetry formats files parent old ours item new base theirs
-  pub remade : IsRemade (points_of (store_at files)) parent strategy base ours theirs next
+-- one try of a handle
+abbrev pub IsTry : Formats → List MountedFile → Name → Strategy → HandleValue → KeyMap → Tried → HandleValue → KeyMap → Type 0
+IsTry formats files parent strategy = IsTryBy (IsRetry formats files parent) (points_of (store_at files)) parent strategy
 
--- a try that has no merge behind its get: something else holds of the base and of theirs
-pub record IsCut (formats : Formats) (files : List MountedFile) (parent : Name) (last : HandleValue) (keys : KeyMap) (made : List Tried) (new : HandleValue) (tried : List Tried) (Unmade : KeyMap → KeyMap → Type 0) : Type 0 where
-  pub item : Tried
-  pub tried_is : tried ≡ made ++ item ∷ []
-  pub base : KeyMap
-  pub theirs : KeyMap
-  pub retry : IsRetry formats files parent last keys item new base theirs
-  pub unmade : Unmade base theirs
+-- one that has no merge behind its get
+abbrev pub IsCut : Formats → List MountedFile → Name → HandleValue → KeyMap → List Tried → HandleValue → List Tried → (KeyMap → KeyMap → Type 0) → Type 0
+IsCut formats files parent = IsCutBy (IsRetry formats files parent)
 
 -- a handle did nothing, though it may have seen more
 pub record IsIdle (old new : HandleValue) : Type 0 where
@@ -96,18 +78,13 @@ pub record IsIdle (old new : HandleValue) : Type 0 where
   pub own : new.own ≡ old.own
   pub kept : record_of new.rec ≡ record_of old.rec
 
--- How a call ends behind the tries that it made, the last of which led to a handle and some keys. The keys are stored; or the set met a conflict, and it was
--- the last of the tries; or it was refused for another reason; or no set is made of them behind the get of one more item; or there was no
--- memory, behind such a get or before it
+-- a set of a handle
+abbrev pub IsSetAt : Formats → List MountedFile → Name → HandleValue → HandleValue → KeyMap → Result Done SetFault → Type 0
+IsSetAt formats files parent last new keys result = IsSet formats files last new parent keys result
+
+-- how a call ends behind the tries that it made
 abbrev pub IsEnd : Formats → List MountedFile → Name → Strategy → ℕ → HandleValue → KeyMap → List Tried → HandleValue → List Tried → Result Done MergeEnd → Type 0
-IsEnd formats files parent strategy tries last keys made new tried (Ok done) = (tried ≡ made) × IsStored formats files last new parent keys (Ok done)
-IsEnd formats files parent strategy tries last keys made new tried (Err (merge_end.TriesSpent mount by front)) =
-    (tried ≡ made) × IsStored formats files last new parent keys (Err (commit_fault.Conflict mount by front)) × (length tried + 1 ≡ tries)
-IsEnd formats files parent strategy tries last keys made new tried (Err (merge_end.Set why)) = (tried ≡ made) × IsSet formats files last new parent keys (Err why) × IsOther why
-IsEnd formats files parent strategy tries last keys made new tried (Err (merge_end.MergeConflicts names)) =
-    IsCut formats files parent last keys made new tried (λ base theirs. AreInTheWay (points_of (store_at files)) parent strategy base keys theirs names)
-IsEnd formats files parent strategy tries last keys made new tried (Err merge_end.Memory) =
-    ((tried ≡ made) × IsIdle last new) ⊎ IsCut formats files parent last keys made new tried (λ base theirs. Unit {0})
+IsEnd formats files parent strategy = IsEndBy (IsRetry formats files parent) (IsSetAt formats files parent) IsIdle (points_of (store_at files)) parent strategy
 
 -- one try more was made
 pub record IsAgain (formats : Formats) (files : List MountedFile) (parent : Name) (strategy : Strategy) (last : HandleValue) (keys : KeyMap) (made : List Tried) (new : HandleValue) (tried : List Tried) (next : KeyMap) : Type 0 where
@@ -125,12 +102,6 @@ IsAttempt formats files parent strategy tries last keys made new tried (Err (mer
     IsEnd formats files parent strategy tries last keys made new tried (Err (merge_end.MergeConflicts names))
 IsAttempt formats files parent strategy tries last keys made new tried (Err merge_end.Memory) = IsEnd formats files parent strategy tries last keys made new tried (Err merge_end.Memory)
 
--- A merged set: the tries that were made lead to the handle and the keys that its end speaks of. There are fewer items than tries
-pub record IsMergedSet (formats : Formats) (files : List MountedFile) (parent : Name) (strategy : Strategy) (tries : ℕ) (old : HandleValue) (ours : KeyMap) (new : HandleValue) (after : KeyMap) (tried : List Tried) (end : Result Done MergeEnd) : Type 0 where
-  pub made : List Tried
-  pub last : HandleValue
-  pub keys : KeyMap
-  pub retries : AreTries (IsTry formats files parent strategy) old ours made last keys
-  pub fewer : length tried < tries
-  pub ends : IsEnd formats files parent strategy tries last keys made new tried end
-  pub after_is : after ≡ keys_after ours keys end
+-- a merged set of a handle
+abbrev pub IsMergedSet : Formats → List MountedFile → Name → Strategy → ℕ → HandleValue → KeyMap → HandleValue → KeyMap → List Tried → Result Done MergeEnd → Type 0
+IsMergedSet formats files parent strategy = IsMergedBy (IsRetry formats files parent) (IsSetAt formats files parent) IsIdle (points_of (store_at files)) parent strategy

@@ -1,6 +1,6 @@
 //! What the steps of a batch's sessions answer.
 
-use crate::SetFault;
+use crate::{MergeFault, Merging, SetFault};
 use key_meta::{List, Text};
 use key_name::KeyName;
 use mounted_files::GetFault;
@@ -18,6 +18,8 @@ pub enum Reply {
     LookNone,
     SetDone(Done),
     SetRefused(SetFault),
+    Merged(Merging),
+    MergeRefused(MergeFault),
     /// Want of memory. The step did nothing.
     Memory,
 }

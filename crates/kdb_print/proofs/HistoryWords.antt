@@ -7,9 +7,9 @@ use Rattle.std.specs.List.{AllByRecursion, cons_option, flat_map}
 use Rattle.std.specs.Option.{option_map}
 use Rattle.std.proofs.lemmas.Fmt.{decimal_injective}
 use Rattle.std.proofs.lemmas.Option.{get_or_from_slice_get, slice_get-map}
-use Rattle.general_words.proofs.Lists.{head_is, some_is, tail_is}
+use Rattle.general_words.proofs.Lists.{some_is}
 use Rattle.general_words.proofs.Places.{there_is}
-use Rattle.kdb_print.proofs.Words.{AllSpell, AllSpell-append, HasWords, Line, Spells, behind, line_at, name-IsWord, number-IsWord, numbers_test, word_at}
+use Rattle.kdb_print.proofs.Words.{AllSpell, AllSpell-append, HasWords, Line, Spells, line_at, name-IsWord, names-HasWords, names-once, names-spell, number-IsWord, numbers_test, word_at, words-append}
 use Rattle.kdb_print.specs.Printed.{line_of_meta, line_of_touched, lines_of_change, lines_of_commit, lines_of_commits, points_of, session_of}
 use Rattle.kdb_print.specs.Reading.{AreDistinct, AreNamed, IsCommitOf, IsNumber}
 use Rattle.model_history.specs.Changes.{Change}
@@ -18,7 +18,7 @@ use Rattle.model_maps.specs.Entry.{Entry}
 use Rattle.model_names.specs.Name.{Name}
 use Rattle.model_names.specs.WellFormed.{IsName}
 use Rattle.model_quoting.proofs.AlikeLemmas.{quoted-once, shown-once}
-use Rattle.model_quoting.proofs.CutLemmas.{IsWord, Plain, quoted-IsWord}
+use Rattle.model_quoting.proofs.CutLemmas.{Plain, quoted-IsWord}
 use Rattle.model_quoting.specs.Quoted.{quoted, shown}
 use Rattle.mount_table.specs.declared.mounts.Mount.{Mount}
 
@@ -55,13 +55,8 @@ changes-spell [] = tt
 changes-spell (change ∷ changes) =
     AllSpell-append (words_of_change change) (flat_map words_of_change changes) (lines_of_change change) (flat_map lines_of_change changes) (change-spells change) (changes-spell changes)
 
-points-spell : (points : List Name) (rest : List ℕ) → flat_map (λ point. 32 ∷ shown point) points ++ 10 ∷ rest ≡ behind (over shown points) rest
-points-spell [] rest = refl
-points-spell (point ∷ points) rest =
-    ap (λ text. 32 ∷ text) (append_assoc (shown point) (flat_map (λ p. 32 ∷ shown p) points) (10 ∷ rest) ∙ ap (λ text. shown point ++ text) (points-spell points rest))
-
 touched-spells : (points : List Name) → Spells (codes "touched", over shown points) (line_of_touched points)
-touched-spells points rest = ap (λ text. codes "touched" ++ text) (points-spell points rest)
+touched-spells points rest = ap (λ text. codes "touched" ++ text) (names-spell points rest)
 
 commit-spells : (mounts : List Mount) (sessions : List ℕ) (number : ℕ) (commit : Commit) → AllSpell (words_of_commit mounts sessions number commit) (lines_of_commit mounts sessions number commit)
 commit-spells mounts sessions number commit = (λ rest. simp append_assoc, (touched-spells (points_of mounts commit.touched), changes-spell commit.changes))
@@ -71,11 +66,6 @@ commits-spell mounts sessions number [] = tt
 commits-spell mounts sessions number (commit ∷ commits) =
     AllSpell-append (words_of_commit mounts sessions number commit) (words_of_commits mounts sessions (number + 1) commits) (lines_of_commit mounts sessions number commit) (lines_of_commits mounts sessions (number + 1) commits)
     (commit-spells mounts sessions number commit) (commits-spell mounts sessions (number + 1) commits)
-
--- each line has words
-pub words-append : (xs ys : List Line) → AllByRecursion HasWords xs → AllByRecursion HasWords ys → AllByRecursion HasWords (xs ++ ys)
-words-append [] ys p q = q
-words-append (x ∷ xs) ys p q = (p.0, words-append xs ys p.1 q)
 
 metas-HasWords : (items : List (List ℕ × List ℕ)) → AllByRecursion HasWords (over words_of_meta items)
 metas-HasWords [] = tt
@@ -89,15 +79,11 @@ changes-HasWords : (changes : List Change) → AllByRecursion HasWords (flat_map
 changes-HasWords [] = tt
 changes-HasWords (change ∷ changes) = words-append (words_of_change change) (flat_map words_of_change changes) (change-HasWords change) (changes-HasWords changes)
 
-points-HasWords : (points : List Name) → AllByRecursion IsWord (over shown points)
-points-HasWords [] = tt
-points-HasWords (point ∷ points) = (name-IsWord point, points-HasWords points)
-
 pub commits-HasWords : (mounts : List Mount) (sessions : List ℕ) (number : ℕ) (commits : List Commit) → AllByRecursion HasWords (words_of_commits mounts sessions number commits)
 commits-HasWords mounts sessions number [] = tt
 commits-HasWords mounts sessions number (commit ∷ commits) =
     words-append (words_of_commit mounts sessions number commit) (words_of_commits mounts sessions (number + 1) commits)
-    ((Plain refl, (number-IsWord number, (Plain refl, (number-IsWord (session_of sessions commit.handle), tt)))), ((Plain refl, points-HasWords (points_of mounts commit.touched)), changes-HasWords commit.changes))
+    ((Plain refl, (number-IsWord number, (Plain refl, (number-IsWord (session_of sessions commit.handle), tt)))), ((Plain refl, names-HasWords (points_of mounts commit.touched)), changes-HasWords commit.changes))
     (commits-HasWords mounts sessions (number + 1) commits)
 
 -- lines of which the first is no metadata's
@@ -163,14 +149,6 @@ changes-cut ((n, Some d) ∷ xs) ((m, Some f) ∷ ys) s t hs ks p q e =
     let rest = changes-cut xs ys s t hs.1 ks.1 p q metas.1 in
     (ap₂ (λ change changes. change ∷ changes) (same_key n m d f name value (map.same_entries_map d.meta f.meta metas.0)) rest.0, rest.1)
 
--- which mounts were touched, from their mountpoints
-shown-all-once : (ps qs : List Name) → AllByRecursion IsName ps → AllByRecursion IsName qs → over shown ps ≡ over shown qs → ps ≡ qs
-shown-all-once [] [] hs ks e = refl
-shown-all-once [] (q ∷ qs) hs ks e = absurd cc
-shown-all-once (p ∷ ps) [] hs ks e = absurd cc
-shown-all-once (p ∷ ps) (q ∷ qs) hs ks e =
-    ap₂ (λ x xs. x ∷ xs) (shown-once p q hs.0 ks.0 (head_is (shown p) (shown q) (over shown ps) (over shown qs) e)) (shown-all-once ps qs hs.1 ks.1 (tail_is (shown p) (shown q) (over shown ps) (over shown qs) e))
-
 all_at : {A : Type 0} (P : A → Type 0) (xs : List A) (i : ℕ) (x : A) → AllByRecursion P xs → slice_get xs i ≡ Some x → P x
 all_at P [] zero x all there = absurd cc
 all_at P [] (suc i) x all there = absurd cc
@@ -232,7 +210,7 @@ commits-once mounts sessions named number (c ∷ cs) [] hs ks e = absurd (other_
 commits-once mounts sessions named number (c ∷ cs) (d ∷ ds) hs ks e =
     let last = (codes "end", []) ∷ [] in
     let handle = handle-once sessions c.handle d.handle named.apart named.numbers hs.0.some hs.0.by ks.0.some ks.0.by (ap (λ lines. word_at 3 (line_at 0 lines)) e) in
-    let points = shown-all-once (points_of mounts c.touched) (points_of mounts d.touched) (names_of_points mounts c.touched named.names hs.0.touched) (names_of_points mounts d.touched named.names ks.0.touched) (ap (λ lines. (line_at 1 lines).1) e) in
+    let points = names-once (points_of mounts c.touched) (points_of mounts d.touched) (names_of_points mounts c.touched named.names hs.0.touched) (names_of_points mounts d.touched named.names ks.0.touched) (ap (λ lines. (line_at 1 lines).1) e) in
     let touched = touched-once mounts c.touched d.touched named.points hs.0.touched ks.0.touched points in
     let behind_head : (flat_map words_of_change c.changes ++ words_of_commits mounts sessions (number + 1) cs) ++ last ≡ (flat_map words_of_change d.changes ++ words_of_commits mounts sessions (number + 1) ds) ++ last = ap (drop 2) e in
     let there = sym (append_assoc (flat_map words_of_change c.changes) (words_of_commits mounts sessions (number + 1) cs) last) ∙ (behind_head ∙ append_assoc (flat_map words_of_change d.changes) (words_of_commits mounts sessions (number + 1) ds) last) in

@@ -1,13 +1,17 @@
--- Replies with the same words are the same, but for the place of a want of memory.
-use Rattle.std.specs.Prelude.{◌≡◌, T, ℕ, nat_eq, nat_le, ◌||◌}
+-- Replies whose last lines have the same words are told alike, and tries with the same words are the same.
+use Rattle.std.specs.Prelude.{◌≡◌, T, ℕ, nat_eq, nat_le, false, ◌||◌, if◌then◌else◌}
 use Rattle.std.proofs.Common.{refl, sym, ap, ◌∙◌, subst}
 use Rattle.std.proofs.lemmas.Fmt.{decimal_injective}
+use Rattle.kdb_handle.specs.declared.merging.MergeEnd.{MergeEnd}
+use Rattle.kdb_handle.specs.declared.merging.MergeEnd.TheVariants as merge_end
+use Rattle.kdb_handle.specs.declared.merging.Tried.{Tried}
 use Rattle.kdb_handle.specs.declared.replies.Reply.{Reply}
-use Rattle.kdb_handle.specs.declared.replies.Reply.TheVariants.{Got, GetRefused, Quiet, LookFound, LookNone, SetDone, SetRefused, Memory}
+use Rattle.kdb_handle.specs.declared.replies.Reply.TheVariants.{Got, GetRefused, Quiet, LookFound, LookNone, SetDone, SetRefused, Merged, MergeRefused, Memory}
 use Rattle.kdb_handle.specs.declared.setting.SetFault.TheVariants.{Prepare, Commit}
-use Rattle.kdb_print.proofs.ReplyWords.{kind, kind_of, reply-kind, tag_of, words_of, words_of_commit, words_of_done, words_of_get, words_of_prepare, words_of_table}
-use Rattle.kdb_print.proofs.Words.{numbers_test, word_at}
-use Rattle.kdb_print.specs.Reading.{IsCommitFault, IsDone, IsGetFault, IsPrepareFault, IsReply, IsTableFault, told_of}
+use Rattle.kdb_print.proofs.ReplyWords.{kind, kind_of, reply-kind, tag_of, words_of, words_of_commit, words_of_done, words_of_end, words_of_get, words_of_prepare, words_of_table, words_of_try}
+use Rattle.kdb_print.proofs.Words.{names-once, numbers_test, word_at}
+use Rattle.kdb_print.specs.Replies.{end_wants_memory}
+use Rattle.kdb_print.specs.Reading.{IsCommitFault, IsDone, IsEnd, IsGetFault, IsPrepareFault, IsReply, IsTableFault, IsTry, is_merge, last_of_end, told_last}
 use Rattle.model_quoting.proofs.AlikeLemmas.{quoted-once, shown-once}
 use Rattle.mount_table.specs.declared.faults.TableFault.{TableFault}
 use Rattle.mount_table.specs.declared.faults.TableFault.TheVariants as table
@@ -128,11 +132,11 @@ table_large table.Memory = tt
 table_test : (fault : TableFault) (n : ℕ) → tag_of (words_of_table fault) ≡ n → T (nat_eq 0 n || nat_le 20 n)
 table_test fault n same = subst (λ m. T (nat_eq 0 m || nat_le 20 m)) same (table_large fault)
 
-table_or_memory : (fault : TableFault) → tag_of (words_of_table fault) ≡ 0 → told_of (SetRefused (Prepare (preparing.BadTable fault))) ≡ Memory
+table_or_memory : (fault : TableFault) → tag_of (words_of_table fault) ≡ 0 → told_last (SetRefused (Prepare (preparing.BadTable fault))) ≡ Memory
 table_or_memory table.Memory _ = refl
 table_or_memory fault same = absurd (numbers_test (tag_of (words_of_table fault)) 0 same)
 
-prepare-same : (a b : PrepareFault) → IsPrepareFault a → IsPrepareFault b → words_of_prepare a ≡ words_of_prepare b → tag_of (words_of_prepare a) ≡ tag_of (words_of_prepare b) → told_of (SetRefused (Prepare a)) ≡ told_of (SetRefused (Prepare b))
+prepare-same : (a b : PrepareFault) → IsPrepareFault a → IsPrepareFault b → words_of_prepare a ≡ words_of_prepare b → tag_of (words_of_prepare a) ≡ tag_of (words_of_prepare b) → told_last (SetRefused (Prepare a)) ≡ told_last (SetRefused (Prepare b))
 prepare-same (preparing.NotFetched mount) (preparing.NotFetched mount') h k e _ =
     let same_mount = shown-once mount mount' h k (ap (word_at 3) e) in
     λ i. SetRefused (Prepare (preparing.NotFetched (same_mount i)))
@@ -148,7 +152,7 @@ prepare-same (preparing.FileTooLarge mount bytes) (preparing.FileTooLarge mount'
     let same_mount = shown-once mount mount' h.0 k.0 (ap (word_at 3) e) in
     let same_bytes = decimal_injective bytes bytes' h.1 k.1 (ap (word_at 4) e) in
     λ i. SetRefused (Prepare (preparing.FileTooLarge (same_mount i) (same_bytes i)))
-prepare-same (preparing.BadTable fault) (preparing.BadTable fault') h k e _ = ap (λ f. told_of (SetRefused (Prepare (preparing.BadTable f)))) (table-once fault fault' h k e)
+prepare-same (preparing.BadTable fault) (preparing.BadTable fault') h k e _ = ap (λ f. told_last (SetRefused (Prepare (preparing.BadTable f)))) (table-once fault fault' h k e)
 prepare-same (preparing.BadTable fault) preparing.Memory _ _ _ same = table_or_memory fault same
 prepare-same (preparing.BadTable fault) b _ _ _ same = absurd (table_test fault (tag_of (words_of_prepare b)) same)
 prepare-same preparing.Memory (preparing.BadTable fault) _ _ _ same = sym (table_or_memory fault (sym same))
@@ -156,70 +160,129 @@ prepare-same a (preparing.BadTable fault) _ _ _ same = absurd (table_test fault 
 prepare-same preparing.Memory preparing.Memory h k e _ = refl
 prepare-same a b _ _ _ same = absurd (numbers_test (tag_of (words_of_prepare a)) (tag_of (words_of_prepare b)) same)
 
-prepare-once : (a b : PrepareFault) → IsPrepareFault a → IsPrepareFault b → words_of_prepare a ≡ words_of_prepare b → told_of (SetRefused (Prepare a)) ≡ told_of (SetRefused (Prepare b))
+prepare-once : (a b : PrepareFault) → IsPrepareFault a → IsPrepareFault b → words_of_prepare a ≡ words_of_prepare b → told_last (SetRefused (Prepare a)) ≡ told_last (SetRefused (Prepare b))
 prepare-once a b h k e = prepare-same a b h k e (ap tag_of e)
 
 -- refusals of different kinds are told alike only for want of memory
-get_or_prepare : (a : GetFault) (b : PrepareFault) → tag_of (words_of_get a) ≡ tag_of (words_of_prepare b) → told_of (GetRefused a) ≡ told_of (SetRefused (Prepare b))
+get_or_prepare : (a : GetFault) (b : PrepareFault) → tag_of (words_of_get a) ≡ tag_of (words_of_prepare b) → told_last (GetRefused a) ≡ told_last (SetRefused (Prepare b))
 get_or_prepare getting.Memory preparing.Memory _ = refl
 get_or_prepare getting.Memory (preparing.BadTable fault) same = sym (table_or_memory fault (sym same))
 get_or_prepare a (preparing.BadTable fault) same = absurd (table_test fault (tag_of (words_of_get a)) (sym same))
 get_or_prepare a b same = absurd (numbers_test (tag_of (words_of_get a)) (tag_of (words_of_prepare b)) same)
 
-get_or_commit : (a : GetFault) (b : CommitFault) → tag_of (words_of_get a) ≡ tag_of (words_of_commit b) → told_of (GetRefused a) ≡ told_of (SetRefused (Commit b))
+get_or_commit : (a : GetFault) (b : CommitFault) → tag_of (words_of_get a) ≡ tag_of (words_of_commit b) → told_last (GetRefused a) ≡ told_last (SetRefused (Commit b))
 get_or_commit getting.Memory committing.Memory _ = refl
 get_or_commit a committing.Memory same = absurd (numbers_test (tag_of (words_of_get a)) 0 same)
 get_or_commit a b same = absurd (numbers_test (tag_of (words_of_get a)) (tag_of (words_of_commit b)) same)
 
-prepare_or_commit : (a : PrepareFault) (b : CommitFault) → tag_of (words_of_prepare a) ≡ tag_of (words_of_commit b) → told_of (SetRefused (Prepare a)) ≡ told_of (SetRefused (Commit b))
+prepare_or_commit : (a : PrepareFault) (b : CommitFault) → tag_of (words_of_prepare a) ≡ tag_of (words_of_commit b) → told_last (SetRefused (Prepare a)) ≡ told_last (SetRefused (Commit b))
 prepare_or_commit preparing.Memory committing.Memory _ = refl
 prepare_or_commit (preparing.BadTable fault) committing.Memory same = table_or_memory fault same
 prepare_or_commit a committing.Memory same = absurd (numbers_test (tag_of (words_of_prepare a)) 0 same)
 prepare_or_commit (preparing.BadTable fault) b same = absurd (table_test fault (tag_of (words_of_commit b)) same)
 prepare_or_commit a b same = absurd (numbers_test (tag_of (words_of_prepare a)) (tag_of (words_of_commit b)) same)
 
-get_or_memory : (a : GetFault) → tag_of (words_of_get a) ≡ 0 → told_of (GetRefused a) ≡ Memory
+get_or_memory : (a : GetFault) → tag_of (words_of_get a) ≡ 0 → told_last (GetRefused a) ≡ Memory
 get_or_memory getting.Memory _ = refl
 get_or_memory a same = absurd (numbers_test (tag_of (words_of_get a)) 0 same)
 
-prepare_or_memory : (a : PrepareFault) → tag_of (words_of_prepare a) ≡ 0 → told_of (SetRefused (Prepare a)) ≡ Memory
+prepare_or_memory : (a : PrepareFault) → tag_of (words_of_prepare a) ≡ 0 → told_last (SetRefused (Prepare a)) ≡ Memory
 prepare_or_memory preparing.Memory _ = refl
 prepare_or_memory (preparing.BadTable fault) same = table_or_memory fault same
 prepare_or_memory a same = absurd (numbers_test (tag_of (words_of_prepare a)) 0 same)
 
-commit_or_memory : (a : CommitFault) → tag_of (words_of_commit a) ≡ 0 → told_of (SetRefused (Commit a)) ≡ Memory
+commit_or_memory : (a : CommitFault) → tag_of (words_of_commit a) ≡ 0 → told_last (SetRefused (Commit a)) ≡ Memory
 commit_or_memory committing.Memory _ = refl
 commit_or_memory a same = absurd (numbers_test (tag_of (words_of_commit a)) 0 same)
 
-of_kind : (a b : Reply) → IsReply a → IsReply b → words_of a ≡ words_of b → kind a ≡ kind b → told_of a ≡ told_of b
-of_kind (Got front count) (Got front' count') h k e _ =
+-- ---- replies to other steps than merges
+
+of_kind : (a b : Reply) → is_merge a ≡ false → is_merge b ≡ false → IsReply a → IsReply b → words_of a ≡ words_of b → kind a ≡ kind b → told_last a ≡ told_last b
+of_kind (Got front count) (Got front' count') plain plain' h k e _ =
     let same_front = decimal_injective front front' h.0 k.0 (ap (word_at 1) e) in
     let same_count = decimal_injective count count' h.1 k.1 (ap (word_at 2) e) in
     λ i. Got (same_front i) (same_count i)
-of_kind (LookFound name value) (LookFound name' value') h k e _ =
+of_kind (LookFound name value) (LookFound name' value') plain plain' h k e _ =
     let same_name = shown-once name name' h k (ap (word_at 1) e) in
     let same_value = quoted-once value value' (ap (word_at 2) e) in
     λ i. LookFound (same_name i) (same_value i)
-of_kind (GetRefused fault) (GetRefused fault') h k e _ = ap (λ f. told_of (GetRefused f)) (get-once fault fault' h k e)
-of_kind (GetRefused fault) (SetRefused (Prepare other)) h k e _ = get_or_prepare fault other (ap tag_of e)
-of_kind (GetRefused fault) (SetRefused (Commit other)) h k e _ = get_or_commit fault other (ap tag_of e)
-of_kind (GetRefused fault) Memory h k e _ = get_or_memory fault (ap tag_of e)
-of_kind (SetRefused (Prepare fault)) (GetRefused other) h k e _ = sym (get_or_prepare other fault (ap tag_of (sym e)))
-of_kind (SetRefused (Prepare fault)) (SetRefused (Prepare fault')) h k e _ = prepare-once fault fault' h k e
-of_kind (SetRefused (Prepare fault)) (SetRefused (Commit other)) h k e _ = prepare_or_commit fault other (ap tag_of e)
-of_kind (SetRefused (Prepare fault)) Memory h k e _ = prepare_or_memory fault (ap tag_of e)
-of_kind (SetRefused (Commit fault)) (GetRefused other) h k e _ = sym (get_or_commit other fault (ap tag_of (sym e)))
-of_kind (SetRefused (Commit fault)) (SetRefused (Prepare other)) h k e _ = sym (prepare_or_commit other fault (ap tag_of (sym e)))
-of_kind (SetRefused (Commit fault)) (SetRefused (Commit fault')) h k e _ = ap (λ f. told_of (SetRefused (Commit f))) (commit-once fault fault' h k e)
-of_kind (SetRefused (Commit fault)) Memory h k e _ = commit_or_memory fault (ap tag_of e)
-of_kind (SetDone done) (SetDone done') h k e _ = ap (λ d. told_of (SetDone d)) (done-once done done' h k e)
-of_kind Memory (GetRefused fault) h k e _ = sym (get_or_memory fault (ap tag_of (sym e)))
-of_kind Memory (SetRefused (Prepare fault)) h k e _ = sym (prepare_or_memory fault (ap tag_of (sym e)))
-of_kind Memory (SetRefused (Commit fault)) h k e _ = sym (commit_or_memory fault (ap tag_of (sym e)))
-of_kind Quiet Quiet h k e _ = refl
-of_kind LookNone LookNone h k e _ = refl
-of_kind Memory Memory h k e _ = refl
-of_kind a b _ _ _ same = absurd (numbers_test (kind a) (kind b) same)
+of_kind (GetRefused fault) (GetRefused fault') plain plain' h k e _ = ap (λ f. told_last (GetRefused f)) (get-once fault fault' h k e)
+of_kind (GetRefused fault) (SetRefused (Prepare other)) plain plain' h k e _ = get_or_prepare fault other (ap tag_of e)
+of_kind (GetRefused fault) (SetRefused (Commit other)) plain plain' h k e _ = get_or_commit fault other (ap tag_of e)
+of_kind (GetRefused fault) Memory plain plain' h k e _ = get_or_memory fault (ap tag_of e)
+of_kind (SetRefused (Prepare fault)) (GetRefused other) plain plain' h k e _ = sym (get_or_prepare other fault (ap tag_of (sym e)))
+of_kind (SetRefused (Prepare fault)) (SetRefused (Prepare fault')) plain plain' h k e _ = prepare-once fault fault' h k e
+of_kind (SetRefused (Prepare fault)) (SetRefused (Commit other)) plain plain' h k e _ = prepare_or_commit fault other (ap tag_of e)
+of_kind (SetRefused (Prepare fault)) Memory plain plain' h k e _ = prepare_or_memory fault (ap tag_of e)
+of_kind (SetRefused (Commit fault)) (GetRefused other) plain plain' h k e _ = sym (get_or_commit other fault (ap tag_of (sym e)))
+of_kind (SetRefused (Commit fault)) (SetRefused (Prepare other)) plain plain' h k e _ = sym (prepare_or_commit other fault (ap tag_of (sym e)))
+of_kind (SetRefused (Commit fault)) (SetRefused (Commit fault')) plain plain' h k e _ = ap (λ f. told_last (SetRefused (Commit f))) (commit-once fault fault' h k e)
+of_kind (SetRefused (Commit fault)) Memory plain plain' h k e _ = commit_or_memory fault (ap tag_of e)
+of_kind (SetDone done) (SetDone done') plain plain' h k e _ = ap (λ d. told_last (SetDone d)) (done-once done done' h k e)
+of_kind Memory (GetRefused fault) plain plain' h k e _ = sym (get_or_memory fault (ap tag_of (sym e)))
+of_kind Memory (SetRefused (Prepare fault)) plain plain' h k e _ = sym (prepare_or_memory fault (ap tag_of (sym e)))
+of_kind Memory (SetRefused (Commit fault)) plain plain' h k e _ = sym (commit_or_memory fault (ap tag_of (sym e)))
+of_kind Quiet Quiet plain plain' h k e _ = refl
+of_kind LookNone LookNone plain plain' h k e _ = refl
+of_kind Memory Memory plain plain' h k e _ = refl
+of_kind (Merged merging) b plain plain' h k e _ = absurd cc
+of_kind (MergeRefused fault) b plain plain' h k e _ = absurd cc
+of_kind a (Merged merging) plain plain' h k e _ = absurd cc
+of_kind a (MergeRefused fault) plain plain' h k e _ = absurd cc
+of_kind a b _ _ _ _ _ same = absurd (numbers_test (kind a) (kind b) same)
 
-pub reply-once : (a b : Reply) → IsReply a → IsReply b → words_of a ≡ words_of b → told_of a ≡ told_of b
-reply-once a b h k e = of_kind a b h k e (sym (reply-kind a) ∙ (ap kind_of e ∙ reply-kind b))
+plain-once : (a b : Reply) → is_merge a ≡ false → is_merge b ≡ false → IsReply a → IsReply b → words_of a ≡ words_of b → told_last a ≡ told_last b
+plain-once a b plain plain' h k e = of_kind a b plain plain' h k e (sym (reply-kind a) ∙ (ap kind_of e ∙ reply-kind b))
+
+-- ---- merges
+
+-- what the last line of a merge that was not stored tells
+abbrev told_end : MergeEnd → Reply
+told_end end = if end_wants_memory end then Memory else last_of_end end
+
+-- a line of a merge alone is none of another reply
+no_merge : (b : Reply) → is_merge b ≡ false → 6 ≡ kind b → ⊥
+no_merge (Merged merging) none same = absurd cc
+no_merge (MergeRefused fault) none same = absurd cc
+no_merge b none same = absurd (numbers_test 6 (kind b) same)
+
+end-once : (end : MergeEnd) (b : Reply) → is_merge b ≡ false → IsEnd end → IsReply b → words_of_end end ≡ words_of b → told_end end ≡ told_last b
+end-once (merge_end.MergeConflicts names) b none h k e = absurd (no_merge b none (ap kind_of e ∙ reply-kind b))
+end-once (merge_end.TriesSpent mount by front) b none h k e = absurd (no_merge b none (ap kind_of e ∙ reply-kind b))
+end-once (merge_end.Set fault) b none h k e = plain-once (SetRefused fault) b refl none h k e
+end-once merge_end.Memory b none h k e = plain-once Memory b refl none h k e
+
+ends-same : (a b : MergeEnd) → IsEnd a → IsEnd b → words_of_end a ≡ words_of_end b → tag_of (words_of_end a) ≡ tag_of (words_of_end b) → told_end a ≡ told_end b
+ends-same (merge_end.Set fault) b h k e _ = sym (end-once b (SetRefused fault) refl k h (sym e))
+ends-same merge_end.Memory b h k e _ = sym (end-once b Memory refl k h (sym e))
+ends-same a (merge_end.Set fault) h k e _ = end-once a (SetRefused fault) refl h k e
+ends-same a merge_end.Memory h k e _ = end-once a Memory refl h k e
+ends-same (merge_end.MergeConflicts names) (merge_end.MergeConflicts names') h k e _ = ap (λ all. told_end (merge_end.MergeConflicts all)) (names-once names names' h k (ap (λ line. line.1) e))
+ends-same (merge_end.TriesSpent mount by front) (merge_end.TriesSpent mount' by' front') h k e _ =
+    let same_mount = shown-once mount mount' h.0 k.0 (ap (word_at 1) e) in
+    let same_by = decimal_injective by by' h.1 k.1 (ap (word_at 3) e) in
+    let same_front = decimal_injective front front' h.2 k.2 (ap (word_at 5) e) in
+    λ i. told_end (merge_end.TriesSpent (same_mount i) (same_by i) (same_front i))
+ends-same a b _ _ _ same = absurd (numbers_test (tag_of (words_of_end a)) (tag_of (words_of_end b)) same)
+
+ends-once : (a b : MergeEnd) → IsEnd a → IsEnd b → words_of_end a ≡ words_of_end b → told_end a ≡ told_end b
+ends-once a b h k e = ends-same a b h k e (ap tag_of e)
+
+pub reply-once : (a b : Reply) → IsReply a → IsReply b → words_of a ≡ words_of b → told_last a ≡ told_last b
+reply-once (Merged one) (Merged other) h k e = plain-once (SetDone one.done) (SetDone other.done) refl refl h.1 k.1 e
+reply-once (Merged one) (MergeRefused fault) h k e = sym (end-once fault.end (SetDone one.done) refl k.1 h.1 (sym e))
+reply-once (Merged one) b h k e = plain-once (SetDone one.done) b refl refl h.1 k e
+reply-once (MergeRefused fault) (Merged other) h k e = end-once fault.end (SetDone other.done) refl h.1 k.1 e
+reply-once (MergeRefused fault) (MergeRefused other) h k e = ends-once fault.end other.end h.1 k.1 e
+reply-once (MergeRefused fault) b h k e = end-once fault.end b refl h.1 k e
+reply-once a (Merged other) h k e = plain-once a (SetDone other.done) refl refl h k.1 e
+reply-once a (MergeRefused fault) h k e = sym (end-once fault.end a refl k.1 h (sym e))
+reply-once a b h k e = plain-once a b refl refl h k e
+
+pub try-once : (a b : Tried) → IsTry a → IsTry b → words_of_try a ≡ words_of_try b → a ≡ b
+try-once a b h k e =
+    let same_mount = shown-once a.mount b.mount h.0 k.0 (ap (word_at 1) e) in
+    let same_by = decimal_injective a.by b.by h.1 k.1 (ap (word_at 3) e) in
+    let same_front = decimal_injective a.front b.front h.2 k.2 (ap (word_at 5) e) in
+    let same_again = decimal_injective a.again b.again h.3 k.3 (ap (word_at 7) e) in
+    λ i. record { mount = same_mount i; by = same_by i; front = same_front i; again = same_again i }

@@ -3,12 +3,12 @@ use Rattle.std.specs.Prelude.{◌≡◌, ℕ, ◌+◌, ◌-◌, ◌<◌, ◌==�
 use Rattle.std.proofs.Common.{refl, sym, ap, ◌∙◌, get_or, arith, append_assoc}
 use Rattle.std.specs.Option.{option_map}
 use Rattle.std.proofs.lemmas.Bool.{cond-false, ne_eqb}
-use Rattle.std.proofs.lemmas.List.{append-nil, drop_more, take_more}
+use Rattle.std.proofs.lemmas.List.{append-nil, drop_more, map_push, take_more}
 use Rattle.std.proofs.lemmas.Option.{get_or_from_slice_get, slice_get_within}
 use Rattle.std.specs.List.{flat_map}
 use Rattle.std.proofs.lemmas.List.Concat.{flat_map-append}
 use Rattle.std.proofs.lemmas.List.Elements.{filter_map-append}
-use Rattle.general_words.proofs.Lists.{flat_map-more}
+use Rattle.general_words.proofs.Lists.{flat_map-more, take-next}
 use Rattle.batch_script.specs.declared.steps.Phase.{Phase}
 use Rattle.batch_script.specs.declared.steps.Steps.{Steps}
 use Rattle.kdb_print.specs.Printed.{lines_of_phases, lines_of_sessions, points_of}
@@ -20,13 +20,22 @@ use Rattle.mount_table.specs.declared.mounts.Mount.{Mount}
 pub ended-append : (lines others : List (List ℕ)) → ended (lines ++ others) ≡ ended lines ++ ended others
 ended-append lines others = flat_map-append (λ line. line ++ 10 ∷ []) lines others
 
+-- lines behind those so far
+pub pushed-on : (so_far one all : List (List ℕ)) (start before after : List ℕ) → all ≡ so_far ++ one → before ≡ start ++ ended so_far → after ≡ before ++ ended one → after ≡ start ++ ended all
+pushed-on so_far one all start before after all_is was pushed =
+    pushed
+    ∙ (ap (λ text. text ++ ended one) was
+    ∙ (append_assoc start (ended so_far) (ended one) ∙ ap (λ text. start ++ text) (sym (ap ended all_is ∙ ended-append so_far one))))
+
 -- the lines of one item more
 pub pushed-more : {A : Type 0} (lines_of : A → List (List ℕ)) (items : List A) (i : ℕ) (item : A) (start before after : List ℕ) → Some item ≡ slice_get items i → before ≡ start ++ ended (flat_map lines_of (take i items)) → after ≡ before ++ ended (lines_of item) → after ≡ start ++ ended (flat_map lines_of (take (i + 1) items))
 pushed-more lines_of items i item start before after there was pushed =
-    pushed
-    ∙ (ap (λ text. text ++ ended (lines_of item)) was
-    ∙ (append_assoc start (ended (flat_map lines_of (take i items))) (ended (lines_of item))
-    ∙ ap (λ text. start ++ text) (sym (ap ended (flat_map-more lines_of items i item there) ∙ ended-append (flat_map lines_of (take i items)) (lines_of item)))))
+    pushed-on (flat_map lines_of (take i items)) (lines_of item) (flat_map lines_of (take (i + 1) items)) start before after (flat_map-more lines_of items i item there) was pushed
+
+-- the line of one item more
+pub pushed-line : {A : Type 0} (line_of : A → List ℕ) (items : List A) (i : ℕ) (item : A) (start before after : List ℕ) → Some item ≡ slice_get items i → before ≡ start ++ ended (over line_of (take i items)) → after ≡ before ++ ended (line_of item ∷ []) → after ≡ start ++ ended (over line_of (take (i + 1) items))
+pushed-line line_of items i item start before after there was pushed =
+    pushed-on (over line_of (take i items)) (line_of item ∷ []) (over line_of (take (i + 1) items)) start before after (ap (over line_of) (take-next items i item there) ∙ map_push line_of (take i items) item) was pushed
 
 -- some lines, where they and others are still to come
 pub pushed-next : (lines others : List (List ℕ)) (before after all : List ℕ) → before ++ ended (lines ++ others) ≡ all → after ≡ before ++ ended lines → after ++ ended others ≡ all

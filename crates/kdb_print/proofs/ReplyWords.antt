@@ -1,14 +1,19 @@
 -- The words of the line of each reply.
-use Rattle.std.specs.Prelude.{◌≡◌, ℕ, false, ◌||◌, if◌then◌else◌, List, [], ◌∷◌, codes}
-use Rattle.std.proofs.Common.{refl, append_assoc}
+use Rattle.std.specs.Prelude.{◌≡◌, ℕ, false, ◌||◌, if◌then◌else◌, List, [], ◌∷◌, ◌++◌, map as over, codes}
+use Rattle.std.proofs.Common.{refl, ap, append_assoc}
 use Rattle.std.specs.Fmt.{decimal}
+use Rattle.std.specs.List.{AllByRecursion}
 use Rattle.general_words.specs.Texts.{is_text}
+use Rattle.kdb_handle.specs.declared.merging.MergeEnd.{MergeEnd}
+use Rattle.kdb_handle.specs.declared.merging.MergeEnd.TheVariants as merge_end
+use Rattle.kdb_handle.specs.declared.merging.Tried.{Tried}
 use Rattle.kdb_handle.specs.declared.replies.Reply.{Reply}
-use Rattle.kdb_handle.specs.declared.replies.Reply.TheVariants.{Got, GetRefused, Quiet, LookFound, LookNone, SetDone, SetRefused, Memory}
+use Rattle.kdb_handle.specs.declared.replies.Reply.TheVariants.{Got, GetRefused, Quiet, LookFound, LookNone, SetDone, SetRefused, Merged, MergeRefused, Memory}
+use Rattle.kdb_handle.specs.declared.setting.SetFault.{SetFault}
 use Rattle.kdb_handle.specs.declared.setting.SetFault.TheVariants.{Prepare, Commit}
-use Rattle.kdb_print.proofs.Words.{AllSpell, HasWords, Line, Spells, name-IsWord, number-IsWord, word_at}
-use Rattle.kdb_print.specs.Replies.{line_of_commit, line_of_done, line_of_get, line_of_prepare, line_of_table, lines_of_reply}
-use Rattle.kdb_print.specs.Reading.{is_quiet}
+use Rattle.kdb_print.proofs.Words.{AllSpell, HasWords, Line, Spells, name-IsWord, names-HasWords, names-spell, number-IsWord, word_at, words-append}
+use Rattle.kdb_print.specs.Replies.{line_of_commit, line_of_done, line_of_end, line_of_get, line_of_prepare, line_of_set, line_of_table, line_of_try, lines_of_reply}
+use Rattle.kdb_print.specs.Reading.{is_quiet, tries_of}
 use Rattle.model_quoting.proofs.CutLemmas.{Plain, quoted-IsWord}
 use Rattle.model_quoting.specs.Quoted.{quoted, shown}
 use Rattle.mount_table.specs.declared.faults.TableFault.{TableFault}
@@ -22,8 +27,8 @@ use Rattle.store_core.specs.declared.committing.Done.TheVariants.{Committed, Sam
 use Rattle.store_verdict.specs.declared.faults.PrepareFault.{PrepareFault}
 use Rattle.store_verdict.specs.declared.faults.PrepareFault.TheVariants as preparing
 
--- what kind of line begins with a word: the answers of a get, a look and a set, refusals, and the lines that begin a session, a phase or the
--- history; 0 is any other
+-- what kind of line begins with a word: the answers of a get, a look and a set, refusals, those of a merge alone, the lines that begin a session, a
+-- phase or the history, and the tries of a merge; 0 is any other
 abbrev pub kind_of : Line → ℕ
 kind_of (first, words) =
     if is_text first (codes "got") then 1 else
@@ -31,7 +36,9 @@ kind_of (first, words) =
     (if is_text first (codes "none") then 3 else
     (if is_text first (codes "commit") || is_text first (codes "same") then 4 else
     (if is_text first (codes "refused") || (is_text first (codes "memory") || is_text first (codes "conflict")) then 5 else
-    (if is_text first (codes "session") || (is_text first (codes "phase") || is_text first (codes "history")) then 6 else 0)))))
+    (if is_text first (codes "merge-conflict") || is_text first (codes "spent") then 6 else
+    (if is_text first (codes "session") || (is_text first (codes "phase") || is_text first (codes "history")) then 7 else
+    (if is_text first (codes "tried") then 8 else 0)))))))
 
 -- which refusal of a mount table a line tells, by its fourth word
 abbrev pub table_tag_of : List ℕ → ℕ
@@ -68,7 +75,9 @@ tag_of line =
     if is_text (word_at 0 line) (codes "memory") then 0 else
     (if is_text (word_at 0 line) (codes "conflict") then 1 else
     (if is_text (word_at 0 line) (codes "commit") then 2 else
-    (if is_text (word_at 0 line) (codes "same") then 3 else refusal_tag_of line)))
+    (if is_text (word_at 0 line) (codes "same") then 3 else
+    (if is_text (word_at 0 line) (codes "merge-conflict") then 4 else
+    (if is_text (word_at 0 line) (codes "spent") then 16 else refusal_tag_of line)))))
 
 abbrev pub words_of_get : GetFault → Line
 words_of_get (getting.BadFile mount number) = (codes "refused", codes "C03100" ∷ codes "bad-file" ∷ shown mount ∷ decimal number ∷ [])
@@ -103,11 +112,24 @@ words_of_commit (committing.HistoryFull weight front) = (codes "refused", codes 
 words_of_commit (committing.DiskFault front) = (codes "refused", codes "C01100" ∷ codes "disk-fault" ∷ codes "front" ∷ decimal front ∷ [])
 words_of_commit committing.Memory = (codes "memory", [])
 
+abbrev pub words_of_set : SetFault → Line
+words_of_set (Prepare fault) = words_of_prepare fault
+words_of_set (Commit fault) = words_of_commit fault
+
+abbrev pub words_of_end : MergeEnd → Line
+words_of_end (merge_end.MergeConflicts names) = (codes "merge-conflict", over shown names)
+words_of_end (merge_end.TriesSpent mount by front) = (codes "spent", shown mount ∷ codes "by" ∷ decimal by ∷ codes "front" ∷ decimal front ∷ [])
+words_of_end (merge_end.Set fault) = words_of_set fault
+words_of_end merge_end.Memory = (codes "memory", [])
+
 abbrev pub words_of_done : Done → Line
 words_of_done (Committed number aside) = (codes "commit", decimal number ∷ codes "aside" ∷ decimal aside ∷ [])
 words_of_done (Same front aside) = (codes "same", decimal front ∷ codes "aside" ∷ decimal aside ∷ [])
 
--- a reply to an edit has no line; it is given one that no other reply has
+abbrev pub words_of_try : Tried → Line
+words_of_try item = (codes "tried", shown item.mount ∷ codes "by" ∷ decimal item.by ∷ codes "front" ∷ decimal item.front ∷ codes "again" ∷ decimal item.again ∷ [])
+
+-- the last line of a reply. One to an edit has none; it is given one that no other reply has
 abbrev pub words_of : Reply → Line
 words_of (Got front count) = (codes "got", decimal front ∷ decimal count ∷ [])
 words_of (GetRefused fault) = words_of_get fault
@@ -115,9 +137,14 @@ words_of Quiet = ([], [])
 words_of (LookFound name value) = (codes "found", shown name ∷ quoted value ∷ [])
 words_of LookNone = (codes "none", [])
 words_of (SetDone done) = words_of_done done
-words_of (SetRefused (Prepare fault)) = words_of_prepare fault
-words_of (SetRefused (Commit fault)) = words_of_commit fault
+words_of (SetRefused fault) = words_of_set fault
+words_of (Merged merging) = words_of_done merging.done
+words_of (MergeRefused fault) = words_of_end fault.end
 words_of Memory = (codes "memory", [])
+
+-- all lines of a reply that has some
+abbrev pub words_of_lines : Reply → List Line
+words_of_lines reply = over words_of_try (tries_of reply) ++ words_of reply ∷ []
 
 get-kind : (fault : GetFault) → kind_of (words_of_get fault) ≡ 5
 get-kind (getting.BadFile mount number) = refl
@@ -156,7 +183,23 @@ done-kind : (fault : Done) → kind_of (words_of_done fault) ≡ 4
 done-kind (Committed number aside) = refl
 done-kind (Same front aside) = refl
 
--- the kind of the line of a reply
+set-kind : (fault : SetFault) → kind_of (words_of_set fault) ≡ 5
+set-kind (Prepare fault) = prepare-kind fault
+set-kind (Commit fault) = commit-kind fault
+
+abbrev pub end_kind : MergeEnd → ℕ
+end_kind (merge_end.MergeConflicts names) = 6
+end_kind (merge_end.TriesSpent mount by front) = 6
+end_kind (merge_end.Set fault) = 5
+end_kind merge_end.Memory = 5
+
+end-kind : (end : MergeEnd) → kind_of (words_of_end end) ≡ end_kind end
+end-kind (merge_end.MergeConflicts names) = refl
+end-kind (merge_end.TriesSpent mount by front) = refl
+end-kind (merge_end.Set fault) = set-kind fault
+end-kind merge_end.Memory = refl
+
+-- the kind of the last line of a reply
 abbrev pub kind : Reply → ℕ
 kind (Got front count) = 1
 kind (LookFound name value) = 2
@@ -164,6 +207,8 @@ kind LookNone = 3
 kind (SetDone done) = 4
 kind (GetRefused fault) = 5
 kind (SetRefused fault) = 5
+kind (Merged merging) = 4
+kind (MergeRefused fault) = end_kind fault.end
 kind Memory = 5
 kind Quiet = 0
 
@@ -174,8 +219,9 @@ reply-kind Quiet = refl
 reply-kind (LookFound name value) = refl
 reply-kind LookNone = refl
 reply-kind (SetDone done) = done-kind done
-reply-kind (SetRefused (Prepare fault)) = prepare-kind fault
-reply-kind (SetRefused (Commit fault)) = commit-kind fault
+reply-kind (SetRefused fault) = set-kind fault
+reply-kind (Merged merging) = done-kind merging.done
+reply-kind (MergeRefused fault) = end-kind fault.end
 reply-kind Memory = refl
 
 get-spells : (fault : GetFault) → Spells (words_of_get fault) (line_of_get fault)
@@ -215,15 +261,31 @@ done-spells : (fault : Done) → Spells (words_of_done fault) (line_of_done faul
 done-spells (Committed number aside) rest = simp append_assoc
 done-spells (Same front aside) rest = simp append_assoc
 
-pub reply-spells : (reply : Reply) → is_quiet reply ≡ false → AllSpell (words_of reply ∷ []) (lines_of_reply reply)
+set-spells : (fault : SetFault) → Spells (words_of_set fault) (line_of_set fault)
+set-spells (Prepare fault) rest = prepare-spells fault rest
+set-spells (Commit fault) rest = commit-spells fault rest
+
+end-spells : (end : MergeEnd) → Spells (words_of_end end) (line_of_end end)
+end-spells (merge_end.MergeConflicts names) rest = ap (λ text. codes "merge-conflict" ++ text) (names-spell names rest)
+end-spells (merge_end.TriesSpent mount by front) rest = simp append_assoc
+end-spells (merge_end.Set fault) rest = set-spells fault rest
+end-spells merge_end.Memory rest = refl
+
+-- the lines of a merge: its tries, and its last
+merge-spells : (tried : List Tried) (last : Line) (line : List ℕ) → Spells last line → AllSpell (over words_of_try tried ++ last ∷ []) (over line_of_try tried ++ line ∷ [])
+merge-spells [] last line spells = (spells, tt)
+merge-spells (item ∷ tried) last line spells = (λ rest. simp append_assoc, merge-spells tried last line spells)
+
+pub reply-spells : (reply : Reply) → is_quiet reply ≡ false → AllSpell (words_of_lines reply) (lines_of_reply reply)
 reply-spells (Got front count) loud = (λ rest. simp append_assoc, tt)
 reply-spells (GetRefused fault) loud = (get-spells fault, tt)
 reply-spells Quiet loud = absurd cc
 reply-spells (LookFound name value) loud = (λ rest. simp append_assoc, tt)
 reply-spells LookNone loud = (λ rest. refl, tt)
 reply-spells (SetDone done) loud = (done-spells done, tt)
-reply-spells (SetRefused (Prepare fault)) loud = (prepare-spells fault, tt)
-reply-spells (SetRefused (Commit fault)) loud = (commit-spells fault, tt)
+reply-spells (SetRefused fault) loud = (set-spells fault, tt)
+reply-spells (Merged merging) loud = merge-spells merging.tried (words_of_done merging.done) (line_of_done merging.done) (done-spells merging.done)
+reply-spells (MergeRefused fault) loud = merge-spells fault.tried (words_of_end fault.end) (line_of_end fault.end) (end-spells fault.end)
 reply-spells Memory loud = (λ rest. refl, tt)
 
 get-HasWords : (fault : GetFault) → HasWords (words_of_get fault)
@@ -263,13 +325,32 @@ done-HasWords : (fault : Done) → HasWords (words_of_done fault)
 done-HasWords (Committed number aside) = (Plain refl, (number-IsWord number, (Plain refl, (number-IsWord aside, tt))))
 done-HasWords (Same front aside) = (Plain refl, (number-IsWord front, (Plain refl, (number-IsWord aside, tt))))
 
-pub reply-HasWords : (reply : Reply) → HasWords (words_of reply)
-reply-HasWords (Got front count) = (Plain refl, (number-IsWord front, (number-IsWord count, tt)))
-reply-HasWords (GetRefused fault) = get-HasWords fault
-reply-HasWords Quiet = (Plain refl, tt)
-reply-HasWords (LookFound name value) = (Plain refl, (name-IsWord name, (quoted-IsWord value, tt)))
-reply-HasWords LookNone = (Plain refl, tt)
-reply-HasWords (SetDone done) = done-HasWords done
-reply-HasWords (SetRefused (Prepare fault)) = prepare-HasWords fault
-reply-HasWords (SetRefused (Commit fault)) = commit-HasWords fault
-reply-HasWords Memory = (Plain refl, tt)
+set-HasWords : (fault : SetFault) → HasWords (words_of_set fault)
+set-HasWords (Prepare fault) = prepare-HasWords fault
+set-HasWords (Commit fault) = commit-HasWords fault
+
+end-HasWords : (end : MergeEnd) → HasWords (words_of_end end)
+end-HasWords (merge_end.MergeConflicts names) = (Plain refl, names-HasWords names)
+end-HasWords (merge_end.TriesSpent mount by front) = (Plain refl, (name-IsWord mount, (Plain refl, (number-IsWord by, (Plain refl, (number-IsWord front, tt))))))
+end-HasWords (merge_end.Set fault) = set-HasWords fault
+end-HasWords merge_end.Memory = (Plain refl, tt)
+
+tries-HasWords : (tried : List Tried) → AllByRecursion HasWords (over words_of_try tried)
+tries-HasWords [] = tt
+tries-HasWords (item ∷ tried) =
+    ((Plain refl, (name-IsWord item.mount, (Plain refl, (number-IsWord item.by, (Plain refl, (number-IsWord item.front, (Plain refl, (number-IsWord item.again, tt)))))))), tries-HasWords tried)
+
+last-HasWords : (reply : Reply) → HasWords (words_of reply)
+last-HasWords (Got front count) = (Plain refl, (number-IsWord front, (number-IsWord count, tt)))
+last-HasWords (GetRefused fault) = get-HasWords fault
+last-HasWords Quiet = (Plain refl, tt)
+last-HasWords (LookFound name value) = (Plain refl, (name-IsWord name, (quoted-IsWord value, tt)))
+last-HasWords LookNone = (Plain refl, tt)
+last-HasWords (SetDone done) = done-HasWords done
+last-HasWords (SetRefused fault) = set-HasWords fault
+last-HasWords (Merged merging) = done-HasWords merging.done
+last-HasWords (MergeRefused fault) = end-HasWords fault.end
+last-HasWords Memory = (Plain refl, tt)
+
+pub reply-HasWords : (reply : Reply) → AllByRecursion HasWords (words_of_lines reply)
+reply-HasWords reply = words-append (over words_of_try (tries_of reply)) (words_of reply ∷ []) (tries-HasWords (tries_of reply)) (last-HasWords reply, tt)

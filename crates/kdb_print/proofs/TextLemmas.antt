@@ -6,8 +6,8 @@ use Rattle.std.specs.List.{AllByRecursion}
 use Rattle.batch_script.specs.declared.steps.Script.{Script}
 use Rattle.kdb_handle.specs.declared.replies.Reply.{Reply}
 use Rattle.kdb_print.proofs.BatchWords.{phases-HasWords, phases-cut, phases-spell, words_of_phases}
-use Rattle.kdb_print.proofs.HistoryWords.{commits-HasWords, commits-once, commits-spell, words-append, words_of_commits}
-use Rattle.kdb_print.proofs.Words.{AllSpell, AllSpell-append, HasWords, Line, ended-text_of, number-IsWord, text_of, text_of-once}
+use Rattle.kdb_print.proofs.HistoryWords.{commits-HasWords, commits-once, commits-spell, words_of_commits}
+use Rattle.kdb_print.proofs.Words.{AllSpell, AllSpell-append, HasWords, Line, ended-text_of, number-IsWord, text_of, text_of-once, words-append}
 use Rattle.kdb_print.specs.Printed.{lines_of_commits, lines_of_history, lines_of_phases, printed}
 use Rattle.kdb_print.specs.Reading.{AreNamed, IsBatch, told}
 use Rattle.model_history.specs.History.{Commit}

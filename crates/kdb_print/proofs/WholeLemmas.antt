@@ -3,32 +3,54 @@ use Rattle.std.specs.Prelude.{◌≡◌, Bool, true, false, not, ◌||◌, if◌
 use Rattle.std.proofs.Common.{refl, sym, ap, ap₂, ◌∙◌, inl, inr}
 use Rattle.std.specs.List.{list_any}
 use Rattle.std.proofs.lemmas.Bool.{cases_Bool, cond-false, cond-true}
+use Rattle.general_words.proofs.Lists.{head_is, tail_is}
 use Rattle.batch_script.specs.declared.steps.Phase.{Phase}
 use Rattle.batch_script.specs.declared.steps.Step.{Step}
 use Rattle.batch_script.specs.declared.steps.Steps.{Steps}
+use Rattle.kdb_handle.specs.declared.merging.MergeEnd.{MergeEnd}
+use Rattle.kdb_handle.specs.declared.merging.MergeEnd.TheVariants as merge_end
+use Rattle.kdb_handle.specs.declared.merging.Tried.{Tried}
 use Rattle.kdb_handle.specs.declared.replies.Reply.{Reply}
-use Rattle.kdb_handle.specs.declared.replies.Reply.TheVariants.{Quiet, Memory}
+use Rattle.kdb_handle.specs.declared.replies.Reply.TheVariants.{Quiet, SetDone, SetRefused, Merged, MergeRefused, Memory}
 use Rattle.kdb_print.proofs.BatchWords.{loud}
-use Rattle.kdb_print.specs.Replies.{is_memory, some_reply}
-use Rattle.kdb_print.specs.Reading.{AreOfPhases, AreOfSessions, AreOfSteps, IsReplyTo, edits, is_quiet, told, told_of}
+use Rattle.kdb_print.specs.Replies.{end_wants_memory, is_memory, some_reply}
+use Rattle.kdb_print.specs.Reading.{AreOfPhases, AreOfSessions, AreOfSteps, IsReplyTo, edits, is_merge, is_quiet, last_of, last_of_end, merges, told, told_of, tries_of}
+use Rattle.store_core.specs.declared.committing.Done.{Done}
 
-memory-told_of : (reply : Reply) → is_memory (told_of reply) ≡ is_memory reply
+-- a want of memory, among what is told
+abbrev wants_memory : List Tried × Reply → Bool
+wants_memory said = is_memory said.1
+
+memory-end : (end : MergeEnd) → is_memory (last_of_end end) ≡ end_wants_memory end
+memory-end (merge_end.MergeConflicts names) = refl
+memory-end (merge_end.TriesSpent mount by front) = refl
+memory-end (merge_end.Set fault) = refl
+memory-end merge_end.Memory = refl
+
+memory-last : (reply : Reply) → is_memory (last_of reply) ≡ is_memory reply
+memory-last (MergeRefused fault) = memory-end fault.end
+memory-last reply = refl
+
+memory-told_of : (reply : Reply) → wants_memory (told_of reply) ≡ is_memory reply
 memory-told_of reply =
     elim (cases_Bool (is_memory reply)) [
-      | inl yes_memory ↦ ap is_memory (cond-true (is_memory reply) Memory reply yes_memory) ∙ sym yes_memory
-      | inr no_memory ↦ ap is_memory (cond-false (is_memory reply) Memory reply no_memory)
+      | inl yes_memory ↦ ap is_memory (cond-true (is_memory reply) Memory (last_of reply) yes_memory) ∙ sym yes_memory
+      | inr no_memory ↦ ap is_memory (cond-false (is_memory reply) Memory (last_of reply) no_memory) ∙ memory-last reply
     ]
 
-memory-told : (replies : List Reply) → list_any is_memory (told replies) ≡ list_any is_memory replies
+memory-told : (replies : List Reply) → list_any wants_memory (told replies) ≡ list_any is_memory replies
 memory-told [] = refl
 memory-told (Quiet ∷ replies) = memory-told replies
 memory-told (reply ∷ replies) = ap₂ (λ a b. a || b) (memory-told_of reply) (memory-told replies)
 
-memory-sessions : (sessions : List (List Reply)) → list_any (list_any is_memory) (over told sessions) ≡ list_any (list_any is_memory) sessions
+memory-sessions : (sessions : List (List Reply)) → list_any (list_any wants_memory) (over told sessions) ≡ list_any (list_any is_memory) sessions
 memory-sessions [] = refl
 memory-sessions (replies ∷ sessions) = ap₂ (λ a b. a || b) (memory-told replies) (memory-sessions sessions)
 
-memory-phases : (phases : List (List (List Reply))) → some_reply is_memory (over (over told) phases) ≡ some_reply is_memory phases
+abbrev some_wants : List (List (List (List Tried × Reply))) → Bool
+some_wants said = list_any (list_any (list_any wants_memory)) said
+
+memory-phases : (phases : List (List (List Reply))) → some_wants (over (over told) phases) ≡ some_reply is_memory phases
 memory-phases [] = refl
 memory-phases (sessions ∷ phases) = ap₂ (λ a b. a || b) (memory-sessions sessions) (memory-phases phases)
 
@@ -47,12 +69,55 @@ quiet_where step reply of none =
       | inr is ↦ let wants : is_memory reply ≡ true = ap is_memory is in absurd cc
     ]
 
+merge_where : (step : Step) (reply : Reply) → IsReplyTo step reply → is_memory reply ≡ false → is_merge reply ≡ merges step
+merge_where step reply of none =
+    elim of.merge [
+      | inl same ↦ same
+      | inr is ↦ let wants : is_memory reply ≡ true = ap is_memory is in absurd cc
+    ]
+
+-- the last lines of merges tell their ends, and those of other replies the replies
+abbrev end_in : Reply → MergeEnd
+end_in (MergeRefused fault) = fault.end
+end_in (SetRefused fault) = merge_end.Set fault
+end_in reply = merge_end.Memory
+
+end_back : (end : MergeEnd) → end_in (last_of_end end) ≡ end
+end_back (merge_end.MergeConflicts names) = refl
+end_back (merge_end.TriesSpent mount by front) = refl
+end_back (merge_end.Set fault) = refl
+end_back merge_end.Memory = refl
+
+not_done : (done : Done) (end : MergeEnd) → SetDone done ≡ last_of_end end → ⊥
+not_done done (merge_end.MergeConflicts names) e = cc
+not_done done (merge_end.TriesSpent mount by front) e = cc
+not_done done (merge_end.Set fault) e = cc
+not_done done merge_end.Memory e = cc
+
+merge-same : (a b : Reply) → is_merge a ≡ true → is_merge b ≡ true → tries_of a ≡ tries_of b → last_of a ≡ last_of b → a ≡ b
+merge-same (Merged one) (Merged other) is too tried last =
+    let same : SetDone one.done ≡ SetDone other.done = last in let done : one.done ≡ other.done = cc in λ i. Merged (record { tried = tried i; done = done i })
+merge-same (Merged one) (MergeRefused fault) is too tried last = absurd (not_done one.done fault.end last)
+merge-same (MergeRefused fault) (Merged other) is too tried last = absurd (not_done other.done fault.end (sym last))
+merge-same (MergeRefused fault) (MergeRefused other) is too tried last =
+    let end : fault.end ≡ other.end = sym (end_back fault.end) ∙ (ap end_in last ∙ end_back other.end) in λ i. MergeRefused (record { tried = tried i; end = end i })
+merge-same a b is too tried last = absurd cc
+
+plain-last : (reply : Reply) → is_merge reply ≡ false → last_of reply ≡ reply
+plain-last (Merged merging) none = absurd cc
+plain-last (MergeRefused fault) none = absurd cc
+plain-last reply none = refl
+
+reply-same : (a b : Reply) (merge : Bool) → is_merge a ≡ merge → is_merge b ≡ merge → tries_of a ≡ tries_of b → last_of a ≡ last_of b → a ≡ b
+reply-same a b true is too tried last = merge-same a b is too tried last
+reply-same a b false is too tried last = sym (plain-last a is) ∙ (last ∙ plain-last b too)
+
 told-quiet : (reply : Reply) (replies : List Reply) → is_quiet reply ≡ true → told (reply ∷ replies) ≡ told replies
 told-quiet reply replies quiet = ap (λ r. told (r ∷ replies)) (quiet_is reply quiet)
 
-told-loud : (reply : Reply) (replies : List Reply) → is_quiet reply ≡ false → is_memory reply ≡ false → told (reply ∷ replies) ≡ reply ∷ told replies
+told-loud : (reply : Reply) (replies : List Reply) → is_quiet reply ≡ false → is_memory reply ≡ false → told (reply ∷ replies) ≡ (tries_of reply, last_of reply) ∷ told replies
 told-loud reply replies quiet none =
-    ap (λ b. over told_of (if not b then reply ∷ loud replies else loud replies)) quiet ∙ ap (λ b. (if b then Memory else reply) ∷ told replies) none
+    ap (λ b. over told_of (if not b then reply ∷ loud replies else loud replies)) quiet ∙ ap (λ b. (tries_of reply, if b then Memory else last_of reply) ∷ told replies) none
 
 steps-whole : (steps : List Step) (xs ys : List Reply) → AreOfSteps steps xs → AreOfSteps steps ys → list_any is_memory xs ≡ false → list_any is_memory ys ≡ false → told xs ≡ told ys → xs ≡ ys
 steps-whole [] [] [] hs ks p q e = refl
@@ -70,9 +135,10 @@ steps-whole (step ∷ steps) (x ∷ xs) (y ∷ ys) hs ks p q e =
           let rest = steps-whole steps xs ys hs.1 ks.1 no_x.1 no_y.1 (sym (told-quiet x xs (quiet_x ∙ edit)) ∙ (e ∙ told-quiet y ys (quiet_y ∙ edit))) in
           ap₂ (λ r rs. r ∷ rs) (quiet_is x (quiet_x ∙ edit) ∙ sym (quiet_is y (quiet_y ∙ edit))) rest
       | inr other ↦
-          let there : x ∷ told xs ≡ y ∷ told ys = sym (told-loud x xs (quiet_x ∙ other) no_x.0) ∙ (e ∙ told-loud y ys (quiet_y ∙ other) no_y.0) in
-          let rest = steps-whole steps xs ys hs.1 ks.1 no_x.1 no_y.1 cc in
-          let first : x ≡ y = cc in
+          let there : (tries_of x, last_of x) ∷ told xs ≡ (tries_of y, last_of y) ∷ told ys = sym (told-loud x xs (quiet_x ∙ other) no_x.0) ∙ (e ∙ told-loud y ys (quiet_y ∙ other) no_y.0) in
+          let one = head_is (tries_of x, last_of x) (tries_of y, last_of y) (told xs) (told ys) there in
+          let rest = steps-whole steps xs ys hs.1 ks.1 no_x.1 no_y.1 (tail_is (tries_of x, last_of x) (tries_of y, last_of y) (told xs) (told ys) there) in
+          let first = reply-same x y (merges step) (merge_where step x hs.0 no_x.0) (merge_where step y ks.0 no_y.0) (ap (λ said. said.0) one) (ap (λ said. said.1) one) in
           ap₂ (λ r rs. r ∷ rs) first rest
     ]
 
@@ -100,4 +166,4 @@ phases-whole (phase ∷ phases) (x ∷ xs) (y ∷ ys) hs ks p q e =
 
 pub whole-once : (phases : List Phase) (a b : List (List (List Reply))) → AreOfPhases phases a → AreOfPhases phases b → some_reply is_memory a ≡ false → over (over told) a ≡ over (over told) b → a ≡ b
 whole-once phases a b hs ks none e =
-    phases-whole phases a b hs ks none (sym (memory-phases b) ∙ (ap (some_reply is_memory) (sym e) ∙ (memory-phases a ∙ none))) e
+    phases-whole phases a b hs ks none (sym (memory-phases b) ∙ (ap some_wants (sym e) ∙ (memory-phases a ∙ none))) e

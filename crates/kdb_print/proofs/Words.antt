@@ -1,15 +1,18 @@
 -- Lines as words with blanks between them: a text of such lines tells its lines and their words.
-use Rattle.std.specs.Prelude.{◌≡◌, ◌≢◌, T, ℕ, nat_eq, zero, suc, ◌<◌, ◌/◌, ◌%◌, ◌==◌, true, false, List, [], ◌∷◌, ◌++◌, slice_index_or}
+use Rattle.std.specs.Prelude.{◌≡◌, ◌≢◌, T, ℕ, nat_eq, zero, suc, ◌<◌, ◌/◌, ◌%◌, ◌==◌, true, false, List, [], ◌∷◌, ◌++◌, map as over, slice_index_or}
 use Rattle.std.proofs.Common.{refl, sym, ap, ap₂, ◌∙◌, arith, append_assoc, eq-eqb}
 use Rattle.std.specs.Fmt.{decimal, digit_glyph, digits, digits_onto}
-use Rattle.std.specs.List.{AllByRecursion, list_all}
+use Rattle.std.specs.List.{AllByRecursion, flat_map, list_all}
 use Rattle.std.proofs.lemmas.Bool.Decides.{nat_tests}
 use Rattle.std.proofs.lemmas.Bool.{and_from, cond_both}
+use Rattle.general_words.proofs.Lists.{head_is, tail_is}
 use Rattle.general_words.proofs.Tests.{true_is}
 use Rattle.model_lines.specs.Lines.{ended}
 use Rattle.model_names.specs.Name.{Name}
 use Rattle.model_names.specs.Spelling.{spelling}
+use Rattle.model_names.specs.WellFormed.{IsName}
 use Rattle.model_quoting.specs.Quoted.{is_plain_byte, shown}
+use Rattle.model_quoting.proofs.AlikeLemmas.{shown-once}
 use Rattle.model_quoting.proofs.CutLemmas.{Ends, IsWord, Plain, shown_text-IsWord, word-cut}
 
 -- a line: its first word, and the others
@@ -111,3 +114,25 @@ number-IsWord n = Plain (digits_plain 64 n [] refl)
 
 pub name-IsWord : (name : Name) → IsWord (shown name)
 name-IsWord name = shown_text-IsWord (spelling name)
+
+-- names behind a first word, each behind a blank
+pub names-spell : (names : List Name) (rest : List ℕ) → flat_map (λ name. 32 ∷ shown name) names ++ 10 ∷ rest ≡ behind (over shown names) rest
+names-spell [] rest = refl
+names-spell (name ∷ names) rest =
+    ap (λ text. 32 ∷ text) (append_assoc (shown name) (flat_map (λ n. 32 ∷ shown n) names) (10 ∷ rest) ∙ ap (λ text. shown name ++ text) (names-spell names rest))
+
+pub names-HasWords : (names : List Name) → AllByRecursion IsWord (over shown names)
+names-HasWords [] = tt
+names-HasWords (name ∷ names) = (name-IsWord name, names-HasWords names)
+
+pub names-once : (ms ns : List Name) → AllByRecursion IsName ms → AllByRecursion IsName ns → over shown ms ≡ over shown ns → ms ≡ ns
+names-once [] [] hs ks e = refl
+names-once [] (n ∷ ns) hs ks e = absurd cc
+names-once (m ∷ ms) [] hs ks e = absurd cc
+names-once (m ∷ ms) (n ∷ ns) hs ks e =
+    ap₂ (λ x xs. x ∷ xs) (shown-once m n hs.0 ks.0 (head_is (shown m) (shown n) (over shown ms) (over shown ns) e)) (names-once ms ns hs.1 ks.1 (tail_is (shown m) (shown n) (over shown ms) (over shown ns) e))
+
+-- lines one behind the other
+pub words-append : (xs ys : List Line) → AllByRecursion HasWords xs → AllByRecursion HasWords ys → AllByRecursion HasWords (xs ++ ys)
+words-append [] ys p q = q
+words-append (x ∷ xs) ys p q = (p.0, words-append xs ys p.1 q)

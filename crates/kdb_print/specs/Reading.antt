@@ -4,10 +4,14 @@ use Rattle.std.specs.List.{AllByRecursion}
 use Rattle.batch_script.specs.declared.steps.Phase.{Phase}
 use Rattle.batch_script.specs.declared.steps.Script.{Script}
 use Rattle.batch_script.specs.declared.steps.Step.{Step}
-use Rattle.batch_script.specs.declared.steps.Step.TheVariants.{Put, MetaStep, Del, Cut}
+use Rattle.batch_script.specs.declared.steps.Step.TheVariants.{Put, MetaStep, Del, Cut, Merge}
 use Rattle.batch_script.specs.declared.steps.Steps.{Steps}
+use Rattle.kdb_handle.specs.declared.merging.MergeEnd.{MergeEnd}
+use Rattle.kdb_handle.specs.declared.merging.MergeEnd.TheVariants as merge_end
+use Rattle.kdb_handle.specs.declared.merging.Tried.{Tried}
 use Rattle.kdb_handle.specs.declared.replies.Reply.{Reply}
-use Rattle.kdb_handle.specs.declared.replies.Reply.TheVariants.{Got, GetRefused, Quiet, LookFound, LookNone, SetDone, SetRefused, Memory}
+use Rattle.kdb_handle.specs.declared.replies.Reply.TheVariants.{Got, GetRefused, Quiet, LookFound, LookNone, SetDone, SetRefused, Merged, MergeRefused, Memory}
+use Rattle.kdb_handle.specs.declared.setting.SetFault.{SetFault}
 use Rattle.kdb_handle.specs.declared.setting.SetFault.TheVariants.{Prepare, Commit}
 use Rattle.kdb_print.specs.Replies.{is_memory}
 use Rattle.model_history.specs.History as history
@@ -66,6 +70,19 @@ IsCommitFault (committing.HistoryFull weight front) = IsNumber weight × IsNumbe
 IsCommitFault (committing.DiskFault front) = IsNumber front
 IsCommitFault committing.Memory = Unit {0}
 
+abbrev pub IsSetFault : SetFault → Type 0
+IsSetFault (Prepare fault) = IsPrepareFault fault
+IsSetFault (Commit fault) = IsCommitFault fault
+
+abbrev pub IsTry : Tried → Type 0
+IsTry item = IsName item.mount × IsNumber item.by × IsNumber item.front × IsNumber item.again
+
+abbrev pub IsEnd : MergeEnd → Type 0
+IsEnd (merge_end.MergeConflicts names) = AllByRecursion IsName names
+IsEnd (merge_end.TriesSpent mount by front) = IsName mount × IsNumber by × IsNumber front
+IsEnd (merge_end.Set fault) = IsSetFault fault
+IsEnd merge_end.Memory = Unit {0}
+
 abbrev pub IsDone : Done → Type 0
 IsDone (Committed number aside) = IsNumber number × IsNumber aside
 IsDone (Same front aside) = IsNumber front × IsNumber aside
@@ -77,20 +94,43 @@ IsReply Quiet = Unit {0}
 IsReply (LookFound name value) = IsName name
 IsReply LookNone = Unit {0}
 IsReply (SetDone done) = IsDone done
-IsReply (SetRefused (Prepare fault)) = IsPrepareFault fault
-IsReply (SetRefused (Commit fault)) = IsCommitFault fault
+IsReply (SetRefused fault) = IsSetFault fault
+IsReply (Merged merging) = AllByRecursion IsTry merging.tried × IsDone merging.done
+IsReply (MergeRefused fault) = AllByRecursion IsTry fault.tried × IsEnd fault.end
 IsReply Memory = Unit {0}
 
 abbrev pub is_quiet : Reply → Bool
 is_quiet Quiet = true
 is_quiet reply = false
 
--- a reply, but that a want of memory stands alone wherever it stood
-abbrev pub told_of : Reply → Reply
-told_of reply = if is_memory reply then Memory else reply
+-- the tries that a reply tells before its last line: those of a merge
+abbrev pub tries_of : Reply → List Tried
+tries_of (Merged merging) = merging.tried
+tries_of (MergeRefused fault) = fault.tried
+tries_of reply = []
 
--- what the lines of a session tell: its replies but for those of edits, each want of memory alone
-abbrev pub told : List Reply → List Reply
+-- a reply as its last line tells it: a merge's commit as a set's, and its refusal as a set's where a set has it too
+abbrev pub last_of_end : MergeEnd → Reply
+last_of_end (merge_end.Set fault) = SetRefused fault
+last_of_end merge_end.Memory = Memory
+last_of_end end = MergeRefused (record { tried = []; end = end })
+
+abbrev pub last_of : Reply → Reply
+last_of (Merged merging) = SetDone merging.done
+last_of (MergeRefused fault) = last_of_end fault.end
+last_of reply = reply
+
+-- what a last line tells: a want of memory stands alone wherever it stood
+abbrev pub told_last : Reply → Reply
+told_last reply = if is_memory reply then Memory else last_of reply
+
+-- what the lines of a reply tell: its tries, and its last line
+abbrev pub told_of : Reply → List Tried × Reply
+told_of reply = (tries_of reply, told_last reply)
+
+-- what the lines of a session tell, of each reply but for those of edits. The last line of a merge can be that of a set: the steps tell which of both it is,
+-- but not where an edit may have wanted memory, since then it isn't known which line is whose
+abbrev pub told : List Reply → List (List Tried × Reply)
 told replies = over told_of (filter (λ reply. not (is_quiet reply)) replies)
 
 -- no two of these are the same
@@ -119,10 +159,21 @@ edits (Del name) = true
 edits (Cut name) = true
 edits step = false
 
--- a reply that a step can give: edits alone are quiet, and each step may want memory
+-- a step is a merge, and a reply is one's
+abbrev pub merges : Step → Bool
+merges (Merge parent strategy tries) = true
+merges step = false
+
+abbrev pub is_merge : Reply → Bool
+is_merge (Merged merging) = true
+is_merge (MergeRefused fault) = true
+is_merge reply = false
+
+-- a reply that a step can give: edits alone are quiet, merges alone tell tries, and each step may want memory
 pub record IsReplyTo (step : Step) (reply : Reply) : Type 0 where
   pub fits : IsReply reply
   pub quiet : (is_quiet reply ≡ edits step) ⊎ (reply ≡ Memory)
+  pub merge : (is_merge reply ≡ merges step) ⊎ (reply ≡ Memory)
 
 -- one such reply for each step
 abbrev pub AreOfSteps : List Step → List Reply → Type 0

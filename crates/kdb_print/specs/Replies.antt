@@ -1,11 +1,15 @@
 -- What a batch prints of the replies of its steps, and the status that it ends with. (This project's own.)
-use Rattle.std.specs.Prelude.{ℕ, Bool, true, false, if◌then◌else◌, List, [], ◌∷◌, ◌++◌, codes}
+use Rattle.std.specs.Prelude.{ℕ, Bool, true, false, if◌then◌else◌, List, [], ◌∷◌, ◌++◌, map as over, codes}
 use Rattle.std.specs.Fmt.{decimal}
-use Rattle.std.specs.List.{list_any}
+use Rattle.std.specs.List.{flat_map, list_any}
+use Rattle.kdb_handle.specs.declared.merging.MergeEnd.{MergeEnd}
+use Rattle.kdb_handle.specs.declared.merging.MergeEnd.TheVariants as merge_end
+use Rattle.kdb_handle.specs.declared.merging.Tried.{Tried}
 use Rattle.kdb_handle.specs.declared.replies.Reply.{Reply}
-use Rattle.kdb_handle.specs.declared.replies.Reply.TheVariants.{Got, GetRefused, Quiet, LookFound, LookNone, SetDone, SetRefused, Memory}
+use Rattle.kdb_handle.specs.declared.replies.Reply.TheVariants.{Got, GetRefused, Quiet, LookFound, LookNone, SetDone, SetRefused, Merged, MergeRefused, Memory}
 use Rattle.kdb_handle.specs.declared.setting.SetFault.{SetFault}
 use Rattle.kdb_handle.specs.declared.setting.SetFault.TheVariants.{Prepare, Commit}
+use Rattle.model_names.specs.Name.{Name}
 use Rattle.model_quoting.specs.Quoted.{quoted, shown}
 use Rattle.mount_table.specs.declared.faults.TableFault.{TableFault}
 use Rattle.mount_table.specs.declared.faults.TableFault.TheVariants as table
@@ -72,7 +76,24 @@ abbrev pub line_of_done : Done → List ℕ
 line_of_done (Committed number aside) = codes "commit " ++ (decimal number ++ (codes " aside " ++ decimal aside))
 line_of_done (Same front aside) = codes "same " ++ (decimal front ++ (codes " aside " ++ decimal aside))
 
--- the lines of a reply: none of an edit of the working set, else one
+-- a try of a merge that met a conflict, and how many commits the get behind it found
+abbrev pub line_of_try : Tried → List ℕ
+line_of_try item =
+    codes "tried " ++ (shown item.mount ++ (codes " by " ++ (decimal item.by ++ (codes " front " ++ (decimal item.front ++ (codes " again " ++ decimal item.again))))))
+
+-- the keys that both sides had changed, and not alike
+abbrev pub line_of_conflicts : List Name → List ℕ
+line_of_conflicts names = codes "merge-conflict" ++ flat_map (λ name. 32 ∷ shown name) names
+
+-- why a merge was not stored: a set's refusal, or one of its own
+abbrev pub line_of_end : MergeEnd → List ℕ
+line_of_end (merge_end.MergeConflicts names) = line_of_conflicts names
+line_of_end (merge_end.TriesSpent mount by front) =
+    codes "spent " ++ (shown mount ++ (codes " by " ++ (decimal by ++ (codes " front " ++ decimal front))))
+line_of_end (merge_end.Set fault) = line_of_set fault
+line_of_end merge_end.Memory = memory
+
+-- the lines of a reply: none of an edit of the working set, else one; before that of a merge those of its tries
 abbrev pub lines_of_reply : Reply → List (List ℕ)
 lines_of_reply (Got front count) = (codes "got " ++ (decimal front ++ (32 ∷ decimal count))) ∷ []
 lines_of_reply (GetRefused fault) = line_of_get fault ∷ []
@@ -81,20 +102,43 @@ lines_of_reply (LookFound name value) = (codes "found " ++ (shown name ++ (32 �
 lines_of_reply LookNone = codes "none" ∷ []
 lines_of_reply (SetDone done) = line_of_done done ∷ []
 lines_of_reply (SetRefused fault) = line_of_set fault ∷ []
+lines_of_reply (Merged merging) = over line_of_try merging.tried ++ line_of_done merging.done ∷ []
+lines_of_reply (MergeRefused fault) = over line_of_try fault.tried ++ line_of_end fault.end ∷ []
 lines_of_reply Memory = memory ∷ []
+
+-- a set, or the last of a merge, was refused for want of memory
+abbrev pub set_wants_memory : SetFault → Bool
+set_wants_memory (Prepare preparing.Memory) = true
+set_wants_memory (Prepare (preparing.BadTable table.Memory)) = true
+set_wants_memory (Commit committing.Memory) = true
+set_wants_memory fault = false
+
+abbrev pub end_wants_memory : MergeEnd → Bool
+end_wants_memory (merge_end.Set fault) = set_wants_memory fault
+end_wants_memory merge_end.Memory = true
+end_wants_memory end = false
 
 -- a reply is a want of memory, alone or inside a refusal
 abbrev pub is_memory : Reply → Bool
 is_memory Memory = true
 is_memory (GetRefused getting.Memory) = true
-is_memory (SetRefused (Prepare preparing.Memory)) = true
-is_memory (SetRefused (Prepare (preparing.BadTable table.Memory))) = true
-is_memory (SetRefused (Commit committing.Memory)) = true
+is_memory (SetRefused fault) = set_wants_memory fault
+is_memory (MergeRefused fault) = end_wants_memory fault.end
 is_memory reply = false
+
+-- a set, or the last of a merge, failed for the disk
+abbrev pub set_meets_fault : SetFault → Bool
+set_meets_fault (Commit (committing.DiskFault front)) = true
+set_meets_fault fault = false
+
+abbrev pub end_meets_fault : MergeEnd → Bool
+end_meets_fault (merge_end.Set fault) = set_meets_fault fault
+end_meets_fault end = false
 
 -- a reply is a fault of the disk
 abbrev pub is_disk_fault : Reply → Bool
-is_disk_fault (SetRefused (Commit (committing.DiskFault front))) = true
+is_disk_fault (SetRefused fault) = set_meets_fault fault
+is_disk_fault (MergeRefused fault) = end_meets_fault fault.end
 is_disk_fault reply = false
 
 -- some reply of a batch is such

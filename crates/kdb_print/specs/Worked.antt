@@ -3,6 +3,10 @@ use Rattle.std.specs.Prelude.{ℕ, List, [], ◌∷◌, Some, None, codes}
 use Rattle.batch_script.specs.declared.steps.Phase.{Phase}
 use Rattle.batch_script.specs.declared.steps.Script.{Script}
 use Rattle.batch_script.specs.declared.steps.Steps.{Steps}
+use Rattle.kdb_handle.specs.declared.merging.MergeEnd.{MergeEnd}
+use Rattle.kdb_handle.specs.declared.merging.Tried.{Tried}
+use Rattle.kdb_handle.specs.declared.replies.Reply.{Reply}
+use Rattle.kdb_handle.specs.declared.replies.Reply.TheVariants.{Merged, MergeRefused}
 use Rattle.kdb_outside.specs.declared.kinds.Kind.TheVariants.{Dump}
 use Rattle.model_history.specs.Changes.{Change}
 use Rattle.model_maps.specs.Entry.{plain_entry, with_meta}
@@ -10,6 +14,7 @@ use Rattle.model_names.specs.declared.namespaces.Namespace.{Namespace}
 use Rattle.model_names.specs.declared.namespaces.Namespace.TheVariants.{System, User}
 use Rattle.model_names.specs.Name.{Name}
 use Rattle.mount_table.specs.declared.mounts.Mount.{Mount}
+use Rattle.store_core.specs.declared.committing.Done.{Done}
 
 abbrev pub name : Namespace → List (List ℕ) → Name
 name namespace parts = record { namespace = namespace; parts = parts }
@@ -40,3 +45,14 @@ sets_with key value meta text = (key, Some (with_meta (plain_entry value) meta t
 
 abbrev pub removes : Name → Change
 removes key = (key, None)
+
+-- a try of a merge that met a conflict in the first mount
+abbrev pub tried : ℕ → ℕ → ℕ → Tried
+tried by front again = record { mount = name User []; by = by; front = front; again = again }
+
+-- a merge that was stored, and one that was not
+abbrev pub merged : List Tried → Done → Reply
+merged items done = Merged (record { tried = items; done = done })
+
+abbrev pub unmerged : List Tried → MergeEnd → Reply
+unmerged items end = MergeRefused (record { tried = items; end = end })

@@ -1,10 +1,11 @@
 //! Worked examples.
 ghost use Rattle.std.specs.Prelude.{◌≡◌, ◌++◌, [], ◌∷◌, codes};
+ghost use Rattle.kdb_handle.specs.declared.merging.MergeEnd.TheVariants as merge_end;
 ghost use Rattle.kdb_handle.specs.declared.replies.Reply.TheVariants.{Got, LookFound, LookNone, Memory, Quiet, SetDone, SetRefused};
 ghost use Rattle.kdb_handle.specs.declared.setting.SetFault.TheVariants.{Commit, Prepare};
 ghost use Rattle.kdb_print.specs.Printed.{printed};
 ghost use Rattle.kdb_print.specs.Replies.{status_of};
-ghost use Rattle.kdb_print.specs.Worked.{mounts, name, phase_of, removes, script_of, sets, sets_with, steps_of};
+ghost use Rattle.kdb_print.specs.Worked.{merged, mounts, name, phase_of, removes, script_of, sets, sets_with, steps_of, tried, unmerged};
 ghost use Rattle.model_names.specs.declared.namespaces.Namespace.TheVariants.{System, User};
 ghost use Rattle.store_core.specs.declared.committing.CommitFault.TheVariants.{Conflict, DiskFault};
 ghost use Rattle.store_core.specs.declared.committing.Done.TheVariants.{Committed, Same};
@@ -38,11 +39,24 @@ pub fn a_commit_tells_its_session_its_metadata_and_its_removals()
         ++ codes "commit 1 by 7\ntouched user:/ system:/\n+ user:/a \"x\"\n. \"m\" \"t\"\n- system:/b\nend\n" }
 {}
 
+/// A merge tells the tries that it merged, and behind them what its last set came to, the keys that both sides had changed, or the last conflict.
+pub fn a_merge_tells_its_tries_and_its_end()
+    ensures { printed mounts (1 ∷ 2 ∷ 3 ∷ []) (script_of (phase_of (steps_of 1 ∷ steps_of 2 ∷ steps_of 3 ∷ []) ∷ []))
+        (((merged (tried 1 2 4 ∷ tried 3 4 5 ∷ []) (Committed 6 1) ∷ merged [] (Same 6 1) ∷ [])
+        ∷ (unmerged (tried 1 2 4 ∷ []) (merge_end.MergeConflicts (name User (codes "sw" ∷ []) ∷ name User (codes "a b" ∷ []) ∷ [])) ∷ [])
+        ∷ (unmerged [] (merge_end.TriesSpent (name User []) 1 2) ∷ unmerged (tried 1 2 4 ∷ []) merge_end.Memory ∷ unmerged [] (merge_end.Set (Commit (DiskFault 0))) ∷ []) ∷ []) ∷ []) []
+        ≡ codes "phase 1\nsession 1\ntried user:/ by 1 front 2 again 4\ntried user:/ by 3 front 4 again 5\ncommit 6 aside 1\nsame 6 aside 1\n"
+        ++ (codes "session 2\ntried user:/ by 1 front 2 again 4\nmerge-conflict user:/sw \"user:/a b\"\nsession 3\nspent user:/ by 1 front 2\n"
+        ++ codes "tried user:/ by 1 front 2 again 4\nmemory\nrefused C01100 disk-fault front 0\nhistory 0\nend\n") }
+{}
+
 /// A want of memory comes before a fault of the disk, wherever each stands.
 pub fn a_status_tells_the_worst_reply()
     ensures well { status_of (((Got 0 0 ∷ Quiet ∷ []) ∷ []) ∷ []) ≡ 0 }
     ensures refused { status_of (((SetRefused (Prepare (NotFetched (name User []))) ∷ []) ∷ []) ∷ []) ≡ 0 }
     ensures fault { status_of (((SetRefused (Commit (DiskFault 0)) ∷ []) ∷ []) ∷ ((Quiet ∷ []) ∷ []) ∷ []) ≡ 74 }
+    ensures merge { status_of (((unmerged (tried 1 2 4 ∷ []) (merge_end.Set (Commit (DiskFault 4))) ∷ []) ∷ []) ∷ []) ≡ 74 }
     ensures memory { status_of (((SetRefused (Commit (DiskFault 0)) ∷ []) ∷ []) ∷ ((SetRefused (Prepare Unprepared) ∷ []) ∷ []) ∷ []) ≡ 70 }
+    ensures cut { status_of (((unmerged (tried 1 2 4 ∷ []) merge_end.Memory ∷ []) ∷ []) ∷ []) ≡ 70 }
     ensures alone { status_of (((Memory ∷ []) ∷ []) ∷ []) ≡ 70 }
 {}

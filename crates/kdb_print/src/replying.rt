@@ -1,13 +1,15 @@
 //! The lines of replies.
-ghost use Rattle.std.specs.Prelude.{◌≡◌, ◌++◌, IfOk, OnOk, string_bytes};
+ghost use Rattle.std.specs.Prelude.{◌≡◌, ◌++◌, ◌∷◌, [], IfOk, OnOk, map as over, string_bytes};
 ghost use Rattle.std.specs.List.{flat_map};
-ghost use Rattle.kdb_print.specs.Replies.{line_of_commit, line_of_done, line_of_get, line_of_prepare, line_of_set, line_of_table, lines_of_reply, memory, refused, refused_at};
+ghost use Rattle.kdb_print.specs.Replies.{line_of_commit, line_of_conflicts, line_of_done, line_of_end, line_of_get, line_of_prepare, line_of_set, line_of_table, line_of_try, lines_of_reply, memory, refused, refused_at};
 ghost use Rattle.model_lines.specs.Lines.{ended};
+ghost use Rattle.model_quoting.specs.Quoted.{shown};
 
 use crate::lines::push_line;
-use kdb_handle::{Reply, SetFault};
+use kdb_handle::{MergeEnd, Reply, SetFault, Tried};
 use kdb_text::{quoted, shown};
 use key_meta::Memory;
+use key_name::KeyName;
 use mount_table::TableFault;
 use mounted_files::GetFault;
 use std::alloc::Global;
@@ -57,8 +59,75 @@ fn push_reply(alloc: Global, text: &mut String, reply: &Reply) -> Result<(), Mem
             let line = line_of_set(alloc, fault)?;
             push_line(text, line.as_str())
         }
+        Reply::Merged(merging) => {
+            push_tries(alloc, text, merging.tried.as_slice())?;
+            let line = line_of_done(alloc, &merging.done)?;
+            push_line(text, line.as_str())
+        }
+        Reply::MergeRefused(fault) => {
+            push_tries(alloc, text, fault.tried.as_slice())?;
+            let line = line_of_end(alloc, &fault.end)?;
+            push_line(text, line.as_str())
+        }
         Reply::Memory => push_line(text, "memory"),
     }
+}
+
+/// Adds a line for each of the tries of a merge that were merged.
+fn push_tries(alloc: Global, text: &mut String, tried: &[Tried]) -> Result<(), Memory>
+    ensures { OnOk result (string_bytes text.new ≡ string_bytes text.old ++ ended (over line_of_try tried.now)) }
+{
+    for item in tried {
+        push_try(alloc, text, item)?;
+    }
+    Ok(())
+}
+
+/// Adds the line of a try.
+fn push_try(alloc: Global, text: &mut String, item: &Tried) -> Result<(), Memory>
+    ensures { OnOk result (string_bytes text.new ≡ string_bytes text.old ++ ended (line_of_try item.now ∷ [])) }
+{
+    let mount = shown(alloc, &item.mount)?;
+    let line = format!(in alloc;
+        "tried {mount} by {} front {} again {}",
+        item.by, item.front, item.again
+    )?;
+    push_line(text, line.as_str())
+}
+
+/// The line of a merge that was not stored.
+fn line_of_end(alloc: Global, end: &MergeEnd) -> Result<String, Memory>
+    ensures { IfOk result (λ line. string_bytes line ≡ line_of_end end.now) }
+{
+    match end {
+        MergeEnd::MergeConflicts { names } => line_of_conflicts(alloc, names.as_slice()),
+        MergeEnd::TriesSpent { mount, by, front } => {
+            let mount = shown(alloc, mount)?;
+            format!(in alloc; "spent {mount} by {by} front {front}")
+        }
+        MergeEnd::Set(fault) => line_of_set(alloc, fault),
+        MergeEnd::Memory => memory(alloc),
+    }
+}
+
+/// The line of the keys that both sides of a merge had changed.
+fn line_of_conflicts(alloc: Global, names: &[KeyName]) -> Result<String, Memory>
+    ensures { IfOk result (λ line. string_bytes line ≡ line_of_conflicts names.now) }
+{
+    let mut line = String::from_str(alloc, "merge-conflict")?;
+    for name in names {
+        push_name(alloc, &mut line, name)?;
+    }
+    Ok(line)
+}
+
+/// Adds a blank and a name to a line.
+fn push_name(alloc: Global, line: &mut String, name: &KeyName) -> Result<(), Memory>
+    ensures { OnOk result (string_bytes line.new ≡ string_bytes line.old ++ (32 ∷ shown name.now)) }
+{
+    let name = shown(alloc, name)?;
+    line.push(' ')?;
+    line.push_str(name.as_str())
 }
 
 /// The line of a get that was refused.

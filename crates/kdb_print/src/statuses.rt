@@ -1,11 +1,10 @@
 //! How a batch ends.
 ghost use Rattle.std.specs.Prelude.{◌≡◌};
 ghost use Rattle.std.specs.List.{list_any};
-ghost use Rattle.kdb_handle.specs.declared.replies.Reply.TheVariants.{SetRefused};
 ghost use Rattle.kdb_handle.specs.declared.setting.SetFault.TheVariants.{Prepare};
-ghost use Rattle.kdb_print.specs.Replies.{is_disk_fault, is_memory, some_reply, status_of};
+ghost use Rattle.kdb_print.specs.Replies.{end_meets_fault, end_wants_memory, is_disk_fault, is_memory, set_meets_fault, set_wants_memory, some_reply, status_of};
 
-use kdb_handle::{Reply, SetFault, Transcripts};
+use kdb_handle::{MergeEnd, Reply, SetFault, Transcripts};
 use key_meta::List;
 use mount_table::TableFault;
 use mounted_files::GetFault;
@@ -108,12 +107,23 @@ fn is_memory(reply: &Reply) -> bool
         Reply::Memory => true,
         Reply::GetRefused(fault) => matches!(fault, GetFault::Memory),
         Reply::SetRefused(fault) => set_wants_memory(fault),
+        Reply::MergeRefused(fault) => end_wants_memory(&fault.end),
+        _ => false,
+    }
+}
+
+fn end_wants_memory(end: &MergeEnd) -> bool
+    ensures { result ≡ end_wants_memory end.now }
+{
+    match end {
+        MergeEnd::Set(fault) => set_wants_memory(fault),
+        MergeEnd::Memory => true,
         _ => false,
     }
 }
 
 fn set_wants_memory(fault: &SetFault) -> bool
-    ensures { result ≡ is_memory (SetRefused fault.now) }
+    ensures { result ≡ set_wants_memory fault.now }
 {
     match fault {
         SetFault::Prepare(fault) => prepare_wants_memory(fault),
@@ -122,7 +132,7 @@ fn set_wants_memory(fault: &SetFault) -> bool
 }
 
 fn prepare_wants_memory(fault: &PrepareFault) -> bool
-    ensures { result ≡ is_memory (SetRefused (Prepare fault.now)) }
+    ensures { result ≡ set_wants_memory (Prepare fault.now) }
 {
     match fault {
         PrepareFault::BadTable { fault } => matches!(fault, TableFault::Memory),
@@ -137,12 +147,22 @@ fn is_disk_fault(reply: &Reply) -> bool
 {
     match reply {
         Reply::SetRefused(fault) => set_meets_fault(fault),
+        Reply::MergeRefused(fault) => end_meets_fault(&fault.end),
+        _ => false,
+    }
+}
+
+fn end_meets_fault(end: &MergeEnd) -> bool
+    ensures { result ≡ end_meets_fault end.now }
+{
+    match end {
+        MergeEnd::Set(fault) => set_meets_fault(fault),
         _ => false,
     }
 }
 
 fn set_meets_fault(fault: &SetFault) -> bool
-    ensures { result ≡ is_disk_fault (SetRefused fault.now) }
+    ensures { result ≡ set_meets_fault fault.now }
 {
     match fault {
         SetFault::Commit(fault) => matches!(fault, CommitFault::DiskFault { .. }),

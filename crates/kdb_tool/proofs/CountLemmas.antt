@@ -11,20 +11,27 @@ use Rattle.batch_script.specs.declared.steps.Phase.{Phase}
 use Rattle.batch_script.specs.declared.steps.ProcLine.{ProcLine}
 use Rattle.batch_script.specs.declared.steps.Script.{Script}
 use Rattle.batch_script.specs.declared.steps.Steps.{Steps}
+use Rattle.kdb_handle.specs.declared.merging.MergeEnd.{MergeEnd}
+use Rattle.kdb_handle.specs.declared.merging.MergeEnd.TheVariants as merge_end
 use Rattle.kdb_handle.specs.declared.replies.Reply.{Reply}
-use Rattle.kdb_handle.specs.declared.replies.Reply.TheVariants.{SetRefused}
+use Rattle.kdb_handle.specs.declared.replies.Reply.TheVariants.{SetRefused, MergeRefused}
 use Rattle.kdb_handle.specs.declared.replies.Transcripts.{Transcripts}
 use Rattle.kdb_handle.specs.declared.setting.SetFault.TheVariants.{Commit}
-use Rattle.kdb_print.specs.Replies.{is_disk_fault, is_memory, some_reply, status_of}
+use Rattle.kdb_print.specs.Replies.{end_meets_fault, is_disk_fault, is_memory, some_reply, status_of}
 use Rattle.model_batch.specs.Fair.{count_failed}
-use Rattle.model_batch.specs.Replies.{failures_told}
+use Rattle.model_batch.specs.Replies.{failures_of_end, failures_told}
 use Rattle.model_batch.specs.Scripts.{AnswerEach, AreTranscripts, has_session, replies_in, reply_rows, rows_by, sessions_of}
 use Rattle.store_core.specs.declared.committing.CommitFault.TheVariants.{DiskFault}
 
 -- ---- one session
 
+end-counts : (end : MergeEnd) → end_meets_fault end ≡ true → failures_of_end end ≡ 1
+end-counts (merge_end.Set (Commit (DiskFault front))) is = refl
+end-counts end is = absurd cc
+
 reply-counts : (reply : Reply) → is_disk_fault reply ≡ true → failures_told reply ≡ 1
 reply-counts (SetRefused (Commit (DiskFault front))) is = refl
+reply-counts (MergeRefused fault) is = end-counts fault.end is
 reply-counts reply is = absurd cc
 
 replies-count : (replies : List Reply) → list_any is_disk_fault replies ≡ true → 0 < sum_by failures_told replies

@@ -1,1 +1,6 @@
+pub mod TriesLemmas
 pub mod Telling
+mod OwnLemmas
+mod Covering
+mod MergesCover
+mod Bounds

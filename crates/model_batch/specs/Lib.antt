@@ -2,6 +2,7 @@
 pub mod Replies
 pub mod Sessions
 pub mod Sets
+pub mod Merges
 pub mod Steps
 pub mod Told
 pub mod Fair

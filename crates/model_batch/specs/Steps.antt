@@ -4,11 +4,12 @@ use Rattle.std.specs.Prelude.{◌≡◌, ◌⊎◌, ℕ, ◌≤◌, List, length
 use Rattle.std.specs.FinMap as map
 use mathlib.Core.List.{IsPrefix}
 use Rattle.batch_script.specs.declared.steps.Step.{Step}
-use Rattle.batch_script.specs.declared.steps.Step.TheVariants.{Get, Put, MetaStep, Del, Cut, Look, Set}
+use Rattle.batch_script.specs.declared.steps.Step.TheVariants.{Get, Put, MetaStep, Del, Cut, Look, Set, Merge}
 use Rattle.kdb_handle.specs.Opened.{store_at}
 use Rattle.kdb_handle.specs.declared.replies.Reply.{Reply}
 use Rattle.kdb_handle.specs.declared.replies.Reply.TheVariants as reply
 use Rattle.key_edits.specs.Edits.{put_meta, put_value}
+use Rattle.model_batch.specs.Merges.{Merges}
 use Rattle.model_batch.specs.Replies.{look_reply}
 use Rattle.model_batch.specs.Sessions.{Session}
 use Rattle.model_batch.specs.Sets.{Lacks, MeansSet, kept_then}
@@ -73,3 +74,4 @@ Means formats files procs number history old (Del name) answer new = Edits (map.
 Means formats files procs number history old (Cut name) answer new = Edits (not_below name old.working) old answer new ⊎ Lacks reply.Memory old answer new
 Means formats files procs number history old (Look name) answer new = Looks name old answer new ⊎ Lacks reply.Memory old answer new
 Means formats files procs number history old (Set parent) answer new = MeansSet formats (store_at files) number history parent old.working old answer new
+Means formats files procs number history old (Merge parent strategy tries) answer new = Merges formats files number history parent strategy tries old answer new ⊎ Lacks reply.Memory old answer new

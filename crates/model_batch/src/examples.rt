@@ -1,12 +1,13 @@
 //! Worked rows.
 ghost use Rattle.std.specs.Prelude.{◌≡◌, List, [], ◌∷◌};
 ghost use Rattle.batch_script.specs.declared.steps.Step.{Step};
+ghost use Rattle.kdb_handle.specs.declared.merging.MergeEnd.TheVariants as end;
 ghost use Rattle.kdb_handle.specs.declared.replies.Reply.{Reply};
 ghost use Rattle.kdb_handle.specs.declared.replies.Reply.TheVariants as reply;
 ghost use Rattle.kdb_handle.specs.declared.setting.SetFault.TheVariants as fault;
-ghost use Rattle.model_batch.specs.Replies.{failures_told, fronts_told, numbers_told};
+ghost use Rattle.model_batch.specs.Replies.{conflicts_told, failures_told, fronts_told, numbers_told};
 ghost use Rattle.model_batch.specs.Scripts.{reply_rows, sessions_of, step_rows};
-ghost use Rattle.model_batch.specs.Told.{numbers_by};
+ghost use Rattle.model_batch.specs.Told.{count_of_others, numbers_by};
 ghost use Rattle.model_names.specs.Name.{Name};
 ghost use Rattle.store_core.specs.declared.committing.CommitFault.TheVariants as commit;
 ghost use Rattle.store_core.specs.declared.committing.Done.TheVariants as done;
@@ -25,6 +26,22 @@ pub fn replies_tell_fronts()
     ensures failed { failures_told (reply.SetRefused (fault.Commit (commit.DiskFault 5))) ≡ 1 }
     ensures found { fronts_told (reply.SetRefused (fault.Commit (commit.DiskFault 5))) ≡ 5 ∷ [] }
     ensures quiet { fronts_told reply.Quiet ≡ [] }
+{}
+
+/// A merge that met two conflicts tells two fronts of each try and the one of its end, and who was in the way; it is told as a commit, as spent,
+/// or as cut off by keys in conflict.
+pub fn merges_tell_their_tries()
+    ensures merged { (mount : Name) → fronts_told (reply.Merged (record { tried = record { mount = mount; by = 3; front = 4; again = 4 } ∷ record { mount = mount; by = 5; front = 6; again = 7 } ∷ []; done = done.Committed 9 0 })) ≡ 4 ∷ 4 ∷ 6 ∷ 7 ∷ 8 ∷ [] }
+    ensures number { (mount : Name) → numbers_told (reply.Merged (record { tried = record { mount = mount; by = 3; front = 4; again = 4 } ∷ []; done = done.Committed 9 0 })) ≡ 9 ∷ [] }
+    ensures spent { (mount : Name) → fronts_told (reply.MergeRefused (record { tried = record { mount = mount; by = 3; front = 4; again = 4 } ∷ []; end = end.TriesSpent mount 5 6 })) ≡ 4 ∷ 4 ∷ 6 ∷ [] }
+    ensures in_the_way { (mount : Name) → conflicts_told (reply.MergeRefused (record { tried = record { mount = mount; by = 3; front = 4; again = 4 } ∷ []; end = end.TriesSpent mount 5 6 })) ≡ 3 ∷ 5 ∷ [] }
+    ensures cut { (mount name : Name) → fronts_told (reply.MergeRefused (record { tried = record { mount = mount; by = 3; front = 4; again = 4 } ∷ []; end = end.MergeConflicts (name ∷ []) })) ≡ 4 ∷ 4 ∷ [] }
+    ensures failed { failures_told (reply.MergeRefused (record { tried = []; end = end.Set (fault.Commit (commit.DiskFault 5)) })) ≡ 1 }
+{}
+
+/// Of three commits, two of which the handle 1 made, one is another's.
+pub fn others_are_counted()
+    ensures { count_of_others 1 (record { handle = 1; touched = 0 ∷ []; changes = [] } ∷ record { handle = 2; touched = 0 ∷ []; changes = [] } ∷ record { handle = 1; touched = 1 ∷ []; changes = [] } ∷ []) ≡ 1 }
 {}
 
 /// A script in which the sessions 2 and 5 have steps in the first phase, 5 alone in the second, and 7 has a key in `proc` alone: its sessions, and the rows of their steps

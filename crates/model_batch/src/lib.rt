@@ -2,6 +2,7 @@
 #![tactic(auto)]
 
 mod examples;
+mod laws;
 
 ghost use Rattle.std.specs.Prelude.{◌≡◌, ℕ, ◌≤◌, List, ◌++◌};
 ghost use Rattle.std.specs.List.{AllByRecursion};
@@ -16,7 +17,13 @@ ghost use Rattle.model_history.specs.History.{Commit};
 ghost use Rattle.model_maps.specs.KeyMap.{KeyMap};
 ghost use Rattle.mounted_files.specs.declared.files.MountedFile.{MountedFile};
 
-pub use examples::{commits_go_by_their_handles, replies_tell_fronts, sessions_have_rows};
+pub use examples::{
+    commits_go_by_their_handles, merges_tell_their_tries, others_are_counted, replies_tell_fronts,
+    sessions_have_rows,
+};
+pub use laws::{
+    a_conflict_is_with_the_commit_of_another, a_merge_is_not_spent_by_fewer_commits_than_its_tries,
+};
 use storage_api::Formats;
 
 /// A session is told step by step: what its steps mean stays so when the history goes on, and goes on from where other steps ended. The number of commits that

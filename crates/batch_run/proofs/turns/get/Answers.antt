@@ -4,7 +4,7 @@ use Rattle.batch_script.specs.declared.steps.Step.TheVariants as step
 use Rattle.kdb_handle.specs.declared.replies.Reply.TheVariants as reply
 use Rattle.model_store.specs.Store.{Formats}
 use Rattle.batch_run.specs.Stepping.{GoesOn}
-use Rattle.batch_run.proofs.TurnLemmas.{get-goes, unget-goes}
+use Rattle.batch_run.proofs.GetTurns.{get-goes, unget-goes}
 use Rattle.store_verdict.specs.RecordView.{proc_of}
 use Rattle.batch_run.proofs.turns.get.Goals as goal
 

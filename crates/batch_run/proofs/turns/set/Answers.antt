@@ -1,6 +1,6 @@
 -- What the turn found is what the set means.
 use Rattle.model_store.specs.Store.{Formats}
-use Rattle.batch_run.proofs.TurnLemmas.{set-goes, unset-goes}
+use Rattle.batch_run.proofs.SetTurns.{set-goes, unset-goes}
 use Rattle.batch_run.proofs.turns.set.Goals as goal
 
 pub returns-in-Ok : goal.returns-in-Ok
