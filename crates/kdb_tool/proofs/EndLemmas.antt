@@ -126,7 +126,7 @@ module _ (status : ℕ) (out err : Change) where
 -- ---- all of it, on a calm disk
 
 -- nothing on out is a front of anything
-front-none : (before now : Option (List ℕ)) (bytes : List ℕ) → GainsFront before now [] → GainsFront before now bytes
+pub front-none : (before now : Option (List ℕ)) (bytes : List ℕ) → GainsFront before now [] → GainsFront before now bytes
 front-none None now bytes front = tt
 front-none (Some held) now bytes front = record { count = 0; within = omega arith; is = front.is ∙ ap (λ (b : List ℕ). Some (held ++ b)) (none front.count) }
   where

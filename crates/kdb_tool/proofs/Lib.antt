@@ -5,3 +5,4 @@ pub mod OpeningLemmas
 pub mod TaskLemmas
 pub mod WorkLemmas
 pub mod EndLemmas
+pub mod GeneratedLemmas

@@ -61,7 +61,7 @@ rose n before now some (inl by_so_much) = inl (omega (arith, some, by_so_much))
 rose n before now some (inr at_top) = at_top.rose
 
 -- what is known of the replies, where there are some
-at_some : (P : Transcripts → Type 0) (o : Option Transcripts) (transcripts : Transcripts) → o ≡ Some transcripts → IfSome o P → P transcripts
+pub at_some : (P : Transcripts → Type 0) (o : Option Transcripts) (transcripts : Transcripts) → o ≡ Some transcripts → IfSome o P → P transcripts
 at_some P o transcripts there holds = subst (λ (x : Option Transcripts). IfSome x P) there holds
 
 -- ---- on a calm disk

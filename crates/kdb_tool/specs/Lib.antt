@@ -9,3 +9,7 @@ pub mod Tasks
 pub mod Reported
 pub mod Working
 pub mod RunsOne
+pub mod Rounds
+pub mod Generated
+pub mod RunsGenerated
+pub mod Generating

@@ -1,6 +1,8 @@
-//! The run of a batch.
+//! The runs of a batch and of a generated script.
 ghost use Rattle.kdb_tool.specs.Runs.{RunsBatch};
+ghost use Rattle.kdb_tool.specs.RunsGenerated.{RunsGenerated};
 
+use crate::generating::{Generated, generate};
 use crate::work::carry_out;
 use kdb_outside::{Disk, Gate, Sink, Source};
 use key_meta::Text;
@@ -40,4 +42,28 @@ pub fn run_batch<
     } = carry_out(rt, alloc, words, input, disk, patterns, gate);
     let status = finish(&answer, out, err);
     (status, disk, patterns)
+}
+
+/// Carries out the command line of a generated run, whose words come without the program's name: the first is `gen`. It takes no disk and no input. Gives the
+/// matcher back.
+pub fn run_gen<
+    K: Sink,
+    E: Sink,
+    P: Patterns + Drop + Send,
+    G: Gate + Sync,
+    R: Threads + Wait + Sync,
+>(
+    rt: &R,
+    alloc: Global,
+    words: &[Text],
+    out: &mut K,
+    err: &mut E,
+    patterns: P,
+    gate: &G,
+) -> (Status, P)
+    ensures { RunsGenerated K.Sink E.Sink P.Patterns words.now out.old out.new err.old err.new patterns result.1 result.0 }
+{
+    let Generated { answer, patterns } = generate(rt, alloc, words, patterns, gate);
+    let status = finish(&answer, out, err);
+    (status, patterns)
 }

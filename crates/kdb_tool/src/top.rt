@@ -1,10 +1,12 @@
-//! The run of a command line: a batch by its first word, or else a single command.
+//! The run of a command line: a batch or a generated run by its first word, or else a single command.
 ghost use Rattle.std.specs.Prelude.{◌≡◌, true, false};
+ghost use Rattle.kdb_tool.specs.Rounds.{is_gen};
 ghost use Rattle.kdb_tool.specs.RunsOne.{RunsOne};
 ghost use Rattle.kdb_tool.specs.Runs.{RunsBatch};
+ghost use Rattle.kdb_tool.specs.RunsGenerated.{RunsGenerated};
 ghost use Rattle.kdb_tool.specs.Scripts.{is_batch};
 
-use crate::running::run_batch;
+use crate::running::{run_batch, run_gen};
 use kdb_outside::{Disk, Gate, Sink, Source};
 use key_meta::Text;
 use regex_check::Patterns;
@@ -15,7 +17,7 @@ use tool_commands::Status;
 use tool_single::run_one;
 
 /// Carries out a command line, whose words come without the program's name, and gives the disk and the matcher back. Each step of a session of a batch
-/// passes the gate; threads are started and wait for each other in a batch alone.
+/// or of a generated run passes the gate; threads are started and wait for each other in these alone. A generated run has a disk of its own.
 pub fn run<
     S: Source,
     K: Sink,
@@ -35,14 +37,19 @@ pub fn run<
     patterns: P,
     gate: &G,
 ) -> (Status, D, P)
-    ensures single { is_batch words.now ≡ false → RunsOne S.Source K.Sink E.Sink D.Disk P.Patterns words.now input.old input.new out.old out.new err.old err.new disk result.1 patterns result.2 result.0 }
+    ensures single { is_batch words.now ≡ false → is_gen words.now ≡ false → RunsOne S.Source K.Sink E.Sink D.Disk P.Patterns words.now input.old input.new out.old out.new err.old err.new disk result.1 patterns result.2 result.0 }
     ensures batch { is_batch words.now ≡ true → RunsBatch S.Source K.Sink E.Sink D.Disk P.Patterns words.now input.old input.new out.old out.new err.old err.new disk result.1 patterns result.2 result.0 }
+    ensures generated { is_gen words.now ≡ true → RunsGenerated K.Sink E.Sink P.Patterns words.now out.old out.new err.old err.new patterns result.2 result.0 }
+    ensures untouched { is_gen words.now ≡ true → (input.new ≡ input.old) × (result.1 ≡ disk) }
 {
     if is_batch(words) {
-        run_batch(rt, alloc, words, input, out, err, disk, patterns, gate)
-    } else {
-        run_one(alloc, words, input, out, err, disk, patterns)
+        return run_batch(rt, alloc, words, input, out, err, disk, patterns, gate);
     }
+    if is_gen(words) {
+        let (status, patterns) = run_gen(rt, alloc, words, out, err, patterns, gate);
+        return (status, disk, patterns);
+    }
+    run_one(alloc, words, input, out, err, disk, patterns)
 }
 
 /// Whether a command line is a batch's.
@@ -51,6 +58,16 @@ fn is_batch(words: &[Text]) -> bool
 {
     match words.first() {
         Some(command) => command.as_str() == "batch",
+        None => false,
+    }
+}
+
+/// Whether a command line is one of a generated run.
+fn is_gen(words: &[Text]) -> bool
+    ensures { result ≡ is_gen words.now }
+{
+    match words.first() {
+        Some(command) => command.as_str() == "gen",
         None => false,
     }
 }
