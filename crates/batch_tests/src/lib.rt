@@ -4,4 +4,6 @@
 #[cfg(test)]
 mod gates;
 #[cfg(test)]
+mod merges;
+#[cfg(test)]
 mod sessions;

@@ -13,7 +13,7 @@ use std::thread::Threads;
 use store_core::{Opened, open_store};
 
 /// Plays a script on an empty disk.
-fn play<G: Gate + Sync, R: Threads + Wait + Sync>(
+pub fn play<G: Gate + Sync, R: Threads + Wait + Sync>(
     rt: &R,
     alloc: Global,
     gate: &G,

@@ -6,6 +6,7 @@ mod calls;
 mod cases;
 mod folders;
 mod formats;
+mod gates;
 mod merges;
 mod names;
 mod notation;

@@ -1,7 +1,7 @@
 //! One run of the tool, and how it ended. Of what a run means nothing is said here: that is the contract of `run`.
 
 use crate::notation::push_line;
-use kdb_outside::{Disk, MemSink, MemSource, OpenGate};
+use kdb_outside::{Disk, Gate, MemSink, MemSource};
 use kdb_process::run;
 use key_meta::{Memory, Text};
 use regex_check::RegexPatterns;
@@ -27,10 +27,11 @@ impl Streams {
     }
 }
 
-/// Runs the tool, and gives its status and the disk.
-pub fn run_over<D: Disk + Send, R: Threads + Wait + Sync>(
+/// Runs the tool at a gate, and gives its status and the disk.
+pub fn run_over<G: Gate + Sync, D: Disk + Send, R: Threads + Wait + Sync>(
     threads: &R,
     alloc: Global,
+    gate: &G,
     words: &[Text],
     streams: &mut Streams,
     disk: D,
@@ -44,7 +45,7 @@ pub fn run_over<D: Disk + Send, R: Threads + Wait + Sync>(
         &mut streams.err,
         disk,
         RegexPatterns::new(),
-        &OpenGate,
+        gate,
     );
     (status.code(), disk)
 }

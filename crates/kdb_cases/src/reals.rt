@@ -4,6 +4,7 @@ use crate::calls::{is_call, real_answer_to};
 use crate::ran::{Streams, ended, run_over};
 use crate::runs::words_of;
 use disk_real::RealDisk;
+use kdb_outside::OpenGate;
 use key_meta::Memory;
 use std::mem;
 use std::sync::Wait;
@@ -85,7 +86,7 @@ impl Reals {
         let alloc = self.rt.alloc();
         let words = words_of(alloc, words)?;
         let mut streams = Streams::new(alloc);
-        let (status, disk) = run_over(threads, alloc, &words, &mut streams, disk);
+        let (status, disk) = run_over(threads, alloc, &OpenGate, &words, &mut streams, disk);
         self.disk = Some(disk);
         Ok(Some(ended(alloc, status, &streams)?))
     }

@@ -1,6 +1,7 @@
 //! Runs of the tool over a disk in memory, and calls of the disk itself.
 
 use crate::calls;
+use crate::gates::CountingGate;
 use crate::notation::{bytes_of, shown, text_of};
 use crate::ran::{Streams, ended, run_over};
 use crate::starts::Start;
@@ -12,7 +13,7 @@ use std::alloc::Global;
 use std::sync::Wait;
 use std::thread::Threads;
 
-/// A disk, what it begins with, and what the last run put on out.
+/// A disk, what it begins with, what the last run put on out, and how many steps passed its gate.
 #[derive(Drop)]
 pub struct Runs {
     alloc: Global,
@@ -25,6 +26,7 @@ pub struct Runs {
     out_failing: Option<u64>,
     err_failing: Option<u64>,
     out: Vec<u8>,
+    passes: u64,
 }
 
 impl Runs {
@@ -40,6 +42,7 @@ impl Runs {
             out_failing: None,
             err_failing: None,
             out: Vec::new(alloc),
+            passes: 0,
         }
     }
 
@@ -70,7 +73,7 @@ impl Runs {
         Ok(Some(String::new(self.alloc)))
     }
 
-    /// What is to be seen of the disk, or of what the last run put on out.
+    /// What is to be seen of the disk, or of the last run: what it put on out, and its gate.
     fn look(&mut self, word: &str, rest: &str) -> Result<Option<String>, Memory> {
         match word {
             "calls" => {
@@ -85,6 +88,7 @@ impl Runs {
                 Ok(Some(format!(in self.alloc; "  {left}\n")?))
             }
             "kept" => Ok(Some(self.kept(rest)?)),
+            "passes" => Ok(Some(format!(in self.alloc; "  {}\n", self.passes)?)),
             "out" => {
                 let wanted = bytes_of(self.alloc, rest)?;
                 let answer = yes_or_no(wanted.as_slice() == self.out.as_slice());
@@ -141,8 +145,10 @@ impl Runs {
         let words = words_of(self.alloc, words)?;
         let mut streams = self.streams()?;
         let disk = self.disk()?;
-        let (status, disk) = run_over(threads, self.alloc, &words, &mut streams, disk);
+        let gate = CountingGate::new();
+        let (status, disk) = run_over(threads, self.alloc, &gate, &words, &mut streams, disk);
         self.disk = Some(disk);
+        self.passes = gate.passes();
         self.hear(&mut streams)?;
         ended(self.alloc, status, &streams)
     }

@@ -4,6 +4,7 @@
 use crate::ran::{Streams, run_over};
 use crate::starts::Start;
 use disk_memory::MemDisk;
+use kdb_outside::OpenGate;
 use key_meta::{Memory, Text};
 use std::alloc::Global;
 use std::sync::Wait;
@@ -95,7 +96,14 @@ fn run_alone<R: Threads + Wait + Sync>(
     words: &[Text],
     disk: MemDisk,
 ) -> (u8, MemDisk) {
-    run_over(threads, alloc, words, &mut Streams::new(alloc), disk)
+    run_over(
+        threads,
+        alloc,
+        &OpenGate,
+        words,
+        &mut Streams::new(alloc),
+        disk,
+    )
 }
 
 fn push_row(
