@@ -1,7 +1,8 @@
 #!/usr/bin/env bash
 # Steps a second of a batch of 1, 2, 4, 8, 16 and 32 sessions, on the disk of the temporary folder and in memory, each
-# session at a mount of its own and all at one mount, beside as many runs of the single command: the best of three runs.
-# A word stands for the count of sets, 512 without one. Wants build/kdb (first-use.sh makes it). Not part of the gate.
+# session at a mount of its own and all at one mount, beside as many runs of the single command; commits a second where
+# all of them merge at one mount; and the greatest generated run: the best of three runs. A word stands for the count of
+# sets, 512 without one. Wants build/kdb (first-use.sh makes it). Not part of the gate.
 set -eu
 cd "$(dirname "$0")/.."
 . bench/words.sh
@@ -34,10 +35,27 @@ script() {
   }'
 }
 
-# rate FOLDER COMMAND: steps a second of a command on the store of a folder
+# merges SESSIONS: so many merged sets at one mount, each behind a put of a key of its session
+merges() {
+  awk -v sessions="$1" -v sets="$sets" 'BEGIN {
+    for (session = 1; session <= sessions; session++) {
+      printf "session %d\nget user:/s1\n", session
+      for (turn = session; turn <= sets; turn += sessions)
+        printf "put user:/s1/key%d %d\nmerge user:/s1 our 100000\n", session, turn
+    }
+  }'
+}
+
+# rate FOLDER COUNT COMMAND: how many a second, of so many that a command makes on the store of a folder
 rate() {
-  timed 3 "sh $1/back.sh ;; env KDB_DIR=$1 $2" | awk -v steps=$((sets * 3)) "$numbers"'
-    { printf "%s", thousands(steps * 1000 / $3) }'
+  timed 3 "sh $1/back.sh ;; env KDB_DIR=$1 $3" | awk -v count="$2" "$numbers"'
+    { printf "%s", thousands(count * 1000 / $3) }'
+}
+
+# told FOLDER SCRIPT WORD: how many lines of what a script prints begin with a word
+told() {
+  sh "$1/back.sh"
+  shown "$(KDB_DIR=$1 "$kdb" batch <"$2" | grep -c "^$3 " || true)"
 }
 
 # singles FOLDER: as many runs of the single command, one after the other
@@ -45,7 +63,7 @@ singles() {
   awk -v sets="$sets" -v kdb="$kdb" 'BEGIN {
     for (turn = 1; turn <= sets; turn++) printf "%s set user:/s1/key1 %d >/dev/null\n", kdb, turn
   }' >"$1/singles.sh"
-  rate "$1" "sh $1/singles.sh"
+  rate "$1" $((sets * 3)) "sh $1/singles.sh"
 }
 
 begin "$work"
@@ -62,10 +80,26 @@ echo "|---|---|---|---|---|"
 for sessions in 1 2 4 8 16 32; do
   script $sessions own >"$work/own"
   script $sessions one >"$work/one"
-  on_disk=$(rate "$work" "$kdb batch < $work/own")
-  in_memory=$(rate "$memory" "$kdb batch < $work/own")
-  at_one=$(rate "$memory" "$kdb batch < $work/one")
-  sh "$memory/back.sh"
-  conflicts=$(KDB_DIR=$memory "$kdb" batch <"$work/one" | grep -c '^conflict ' || true)
-  echo "| $sessions | $on_disk | $in_memory | $at_one | $(shown "$conflicts") |"
+  on_disk=$(rate "$work" $((sets * 3)) "$kdb batch < $work/own")
+  in_memory=$(rate "$memory" $((sets * 3)) "$kdb batch < $work/own")
+  at_one=$(rate "$memory" $((sets * 3)) "$kdb batch < $work/one")
+  echo "| $sessions | $on_disk | $in_memory | $at_one | $(told "$memory" "$work/one" conflict) |"
 done
+cat <<TEXT
+
+Merged sets at one mount, in memory: each session gets once, and then puts a key of its own and merges it in until it
+is stored, so that each of the $(shown "$sets") sets is a commit.
+TEXT
+echo
+echo "| sessions | commits a second | tries that met another's commit |"
+echo "|---|---|---|"
+for sessions in 1 2 4 8 16 32; do
+  merges $sessions >"$work/merged"
+  made=$(told "$memory" "$work/merged" "commit [0-9]* aside")
+  [ "$made" = "$(shown "$sets")" ] || { echo "$made of $sets merged sets were stored" >&2; exit 1; }
+  commits=$(rate "$memory" "$sets" "$kdb batch < $work/merged")
+  echo "| $sessions | $commits | $(told "$memory" "$work/merged" tried) |"
+done
+echo
+seconds=$(timed 3 "$kdb gen 1000" | awk '{ printf "%.1f", $3 / 1000 }')
+echo "\`kdb gen 1000\`, four sessions with 1,000 such sets each on a disk of its own in memory, takes $seconds seconds."

@@ -7,16 +7,20 @@ script, the files before and behind, and the text, and has no code in common wit
         the run and behind it
     bench/fair.py run COUNT [SEED]   makes so many scripts, runs the program on each, and judges it; prints a table
     bench/fair.py limits             one script of 32 sessions and 100,000 lines: time, memory, and whether it is fair
+    bench/fair.py merges [COUNT]
+        one script of 32 sessions that store so many merged sets each in one file at once: it is fair, each set is a
+        commit, and behind the run the file has each session's keys
     bench/fair.py faults COUNT [SEED]
         makes so many scripts with one session in each phase, and runs each with a failing write, cut or sync of a
         file, and again with a kill there: the text is fair, and the files are those of the history or of a front of it
     bench/fair.py make SEED FOLDER   writes a script, FOLDER/script, and the files before it, FOLDER/.kdb
-    bench/fair.py selftest           looks whether this checker can fail: fair texts are turned unfair in many ways
+    bench/fair.py selftest           looks whether this checker can fail: fair texts are turned unfair in many ways, and
+                                     stores that merge in a wrong way are played
     bench/fair.py batch              plays the script of its input on .kdb, as the program does: for trying the rest
 
 The program is the one that KDB names, else build/kdb. The text's replies are judged each at the front that it tells:
-the working set, the record and the verdict are worked out anew from the printed history, which has to be made of just
-the commits that the replies tell. Nothing is said of steps `merge`; and of `check/validation` of plain patterns alone
+the working set, the record, the verdict and what a merge tries next are worked out anew from the printed history, which
+has to be made of just the commits that the replies tell. Nothing is said of `check/validation` but of plain patterns
 (fair_keys.py: `pattern_rule`): other ones end the judging. Not part of the gate.
 """
 import collections
@@ -27,10 +31,12 @@ import sys
 import tempfile
 import time
 
-from fair_files import NotOpened, Store
-from fair_judge import DISK_FAULT, Play, Text, Trial, Unfair, held, judged, rendered, text_of
-from fair_turns import selftest
+from fair_files import NotOpened, Store, read_dump
+from fair_judge import DISK_FAULT, Text, Trial, Unfair, held, judged, rendered, text_of
+from fair_keys import shown
+from fair_play import Play
 from fair_scripts import MOST_LINES, MOST_SESSIONS, BadScript, Making, files_of, script_of
+from fair_turns import selftest
 
 TOP = os.path.dirname(os.path.dirname(os.path.abspath(__file__)))
 
@@ -90,7 +96,7 @@ def believe(script, ran, before, has_failed=False):
     return counts
 
 
-KINDS = ("got", "commit", "conflict", "same", "refused", "found", "none")
+KINDS = ("got", "commit", "conflict", "same", "refused", "found", "none", "tried", "merge-conflict", "spent")
 
 
 def run(count, first):
@@ -190,6 +196,32 @@ def limits():
     print(f"fair; that was judged in {time.perf_counter() - begun:.1f} seconds")
 
 
+def merged_script(sets):
+    """So many merged sets of each of 32 sessions in one file, and the keys that it is to have in the end."""
+    lines, keys = [], {}
+    for session in range(1, MOST_SESSIONS + 1):
+        lines += [f"session {session}", "get user:/"]
+        for turn in range(sets):
+            path = f"/s{session}/k{turn % 10}"
+            lines += [f"put user:{path} {turn}", f"merge user:/ our {MOST_SESSIONS * sets}"]
+            keys[path] = str(turn)
+    return "".join(f"{line}\n" for line in lines).encode(), keys
+
+
+def merges(sets):
+    script, keys = merged_script(sets)
+    ran = played(program(), script, {})
+    counts = believe(script, ran, {})
+    found = {shown(name): value for name, (value, _) in read_dump(ran.after.get("user.ecf", b"")).items()}
+    commits = MOST_SESSIONS * sets
+    if (counts["commit"], counts["commits"]) != (commits, commits):
+        sys.exit(f"{counts['commit']:,} of {commits:,} merged sets were told as commits, {counts['commits']:,} made")
+    if found != keys:
+        sys.exit(f"the file has not the keys of each session: {found}")
+    print(f"{MOST_SESSIONS} sessions stored {commits:,} merged sets in one file in {ran.seconds:.1f} seconds, with "
+          f"{counts['tried']:,} tries that met another's commit: fair, none lost, and each session's keys are there")
+
+
 def batch():
     """Plays the script of the input on .kdb."""
     data, before = sys.stdin.buffer.read(), files_in(".kdb")
@@ -227,6 +259,8 @@ def main():
         faults(int(words[1]), int(words[2]) if len(words) == 3 else 1)
     elif words == ["limits"]:
         limits()
+    elif words[:1] == ["merges"] and len(words) in (1, 2):
+        merges(int(words[1]) if len(words) == 2 else 25)
     elif words[:1] == ["make"] and len(words) == 3:
         write_files(words[2], {"script": Making(int(words[1])).script()})
         write_files(f"{words[2]}/.kdb", files_of(int(words[1])))

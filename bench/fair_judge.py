@@ -1,4 +1,4 @@
-"""Whether a printed text is one that the definitions of a batch allow; and a store that plays scripts, to try that.
+"""Whether a printed text is one that the definitions of a batch allow.
 """
 import collections
 import re
@@ -155,8 +155,10 @@ def text_of(data, script, store):
 
 # ---- judging
 
-FRONT = re.compile(rf"(?:got|same) {NUMBER} |(?:conflict|refused) .* front {NUMBER}$")
+FRONT = re.compile(rf"(?:got|same) {NUMBER} |(?:conflict|refused|spent) .* front {NUMBER}$")
 COMMITTED = re.compile(rf"commit {NUMBER} aside {NUMBER}$")
+TRIED = re.compile(rf"tried (.*) by {NUMBER} front {NUMBER} again {NUMBER}$")
+SPENT = re.compile(rf"spent (.*) by {NUMBER} front {NUMBER}$")
 DISK_FAULT = "C01100 disk-fault"
 
 
@@ -227,10 +229,9 @@ class Trial:
                             tries.append((at, line + 1, state))
                         state = Session(edited(state.working, step), state.fronts, state.told)
                         continue
-                    if line == len(lines):
-                        raise Unfair("text", "a reply is missing")
-                    state = self.reply(number, state, step, lines[line], made)
-                    line += 1
+                    end = self.end_of(step, lines, line)
+                    state = self.reply(number, state, step, lines[line : end + 1], made)
+                    line = end + 1
                 if line < len(lines):
                     raise Unfair("text", f"{lines[line]!r} answers no step")
                 self.counts.update(line.split(" ")[0] for line in lines)
@@ -239,20 +240,34 @@ class Trial:
                 why = why or Unfair(it.rule, f"phase {phase + 1}, session {number}, step {at} there: {it}")
         raise why or Beyond("too many edits without memory")
 
-    def reply(self, number, state, step, line, made):
-        """A session after a step that has this line. So many commits were made before its phase, and by its end."""
-        if line == "memory":
+    def end_of(self, step, lines, line):
+        """The place of the last line of a reply that begins at a place: only a merge has more than one."""
+        while step.word == "merge" and lines[line : line + 1] and lines[line].startswith("tried "):
+            line += 1
+        if line == len(lines):
+            raise Unfair("text", "a reply is missing")
+        return line
+
+    def reply(self, number, state, step, lines, made):
+        """A session after a step that has these lines. So many commits were made before its phase, and by its end."""
+        if step.word == "merge":
+            return self.merge(number, state, step, lines, made)
+        if lines == ["memory"]:
             return state
-        front = front_of(line)
+        front = self.placed(front_of(lines[0]), state.told, lines[0], made)
+        tell = {"get": self.get, "look": self.look, "set": self.set}[step.word]
+        return tell(number, state, step.name, lines[0], front)
+
+    def placed(self, front, told, line, made):
+        """The front of a line, if it has one: where it may lie."""
         if front is not None:
-            if not state.told <= front <= len(self.history):
-                raise Unfair("front", f"{line!r} lies not between {state.told} and {len(self.history)}")
+            if not told <= front <= len(self.history):
+                raise Unfair("front", f"{line!r} lies not between {told} and {len(self.history)}")
             if front < made[0]:
                 raise Unfair("floor", f"{line!r} where earlier phases made {made[0]} commits")
             if front > made[1]:
                 raise Unfair("ceiling", f"{line!r} where only {made[1]} commits were made by the end of the phase")
-        tell = {"get": self.get, "look": self.look, "set": self.set}[step.word]
-        return tell(number, state, step.name, line, front)
+        return front
 
     def want(self, line, wanted, rule):
         if line != wanted:
@@ -290,6 +305,59 @@ class Trial:
         if front >= len(self.history) or self.history.commits[front] != commit:
             raise Unfair("commit", f"commit {front + 1} of the history is not the one of session {number}")
         return self.judge.stored(state, commit, front + 1)
+
+    # ---- merges
+
+    def merge(self, number, state, step, lines, made):
+        """A session after a merge: tries that each met a conflict, with the get behind it, and an end. What it tried
+        stays where it was stored alone; the fronts are those of the gets."""
+        *tried, end = lines
+        self.counted(number, step, tried, end)
+        now, names = state, []
+        for line in tried:
+            if names:
+                raise Unfair("merge", f"{line!r} where a merge has no set to try")
+            now, names = self.again(number, now, step, line, made)
+        if end == "memory":
+            return Session(state.working, now.fronts, now.told)
+        if names:
+            self.want(end, " ".join(["merge-conflict", *map(shown, names)]), "merge")
+            return Session(state.working, now.fronts, now.told)
+        return self.ended(number, state, now, step, end, made)
+
+    def counted(self, number, step, tried, end):
+        """The tries of a merge are no more than it may make, and all of them where they are spent. Each meets a later
+        commit than the one before it, so that there are as many commits of other sessions where they are spent."""
+        spent = SPENT.match(end)
+        by = [int(it[2]) for it in [*map(TRIED.match, tried), spent] if it]
+        if len(tried) >= step.tries or spent and len(tried) + 1 != step.tries:
+            raise Unfair("tries", f"{len(tried)} tries with a get and {end!r} where {step.tries} are allowed")
+        if by != sorted(set(by)):
+            raise Unfair("rise", f"the commits in the way are {by}")
+        others = sum(1 for commit in self.text.commits if commit.session != number)
+        if spent and step.tries > others:
+            raise Unfair("bound", f"{step.tries} tries are spent by {others} commits of other sessions")
+
+    def again(self, number, state, step, line, made):
+        """A session behind a try that met a conflict, with what it tries next, and the names in conflict."""
+        found = TRIED.match(line)
+        if not found:
+            raise Unfair("merge", f"{line!r} tells no try")
+        front = self.placed(int(found[3]), state.told, line, made)
+        again = self.placed(int(found[4]), front, line, made)
+        refusal, wanted = self.judge.early(state, step.name)
+        verdict = f"refused {refusal}" if refusal else self.judge.verdict(number, state, wanted, front)[0]
+        self.want(f"conflict {found[1]} by {found[2]} front {front}", verdict, "merge")
+        return self.judge.remade(state, step.name, step.strategy, again)
+
+    def ended(self, number, state, now, step, end, made):
+        """A session after the last set of a merge."""
+        if end.startswith("conflict "):
+            raise Unfair("merge", f"{end!r} is told by a set alone")
+        line = re.sub("^spent ", "conflict ", end)
+        after = self.set(number, now, step.name, line, self.placed(front_of(end), now.told, end, made))
+        is_stored = end.startswith(("commit ", "same "))
+        return Session(after.working if is_stored else state.working, after.fronts, after.told)
 
     def status(self):
         lines = [line for phase in self.text.replies for replies in phase.values() for line in replies]
@@ -342,56 +410,3 @@ def judged(script_bytes, data, status, before, after, has_failed=False):
     trial.hold(after, has_failed)
     counts["commits"] = len(trial.history)
     return counts
-
-
-# ---- a store that plays scripts: one step after the other, in any order that the phases allow
-
-class Play:
-    """A run of a script in an order that numbers decide. Some sets fail for the disk, if that is asked for."""
-
-    def __init__(self, script, store, chance, fails=0):
-        self.script, self.store, self.chance, self.fails = script, store, chance, fails
-        self.history = History(store)
-        self.judge = Judge(store, self.history)
-        self.states = {session: Session({}, {}, 0) for session in script.sessions}
-
-    def text(self):
-        replies = []
-        for phase in self.script.phases:
-            lines, left = {session: [] for session in phase}, [s for s, steps in phase.items() for _ in steps]
-            self.chance.shuffle(left)
-            places = dict.fromkeys(phase, 0)
-            for session in left:
-                line = self.step(session, phase[session][places[session]])
-                places[session] += 1
-                lines[session] += [line] if line else []
-            replies.append(lines)
-        return Text(replies, self.history.commits)
-
-    def step(self, number, step):
-        state, front = self.states[number], len(self.history)
-        if step.word in EDITS:
-            self.states[number] = Session(edited(state.working, step), state.fronts, state.told)
-            return None
-        if step.word == "look":
-            return looked_up(state.working, step.name)
-        if step.word == "get":
-            bad = self.judge.bad(step.name)
-            if bad:
-                return f"refused {bad}"
-            self.states[number] = self.judge.fetched(state, step.name, self.script.procs.get(number, {}), front)
-            return f"got {front} {len(self.states[number].working)}"
-        return self.set(number, state, step.name, front)
-
-    def set(self, number, state, parent, front):
-        refusal, wanted = self.judge.early(state, parent)
-        if refusal:
-            return f"refused {refusal}"
-        line, commit = self.judge.verdict(number, state, wanted, front)
-        self.states[number] = Session(state.working, state.fronts, front)
-        if commit and self.chance.random() < self.fails:
-            return f"refused {DISK_FAULT} front {front}"
-        if commit:
-            self.history.push(commit)
-            self.states[number] = self.judge.stored(state, commit, front + 1)
-        return line

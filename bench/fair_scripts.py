@@ -6,7 +6,8 @@ import re
 from fair_files import dump_of
 from fair_keys import (CASCADING, LONGEST_META, PROC, name_of, plain, quoted, size, spelling, unquoted_at)
 
-MOST_SESSIONS, LONGEST_SCRIPT, MOST_LINES = 32, 4 * 2**20, 100_000
+MOST_SESSIONS, LONGEST_SCRIPT, MOST_LINES, MOST_TRIES = 32, 4 * 2**20, 100_000, 100_000
+STRATEGIES = ("abort", "our", "their")
 
 
 class BadScript(Exception):
@@ -15,7 +16,7 @@ class BadScript(Exception):
 
 # ---- scripts
 
-Step = collections.namedtuple("Step", "word name meta value", defaults=(None, None))
+Step = collections.namedtuple("Step", "word name meta value strategy tries", defaults=(None, None, None, None))
 Script = collections.namedtuple("Script", "procs phases sessions")
 
 
@@ -38,8 +39,13 @@ def words_of(line):
             at += len(word)
 
 
+def count_of(word, most):
+    """A number from 1 to another, None where a word is none."""
+    return int(word) if re.fullmatch("[1-9][0-9]{0,5}", word) and int(word) <= most else None
+
+
 def session_of(word):
-    return int(word) if re.fullmatch("[1-9][0-9]?", word) and int(word) <= MOST_SESSIONS else None
+    return count_of(word, MOST_SESSIONS)
 
 
 def step_of(words):
@@ -54,6 +60,8 @@ def step_of(words):
         return Step(word, name, None, rest[0])
     if word == "meta" and len(rest) == 2 and 1 <= size(rest[0]) <= LONGEST_META:
         return Step(word, name, rest[0], rest[1])
+    if word == "merge" and len(rest) == 2 and rest[0] in STRATEGIES and count_of(rest[1], MOST_TRIES):
+        return Step(word, name, strategy=rest[0], tries=int(rest[1]))
     return None
 
 
@@ -127,7 +135,7 @@ PLACES = [
 PARENTS = ["/", "/", "user:/", "user:/", "user:/", "system:/", "user:/sw", "user:/deep", "system:/hosts", "dir:/",
            "/sw", "/a", "user:/a", "proc:/a", "default:/a", "spec:/", "system:/elektra"]
 NAMES = ["user:/a", "user:/b", "user:/b/c", "user:/sw/a", "user:/sw/b", "user:/deep/er/x", "user:/odd name", "user:/%",
-         "system:/a", "system:/b", "dir:/a", "dir:/sw/b"]
+         "system:/a", "system:/b", "dir:/a", "dir:/sw/b", "proc:/a", "default:/b"]
 HOSTS = ["system:/hosts/ipv4/box", "system:/hosts/ipv4/box/alias", "system:/hosts/ipv6/six"]
 SPECS = ["spec:/a", "spec:/b", "spec:/sw/_", "spec:/sw/b"]
 LOOKS = ["/a", "/b", "/sw/a", "/sw/b", "user:/a", "default:/a", "default:/sw/b", "proc:/a", "spec:/a", "system:/none"]
@@ -139,6 +147,7 @@ SAYINGS = [("type", "boolean"), ("type", "octet"), ("type", "string"), ("type", 
            ("default", "5"), ("default", "yes"), ("override/#0", "system:/b"),
            ("override/#0", "/b"), ("override/#0", "no name"), ("fallback/#0", "user:/b"), ("namespace/#0", "system"),
            ("namespace/#0", "nowhere"), ("namespace/#1", "user"), ("note", "said")]
+TRIES = ["1", "2", "2", "3", "10", "100", "100000"]
 ENTRIES = [("system:/elektra/mountpoints/user:\\/new/path", "new.ecf"),
            ("system:/elektra/mountpoints/user:\\/new/path", "user.ecf"),
            ("system:/elektra/mountpoints/user:\\/new/plugin", "hosts"),
@@ -203,6 +212,13 @@ class Making:
             for number in range(17):
                 self.step("put", f"user:/long/{number}", "v" * 65536)
 
+    def store(self, parent):
+        """Stores a working set, with or without merging."""
+        if self.chance.random() < 0.4:
+            self.step("merge", parent, self.chance.choice(STRATEGIES), self.chance.choice(TRIES))
+        else:
+            self.step("set", parent)
+
     def turn(self):
         """A few steps of a session."""
         pick, turn = self.chance.choice, self.chance.random()
@@ -211,9 +227,9 @@ class Making:
             self.step("get", parent)
             for _ in range(self.chance.randrange(4)):
                 self.edit(parent)
-            self.step("set", parent)
+            self.store(parent)
         elif turn < 0.62:
-            self.step("set", parent)
+            self.store(parent)
         elif turn < 0.7:
             self.step("get", parent)
         elif turn < 0.85:

@@ -219,6 +219,42 @@ class Judge:
         """A session whose set became a commit."""
         return Session(session.working, {**session.fronts, **{m: number for m in commit.touched}}, number)
 
+    def remade(self, session, parent, strategy, front):
+        """A session behind a conflict that has got the parent, with what it is to try next; and the names in conflict.
+        The base is what its record kept before that get. What no involved mount owns stays as it was."""
+        ours, aside = self.parted(session.working, parent)
+        fetched = self.fetched(session, parent, {}, front)
+        keys, names = merged(self.kept(session, parent), ours, fetched.working, strategy)
+        return Session({**aside, **keys}, fetched.fronts, front), names
+
+    def kept(self, session, parent):
+        """What a session's record keeps of the mounts that a parent involves."""
+        keys = {}
+        for mount in self.store.involved(parent):
+            keys.update(self.history.owned(mount, session.fronts[mount]))
+        return keys
+
+    def parted(self, keys, parent):
+        """The keys that the involved mounts own, and the others."""
+        involved, ours, aside = set(self.store.involved(parent)), {}, {}
+        for name, entry in keys.items():
+            (ours if self.store.owner(name) in involved else aside)[name] = entry
+        return ours, aside
+
+
+def merged(base, ours, theirs, strategy):
+    """Keys of two sides that began from a base; and, where the strategy is to abort, the names in conflict."""
+    keys, names = {}, []
+    for name in sorted({*base, *ours, *theirs}):
+        before, our, their = base.get(name), ours.get(name), theirs.get(name)
+        entry = their if our == before else our
+        if our != before and their not in (before, our):
+            names.append(name)
+            entry = their if strategy == "their" else our
+        if entry is not None:
+            keys[name] = entry
+    return keys, names if strategy == "abort" else []
+
 
 def edited(keys, step):
     """A working set after an edit."""

@@ -14,8 +14,10 @@ stands in the place of an earlier one's.
 
 gate.py --functions CRATE.. proves each of these crates once more by one job, as many crates at a time as there are
 processors, a crate of tests with its tests, and lists the functions that take over ten seconds between two further
-lines there: the gate itself tells nothing of a function's time. The libraries below must stand in crates/*/out, where
-`rt ci` leaves them. It is no part of the gate.
+lines there: the gate itself tells nothing of a function's time. What lies between two lines of such a check holds
+what is loaded for the later one; so each that seems long is proved alone, and the crate's shortest one too: what it
+takes more than that one is its own. The libraries below must stand in crates/*/out, where `rt ci` leaves them. It is
+no part of the gate.
 
 Where the marking lines are missing, what would stand between them goes to out.
 """
@@ -268,20 +270,36 @@ def slow_functions(crates):
     import rtlib
 
     made = [rtlib.Crate(os.path.abspath(f"crates/{name}"), os.getcwd(), {}) for name in crates]
-    checks = [(it, it.words(["--jobs", "1"], tests=it.has_tests(), keeps=False)) for it in made]
+    checks = {it.name: (it, it.words(["--jobs", "1"], tests=it.has_tests(), keeps=False)) for it in made}
 
-    def took(check):
-        crate, words = check
-        found = [(ticks, crate.name, it) for ticks, it in times([rtlib.RATTLE, "check", *words], crate.folder)]
-        print(f"{crate.name}: {sum(it[0] for it in found) / TICKS:.0f} s", file=sys.stderr, flush=True)
+    def took(name):
+        crate, words = checks[name]
+        found = times([rtlib.RATTLE, "check", *words], crate.folder)
+        print(f"{name}: {sum(it[0] for it in found) / TICKS:.0f} s", file=sys.stderr, flush=True)
         return found
 
+    def took_alone(asked):
+        name, function = asked
+        crate, words = checks[name]
+        how = {"cwd": crate.folder, "stdout": subprocess.DEVNULL, "stderr": subprocess.DEVNULL}
+        ran = subprocess.Popen([rtlib.RATTLE, "check", *words, "--only", function], **how)
+        _, status, spent = os.wait4(ran.pid, 0)
+        ran.returncode = os.waitstatus_to_exitcode(status)
+        return spent.ru_utime + spent.ru_stime
+
     with concurrent.futures.ThreadPoolExecutor(len(os.sched_getaffinity(0))) as pool:
-        slow = [it for found in pool.map(took, checks) for it in found]
-    slow = [it for it in sorted(slow, reverse=True) if it[0] >= LONG * TICKS]
+        found = dict(zip(checks, pool.map(took, checks)))
+        seem = [(name, it) for name, ran in found.items() for ticks, it in ran if ticks >= LONG * TICKS]
+        short = {name: min(found[name])[1] for name, _ in seem}
+        asked = [*seem, *short.items()]
+        alone = dict(zip(asked, pool.map(took_alone, asked)))
+    own = {it: alone[it] - alone[it[0], short[it[0]]] for it in seem}
+    slow = sorted((it for it in seem if own[it] >= LONG), key=own.get, reverse=True)
     head = f"Functions that take over {LONG} seconds of processor time, of {', '.join(f'`{it}`' for it in crates)}"
-    lines = [f"- {ticks / TICKS:.0f} s: `{crate}`, `{it}`" for ticks, crate, it in slow]
-    return [*textwrap.wrap(f"{head}{':' if slow else ': none.'}", 118, break_on_hyphens=False), "", *lines]
+    tail = f" ({len(seem) - len(slow)} more seem so, by what is loaded for them)"
+    lines = [f"- {own[it]:.0f} s: `{it[0]}`, `{it[1]}`" for it in slow]
+    wrapped = textwrap.wrap(f"{head}{tail}{':' if slow else ': none.'}", 118, break_on_hyphens=False)
+    return [*wrapped, "", *lines]
 
 
 def marks(who):

@@ -25,8 +25,8 @@ rate() {
 
 cat <<TEXT
 A commit is a get, one key more and a set, over a disk in memory; between them the handles make $(shown "$commits"). At one mount a
-set is refused where another came between, and is tried again behind a get. A handle that waits for its turn looks
-again and again, so more handles than processors gain nothing.
+set is refused where another came between, and is tried again behind a get. A handle that waits for its turn sleeps
+until it comes. There are as many mounts as handles where each has its own, and a commit goes over all of them.
 TEXT
 echo
 echo "| handles | commits a second, mounts of their own | all at one mount |"

@@ -28,6 +28,8 @@ BASH = [
     ("kdb mounts ", []),
     ("kdb b", ["batch"]),
     ("kdb batch ", []),
+    ("kdb ge", ["get", "gen"]),
+    ("kdb gen ", []),
 ]
 ASK_BASH = r"""
 source "$1"; line=$2
@@ -88,7 +90,7 @@ def main():
         if shutil.which("zsh"):
             for line, wanted in [("kdb ", commands()), ("kdb export user:/sw ", ["dump", "simpleini", "hosts"]),
                                  ("kdb merge a b c d -s ", ["abort", "our", "their"]), ("kdb mounts ", []),
-                                 ("kdb batch ", []),
+                                 ("kdb batch ", []), ("kdb gen ", []),
                                  ("kdb get ", ["user:/sw/a", "user:/sw/b", "spec:/", "dir:/", "user:/", "system:/"])]:
                 tried += 1
                 ask = ["zsh", "-f", "-c", ASK_ZSH, "zsh", f"{TOP}/share/_kdb", line]

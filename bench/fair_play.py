@@ -1,0 +1,98 @@
+"""A store that plays scripts, to try bench/fair.py: one turn after the other, in any order that the phases allow.
+"""
+import re
+
+from fair_judge import DISK_FAULT, Text
+from fair_keys import shown
+from fair_steps import EDITS, History, Judge, Session, edited, looked_up
+
+
+class Play:
+    """A run of a script in an order that numbers decide. Some sets fail for the disk, if that is asked for."""
+
+    def __init__(self, script, store, chance, fails=0):
+        self.script, self.store, self.chance, self.fails = script, store, chance, fails
+        self.history = History(store)
+        self.judge = Judge(store, self.history)
+        self.states = {session: Session({}, {}, 0) for session in script.sessions}
+
+    def text(self):
+        replies = []
+        for phase in self.script.phases:
+            lines = {session: [] for session in phase}
+            left = {session: self.turns(session, steps, lines[session]) for session, steps in phase.items()}
+            while left:
+                session = self.chance.choice(list(left))
+                if not next(left[session], False):
+                    del left[session]
+            replies.append(lines)
+        return Text(replies, self.history.commits)
+
+    def turns(self, number, steps, lines):
+        """Takes the steps of a session, a turn at a time, and adds the lines of their replies."""
+        for step in steps:
+            if step.word == "merge":
+                yield from self.merge(number, step, lines)
+            else:
+                line = self.step(number, step)
+                lines += [line] if line else []
+            yield True
+
+    def step(self, number, step):
+        state, front = self.states[number], len(self.history)
+        if step.word in EDITS:
+            self.states[number] = Session(edited(state.working, step), state.fronts, state.told)
+            return None
+        if step.word == "look":
+            return looked_up(state.working, step.name)
+        if step.word == "get":
+            bad = self.judge.bad(step.name)
+            if bad:
+                return f"refused {bad}"
+            self.states[number] = self.judge.fetched(state, step.name, self.script.procs.get(number, {}), front)
+            return f"got {front} {len(self.states[number].working)}"
+        return self.set(number, state, step.name, front)
+
+    def set(self, number, state, parent, front):
+        refusal, wanted = self.judge.early(state, parent)
+        if refusal:
+            return f"refused {refusal}"
+        line, commit = self.judge.verdict(number, state, wanted, front)
+        self.states[number] = Session(state.working, state.fronts, front)
+        if commit and self.chance.random() < self.fails:
+            return f"refused {DISK_FAULT} front {front}"
+        if commit:
+            self.history.push(commit)
+            self.states[number] = self.judge.stored(state, commit, front + 1)
+        return line
+
+    def merge(self, number, step, lines):
+        """Makes the tries of a merge, with a turn for each set and for each get."""
+        working = ours = self.states[number].working
+        for left in reversed(range(step.tries)):
+            line = self.set(number, self.holding(number, ours), step.name, len(self.history))
+            is_met = line.startswith("conflict ")
+            if is_met or line.startswith("refused "):
+                self.states[number] = self.holding(number, working)
+            if not is_met or not left:
+                lines.append(re.sub("^conflict ", "spent ", line))
+                return
+            yield True
+            ours, names = self.again(number, step, ours, lines, re.sub("^conflict ", "tried ", line))
+            if names:
+                lines.append(" ".join(["merge-conflict", *map(shown, names)]))
+                return
+            yield True
+
+    def again(self, number, step, ours, lines, tried):
+        """Gets behind a conflict, and gives what is to be tried next, and the names in conflict."""
+        front = len(self.history)
+        state, names = self.judge.remade(self.holding(number, ours), step.name, step.strategy, front)
+        self.states[number] = Session(self.states[number].working, state.fronts, front)
+        lines.append(f"{tried} again {front}")
+        return state.working, names
+
+    def holding(self, number, keys):
+        """A session with another working set."""
+        state = self.states[number]
+        return Session(keys, state.fronts, state.told)

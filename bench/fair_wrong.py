@@ -1,0 +1,190 @@
+"""Stores that merge in a wrong way, for bench/fair.py selftest: what each of them prints of made-up scripts has to be
+refused. Each gets one thing wrong.
+"""
+import random
+
+from fair_files import Store
+from fair_judge import Trial, Unfair, rendered, text_of
+from fair_play import Play
+from fair_scripts import Making, files_of, script_of
+from fair_steps import Session, merged
+
+SCRIPTS = 40
+
+
+class Remaking(Play):
+    """One that makes the keys to be tried next in another way."""
+
+    def again(self, number, step, ours, lines, tried):
+        old, state = self.states[number], self.holding(number, ours)
+        keys, names = super().again(number, step, ours, lines, tried)
+        mine, aside = self.judge.parted(ours, step.name)
+        there = self.judge.got(step.name, {}, len(self.history))
+        made = self.made(number, step, old, self.judge.kept(state, step.name), mine, there, aside)
+        return (made, []) if made is not None else (keys, names)
+
+    def made(self, number, step, old, base, ours, theirs, aside):
+        return None
+
+
+class Exchanges(Remaking):
+    """The base and theirs are exchanged."""
+
+    def made(self, number, step, old, base, ours, theirs, aside):
+        return {**aside, **merged(theirs, ours, base, "our")[0]} if step.strategy != "abort" else None
+
+
+class HasNoBase(Remaking):
+    """The base is the empty set."""
+
+    def made(self, number, step, old, base, ours, theirs, aside):
+        keys, names = merged({}, ours, theirs, step.strategy)
+        return None if names else {**aside, **keys}
+
+
+class KeepsOurs(Remaking):
+    """What was tried is tried again."""
+
+    def made(self, number, step, old, base, ours, theirs, aside):
+        return {**aside, **ours}
+
+
+class TakesTheirs(Remaking):
+    """What is there is tried."""
+
+    def made(self, number, step, old, base, ours, theirs, aside):
+        return {**aside, **theirs}
+
+
+class DropsAside(Remaking):
+    """What no involved mount owns is dropped."""
+
+    def made(self, number, step, old, base, ours, theirs, aside):
+        keys, names = merged(base, ours, theirs, step.strategy)
+        return None if names else keys
+
+
+class GetsProc(Remaking):
+    """The keys in `proc` of a get come in, too."""
+
+    def made(self, number, step, old, base, ours, theirs, aside):
+        keys, names = merged(base, ours, theirs, step.strategy)
+        procs = self.script.procs.get(number, {}) if self.store.in_proc(step.name) else {}
+        return None if names else {**aside, **keys, **procs}
+
+
+class NeverAborts(Remaking):
+    """Under abort ours counts, without a word."""
+
+    def made(self, number, step, old, base, ours, theirs, aside):
+        return {**aside, **merged(base, ours, theirs, "our")[0]} if step.strategy == "abort" else None
+
+
+class Removes(Remaking):
+    """Our removal of what they changed is no conflict."""
+
+    def made(self, number, step, old, base, ours, theirs, aside):
+        gone = {name for name in base if name not in ours}
+        keys, names = merged(base, ours, theirs, "abort")
+        is_other = step.strategy == "their" or set(names) - gone
+        return None if is_other else {**aside, **keys}
+
+
+class MergesFiles(Remaking):
+    """A mount's keys are theirs, or ours where they changed none of them."""
+
+    def made(self, number, step, old, base, ours, theirs, aside):
+        keys = {}
+        for mount in self.store.involved(step.name):
+            own = [{name: it for name, it in side.items() if self.store.owner(name) == mount}
+                   for side in (base, ours, theirs)]
+            keys.update(own[1] if own[0] == own[2] else own[2])
+        return {**aside, **keys}
+
+
+class ForgetsItsGet(Play):
+    """The record stays as it was before the get."""
+
+    def again(self, number, step, ours, lines, tried):
+        fronts = self.states[number].fronts
+        made = super().again(number, step, ours, lines, tried)
+        self.states[number] = Session(self.states[number].working, fronts, self.states[number].told)
+        return made
+
+    def merge(self, number, step, lines):
+        yield from super().merge(number, step._replace(tries=min(step.tries, 3)), lines)
+
+
+class TellsNoTry(Play):
+    """A try is not told."""
+
+    def again(self, number, step, ours, lines, tried):
+        made = super().again(number, step, ours, lines, tried)
+        lines.pop()
+        return made
+
+
+class WorksOn(Play):
+    """The working set becomes what was tried last, though it isn't stored."""
+
+    def __init__(self, *given):
+        super().__init__(*given)
+        self.last = {}
+
+    def again(self, number, step, ours, lines, tried):
+        made = super().again(number, step, ours, lines, tried)
+        self.last[number] = made[0]
+        return made
+
+    def merge(self, number, step, lines):
+        begun = len(lines)
+        yield from super().merge(number, step, lines)
+        if len(lines) > begun + 1 and not lines[-1].startswith(("commit ", "same ")):
+            self.states[number] = self.holding(number, self.last[number])
+
+
+class StoresAlone(Play):
+    """The working set stays though it was stored."""
+
+    def merge(self, number, step, lines):
+        working = self.states[number].working
+        yield from super().merge(number, step, lines)
+        self.states[number] = self.holding(number, working)
+
+
+class TriesOnce(Play):
+    """It tries once more than it may."""
+
+    def merge(self, number, step, lines):
+        yield from super().merge(number, step._replace(tries=step.tries + 1), lines)
+
+
+class GivesUp(Play):
+    """It tries once less than it may, where that is more than once."""
+
+    def merge(self, number, step, lines):
+        yield from super().merge(number, step._replace(tries=max(1, step.tries - 1)), lines)
+
+
+WRONG = [Exchanges, HasNoBase, KeepsOurs, TakesTheirs, DropsAside, GetsProc, NeverAborts, Removes, MergesFiles,
+         ForgetsItsGet, TellsNoTry, WorksOn, StoresAlone, TriesOnce, GivesUp]
+
+
+def is_refused(kind, seed):
+    """Whether a text is refused that a store prints of a made-up script."""
+    files = files_of(seed)
+    script = script_of(Making(seed, most=300).script(sessions=8, phases=2))
+    play = kind(script, Store(files), random.Random(seed))
+    trial = Trial(script, Store(files), None)
+    try:
+        trial.text = text_of(rendered(script, play.text(), play.store.points).encode(), script, trial.store)
+        trial.all()
+    except Unfair:
+        return True
+    return False
+
+
+def told_wrong():
+    """How many stores there are, and those whose texts are all taken as fair."""
+    wrong = [it for it in WRONG if not any(is_refused(it, seed) for seed in range(SCRIPTS))]
+    return len(WRONG), [f"a store is taken as fair: {it.__doc__}" for it in wrong]
