@@ -2,7 +2,7 @@
 _kdb() {
   local word=${COMP_WORDS[COMP_CWORD]} command=${COMP_WORDS[1]-} IFS=$'\n'
   local commands="get set rm ls cp mv meta-get meta-set meta-ls mount umount mounts file export import validate merge"
-  commands="$commands batch"
+  commands="$commands batch gen"
   # A colon parts words for bash, but not for kdb: the word goes on from the last blank.
   local line=${COMP_LINE:0:COMP_POINT}
   local whole=${line##* } place
@@ -18,7 +18,7 @@ _kdb() {
   case $command:$count in
     mount:3) COMPREPLY=($(cd .kdb 2>/dev/null && compgen -f -- "$whole")); return ;;
     mount:5 | export:4 | import:4) COMPREPLY=($(compgen -W $'dump\nsimpleini\nhosts' -- "$whole")); return ;;
-    mounts:* | batch:*) return ;;
+    mounts:* | batch:* | gen:*) return ;;
   esac
   case ${place[count - 2]} in
     -s) COMPREPLY=($(compgen -W $'abort\nour\ntheir' -- "$whole")); return ;;
