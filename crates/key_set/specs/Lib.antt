@@ -2,4 +2,5 @@ pub mod EntryView
 pub mod WithAll
 pub mod Same
 pub mod Whole
+pub mod Sound
 pub mod WholeOrder

@@ -7,6 +7,7 @@ mod iters;
 mod key_sets;
 mod ranges;
 mod same;
+mod ways;
 mod weights;
 mod wholes;
 
