@@ -1,8 +1,6 @@
 //! Keys with what they weigh, and the aliases of a host among them.
 ghost use Rattle.std.specs.Prelude.{◌≡◌, ◌≢◌, [], IfOk, OnOk, None, Some, length};
 ghost use Rattle.std.specs.FinMap as map;
-ghost use Rattle.general_words.specs.Saturated.{saturated};
-ghost use Rattle.model_maps.specs.KeyMap.{weight_of_key};
 ghost use Rattle.model_maps.specs.Entry.{plain_entry};
 ghost use Rattle.model_hosts.specs.Line.{words};
 ghost use Rattle.key_set.specs.EntryView.{entry_of};
@@ -12,7 +10,7 @@ use crate::names::child;
 use crate::words::first_word;
 use key_meta::{Memory, Meta, Text};
 use key_name::KeyName;
-use key_set::{Entry, KEY_WEIGHT, KeySet};
+use key_set::{Entry, KeySet, weight_of_key};
 use std::alloc::Global;
 
 /// Keys, and what they weigh. A weight beyond the type's end is kept as its last value.
@@ -30,7 +28,7 @@ pub fn put(found: &mut Weighed, name: KeyName, entry: Entry) -> Result<(), Memor
     ensures ok { OnOk result (found.new.keys ≡ map.insert found.old.keys name (entry_of entry)) }
     ensures sound { OnOk result (IsWeighed found.new) }
 {
-    let own = weight_of(&name, &entry);
+    let own = weight_of_key(&name, &entry);
     if found.keys.append(name, entry)?.is_none() {
         found.weight = found.weight.saturating_add(own);
     }
@@ -67,14 +65,4 @@ fn nothing(alloc: Global) -> Result<Entry, Memory>
         value: Text::new(alloc, "")?,
         meta: Meta::new(alloc),
     })
-}
-
-/// What a key weighs.
-fn weight_of(name: &KeyName, entry: &Entry) -> u64
-    ensures { result ≡ saturated (weight_of_key name.now (entry_of entry.now)) }
-{
-    (KEY_WEIGHT as u64)
-        .saturating_add(name.text_bytes() as u64)
-        .saturating_add(entry.value.as_str().len() as u64)
-        .saturating_add(entry.meta.bytes())
 }

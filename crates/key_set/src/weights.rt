@@ -23,13 +23,13 @@ pub fn weight_of_all(keys: &ChunkedMap<KeyName, Entry>) -> u64
 {
     let mut weight: u64 = 0;
     for (name, entry) in keys.iter() {
-        weight = weight.saturating_add(weight_of_one(name, entry));
+        weight = weight.saturating_add(weight_of_key(name, entry));
     }
     weight
 }
 
-/// What one key weighs.
-fn weight_of_one(name: &KeyName, entry: &Entry) -> u64
+/// What one key weighs. A weight beyond the type's end is given as its last value.
+pub fn weight_of_key(name: &KeyName, entry: &Entry) -> u64
     ensures { result ≡ saturated (weight_of_key name.now (entry_of entry.now)) }
 {
     (KEY_WEIGHT as u64)

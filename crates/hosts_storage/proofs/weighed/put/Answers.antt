@@ -19,7 +19,7 @@ returns-then-is_none-clause-sound c =
     let entry = entry_of c.args.entry in
     let new : map.get keys name ≡ None = new-by_test entry_of c.in_ok-append.field-0 _ c.in_ok-append.ensures.former c.if-is_none.ensures in
     record {
-      weighed = omega (arith, ap weight c.in_ok-append.ensures.ok, weight-insert keys name entry new, c.saturating_add-found.ensures, c.weight_of-own.ensures, c.requires.sound.weighed);
+      weighed = omega (arith, ap weight c.in_ok-append.ensures.ok, weight-insert keys name entry new, c.saturating_add-found.ensures, c.weight_of_key-own.ensures, c.requires.sound.weighed);
       plain = subst (EachHas IsPlainAlias) (sym c.in_ok-append.ensures.ok) (EachHas-insert IsPlainAlias keys name entry c.requires.sound.plain c.requires.plain);
     }
 
