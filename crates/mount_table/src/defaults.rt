@@ -8,8 +8,9 @@ ghost use Rattle.general_words.specs.Texts.{text_cmp};
 ghost use Rattle.mount_table.specs.Table.{root_mount, own_mount, remains, remaining};
 
 use crate::Mount;
-use crate::children::child_of;
+use crate::children::file_name;
 use crate::entries::MountEntry;
+use crate::own::{own_file, own_point};
 use kdb_outside::{FileName, Kind};
 use key_meta::{Memory, Text};
 use key_name::KeyName;
@@ -67,9 +68,8 @@ fn is_replaced(
 fn own_mount(alloc: Global) -> Result<Mount, Memory>
     ensures { IfOk result (λ mount. mount ≡ own_mount) }
 {
-    let root = KeyName::root(alloc, Namespace::System);
-    let at = child_of(&root, "elektra")?;
-    let file = file_name(alloc, "elektra.ecf")?;
+    let at = own_point(alloc)?;
+    let file = own_file(alloc)?;
     Ok(dump_mount(at, file))
 }
 
@@ -80,16 +80,5 @@ fn dump_mount(at: KeyName, file: FileName) -> Mount
         at,
         file,
         kind: Kind::Dump,
-    }
-}
-
-/// The name of a file.
-fn file_name(alloc: Global, text: &str) -> Result<FileName, Memory>
-    requires { IsFileName text.now }
-    ensures { IfOk result (λ file. file ≡ text.now) }
-{
-    match FileName::new(alloc, text)? {
-        Some(file) => Ok(file),
-        None => unreachable!(),
     }
 }

@@ -8,6 +8,7 @@ mod entries;
 mod faults;
 mod laws;
 mod mounts;
+mod own;
 mod points;
 mod reading;
 mod tables;
@@ -20,4 +21,5 @@ pub use laws::{
     the_mounts_of_a_table_have_files_of_their_own,
 };
 pub use mounts::Mount;
+pub use own::{is_own_point, own_file, own_point};
 pub use tables::MountTable;

@@ -1,13 +1,12 @@
 //! Which texts are mountpoints, and which name files of mounts.
 ghost use Rattle.std.specs.Prelude.{◌≡◌, IfOk, Some, None};
-ghost use Rattle.model_names.specs.Below.{is_at_or_below};
 ghost use Rattle.model_names.specs.NameOf.{name_of};
-ghost use Rattle.mount_table.specs.Points.{is_point, point_of, file_of, own_point};
+ghost use Rattle.mount_table.specs.Points.{is_point, point_of, file_of};
 
+use crate::own::is_own;
 use kdb_outside::FileName;
 use key_meta::Memory;
 use key_name::{KeyName, NameFault};
-use model_names::Namespace;
 use std::alloc::{AllocError, Global};
 
 /// The most bytes of a mountpoint.
@@ -61,11 +60,4 @@ fn is_point(text: &str, name: &KeyName) -> Result<bool, Memory>
             && spelling.as_str() == text
             && !is_own(name),
     )
-}
-
-/// Whether a name is where the table's own keys are.
-fn is_own(name: &KeyName) -> bool
-    ensures { result ≡ is_at_or_below own_point name.now }
-{
-    name.namespace() == Namespace::System && name.part(0) == Some("elektra")
 }
