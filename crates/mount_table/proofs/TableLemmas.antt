@@ -1,34 +1,39 @@
--- What a table that was read is: mounts in the order of their mountpoints, each in a namespace whose keys are in files.
-use Rattle.std.proofs.Common.{◌≡◌, ℕ, ◌+◌, ◌<◌, ◌≤◌, Bool, true, false, cond, ltb, T, List, [], ◌∷◌, ◌++◌, length, take, get_or, map as over, filter, fold, Option, Some, None, is_some, ok_or, Result, Ok, Err, refl, sym, ap, subst, ◌∙◌, arith, length-append, Bor}
+-- What a table that was read is: mounts in the order of their mountpoints, each in a namespace whose keys are in files. What holds of the
+-- default mounts, and is kept by each mount that an entry adds, holds of the mounts of a table.
+use Rattle.std.proofs.Common.{◌≡◌, ℕ, ◌+◌, ◌<◌, ◌≤◌, Bool, true, false, cond, not, ◌&&◌, nat_eq, nat_le, ltb, T, List, [], ◌∷◌, ◌++◌, length, take, get_or, map as over, filter, fold, Option, Some, None, is_some, ok_or, Result, Ok, Err, codes, refl, sym, ap, subst, ◌∙◌, inl, inr, ◌⊎◌, arith, length-append, Bor}
+use Rattle.std.specs.Cmp.{Equal-is, tied_itself}
 use Rattle.std.specs.FinMap as map
 use Rattle.std.specs.FinMap.{FinMap, is_sorted}
-use Rattle.std.specs.FinMap.Entries.{put, by_order}
-use Rattle.std.specs.List.{AllByRecursion, list_all}
+use Rattle.std.specs.List.{AllByRecursion, list_all, list_any, starts_with}
 use Rattle.std.specs.Option.{option_copied}
-use Rattle.std.specs.declared.cmp.Ordering.{Ordering}
-use Rattle.std.specs.declared.cmp.Ordering.TheVariants.{Less, Equal, Greater}
-use Rattle.std.proofs.lemmas.Bool.{and_from, and_parts, cond-true, cond-false, lt-ltb, le-ltb}
+use Rattle.std.specs.Ordering.{eq_by_cmp}
+use Rattle.std.proofs.lemmas.Bool.{and_from, and_parts, not-true, cond-true, cond-false, lt-ltb, le-ltb, ltb-false}
 use Rattle.std.proofs.lemmas.List.{length-map}
-use Rattle.std.proofs.lemmas.List.Sums.{fold_more}
-use Rattle.general_words.proofs.Maps.{entries-empty}
+use Rattle.std.proofs.lemmas.List.Sums.{fold-append, fold_more}
+use Rattle.general_words.proofs.Maps.{each-insert, get-at}
+use Rattle.general_words.specs.Texts.{is_text, text_cmp}
+use Rattle.general_words.proofs.Lists.{some_is, all_append, all_from_places}
+use Rattle.general_words.proofs.Tests.{cond_some}
+use Rattle.general_words.proofs.Entries.{keys_rise}
+use Rattle.kdb_outside.specs.FileName.{is_file_name}
+use Rattle.model_maps.specs.KeyMap.{KeyMap}
+use Rattle.model_names.specs.Below.{is_at_or_below}
 use Rattle.model_names.specs.Name.{Name, Part}
 use Rattle.model_names.specs.NameOf.{name_of}
 use Rattle.model_names.specs.Namespaces.{has_files}
 use Rattle.model_names.specs.Order.{name_cmp}
+use Rattle.model_names.specs.Spelling.{spelling}
+use Rattle.std.proofs.lemmas.Slice.Eq.{bytes_eq-Decides}
 use Rattle.model_names.proofs.OrderLemmas.{name_cmp_total, name_cmp-IsAntisymmetric}
 use Rattle.model_names.proofs.RefusesLemmas.{from_and_then}
-use Rattle.general_words.specs.Texts.{text_cmp}
-use Rattle.mount_table.specs.Entries.{Entries}
-use Rattle.mount_table.specs.Points.{is_point, point_of, file_of}
+use Rattle.mount_table.specs.Entries.{Entries, entries_of}
+use Rattle.mount_table.specs.Points.{is_point, point_of, file_of, longest_point, own_point}
 use Rattle.mount_table.specs.Reading.{◌>>=◌, kind_said, mount_at, mount_of, next_mount, is_taken, mounts_from}
-use Rattle.mount_table.specs.Table.{root_mounts, own_mount, remains, remaining, by_point, in_order, most_mounts, limited, table_from, ArePoints}
+use Rattle.mount_table.specs.Table.{root_mounts, own_mount, remains, remaining, by_point, in_order, most_mounts, limited, table_from, table_of, ArePoints}
 use Rattle.mount_table.specs.declared.entries.MountEntry.{MountEntry}
 use Rattle.mount_table.specs.declared.faults.TableFault.{TableFault}
 use Rattle.mount_table.specs.declared.faults.TableFault.TheVariants.{BadMountpoint, NoPath, BadPath, UnknownPlugin, FileTwice, TooMany}
 use Rattle.mount_table.specs.declared.mounts.Mount.{Mount}
-use Rattle.general_words.proofs.Lists.{some_is, all_append}
-use Rattle.general_words.proofs.Tests.{cond_some}
-use Rattle.general_words.proofs.Entries.{keys_rise}
 
 pub is_some-copied : {X : Type 0} (o : Option (Bor X)) → is_some (option_copied o) ≡ is_some o
 is_some-copied None = refl
@@ -43,7 +48,7 @@ pub from_then : {A B : Type 0} (r : Result A TableFault) (f : A → Result B Tab
 from_then (Ok x) f y h = (x, refl, h)
 from_then (Err fault) f y h = absurd cc
 
-pub from_ok_or : {A : Type 0} (o : Option A) (fault : TableFault) (x : A) → ok_or o fault ≡ Ok x → o ≡ Some x
+from_ok_or : {A : Type 0} (o : Option A) (fault : TableFault) (x : A) → ok_or o fault ≡ Ok x → o ≡ Some x
 from_ok_or None fault x h = absurd cc
 from_ok_or (Some y) fault x h = some_of y x h
   where
@@ -53,24 +58,34 @@ from_ok_or (Some y) fault x h = some_of y x h
 pub ok_is : {A : Type 0} (x y : A) → ◌≡◌ {A = Result A TableFault} (Ok x) (Ok y) → x ≡ y
 ok_is x y e = cc
 
--- a mount's mountpoint is its entry's text
-pub point_of-mount : (text : Part) (said : MountEntry) (mount : Mount) → mount_of text said ≡ Ok mount → point_of text ≡ Some mount.at
-point_of-mount text said mount h =
+-- ---- the mount of an entry
+
+-- its mountpoint is the entry's text, and some path names its file
+mount_parts : (text : Part) (said : MountEntry) (mount : Mount) → mount_of text said ≡ Ok mount → (point_of text ≡ Some mount.at) × ((path : List ℕ) × (file_of path ≡ Some mount.file))
+mount_parts text said mount h =
     let point = from_then (ok_or (point_of text) (BadMountpoint text)) (mount_at text said) mount h in
     let path = from_then (ok_or said.path (NoPath text)) _ mount point.2 in
     let file = from_then (ok_or (file_of path.0) (BadPath text)) _ mount path.2 in
     let kind = from_then (ok_or (kind_said said.plugin) (UnknownPlugin text)) _ mount file.2 in
-    from_ok_or (point_of text) (BadMountpoint text) point.0 point.1 ∙ ap (λ m. Some m.at) (ok_is (record { at = point.0; file = file.0; kind = kind.0 }) mount kind.2)
+    let is : (record { at = point.0; file = file.0; kind = kind.0 }) ≡ mount = ok_is (record { at = point.0; file = file.0; kind = kind.0 }) mount kind.2 in (
+      from_ok_or (point_of text) (BadMountpoint text) point.0 point.1 ∙ ap (λ (m : Mount). Some m.at) is,
+      (path.0, from_ok_or (file_of path.0) (BadPath text) file.0 file.1 ∙ ap (λ (m : Mount). Some m.file) is),
+    )
+
+pub point_of-mount : (text : Part) (said : MountEntry) (mount : Mount) → mount_of text said ≡ Ok mount → point_of text ≡ Some mount.at
+point_of-mount text said mount h = (mount_parts text said mount h).0
+
+-- its file isn't taken
+next_parts : (taken : List ℕ → Bool) (text : Part) (said : MountEntry) (mount : Mount) → next_mount taken text said ≡ Ok mount → (mount_of text said ≡ Ok mount) × (taken mount.file ≡ false)
+next_parts taken text said mount h =
+    let one = from_then (mount_of text said) _ mount h in by one.0 one.1 (taken one.0.file) refl one.2
+  where
+    by : (m : Mount) → mount_of text said ≡ Ok m → (b : Bool) → taken m.file ≡ b → cond b (Err (FileTwice text)) (Ok m) ≡ Ok mount → (mount_of text said ≡ Ok mount) × (taken mount.file ≡ false)
+    by m of true is e = absurd cc
+    by m of false is e = (of ∙ e, ap (λ (n : Mount). taken n.file) (sym (ok_is m mount e)) ∙ is)
 
 pub mount_of-next : (taken : List ℕ → Bool) (text : Part) (said : MountEntry) (mount : Mount) → next_mount taken text said ≡ Ok mount → mount_of text said ≡ Ok mount
-mount_of-next taken text said mount h =
-    let one = from_then (mount_of text said) _ mount h in one.1 ∙ free (taken one.0.file) one.0 one.2
-  where
-    free : (b : Bool) (m : Mount) → cond b (Err (FileTwice text)) (Ok m) ≡ Ok mount → ◌≡◌ {A = Result Mount TableFault} (Ok m) (Ok mount)
-    free true m e = absurd cc
-    free false m e = e
-
--- ---- namespaces
+mount_of-next taken text said mount h = (next_parts taken text said mount h).0
 
 -- what a mountpoint is
 pub record IsPoint (text : List ℕ) (name : Name) : Type 0 where
@@ -84,91 +99,170 @@ IsPoint-from text name h =
     let same : found.0 ≡ name = some_is found.0 name test.1 in
     record { named = found.1 ∙ ap (λ n. Some n) same; is = ap (is_point text) (sym same) ∙ test.0 }
 
--- a mount is in a namespace whose keys are in files
-abbrev pub InFiles : Mount → Type 0
-InFiles mount = has_files mount.at.namespace ≡ true
+-- what each mount is: in a namespace whose keys are in files, and on a file whose name is one and isn't the journal's
+pub record IsGood (mount : Mount) : Type 0 where
+  pub files : has_files mount.at.namespace ≡ true
+  pub named : is_file_name mount.file ≡ true
+  pub free : starts_with nat_eq mount.file (codes "journal") ≡ false
 
-InFiles-next : (taken : List ℕ → Bool) (text : Part) (said : MountEntry) (mount : Mount) → next_mount taken text said ≡ Ok mount → InFiles mount
-InFiles-next taken text said mount h = (and_parts (has_files mount.at.namespace) _ (IsPoint-from text mount.at (point_of-mount text said mount (mount_of-next taken text said mount h))).is).0
+-- what the mount of an entry is, behind others
+pub record IsNext (mounts : List Mount) (text : Part) (mount : Mount) : Type 0 where
+  pub named : name_of text ≡ Some mount.at
+  pub spelled : spelling mount.at ≡ text
+  pub outside : is_at_or_below own_point mount.at ≡ false
+  pub good : IsGood mount
+  pub new_file : is_taken mounts mount.file ≡ false
+
+next_is : (mounts : List Mount) (text : Part) (said : MountEntry) (mount : Mount) → next_mount (is_taken mounts) text said ≡ Ok mount → IsNext mounts text mount
+next_is mounts text said mount h =
+    let next = next_parts (is_taken mounts) text said mount h in
+    let parts = mount_parts text said mount next.0 in
+    let point = IsPoint-from text mount.at parts.0 in
+    let tests = and_parts (has_files mount.at.namespace) _ point.is in
+    let spelled = and_parts (is_text (spelling mount.at) text) _ (and_parts (nat_le (length text) longest_point) _ tests.1).1 in
+    let path = parts.1.0 in
+    let file = cond_some (is_file_name path && not (starts_with nat_eq path (codes "journal"))) (Some path) mount.file parts.1.1 in
+    let is : path ≡ mount.file = some_is path mount.file file.1 in
+    let own = and_parts (is_file_name path) _ file.0 in
+    record {
+      named = point.named;
+      spelled = (bytes_eq-Decides (spelling mount.at) text).0 spelled.0;
+      outside = not-true _ spelled.1;
+      good = record { files = tests.0; named = ap is_file_name (sym is) ∙ own.0; free = ap (λ f. starts_with nat_eq f (codes "journal")) (sym is) ∙ not-true _ own.1 };
+      new_file = next.1;
+    }
+
+-- ---- from the default mounts that remain to those of a table
+
+-- what the mounts so far and the entries that are left have, and each mount of an entry keeps, the mounts of all have
+module _ (P : List (Part × MountEntry) → List Mount → Type 0) (push : (entry : Part × MountEntry) (entries : List (Part × MountEntry)) (mounts : List Mount) (mount : Mount) → IsNext mounts entry.0 mount → P (entry ∷ entries) mounts → P entries (mounts ++ mount ∷ [])) where
+  pub mounts_from-keeps : (mounts : List Mount) (entries : List (Part × MountEntry)) (all : List Mount) → mounts_from mounts entries ≡ Ok all → P entries mounts → P [] all
+  mounts_from-keeps mounts [] all is h = subst (P []) (ok_is mounts all is) h
+  mounts_from-keeps mounts (entry ∷ entries) all is h =
+      let next = from_then (next_mount (is_taken mounts) entry.0 entry.1) (λ mount. mounts_from (mounts ++ mount ∷ []) entries) all is in
+      mounts_from-keeps (mounts ++ next.0 ∷ []) entries all next.2 (push entry entries mounts next.0 (next_is mounts entry.0 entry.1 next.0 next.1) h)
 
 pub all_filter : {X : Type 0} (P : X → Type 0) (test : X → Bool) (xs : List X) → AllByRecursion P xs → AllByRecursion P (filter test xs)
 all_filter P test [] h = tt
 all_filter P test (x ∷ xs) h = elim (test x) as (λ b. AllByRecursion P (cond b (x ∷ filter test xs) (filter test xs))) [ true ↦ (h.0, all_filter P test xs h.1) | false ↦ all_filter P test xs h.1 ]
 
-pub InFiles-remaining : (entries : Entries) → AllByRecursion InFiles (remaining entries)
-InFiles-remaining entries = all_append InFiles (filter (remains entries) root_mounts) (own_mount ∷ []) (all_filter InFiles (remains entries) root_mounts (refl, (refl, (refl, (refl, tt))))) (refl, tt)
+-- what each has, it has in another form
+pub all_turned : {X : Type 0} (P Q : X → Type 0) → ((x : X) → P x → Q x) → (xs : List X) → AllByRecursion P xs → AllByRecursion Q xs
+all_turned P Q turn [] h = tt
+all_turned P Q turn (x ∷ xs) h = (turn x h.0, all_turned P Q turn xs h.1)
 
--- the mounts of entries behind others
-record FollowsFrom (mounts all : List Mount) : Type 0 where
-  files : AllByRecursion InFiles all
-  more : length mounts ≤ length all
+-- what holds of each default mount holds of those that remain
+pub all_remaining : (P : Mount → Type 0) (entries : Entries) → AllByRecursion P root_mounts → P own_mount → AllByRecursion P (remaining entries)
+all_remaining P entries roots own = all_append P (filter (remains entries) root_mounts) (own_mount ∷ []) (all_filter P (remains entries) root_mounts roots) (own, tt)
 
-follows : (mounts : List Mount) (entries : List (Part × MountEntry)) (all : List Mount) → AllByRecursion InFiles mounts → mounts_from mounts entries ≡ Ok all → FollowsFrom mounts all
-follows mounts [] all h is = record { files = subst (AllByRecursion InFiles) (ok_is mounts all is) h; more = omega (arith, ap length (ok_is mounts all is)) }
-follows mounts (entry ∷ entries) all h is =
-    let next = from_then (next_mount (is_taken mounts) entry.0 entry.1) (λ mount. mounts_from (mounts ++ mount ∷ []) entries) all is in
-    let rest = follows (mounts ++ next.0 ∷ []) entries all (all_append InFiles mounts (next.0 ∷ []) h (InFiles-next (is_taken mounts) entry.0 entry.1 next.0 next.1, tt)) next.2 in
-    record { files = rest.files; more = omega (arith, rest.more, length-append mounts (next.0 ∷ [])) }
+default_good : (mount : Mount) → has_files mount.at.namespace ≡ true → is_file_name mount.file ≡ true → starts_with nat_eq mount.file (codes "journal") ≡ false → IsGood mount
+default_good mount files named free = record { files = files; named = named; free = free }
 
--- so they are all in such namespaces
-pub in_files_from : (mounts : List Mount) (entries : List (Part × MountEntry)) (all : List Mount) → AllByRecursion InFiles mounts → mounts_from mounts entries ≡ Ok all → AllByRecursion InFiles all
-in_files_from mounts entries all h is = (follows mounts entries all h is).files
+good_push : (entry : Part × MountEntry) (entries : List (Part × MountEntry)) (mounts : List Mount) (mount : Mount) → IsNext mounts entry.0 mount → AllByRecursion IsGood mounts → AllByRecursion IsGood (mounts ++ mount ∷ [])
+good_push entry entries mounts mount next h = all_append IsGood mounts (mount ∷ []) h (next.good, tt)
+
+-- the mounts that entries make
+abbrev pub IsMade : Entries → List Mount → Type 0
+IsMade entries all = mounts_from (remaining entries) (map.entries entries) ≡ Ok all
+
+pub all_good : (entries : Entries) (all : List Mount) → IsMade entries all → AllByRecursion IsGood all
+all_good entries all is = mounts_from-keeps (λ _ mounts. AllByRecursion IsGood mounts) good_push (remaining entries) (map.entries entries) all is
+    (all_remaining IsGood entries (default_good _ refl refl refl, (default_good _ refl refl refl, (default_good _ refl refl refl, (default_good _ refl refl refl, tt)))) (default_good _ refl refl refl))
+
+-- there is one at least
+some_made : (entries : Entries) (all : List Mount) → IsMade entries all → 1 ≤ length all
+some_made entries all is = mounts_from-keeps (λ _ mounts. 1 ≤ length mounts) (λ entry entries mounts mount next some. omega (arith, some, length-append mounts (mount ∷ []))) (remaining entries) (map.entries entries) all is
+    (omega (arith, length-append (filter (remains entries) root_mounts) (own_mount ∷ [])))
+
+-- a text is that of one of some entries
+abbrev pub is_among : Part → List (Part × MountEntry) → Bool
+is_among text entries = list_any (eq_by_cmp text_cmp text) (over (λ e. e.0) entries)
 
 -- ---- mounts by their mountpoints
 
--- a mount stands under its own mountpoint
-pub record IsKeyed (entry : Name × Mount) : Type 0 where
-  at : entry.1.at ≡ entry.0
-  files : InFiles entry.1
+pub by_point-snoc : (mounts : List Mount) (mount : Mount) → by_point (mounts ++ mount ∷ []) ≡ map.insert (by_point mounts) mount.at mount
+by_point-snoc mounts mount = fold-append (λ (table : FinMap name_cmp Mount) (m : Mount). map.insert table m.at m) map.empty mounts (mount ∷ [])
 
-IsKeyed-put : (mount : Mount) (es : List (Name × Mount)) → InFiles mount → AllByRecursion IsKeyed es → AllByRecursion IsKeyed (put name_cmp mount.at mount es)
-IsKeyed-put mount [] files h = (record { at = refl; files = files }, tt)
-IsKeyed-put mount (e ∷ es) files h = by (IsKeyed-put mount es files h.1) (name_cmp mount.at e.0) refl
+-- a table, with some mounts more
+abbrev pub with_mounts : FinMap name_cmp Mount → List Mount → FinMap name_cmp Mount
+with_mounts table mounts = fold (λ table mount. map.insert table mount.at mount) table mounts
+
+-- what each mount is stands under its own mountpoint
+each_more : (P : Mount → Type 0) (mounts : List Mount) (table : FinMap name_cmp Mount) → AllByRecursion P mounts → ((point : Name) (mount : Mount) → map.get table point ≡ Some mount → (mount.at ≡ point) × P mount) → (point : Name) (mount : Mount) → map.get (with_mounts table mounts) point ≡ Some mount → (mount.at ≡ point) × P mount
+each_more P [] table all each point mount found = each point mount found
+each_more P (one ∷ mounts) table all each point mount found =
+    each_more P mounts (map.insert table one.at one) all.1 (λ q x there. each-insert name_cmp_total name_cmp-IsAntisymmetric (λ (q : Name) (x : Mount). (x.at ≡ q) × P x) table one.at one each (refl, all.0) q x there) point mount found
+
+pub by_point-each : (P : Mount → Type 0) (mounts : List Mount) → AllByRecursion P mounts → (point : Name) (mount : Mount) → map.get (by_point mounts) point ≡ Some mount → (mount.at ≡ point) × P mount
+by_point-each P mounts all point mount found = each_more P mounts map.empty all (λ q x there. let none : None ≡ Some x = sym (map.get-empty {X = Mount} name_cmp q) ∙ there in absurd cc) point mount found
+
+-- what was put there is there
+is_there : (point : Name) (table : FinMap name_cmp Mount) (mount : Mount) → (mount.at ≡ point) ⊎ (map.contains_key table point ≡ true) → map.contains_key (map.insert table mount.at mount) point ≡ true
+is_there point table mount (inl is) =
+    ap is_some (map.get-insert name_cmp_total table mount.at mount point ∙ cond-true (eq_by_cmp name_cmp point mount.at) (Some mount) (map.get table point) ((Equal-is (name_cmp point mount.at)).1 (ap (name_cmp point) is ∙ tied_itself name_cmp_total point)))
+is_there point table mount (inr there) = ap is_some (map.get-insert name_cmp_total table mount.at mount point) ∙ by (eq_by_cmp name_cmp point mount.at)
   where
-    by : AllByRecursion IsKeyed (put name_cmp mount.at mount es) → (o : Ordering) → name_cmp mount.at e.0 ≡ o → AllByRecursion IsKeyed (by_order o ((mount.at, mount) ∷ e ∷ es) ((e.0, mount) ∷ es) (e ∷ put name_cmp mount.at mount es))
-    by rest Less is = (record { at = refl; files = files }, h)
-    by rest Equal is = (record { at = name_cmp-IsAntisymmetric mount.at e.0 is; files = files }, h.1)
-    by rest Greater is = (h.0, rest)
+    by : (b : Bool) → is_some (cond b (Some mount) (map.get table point)) ≡ true
+    by true = refl
+    by false = there
 
-IsKeyed-fold : (mounts : List Mount) (table : FinMap name_cmp Mount) → AllByRecursion InFiles mounts → AllByRecursion IsKeyed (map.entries table) → AllByRecursion IsKeyed (map.entries (fold (λ table mount. map.insert table mount.at mount) table mounts))
-IsKeyed-fold [] table files h = h
-IsKeyed-fold (mount ∷ mounts) table files h =
-    IsKeyed-fold mounts (map.insert table mount.at mount) files.1 (subst (AllByRecursion IsKeyed) (sym (map.entries-insert name_cmp_total table mount.at mount)) (IsKeyed-put mount (map.entries table) files.0 h))
+pub there-snoc : (point : Name) (mounts : List Mount) (mount : Mount) → (mount.at ≡ point) ⊎ (map.contains_key (by_point mounts) point ≡ true) → map.contains_key (by_point (mounts ++ mount ∷ [])) point ≡ true
+there-snoc point mounts mount h = ap (λ table. map.contains_key table point) (by_point-snoc mounts mount) ∙ is_there point (by_point mounts) mount h
 
-pub IsKeyed-by_point : (mounts : List Mount) → AllByRecursion InFiles mounts → AllByRecursion IsKeyed (map.entries (by_point mounts))
-IsKeyed-by_point mounts files = IsKeyed-fold mounts map.empty files (subst (AllByRecursion IsKeyed) (sym (entries-empty name_cmp Mount)) tt)
+still_there : (point : Name) (mounts : List Mount) (table : FinMap name_cmp Mount) → map.contains_key table point ≡ true → map.contains_key (with_mounts table mounts) point ≡ true
+still_there point [] table there = there
+still_there point (mount ∷ mounts) table there = still_there point mounts (map.insert table mount.at mount) (is_there point table mount (inr there))
 
--- a table grows by at most one mount at a time, and never falls
-length-insert : (table : FinMap name_cmp Mount) (mount : Mount) → map.len table ≤ map.len (map.insert table mount.at mount)
-length-insert table mount = subst (λ n. map.len table ≤ n) (sym (map.len-insert name_cmp_total table mount.at mount)) (by (map.contains_key table mount.at))
-  where
-    by : (b : Bool) → map.len table ≤ cond b (map.len table) (map.len table + 1)
-    by true = omega arith
-    by false = omega arith
+pub all_there : (mounts : List Mount) (table : FinMap name_cmp Mount) → AllByRecursion (λ mount. map.contains_key (with_mounts table mounts) mount.at ≡ true) mounts
+all_there [] table = tt
+all_there (mount ∷ mounts) table = (still_there mount.at mounts (map.insert table mount.at mount) (is_there mount.at table mount (inl refl)), all_there mounts (map.insert table mount.at mount))
 
-length-fold : (mounts : List Mount) (table : FinMap name_cmp Mount) → map.len table ≤ map.len (fold (λ table mount. map.insert table mount.at mount) table mounts)
-length-fold [] table = omega arith
-length-fold (mount ∷ mounts) table = omega (arith, length-insert table mount, length-fold mounts (map.insert table mount.at mount))
+some_among : {A : Type 0} (p : A → Bool) (xs : List A) → list_any p xs ≡ true → 1 ≤ length xs
+some_among p [] there = absurd cc
+some_among p (x ∷ xs) there = omega arith
 
-length-first : (mount : Mount) → map.len (map.insert (map.empty {R = name_cmp}) mount.at mount) ≡ 1
-length-first mount =
-    map.len-insert name_cmp_total map.empty mount.at mount
-    ∙ ap (λ o. cond (is_some o) (map.len (map.empty {X = Mount} {R = name_cmp})) (map.len (map.empty {X = Mount} {R = name_cmp}) + 1)) (map.get-empty name_cmp mount.at)
-    ∙ ap (λ n. n + 1) (map.len-empty name_cmp Mount)
-
-length-by_point : (mounts : List Mount) → 1 ≤ length mounts → 1 ≤ map.len (by_point mounts)
-length-by_point [] some = absurd (omega arith)
-length-by_point (mount ∷ mounts) some = omega (arith, length-first mount, length-fold mounts (map.insert map.empty mount.at mount))
+some_by_point : (mounts : List Mount) → 1 ≤ length mounts → 1 ≤ length (map.entries (by_point mounts))
+some_by_point [] some = absurd (omega arith)
+some_by_point (mount ∷ mounts) some =
+    let table = by_point (mount ∷ mounts) in
+    let many = some_among (eq_by_cmp name_cmp mount.at) (map.keys table) (sym (map.contains_key-keys table mount.at) ∙ (all_there (mount ∷ mounts) map.empty).0) in
+    subst (λ n. 1 ≤ n) (length-map (map.entries table) (λ e. e.0)) many
 
 -- ---- in their order
 
+-- a mount stands under its own mountpoint
+abbrev pub IsKeyed : Name × Mount → Type 0
+IsKeyed entry = (entry.1.at ≡ entry.0) × IsGood entry.1
+
+pub all_keyed : (mounts : List Mount) → AllByRecursion IsGood mounts → AllByRecursion IsKeyed (map.entries (by_point mounts))
+all_keyed mounts good = all_from_places IsKeyed (map.entries (by_point mounts)) (λ i e there. by_point-each IsGood mounts good e.0 e.1 (get-at name_cmp_total (by_point mounts) i e there))
+
 pub points-keyed : (es : List (Name × Mount)) → AllByRecursion IsKeyed es → over (λ m. m.at) (over (λ e. e.1) es) ≡ over (λ e. e.0) es
 points-keyed [] h = refl
-points-keyed (e ∷ es) h = λ i. h.0.at i ∷ points-keyed es h.1 i
+points-keyed (e ∷ es) h = λ i. h.0.0 i ∷ points-keyed es h.1 i
 
 files-keyed : (es : List (Name × Mount)) → AllByRecursion IsKeyed es → list_all (λ (point : Name). has_files point.namespace) (over (λ e. e.0) es) ≡ true
 files-keyed [] h = refl
-files-keyed (e ∷ es) h = and_from _ _ (subst (λ point. has_files point.namespace ≡ true) h.0.at h.0.files) (files-keyed es h.1)
+files-keyed (e ∷ es) h = and_from _ _ (subst (λ point. has_files point.namespace ≡ true) h.0.0 h.0.1.files) (files-keyed es h.1)
+
+-- ---- the table of some keys
+
+-- its mounts are those that its entries make, in their order, and not too many
+pub record IsTableOf (entries : Entries) (mounts : List Mount) : Type 0 where
+  pub all : List Mount
+  pub made : IsMade entries all
+  pub ordered : in_order all ≡ mounts
+  pub few : length mounts ≤ most_mounts
+
+pub table-is : (keys : KeyMap) (mounts : List Mount) → table_of keys ≡ Ok mounts → IsTableOf (entries_of keys) mounts
+table-is keys mounts ok =
+    let read = from_then (mounts_from (remaining (entries_of keys)) (map.entries (entries_of keys))) (λ all. limited (in_order all)) mounts ok in
+    let is = by (in_order read.0) (ltb most_mounts (length (in_order read.0))) refl read.2 in
+    record { all = read.0; made = read.1; ordered = is.0; few = is.1 }
+  where
+    by : (all : List Mount) (b : Bool) → ltb most_mounts (length all) ≡ b → ◌≡◌ {A = Result (List Mount) TableFault} (cond b (Err (TooMany (length all))) (Ok all)) (Ok mounts) → (all ≡ mounts) × (length mounts ≤ most_mounts)
+    by all true is e = absurd cc
+    by all false is e = (ok_is all mounts e, subst (λ (ms : List Mount). length ms ≤ most_mounts) (ok_is all mounts e) (ltb-false most_mounts (length all) is))
 
 -- ---- the table of some entries
 
@@ -197,11 +291,11 @@ module _ (entries : List (Part × MountEntry)) (entries_sorted : T (is_sorted te
         table_from-limited
         ∙ cond-false (ltb most_mounts (length (over (λ e. e.1) table))) _ _ (le-ltb _ _ (subst (λ n. n ≤ most_mounts) (sym (length-map table (λ e. e.1))) short))
 
-    in_files : FollowsFrom before all
-    in_files = follows before entries all (subst (AllByRecursion InFiles) (sym remain) (InFiles-remaining (map.from_sorted entries))) ok
+    made : IsMade (map.from_sorted {R = text_cmp} entries) all
+    made = reads ∙ ok
 
     keyed : AllByRecursion IsKeyed table
-    keyed = subst (AllByRecursion IsKeyed) table_entries (IsKeyed-by_point all in_files.files)
+    keyed = subst (AllByRecursion IsKeyed) table_entries (all_keyed all (all_good (map.from_sorted entries) all made))
 
     pub points-table : over (λ m. m.at) (over (λ e. e.1) table) ≡ over (λ e. e.0) table
     points-table = points-keyed table keyed
@@ -209,12 +303,9 @@ module _ (entries : List (Part × MountEntry)) (entries_sorted : T (is_sorted te
     pub ArePoints-table : length table ≤ most_mounts → ArePoints (over (λ e. e.0) table)
     ArePoints-table short =
         let counted : length (over (λ e. e.0) table) ≡ length table = length-map table (λ e. e.0) in
-        let some : 1 ≤ length before = subst (λ ms. 1 ≤ length ms) (sym remain) (omega (arith, length-append (filter (remains (map.from_sorted {R = text_cmp} entries)) root_mounts) (own_mount ∷ []))) in
-        let more : length before ≤ length all = in_files.more in
-        let many : 1 ≤ map.len (by_point all) = length-by_point all (omega arith) in
-        let same : map.len (by_point all) ≡ length table = map.len-entries (by_point all) ∙ ap length table_entries in
+        let some : 1 ≤ length table = subst (λ es. 1 ≤ length es) table_entries (some_by_point all (some_made (map.from_sorted entries) all made)) in
         record {
           points = record { ascending = keys_rise name_cmp table table_sorted; in_files = files-keyed table keyed };
-          some = omega arith;
-          few = omega arith;
+          some = omega (arith, some, counted);
+          few = omega (arith, short, counted);
         }
