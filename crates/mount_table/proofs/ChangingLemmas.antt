@@ -1,13 +1,11 @@
 -- What an entry that is added or removed changes.
 use Rattle.std.proofs.Common.{◌≡◌, ℕ, ◌+◌, ◌*◌, ◌≤◌, Bool, true, false, cond, not, ◌&&◌, T, List, [], ◌∷◌, ◌++◌, length, drop, is_some, unwrap_or, Option, Some, None, Ok, Err, refl, sym, ap, ap₂, subst, ◌∙◌, inl, inr, ◌⊎◌, codes, arith, length-append, Bor}
-use Rattle.std.specs.Cmp.{Equal-is}
 use Rattle.std.specs.FinMap as map
 use Rattle.std.specs.FinMap.{find, is_sorted}
 use Rattle.std.specs.FinMap.Entries.{put}
 use Rattle.std.specs.List.{AllByRecursion}
 use Rattle.std.specs.Option.{option_copied}
-use Rattle.std.specs.Ordering.{eq_by_cmp}
-use Rattle.std.proofs.lemmas.Bool.{and_parts, cond-true, cond-false, cases_Bool, leb-true}
+use Rattle.std.proofs.lemmas.Bool.{cond-true, cond-false, cases_Bool}
 use Rattle.std.proofs.lemmas.Cmp.{nat_list_cmp_total}
 use Rattle.general_words.proofs.Texts.{text_cmp-IsAntisymmetric}
 use Rattle.model_names.specs.declared.namespaces.Namespace.{Namespace}
@@ -32,15 +30,15 @@ use Rattle.mount_table.specs.Changing.{added, HasNames}
 use Rattle.mount_table.specs.Entries.{entries_of, has_entry, said_by, with_entry}
 use Rattle.mount_table.specs.Noting.{nothing_said}
 use Rattle.mount_table.specs.Places.{mountpoints, entry_name, child_name, path_word, plugin_word}
-use Rattle.mount_table.specs.Points.{longest_point, point_of}
-use Rattle.mount_table.specs.Reading.{◌>>=◌, next_mount, is_taken, mounts_from}
-use Rattle.mount_table.specs.Table.{remaining, in_order, limited, table_of}
+use Rattle.mount_table.specs.Points.{longest_point}
+use Rattle.mount_table.specs.Reading.{◌>>=◌}
+use Rattle.mount_table.specs.Table.{table_of}
 use Rattle.mount_table.specs.declared.entries.MountEntry.{MountEntry}
 use Rattle.mount_table.specs.declared.faults.TableFault.{TableFault}
 use Rattle.mount_table.specs.declared.faults.TableFault.TheVariants.{AlreadyMounted}
 use Rattle.mount_table.specs.declared.mounts.Mount.{Mount}
 use Rattle.mount_table.proofs.NotingLemmas.{get-entries_of, entries_of-insert}
-use Rattle.mount_table.proofs.TableLemmas.{is_some-copied, IsPoint, IsPoint-from, point_of-mount, mount_of-next, from_then}
+use Rattle.mount_table.proofs.TableLemmas.{is_some-copied, entry-brings, table-is}
 use Rattle.general_words.proofs.Maps.{insert-insert, from_sorted-put}
 use Rattle.general_words.proofs.Orders.{itself}
 use Rattle.key_name.proofs.MeasureLemmas.{length-spelled}
@@ -75,23 +73,6 @@ entries_of-with keys text file kind new =
     ∙ ap (λ o. map.insert (map.insert es text said) text (record (unwrap_or o nothing_said) { plugin = Some (kind_word kind) })) there
     ∙ insert-insert nat_list_cmp_total text_cmp-IsAntisymmetric es text said all
 
--- ---- an entry of a table is at a mountpoint
-
-pub is_at_point : (mounts : List Mount) (entries : List (Part × MountEntry)) (all : List Mount) (text : Part) (said : MountEntry) → mounts_from mounts entries ≡ Ok all → find text_cmp text entries ≡ Some said → (name : Name) × IsPoint text name
-is_at_point mounts [] all text said ok found = absurd cc
-is_at_point mounts (entry ∷ entries) all text said ok found =
-    let next = from_then (next_mount (is_taken mounts) entry.0 entry.1) (λ mount. mounts_from (mounts ++ mount ∷ []) entries) all ok in
-    let rest = is_at_point (mounts ++ next.0 ∷ []) entries all text said next.2 in
-    elim (cases_Bool (eq_by_cmp text_cmp text entry.0)) [
-      | inl same ↦
-          let is : text ≡ entry.0 = text_cmp-IsAntisymmetric text entry.0 ((Equal-is (text_cmp text entry.0)).0 same) in
-          (next.0.at, IsPoint-from text next.0.at (ap point_of is ∙ point_of-mount entry.0 entry.1 next.0 (mount_of-next (is_taken mounts) entry.0 entry.1 next.0 next.1)))
-      | inr other ↦ rest (sym (cond-false _ _ _ other) ∙ found)
-    ]
-
-pub short_point : (text : Part) (name : Name) → IsPoint text name → length text ≤ longest_point
-short_point text name h = leb-true _ _ (and_parts _ _ (and_parts _ _ h.is).1).0
-
 -- ---- what is looked at before an entry is added
 
 pub added-there : (keys : KeyMap) (text entry : Part) (file : List ℕ) (kind : Kind) → has_entry keys text ≡ true → entry ≡ text → added keys text file kind ≡ Err (AlreadyMounted entry)
@@ -117,11 +98,9 @@ pub short_entry : (keys : KeyMap) (text : Part) (file : List ℕ) (kind : Kind) 
 short_entry keys text file kind table free ok =
     let es = entries_of (with_entry keys text file kind) in
     let all : MountEntry = record { path = Some file; plugin = Some (kind_word kind) } in
-    let found : find text_cmp text (map.entries es) ≡ Some all =
-    sym (map.get-entries es text) ∙ ap (λ m. map.get m text) (entries_of-with keys text file kind free) ∙ map.get-insert nat_list_cmp_total (entries_of keys) text all text ∙ cond-true _ _ _ (itself nat_list_cmp_total text) in
-    let mounts = from_then (mounts_from (remaining es) (map.entries es)) (λ ms. limited (in_order ms)) table ok in
-    let point = is_at_point (remaining es) (map.entries es) mounts.0 text all mounts.1 found in
-    short_point text point.0 point.1
+    let there : map.get es text ≡ Some all = ap (λ m. map.get m text) (entries_of-with keys text file kind free) ∙ map.get-insert nat_list_cmp_total (entries_of keys) text all text ∙ cond-true _ _ _ (itself nat_list_cmp_total text) in
+    let read = table-is (with_entry keys text file kind) table ok in
+    entry-brings (λ _. length text ≤ longest_point) text (λ mounts mount short. short) (λ mounts mount next. next.short) es read.all read.made (inr (ap is_some there))
 
 -- ---- names of an entry
 

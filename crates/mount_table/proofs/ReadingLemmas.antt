@@ -11,7 +11,7 @@ use Rattle.general_words.specs.Texts.{is_text, text_cmp}
 use Rattle.kdb_outside.specs.declared.kinds.Kind.{Kind}
 use Rattle.mount_table.specs.Answers.{IsFault}
 use Rattle.mount_table.specs.Points.{point_of, file_of}
-use Rattle.mount_table.specs.Reading.{◌>>=◌, kind_said, mount_at, mount_of, next_mount, is_taken, mounts_from}
+use Rattle.mount_table.specs.Reading.{◌>>=◌, kind_said, mount_of, next_mount, is_taken, mounts_from}
 use Rattle.mount_table.specs.declared.entries.MountEntry.{MountEntry}
 use Rattle.mount_table.specs.declared.faults.TableFault.{TableFault}
 use Rattle.mount_table.specs.declared.faults.TableFault.TheVariants.{BadMountpoint, NoPath, BadPath, UnknownPlugin, FileTwice}
@@ -19,30 +19,27 @@ use Rattle.mount_table.specs.declared.mounts.Mount.{Mount}
 
 -- ---- one entry
 
--- the mount at a mountpoint, by what is read one after another
-pub mount_by_path : (text : Part) (said : MountEntry) (point : Name) (path : Option (List ℕ)) → path ≡ said.path → mount_at text said point ≡ (ok_or path (NoPath text) >>= (λ path. ok_or (file_of path) (BadPath text) >>= (λ file. ok_or (kind_said said.plugin) (UnknownPlugin text) >>= (λ kind. Ok (record { at = point; file = file; kind = kind })))))
-mount_by_path text said point path is = ap (λ p. ok_or p (NoPath text) >>= (λ path. ok_or (file_of path) (BadPath text) >>= (λ file. ok_or (kind_said said.plugin) (UnknownPlugin text) >>= (λ kind. Ok (record { at = point; file = file; kind = kind }))))) (sym is)
+-- the mount of an entry, by what is read one after another
+abbrev with_kind : Part → Name → List ℕ → Option Kind → Result Mount TableFault
+with_kind text point file kind = ok_or kind (UnknownPlugin text) >>= (λ kind. Ok (record { at = point; file = file; kind = kind }))
 
-pub mount_by_point : (text : Part) (said : MountEntry) (point : Option Name) → point ≡ point_of text → mount_of text said ≡ (ok_or point (BadMountpoint text) >>= mount_at text said)
-mount_by_point text said point is = ap (λ p. ok_or p (BadMountpoint text) >>= mount_at text said) (sym is)
+abbrev with_file : Part → Option (List ℕ) → Name → Option (List ℕ) → Result Mount TableFault
+with_file text plugin point file = ok_or file (BadPath text) >>= (λ file. with_kind text point file (kind_said plugin))
+
+abbrev with_parts : Part → Option (List ℕ) → Option Name → Option (List ℕ) → Result Mount TableFault
+with_parts text plugin point path = ok_or point (BadMountpoint text) >>= (λ point. ok_or path (NoPath text) >>= (λ path. with_file text plugin point (file_of path)))
 
 pub no_point : (text entry : Part) (said : MountEntry) → None ≡ point_of text → entry ≡ text → mount_of text said ≡ Err (BadMountpoint entry)
-no_point text entry said none same = mount_by_point text said None none ∙ ap (λ t. Err (BadMountpoint t)) (sym same)
+no_point text entry said none same = ap (λ point. with_parts text said.plugin point said.path) (sym none) ∙ ap (λ t. Err (BadMountpoint t)) (sym same)
 
 pub no_path : (text entry : Part) (said : MountEntry) (point : Name) → Some point ≡ point_of text → None ≡ said.path → entry ≡ text → mount_of text said ≡ Err (NoPath entry)
-no_path text entry said point at none same = mount_by_point text said (Some point) at ∙ mount_by_path text said point None none ∙ ap (λ t. Err (NoPath t)) (sym same)
+no_path text entry said point at none same = ap₂ (with_parts text said.plugin) (sym at) (sym none) ∙ ap (λ t. Err (NoPath t)) (sym same)
 
 pub no_file : (text entry : Part) (said : MountEntry) (point : Name) (path : List ℕ) → Some point ≡ point_of text → Some path ≡ said.path → None ≡ file_of path → entry ≡ text → mount_of text said ≡ Err (BadPath entry)
-no_file text entry said point path at given none same =
-    mount_by_point text said (Some point) at ∙ mount_by_path text said point (Some path) given
-    ∙ ap (λ f. ok_or f (BadPath text) >>= (λ file. ok_or (kind_said said.plugin) (UnknownPlugin text) >>= (λ kind. Ok (record { at = point; file = file; kind = kind })))) (sym none)
-    ∙ ap (λ t. Err (BadPath t)) (sym same)
+no_file text entry said point path at given none same = ap₂ (with_parts text said.plugin) (sym at) (sym given) ∙ ap (with_file text said.plugin point) (sym none) ∙ ap (λ t. Err (BadPath t)) (sym same)
 
 pub by_kind : (text : Part) (said : MountEntry) (point : Name) (path file : List ℕ) (kind : Option Kind) → Some point ≡ point_of text → Some path ≡ said.path → Some file ≡ file_of path → kind ≡ kind_said said.plugin → mount_of text said ≡ (ok_or kind (UnknownPlugin text) >>= (λ kind. Ok (record { at = point; file = file; kind = kind })))
-by_kind text said point path file kind at given named is =
-    mount_by_point text said (Some point) at ∙ mount_by_path text said point (Some path) given
-    ∙ ap (λ f. ok_or f (BadPath text) >>= (λ file. ok_or (kind_said said.plugin) (UnknownPlugin text) >>= (λ kind. Ok (record { at = point; file = file; kind = kind })))) (sym named)
-    ∙ ap (λ k. ok_or k (UnknownPlugin text) >>= (λ kind. Ok (record { at = point; file = file; kind = kind }))) (sym is)
+by_kind text said point path file kind at given named is = ap₂ (with_parts text said.plugin) (sym at) (sym given) ∙ ap (with_file text said.plugin point) (sym named) ∙ ap (with_kind text point file) (sym is)
 
 -- ---- the files that are taken
 

@@ -1,5 +1,5 @@
 -- A name whose keys are in files has an owner in each table: a mount stands at the root of its namespace.
-use Rattle.std.proofs.Common.{◌≡◌, ◌⊎◌, ◌||◌, ◌&&◌, ℕ, zero, suc, ◌+◌, ◌<◌, ◌≤◌, Bool, true, false, cond, true≢false, List, [], ◌∷◌, ◌++◌, length, get_or, map as over, filter, Some, None, is_none, Ok, codes, refl, sym, ap, subst, ◌∙◌, inl, inr, arith}
+use Rattle.std.proofs.Common.{◌≡◌, ◌⊎◌, ◌||◌, ◌&&◌, ℕ, zero, suc, ◌+◌, ◌<◌, ◌≤◌, Bool, true, false, cond, true≢false, List, [], ◌∷◌, length, get_or, map as over, filter, Some, None, is_none, Ok, codes, refl, sym, ap, subst, ◌∙◌, inl, inr, arith}
 use Rattle.std.specs.Cmp.{Equal-is}
 use Rattle.std.specs.FinMap as map
 use Rattle.std.specs.List.{AllByRecursion, list_all, list_any}
@@ -9,9 +9,7 @@ use Rattle.std.specs.Str.{is_utf8}
 use Rattle.std.proofs.lemmas.Str.{is_utf8-from_IsUtf8}
 use Rattle.std.proofs.lemmas.Bool.{cases_Bool, cond-true, not_from_false, and_from, eq-eqb}
 use Rattle.std.proofs.lemmas.List.{get_or_default, length-map}
-use Rattle.general_words.specs.Texts.{text_cmp}
 use Rattle.general_words.proofs.Lists.{some_is}
-use Rattle.general_words.proofs.Texts.{text_cmp-IsAntisymmetric}
 use Rattle.general_words.proofs.Entries.{keys_rise}
 use Rattle.key_name.specs.Owner.{owner_of}
 use Rattle.key_name.proofs.OwnerLemmas.{owner_of-last}
@@ -30,32 +28,10 @@ use Rattle.model_names.proofs.PartLemmas.{text_from_test}
 use Rattle.model_names.proofs.SpellsLemmas.{is_ascii_text_byte}
 use Rattle.mount_table.specs.Entries.{Entries, entries_of}
 use Rattle.mount_table.specs.Table.{root_mount, root_mounts, own_mount, remains, remaining, by_point, in_order, table_of}
-use Rattle.mount_table.specs.declared.entries.MountEntry.{MountEntry}
 use Rattle.mount_table.specs.declared.mounts.Mount.{Mount}
-use Rattle.mount_table.proofs.TableLemmas.{IsMade, IsNext, is_among, all_good, all_keyed, all_there, all_turned, mounts_from-keeps, points-keyed, table-is, there-snoc}
+use Rattle.mount_table.proofs.TableLemmas.{IsMade, all_good, all_keyed, all_there, all_turned, entry-brings, points-keyed, table-is, there-snoc}
 
 -- ---- a mount at a point
-
--- a mount is at the point that a text spells, or an entry that is left has the text
-abbrev WillBe : Name → Part → List (Part × MountEntry) → List Mount → Type 0
-WillBe point text entries mounts = (map.contains_key (by_point mounts) point ≡ true) ⊎ (is_among text entries ≡ true)
-
-will_push : (point : Name) (text : Part) → name_of text ≡ Some point → (entry : Part × MountEntry) (entries : List (Part × MountEntry)) (mounts : List Mount) (mount : Mount) → IsNext mounts entry.0 mount → WillBe point text (entry ∷ entries) mounts → WillBe point text entries (mounts ++ mount ∷ [])
-will_push point text named entry entries mounts mount next (inl there) = inl (there-snoc point mounts mount (inr there))
-will_push point text named entry entries mounts mount next (inr left) = by (cases_Bool (eq_by_cmp text_cmp text entry.0))
-  where
-    by : (eq_by_cmp text_cmp text entry.0 ≡ true) ⊎ (eq_by_cmp text_cmp text entry.0 ≡ false) → WillBe point text entries (mounts ++ mount ∷ [])
-    by (inl same) =
-        let one : text ≡ entry.0 = text_cmp-IsAntisymmetric text entry.0 ((Equal-is (text_cmp text entry.0)).0 same) in
-        inl (there-snoc point mounts mount (inl (some_is mount.at point (sym next.named ∙ ap name_of (sym one) ∙ named))))
-    by (inr other) = inr (sym (ap (λ b. b || is_among text entries) other) ∙ left)
-
-will_be : (point : Name) (text : Part) (entries : Entries) (all : List Mount) → name_of text ≡ Some point → IsMade entries all → WillBe point text (map.entries entries) (remaining entries) → map.contains_key (by_point all) point ≡ true
-will_be point text entries all named is first = by (mounts_from-keeps (WillBe point text) (will_push point text named) (remaining entries) (map.entries entries) all is first)
-  where
-    by : WillBe point text [] all → map.contains_key (by_point all) point ≡ true
-    by (inl there) = there
-    by (inr left) = absurd cc
 
 -- what holds of those that pass a test holds of each that does
 all_passing : {A : Type 0} (P : A → Type 0) (test : A → Bool) (xs : List A) → AllByRecursion P (filter test xs) → AllByRecursion (λ x. test x ≡ true → P x) xs
@@ -75,11 +51,10 @@ default_there entries =
 
 -- it, or that of the entry which replaces it
 has_default : (entries : Entries) (all : List Mount) (mount : Mount) → (remains entries mount ≡ true → map.contains_key (by_point (remaining entries)) mount.at ≡ true) → name_of (spelling mount.at) ≡ Some mount.at → IsMade entries all → map.contains_key (by_point all) mount.at ≡ true
-has_default entries all mount there named is = will_be mount.at (spelling mount.at) entries all named is (by (cases_Bool (map.contains_key entries (spelling mount.at))))
-  where
-    by : (map.contains_key entries (spelling mount.at) ≡ true) ⊎ (map.contains_key entries (spelling mount.at) ≡ false) → WillBe mount.at (spelling mount.at) (map.entries entries) (remaining entries)
-    by (inl replaced) = inr (sym (map.contains_key-keys entries (spelling mount.at)) ∙ replaced)
-    by (inr stays) = inl (there (not_from_false _ stays))
+has_default entries all mount there named is =
+    entry-brings (λ mounts. map.contains_key (by_point mounts) mount.at ≡ true) (spelling mount.at) (λ mounts more h. there-snoc mount.at mounts more (inr h))
+    (λ mounts more next. there-snoc mount.at mounts more (inl (some_is more.at mount.at (sym next.named ∙ named)))) entries all is
+    (elim (cases_Bool (map.contains_key entries (spelling mount.at))) [ inl replaced ↦ inr replaced | inr stays ↦ inl (there (not_from_false _ stays)) ])
 
 -- the root of a namespace is the name that its text spells
 root_named : (text : Part) → list_all is_ascii_text_byte text ≡ true → is_none (refusal_of text) ≡ true → name_of text ≡ elim (start_of_text text) [ At place ↦ name_behind text place | Refused refusal ↦ None ]

@@ -1,19 +1,20 @@
 -- What a table that was read is: mounts in the order of their mountpoints, each in a namespace whose keys are in files. What holds of the
 -- default mounts, and is kept by each mount that an entry adds, holds of the mounts of a table.
-use Rattle.std.proofs.Common.{◌≡◌, ℕ, ◌+◌, ◌<◌, ◌≤◌, Bool, true, false, cond, not, ◌&&◌, nat_eq, nat_le, ltb, T, List, [], ◌∷◌, ◌++◌, length, take, get_or, map as over, filter, fold, Option, Some, None, is_some, ok_or, Result, Ok, Err, codes, refl, sym, ap, subst, ◌∙◌, inl, inr, ◌⊎◌, arith, length-append, Bor}
+use Rattle.std.proofs.Common.{◌≡◌, ℕ, ◌+◌, ◌<◌, ◌≤◌, Bool, true, false, cond, not, ◌&&◌, ◌||◌, nat_eq, nat_le, ltb, T, List, [], ◌∷◌, ◌++◌, length, take, get_or, map as over, filter, fold, Option, Some, None, is_some, ok_or, Result, Ok, Err, codes, refl, sym, ap, subst, ◌∙◌, inl, inr, ◌⊎◌, arith, length-append, Bor}
 use Rattle.std.specs.Cmp.{Equal-is, tied_itself}
 use Rattle.std.specs.FinMap as map
 use Rattle.std.specs.FinMap.{FinMap, is_sorted}
 use Rattle.std.specs.List.{AllByRecursion, list_all, list_any, starts_with}
 use Rattle.std.specs.Option.{option_copied}
 use Rattle.std.specs.Ordering.{eq_by_cmp}
-use Rattle.std.proofs.lemmas.Bool.{and_from, and_parts, not-true, cond-true, cond-false, lt-ltb, le-ltb, ltb-false}
+use Rattle.std.proofs.lemmas.Bool.{cases_Bool, leb-true, and_from, and_parts, not-true, cond-true, cond-false, lt-ltb, le-ltb, ltb-false}
 use Rattle.std.proofs.lemmas.List.{length-map}
 use Rattle.std.proofs.lemmas.List.Sums.{fold-append, fold_more}
 use Rattle.general_words.proofs.Maps.{each-insert, get-at}
 use Rattle.general_words.specs.Texts.{is_text, text_cmp}
 use Rattle.general_words.proofs.Lists.{some_is, all_append, all_from_places}
 use Rattle.general_words.proofs.Tests.{cond_some}
+use Rattle.general_words.proofs.Texts.{text_cmp-IsAntisymmetric}
 use Rattle.general_words.proofs.Entries.{keys_rise}
 use Rattle.kdb_outside.specs.FileName.{is_file_name}
 use Rattle.model_maps.specs.KeyMap.{KeyMap}
@@ -109,6 +110,7 @@ pub record IsGood (mount : Mount) : Type 0 where
 pub record IsNext (mounts : List Mount) (text : Part) (mount : Mount) : Type 0 where
   pub named : name_of text ≡ Some mount.at
   pub spelled : spelling mount.at ≡ text
+  pub short : length text ≤ longest_point
   pub outside : is_at_or_below own_point mount.at ≡ false
   pub good : IsGood mount
   pub new_file : is_taken mounts mount.file ≡ false
@@ -119,7 +121,8 @@ next_is mounts text said mount h =
     let parts = mount_parts text said mount next.0 in
     let point = IsPoint-from text mount.at parts.0 in
     let tests = and_parts (has_files mount.at.namespace) _ point.is in
-    let spelled = and_parts (is_text (spelling mount.at) text) _ (and_parts (nat_le (length text) longest_point) _ tests.1).1 in
+    let short = and_parts (nat_le (length text) longest_point) _ tests.1 in
+    let spelled = and_parts (is_text (spelling mount.at) text) _ short.1 in
     let path = parts.1.0 in
     let file = cond_some (is_file_name path && not (starts_with nat_eq path (codes "journal"))) (Some path) mount.file parts.1.1 in
     let is : path ≡ mount.file = some_is path mount.file file.1 in
@@ -127,6 +130,7 @@ next_is mounts text said mount h =
     record {
       named = point.named;
       spelled = (bytes_eq-Decides (spelling mount.at) text).0 spelled.0;
+      short = leb-true _ _ short.0;
       outside = not-true _ spelled.1;
       good = record { files = tests.0; named = ap is_file_name (sym is) ∙ own.0; free = ap (λ f. starts_with nat_eq f (codes "journal")) (sym is) ∙ not-true _ own.1 };
       new_file = next.1;
@@ -177,6 +181,28 @@ some_made entries all is = mounts_from-keeps (λ _ mounts. 1 ≤ length mounts) 
 -- a text is that of one of some entries
 abbrev pub is_among : Part → List (Part × MountEntry) → Bool
 is_among text entries = list_any (eq_by_cmp text_cmp text) (over (λ e. e.0) entries)
+
+-- what the mount of an entry brings, and each more keeps, the mounts of all have
+module _ (Q : List Mount → Type 0) (text : Part) (kept : (mounts : List Mount) (mount : Mount) → Q mounts → Q (mounts ++ mount ∷ [])) (brought : (mounts : List Mount) (mount : Mount) → IsNext mounts text mount → Q (mounts ++ mount ∷ [])) where
+  abbrev Comes : List (Part × MountEntry) → List Mount → Type 0
+  Comes entries mounts = Q mounts ⊎ (is_among text entries ≡ true)
+
+  comes_push : (entry : Part × MountEntry) (entries : List (Part × MountEntry)) (mounts : List Mount) (mount : Mount) → IsNext mounts entry.0 mount → Comes (entry ∷ entries) mounts → Comes entries (mounts ++ mount ∷ [])
+  comes_push entry entries mounts mount next (inl there) = inl (kept mounts mount there)
+  comes_push entry entries mounts mount next (inr left) = elim (cases_Bool (eq_by_cmp text_cmp text entry.0)) [
+    | inl same ↦ inl (brought mounts mount (subst (λ t. IsNext mounts t mount) (sym (text_cmp-IsAntisymmetric text entry.0 ((Equal-is (text_cmp text entry.0)).0 same))) next))
+    | inr other ↦ inr (sym (ap (λ b. b || is_among text entries) other) ∙ left)
+  ]
+
+  come : (all : List Mount) → Comes [] all → Q all
+  come all (inl there) = there
+  come all (inr left) = absurd cc
+
+  pub entry-brings : (entries : Entries) (all : List Mount) → IsMade entries all → Q (remaining entries) ⊎ (map.contains_key entries text ≡ true) → Q all
+  entry-brings entries all is first = come all (mounts_from-keeps Comes comes_push (remaining entries) (map.entries entries) all is (elim first [
+    | inl there ↦ inl there
+    | inr left ↦ inr (sym (map.contains_key-keys entries text) ∙ left)
+  ]))
 
 -- ---- mounts by their mountpoints
 
