@@ -18,11 +18,12 @@ use crate::commands::metadata::{get_meta, list_meta, set_meta};
 use crate::commands::mounting::{mount, unmount};
 use crate::commands::trees::{bring, list, remove, replace};
 use crate::commands::values::{get, set};
-use crate::places::{every_key, own_point};
+use crate::places::every_key;
 use crate::steps::Step;
 use key_meta::Memory;
 use key_name::KeyName;
 use key_set::KeySet;
+use mount_table::own_point;
 use std::alloc::Global;
 use tool_words::Action;
 

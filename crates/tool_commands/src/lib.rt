@@ -10,7 +10,8 @@ mod status;
 mod steps;
 
 pub use commands::{parent_of, step};
-pub use places::{every_key, own_point};
+pub use mount_table::own_point;
+pub use places::every_key;
 pub use refusing::{warn_of_name, warn_of_words};
 pub use reports::{Report, tell, tell_bytes, warn, warn_not_found};
 pub use rule_lines::tell_checked;

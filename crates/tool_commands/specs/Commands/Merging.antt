@@ -1,5 +1,5 @@
 -- `merge`: three trees of keys become one. (After Elektra's `kdb merge`; its arguments and lines are this project's own.)
-use Rattle.std.specs.Prelude.{◌≡◌, List, [], ◌∷◌, None, Some}
+use Rattle.std.specs.Prelude.{List, [], ◌∷◌, None, Some}
 use Rattle.std.specs.FinMap as map
 use Rattle.std.specs.List.{flat_map}
 use Rattle.general_words.specs.Searches.{first_some}
@@ -7,13 +7,13 @@ use Rattle.key_merge.specs.Merged.{conflicts, merged}
 use Rattle.key_merge.specs.declared.strategies.Strategy.{Strategy}
 use Rattle.key_merge.specs.declared.strategies.Strategy.TheVariants.{Abort, Our, Their}
 use Rattle.key_name.specs.Joining.{joined}
-use Rattle.model_maps.specs.Entry.{Entry}
-use Rattle.model_maps.specs.KeyMap.{KeyMap, at_or_below, no_keys, not_below}
+use Rattle.key_set.specs.Whole.{relative}
+use Rattle.model_maps.specs.KeyMap.{KeyMap, not_below}
 use Rattle.model_names.specs.declared.namespaces.Namespace.TheVariants.{Cascading}
 use Rattle.model_names.specs.Name.{Name}
 use Rattle.model_names.specs.Refuses.{TooLong}
 use Rattle.tool_words.specs.Lines.{no_name}
-use Rattle.tool_commands.specs.Commands.Trees.{brought_over, bytes_over, with_brought}
+use Rattle.tool_commands.specs.Commands.Trees.{brought_over, bytes_over}
 use Rattle.tool_commands.specs.Lines.{line_of_conflict}
 use Rattle.tool_commands.specs.Report.{met, warned}
 use Rattle.tool_commands.specs.Step.{Step, Tells}
@@ -21,14 +21,6 @@ use Rattle.tool_commands.specs.Step.{Step, Tells}
 -- the name above all names that lead from one to another
 abbrev pub way_root : Name
 way_root = record { namespace = Cascading; parts = [] }
-
--- the keys at or below a name, each under the name that leads there
-abbrev pub relative : Name → KeyMap → KeyMap
-relative above keys = with_brought above way_root no_keys (map.entries (at_or_below above keys))
-
--- the names of keys lead from one name to others
-abbrev pub AreWays : KeyMap → Type 0
-AreWays keys = (name : Name) (entry : Entry) → map.get keys name ≡ Some entry → name.namespace ≡ Cascading
 
 -- the conflicts that are told: all where neither side wins
 abbrev pub told_of : Strategy → List Name → List Name

@@ -1,15 +1,14 @@
 //! `merge`: three trees of keys become one.
-ghost use Rattle.std.specs.Prelude.{◌≡◌, ◌++◌, [], ◌∷◌, true, None, All, IfOk, OnOk, if◌then◌else◌, string_bytes};
+ghost use Rattle.std.specs.Prelude.{◌≡◌, ◌++◌, [], ◌∷◌, true, None, All, IfOk, string_bytes};
 ghost use Rattle.std.specs.FinMap as map;
 ghost use Rattle.std.specs.List.{flat_map};
 ghost use Rattle.general_words.specs.Searches.{first_some};
 ghost use Rattle.key_name.specs.Joining.{joined};
-ghost use Rattle.key_set.specs.EntryView.{entry_of};
 ghost use Rattle.model_maps.specs.KeyMap.{not_below};
 ghost use Rattle.model_names.specs.Below.{is_at_or_below};
 ghost use Rattle.model_names.specs.declared.namespaces.Namespace.TheVariants.{Cascading};
-ghost use Rattle.tool_commands.specs.Commands.Merging.{AreWays, conflicts_told, merged_in, relative, way_root};
-ghost use Rattle.tool_commands.specs.Commands.Trees.{brought_over, bytes_over, with_brought};
+ghost use Rattle.tool_commands.specs.Commands.Merging.{conflicts_told, merged_in, way_root};
+ghost use Rattle.tool_commands.specs.Commands.Trees.{brought_over, bytes_over};
 ghost use Rattle.tool_commands.specs.Lines.{line_of_conflict};
 ghost use Rattle.tool_commands.specs.Step.{TellsEnd};
 ghost use Rattle.tool_commands.specs.StepView.{seen_step};
@@ -22,7 +21,7 @@ use crate::steps::Step;
 use key_merge::{Merge3Fault, Strategy, merge3};
 use key_meta::Memory;
 use key_name::{KeyName, NameFault};
-use key_set::{Entry, KeySet};
+use key_set::KeySet;
 use std::alloc::{AllocError, Global};
 use tool_words::Refusal;
 
@@ -39,37 +38,14 @@ pub fn merge(
     ensures step { IfOk result (λ step. seen_step step ≡ merged_in keys strategy our.now their.now base.now into.now) }
     ensures status { IfOk result (λ step. TellsEnd (2 ∷ 12 ∷ []) (seen_step step)) }
 {
-    let our = relative(alloc, our, &keys)?;
-    let their = relative(alloc, their, &keys)?;
-    let base = relative(alloc, base, &keys)?;
+    let our = keys.relative_to(alloc, our)?;
+    let their = keys.relative_to(alloc, their)?;
+    let base = keys.relative_to(alloc, base)?;
     match merge3(&base, &our, &their, strategy) {
         Ok(merged) => set_merged(alloc, into, &merged, keys),
         Err(Merge3Fault::Conflicts { names }) => tell_all(alloc, into, names.as_slice()),
         Err(Merge3Fault::Memory) => Err(AllocError),
     }
-}
-
-/// The keys at or below a name, under the names that lead there.
-fn relative(alloc: Global, above: &KeyName, keys: &KeySet) -> Result<KeySet, Memory>
-    ensures is { IfOk result (λ found. found ≡ relative above.now keys.now) }
-    ensures ways { IfOk result AreWays }
-{
-    let mut found = KeySet::new(alloc);
-    for (name, entry) in keys.iter() {
-        put_way(&mut found, above, name, entry)?;
-    }
-    Ok(found)
-}
-
-/// Sets a key under the name that leads there, where it is at or below a name.
-fn put_way(found: &mut KeySet, above: &KeyName, name: &KeyName, entry: &Entry) -> Result<(), Memory>
-    ensures set { OnOk result (found.new ≡ with_brought above.now way_root found.old (if is_at_or_below above.now name.now then (name.now, entry_of entry.now) ∷ [] else [])) }
-    ensures ways { AreWays found.old → OnOk result (AreWays found.new) }
-{
-    if let Some(way) = name.relative_to(above)? {
-        let _ = found.append(way, entry.copy()?)?;
-    }
-    Ok(())
 }
 
 /// Sets the merged keys in the place of all at or below a name.

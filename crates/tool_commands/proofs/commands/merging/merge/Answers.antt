@@ -3,13 +3,14 @@ use Rattle.std.proofs.Common.{◌≡◌, All, sym, ap, subst, ◌∙◌}
 use Rattle.std.proofs.lemmas.Result.{IfOk-weaker}
 use Rattle.model_names.specs.Name.{Name}
 use Rattle.model_names.specs.declared.namespaces.Namespace.TheVariants.{Cascading}
-use Rattle.tool_commands.specs.Commands.Merging.{conflicts_told, relative}
-use Rattle.tool_commands.proofs.MergeLemmas.{all-below_root, conflicts-of, conflicts-ways, merged-of, merged-set, merged-told, merged-ways, refused-conflicts}
+use Rattle.key_set.specs.Whole.{relative}
+use Rattle.tool_commands.specs.Commands.Merging.{conflicts_told}
+use Rattle.tool_commands.proofs.MergeLemmas.{all-below_root, conflicts-of, conflicts-ways, merged-of, merged-set, merged-told, merged-ways, refused-conflicts, sound-cascading}
 use Rattle.tool_commands.proofs.commands.merging.merge.Goals as goal
 
 pub set_merged-requires : goal.set_merged-requires
 set_merged-requires c =
-    all-below_root c.in-Ok.merged (merged-ways c.args.strategy c.in_ok-base.base c.in_ok-our.our c.in_ok-their.their c.in-Ok.merged c.in_ok-our.ensures.ways c.in_ok-their.ensures.ways c.in-Ok.ensures.merged)
+    all-below_root c.in-Ok.merged (merged-ways c.args.strategy c.in_ok-base.base c.in_ok-our.our c.in_ok-their.their c.in-Ok.merged (sound-cascading c.args.our.now c.in_ok-our.our c.in_ok-our.ensures.sound) (sound-cascading c.args.their.now c.in_ok-their.their c.in_ok-their.ensures.sound) c.in-Ok.ensures.merged)
 
 pub returns-in-Ok-clause-step : goal.returns-in-Ok-clause-step
 returns-in-Ok-clause-step c =
@@ -20,7 +21,7 @@ returns-in-Ok-clause-step c =
 pub tell_all-requires : goal.tell_all-requires
 tell_all-requires c =
     let found = refused-conflicts c.args.strategy c.in_ok-base.base c.in_ok-our.our c.in_ok-their.their c.in-Err-Conflicts.field-0 c.in-Err-Conflicts.names c.in-Err-Conflicts.field-0-is c.in-Err-Conflicts.ensures.conflicts in
-    subst (All (λ (name : Name). name.namespace ≡ Cascading)) (sym c.as_slice.ensures) (conflicts-ways c.in_ok-base.base c.in_ok-our.our c.in_ok-their.their c.in-Err-Conflicts.names c.in_ok-our.ensures.ways c.in_ok-their.ensures.ways found.1)
+    subst (All (λ (name : Name). name.namespace ≡ Cascading)) (sym c.as_slice.ensures) (conflicts-ways c.in_ok-base.base c.in_ok-our.our c.in_ok-their.their c.in-Err-Conflicts.names (sound-cascading c.args.our.now c.in_ok-our.our c.in_ok-our.ensures.sound) (sound-cascading c.args.their.now c.in_ok-their.their c.in_ok-their.ensures.sound) found.1)
 
 pub returns-in-Err-Conflicts-clause-step : goal.returns-in-Err-Conflicts-clause-step
 returns-in-Err-Conflicts-clause-step c =
