@@ -1,18 +1,17 @@
 -- What an element or a member adds, by what its value adds.
-use Rattle.std.specs.Prelude.{◌≡◌, ◌≢◌, ℕ, ◌+◌, Bool, true, false, List, [], ◌∷◌, ◌++◌, length, map}
+use Rattle.std.specs.Prelude.{◌≡◌, ◌≢◌, ℕ, ◌+◌, Bool, true, false, List, [], ◌∷◌, ◌++◌, length}
 use Rattle.std.proofs.Common.{refl, sym, ap, subst, ◌∙◌, arith, length-append}
 use Rattle.std.specs.FinMap as finite
 use Rattle.std.proofs.lemmas.List.{length-map}
 use Rattle.model_names.specs.ArrayPart.{is_array_like, array_part}
 use Rattle.model_names.specs.Name.{Part, Name}
 use Rattle.model_names.specs.WellFormed.{IsName}
-use Rattle.model_maps.specs.KeyMap.{KeyMap}
 use Rattle.key_name.specs.Children.{child_of}
 use Rattle.serde_json.specs.Data.{Data}
 use Rattle.model_json.specs.Leaves.{Leaf}
 use Rattle.model_json.specs.Tree.{leaf_of}
 use Rattle.model_json.specs.Reading.{IsNamed}
-use Rattle.json_storage.specs.Found.{Fill, leaves_in, Joined, HasAdded}
+use Rattle.json_storage.specs.Found.{leaves_in, Joined, HasAdded}
 use Rattle.json_storage.specs.Reading.{ValueAdds, ItemAdds, MemberAdds}
 use Rattle.json_storage.specs.declared.found.Found.{Found}
 use Rattle.json_storage.proofs.AddLemmas.{value-once}

@@ -3,3 +3,8 @@ mod CallLemmas
 mod TextLemmas
 mod ReadLemmas
 mod Behind
+mod EachMember
+mod ObjectLemmas
+mod KeptLemmas
+mod CutLemmas
+mod WritingLemmas

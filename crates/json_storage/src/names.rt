@@ -1,6 +1,7 @@
 //! The parts of names: those of elements, and a name with one part more.
 ghost use Rattle.std.specs.Prelude.{◌≡◌, IfOk, MatchOption, string_bytes};
 ghost use Rattle.model_names.specs.ArrayPart.{is_array_like as is_like, array_part as part_of, without_underscores, are_digits};
+ghost use Rattle.general_words.specs.Texts.{is_text};
 ghost use Rattle.model_names.specs.WellFormed.{IsName};
 ghost use Rattle.key_name.specs.Children.{child_of};
 
@@ -62,4 +63,11 @@ fn are_digits(text: &str) -> bool
     ensures { result ≡ are_digits text.now }
 {
     !text.is_empty() && text.as_bytes().iter().all(|b| b.is_ascii_digit())
+}
+
+/// Whether two texts are one.
+pub fn are_same(text: &str, other: &str) -> bool
+    ensures { result ≡ is_text text.now other.now }
+{
+    text == other
 }

@@ -1,9 +1,8 @@
-use Rattle.std.proofs.Common.{◌≡◌, ◌+◌, sym, ap, ◌∙◌, arith}
+use Rattle.std.proofs.Common.{◌≡◌, sym, ap, ◌∙◌, arith}
 use Rattle.std.specs.FinMap as finite
 use Rattle.key_set.specs.EntryView.{entry_of}
 use Rattle.model_names.specs.Name.{Name}
-use Rattle.model_maps.specs.Entry.{Entry, plain_entry}
-use Rattle.model_maps.specs.KeyMap.{weight_of_key}
+use Rattle.model_maps.specs.Entry.{plain_entry}
 use Rattle.json_storage.proofs.TextLemmas.{joins, cant}
 use Rattle.json_storage.proofs.found.add_text.Goals as goal
 use Rattle.json_storage.proofs.found.add_text.Goals.{then-len-gt-MOST_PARTS-via-then-len-gt-MOST_PARTS, then-len-gt-MOST_PARTS-via-else-len-gt-MOST_PARTS+then-text-gt-LONGEST_VALUE}

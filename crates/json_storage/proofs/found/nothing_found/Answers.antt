@@ -1,8 +1,6 @@
-use Rattle.std.proofs.Common.{sym, subst, arith}
-use Rattle.std.proofs.Common.{ap}
-use Rattle.model_maps.specs.KeyMap.{KeyMap, weight}
+use Rattle.std.proofs.Common.{sym, subst}
+use Rattle.model_maps.specs.KeyMap.{KeyMap}
 use Rattle.json_storage.specs.Found.{IsSound}
-use Rattle.json_storage.specs.declared.found.Found.{Found}
 use Rattle.json_storage.proofs.TextLemmas.{nothing-sound}
 use Rattle.json_storage.proofs.found.nothing_found.Goals as goal
 

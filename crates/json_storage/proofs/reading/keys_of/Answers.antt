@@ -1,4 +1,4 @@
-use Rattle.std.proofs.Common.{subst, sym, ap, ◌∙◌, [], false, true}
+use Rattle.std.proofs.Common.{subst, []}
 use Rattle.model_names.specs.Name.{Name}
 use Rattle.serde_json.specs.View.{members_view}
 use Rattle.json_storage.specs.Found.{HasAdded}

@@ -1,5 +1,5 @@
 -- An object that has no reading makes the file bad.
-use Rattle.std.proofs.Common.{◌≡◌, length, refl, sym, ap, ◌∙◌, Some}
+use Rattle.std.proofs.Common.{length, refl, sym, ap, ◌∙◌, Some}
 use Rattle.std.proofs.lemmas.Bool.{eqb-false}
 use Rattle.serde_json.specs.View.{view, members_view}
 use Rattle.json_storage.proofs.ReadLemmas.{object-of, bad-unless}

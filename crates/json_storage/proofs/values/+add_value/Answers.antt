@@ -1,20 +1,18 @@
 -- Each part adds what it adds, or stops the whole.
-use Rattle.std.proofs.Common.{◌≡◌, ◌+◌, [], ◌∷◌, ◌++◌, drop, Some, string_bytes, true, false, refl, sym, ap, ◌∙◌, subst, arith, rules}
+use Rattle.std.proofs.Common.{◌≡◌, ◌+◌, [], ◌∷◌, ◌++◌, drop, Some, string_bytes, true, false, sym, ap, ◌∙◌, subst, arith, rules}
 use Rattle.std.proofs.lemmas.List.{drop_more, drop_all}
 use Rattle.std.proofs.lemmas.Result.{IfOk-weaker}
 use Rattle.model_names.specs.ArrayPart.{array_part}
-use Rattle.model_names.specs.Name.{Name}
-use Rattle.key_name.specs.Children.{child_of}
-use Rattle.serde_json.specs.Data.{null, boolean, number, string, array, object, Data}
+use Rattle.serde_json.specs.Data.{null, boolean, number, string, Data}
 use Rattle.serde_json.specs.View.{view, number_view, items_view, members_view}
 use Rattle.serde_json.specs.declared.value.Value.{the_lemmas}
 use Rattle.serde_json.proofs.Views.{Entry, view-Array, view-Object}
-use Rattle.model_json.specs.Leaves.{leaves, boolean_text, one_leaf}
-use Rattle.model_json.specs.Reading.{AreNamed, IsNamed}
+use Rattle.model_json.specs.Leaves.{leaves, one_leaf}
+use Rattle.model_json.specs.Reading.{AreNamed}
 use Rattle.json_storage.specs.Found.{HasAdded}
 use Rattle.json_storage.specs.Reading.{ValueAdds, ItemAdds, ItemsAdd, MemberAdds, MembersAdd}
 use Rattle.json_storage.proofs.AddLemmas.{HasAdded-then, HasAdded-stops, element-parts, member-parts, no-elements, no-more-members, value-none, value-text, value-items, value-members, value-number}
-use Rattle.json_storage.proofs.CallLemmas.{unnamed, child-named, child-parts, item-none, item-stops, item-empty, item-joins, member-unlike, member-none, member-value}
+use Rattle.json_storage.proofs.CallLemmas.{child-named, child-parts, item-stops, member-value}
 use Rattle.json_storage.proofs.values.+add_value.Goals as goal
 
 -- ---- values
