@@ -10,8 +10,9 @@ use Rattle.model_formats.proofs.HoldingLemmas.{EachHas-or_lacks, EachHas-lacks_n
 use Rattle.model_dump.proofs.Lawful.{dump-lawful}
 use Rattle.model_ini.proofs.Lawful.{ini-lawful}
 use Rattle.model_hosts.proofs.Lawful.{hosts-lawful}
+use Rattle.model_json.proofs.Lawful.{json_files-lawful}
 use Rattle.kdb_outside.specs.declared.kinds.Kind.{Kind}
-use Rattle.kdb_outside.specs.declared.kinds.Kind.TheVariants.{Dump, SimpleIni, Hosts}
+use Rattle.kdb_outside.specs.declared.kinds.Kind.TheVariants.{Dump, SimpleIni, Hosts, Json}
 use Rattle.all_formats.specs.Meanings.{format, Reads, IsBadAt, Holds, IsStorable, BreaksAt, is_keywise}
 
 -- each format is lawful
@@ -19,6 +20,7 @@ pub lawful : (kind : Kind) → IsLawful (format kind)
 lawful Dump = dump-lawful
 lawful SimpleIni = ini-lawful
 lawful Hosts = hosts-lawful
+lawful Json = json_files-lawful
 
 pub Reads-or_bad : (kind : Kind) (bytes : List ℕ) → ((keys : KeyMap) × Reads kind bytes keys) ⊎ ((line : ℕ) × IsBadAt kind bytes line)
 Reads-or_bad kind bytes = (lawful kind).reads_or_bad bytes

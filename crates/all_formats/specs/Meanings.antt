@@ -8,14 +8,16 @@ use Rattle.model_formats.specs.Format.{Format}
 use Rattle.model_dump.specs.DumpFormat.{dump}
 use Rattle.model_ini.specs.Text.{ini}
 use Rattle.model_hosts.specs.Text.{hosts}
+use Rattle.model_json.specs.Text.{json_files}
 use Rattle.kdb_outside.specs.declared.kinds.Kind.{Kind}
-use Rattle.kdb_outside.specs.declared.kinds.Kind.TheVariants.{Dump, SimpleIni, Hosts}
+use Rattle.kdb_outside.specs.declared.kinds.Kind.TheVariants.{Dump, SimpleIni, Hosts, Json}
 
 -- the format of a kind
 abbrev pub format : Kind → Format
 format Dump = dump
 format SimpleIni = ini
 format Hosts = hosts
+format Json = json_files
 
 -- bytes read as a map
 abbrev pub Reads : Kind → List ℕ → KeyMap → Type 0

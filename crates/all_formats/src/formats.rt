@@ -70,6 +70,7 @@ impl Formats for AllFormats {
             Kind::Dump => dump_storage::read(alloc, bytes),
             Kind::SimpleIni => ini_storage::read(alloc, bytes),
             Kind::Hosts => hosts_storage::read(alloc, bytes),
+            Kind::Json => json_storage::read(alloc, bytes),
         }
     }
 
@@ -81,6 +82,7 @@ impl Formats for AllFormats {
             Kind::Dump => dump_storage::write(alloc, keys),
             Kind::SimpleIni => ini_storage::write(alloc, keys),
             Kind::Hosts => hosts_storage::write(alloc, keys),
+            Kind::Json => json_storage::write(alloc, keys),
         }
     }
 
@@ -89,7 +91,7 @@ impl Formats for AllFormats {
     {
         match kind {
             Kind::Dump | Kind::SimpleIni => true,
-            Kind::Hosts => false,
+            Kind::Hosts | Kind::Json => false,
         }
     }
 }

@@ -12,6 +12,8 @@ pub enum Kind {
     SimpleIni,
     /// Addresses, each with a host, its aliases and comments.
     Hosts,
+    /// The values of an object, each at the parts on the way to it.
+    Json,
 }
 
 impl Kind {
@@ -25,6 +27,7 @@ impl Kind {
             "dump" => Some(Kind::Dump),
             "simpleini" => Some(Kind::SimpleIni),
             "hosts" => Some(Kind::Hosts),
+            "json" => Some(Kind::Json),
             _ => None,
         }
     }
@@ -38,6 +41,7 @@ impl Kind {
             Kind::Dump => "dump",
             Kind::SimpleIni => "simpleini",
             Kind::Hosts => "hosts",
+            Kind::Json => "json",
         }
     }
 }

@@ -9,3 +9,8 @@ pub returns-in-SimpleIni : goal.returns-in-SimpleIni
 returns-in-SimpleIni c = record {
   text = subst (λ kind. MatchResult c.write-in-SimpleIni.result (λ bytes. (bytes.items ≡ text kind c.args.keys.now) × IsStorable kind c.args.keys.now) (RefusesToWrite (BreaksAt kind c.args.keys.now))) (sym c.in-SimpleIni.is) c.write-in-SimpleIni.ensures;
 }
+
+pub returns-in-Json : goal.returns-in-Json
+returns-in-Json c = record {
+  text = subst (λ kind. MatchResult c.write-in-Json.result (λ bytes. (bytes.items ≡ text kind c.args.keys.now) × IsStorable kind c.args.keys.now) (RefusesToWrite (BreaksAt kind c.args.keys.now))) (sym c.in-Json.is) c.write-in-Json.ensures.text;
+}
