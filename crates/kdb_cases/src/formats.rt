@@ -5,7 +5,7 @@ use all_formats::AllFormats;
 use kdb_outside::Kind;
 use key_meta::Memory;
 use std::alloc::{AllocError, Global};
-use storage_api::{Formats, ReadRefusal};
+use storage_api::{Formats, ReadRefusal, WriteRefusal};
 
 /// What comes of a line, if it is one of formats.
 pub fn answer_to(alloc: Global, word: &str, rest: &str) -> Result<Option<String>, Memory> {
@@ -20,6 +20,7 @@ pub fn answer_to(alloc: Global, word: &str, rest: &str) -> Result<Option<String>
     match word {
         "again" => Ok(Some(written(alloc, kind, kind, text)?)),
         "as-dump" => Ok(Some(written(alloc, kind, Kind::Dump, text)?)),
+        "as-json" => Ok(Some(written(alloc, kind, Kind::Json, text)?)),
         "first" => Ok(Some(first_of(alloc, kind, text)?)),
         "by-keys" => {
             let answer = AllFormats.keywise(kind);
@@ -38,17 +39,19 @@ fn read_of(alloc: Global, kind: Kind, bytes: &[u8]) -> Result<String, Memory> {
     }
 }
 
-/// The text of the keys of a file in a format, or that the file is none.
+/// The text of the keys of a file in a format, the first key that the format can't hold, or that the file is none.
 fn written(alloc: Global, from: Kind, to: Kind, text: &str) -> Result<String, Memory> {
     let bytes = bytes_of(alloc, text)?;
     let Ok(keys) = AllFormats.read(alloc, from, &bytes) else {
         return format!(in alloc; "  no {}\n", from.word());
     };
-    let Ok(text) = AllFormats.write(alloc, to, &keys) else {
-        return Err(AllocError);
-    };
-    let text = shown(alloc, &text)?;
-    format!(in alloc; "  {text}\n")
+    match AllFormats.write(alloc, to, &keys) {
+        Ok(text) => format!(in alloc; "  {}\n", shown(alloc, &text)?),
+        Err(WriteRefusal::NotStorable { key }) => {
+            format!(in alloc; "  no {}: {}\n", to.word(), key.text()?)
+        }
+        Err(WriteRefusal::Memory) => Err(AllocError),
+    }
 }
 
 /// The name of the first key, in name order.
