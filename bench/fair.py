@@ -31,7 +31,8 @@ import sys
 import tempfile
 import time
 
-from fair_files import NotOpened, Store, read_dump
+from fair_files import NotOpened, Store
+from fair_formats import read_dump
 from fair_judge import DISK_FAULT, Text, Trial, Unfair, held, judged, rendered, text_of
 from fair_keys import shown
 from fair_play import Play

@@ -2,7 +2,7 @@
 """
 import collections
 
-from fair_files import dump_of
+from fair_formats import dump_of
 from fair_scripts import key, relative_keys
 
 FIRST = 'commit 1 by 1\ntouched user:/\n+ user:/a "1"\n'

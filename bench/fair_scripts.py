@@ -3,7 +3,7 @@ import collections
 import random
 import re
 
-from fair_files import dump_of
+from fair_formats import dump_of
 from fair_keys import (CASCADING, LONGEST_META, PROC, name_of, plain, quoted, size, spelling, unquoted_at)
 
 MOST_SESSIONS, LONGEST_SCRIPT, MOST_LINES, MOST_TRIES = 32, 4 * 2**20, 100_000, 100_000
@@ -130,11 +130,13 @@ def script_of(data):
 PLACES = [
     ("user:/sw", "sw.ini", "simpleini"),
     ("system:/hosts", "hosts", "hosts"),
+    ("user:/web", "web.json", "json"),
     ("user:/deep/er", "deep.ecf", "dump"),
 ]
 PARENTS = ["/", "/", "user:/", "user:/", "user:/", "system:/", "user:/sw", "user:/deep", "system:/hosts", "dir:/",
-           "/sw", "/a", "user:/a", "proc:/a", "default:/a", "spec:/", "system:/elektra"]
+           "/sw", "/a", "user:/a", "user:/web", "proc:/a", "default:/a", "spec:/", "system:/elektra"]
 NAMES = ["user:/a", "user:/b", "user:/b/c", "user:/sw/a", "user:/sw/b", "user:/deep/er/x", "user:/odd name", "user:/%",
+         "user:/web/a", "user:/web/b/c", "user:/web/list/#0", "user:/web/list/#1", "user:/web/list/#2",
          "system:/a", "system:/b", "dir:/a", "dir:/sw/b", "proc:/a", "default:/b"]
 HOSTS = ["system:/hosts/ipv4/box", "system:/hosts/ipv4/box/alias", "system:/hosts/ipv6/six"]
 SPECS = ["spec:/a", "spec:/b", "spec:/sw/_", "spec:/sw/b"]
@@ -284,11 +286,13 @@ def files_of(seed):
                                               key("/deep/er/hidden", "h", ("note", "y"))))
     files["sw.ini"] = b"; a comment\n a = 1 \nb\\=c=\\s2\n"
     files["hosts"] = b"# first\n10.0.0.1\tbox alias # here\n::1 six\n"
+    files["web.json"] = b'{ "list": ["x", 2], "a": true, "b": {"c": "\\u0041"} }\n'
     if chance.random() < 0.5:
         specs = key("/sw/_", "", chance.choice(SAYINGS)), key("/b", "", ("default", "3"))
         files["spec.ecf"] = dump_of(relative_keys(*specs))
     if chance.random() < 0.2:
-        files[chance.choice(["dir.ecf", "hosts", "sw.ini", "deep.ecf"])] = b"kdbOpen 2\n$key string 1 1\nx\n[\n"
+        file = chance.choice(["dir.ecf", "hosts", "sw.ini", "web.json", "deep.ecf"])
+        files[file] = b"kdbOpen 2\n$key string 1 1\nx\n[\n"
     if chance.random() < 0.3:
         body = body_with("user.ecf", dump_of(relative_keys(key("/a", "brought in"))))
         gate = chance.choice([0, 1])

@@ -2,7 +2,8 @@
 import bisect
 import collections
 
-from fair_files import ELEKTRA, LONGEST_FILE, NotStorable, table_of
+from fair_files import ELEKTRA, LONGEST_FILE, table_of
+from fair_formats import NotStorable
 from fair_keys import (HEAVIEST_HISTORY, HEAVIEST_MAP, LONGEST_TEXT, Specified, broken, is_below_or_same, joined,
                        quoted, shown, size, weight, weight_of_entry, weight_of_name, with_meta, with_value)
 

@@ -13,7 +13,8 @@ import sys
 import fair_cases
 import fair_merges
 from fair_cases import NESTED
-from fair_files import Store, dump_of
+from fair_files import Store
+from fair_formats import dump_of
 from fair_judge import Trial, Unfair, judged, rendered, text_of
 from fair_play import Play
 from fair_scripts import Making, files_of, key, relative_keys, script_of
