@@ -24,6 +24,7 @@ BASH = [
     ("kdb rm -r user:/sw/b", ["/sw/b"]),
     ("kdb merge user:/sw/a user:/sw/a user:/sw/a user:/sw/a -s o", ["our"]),
     ("kdb export user:/sw s", ["simpleini"]),
+    ("kdb import user:/sw j", ["json"]),
     ("kdb mount us", ["user.ecf"]),
     ("kdb mounts ", []),
     ("kdb b", ["batch"]),
@@ -88,7 +89,7 @@ def main():
             if sorted(ran.stdout.split()) != sorted(wanted):
                 bad.append(f"bash offers for {line!r}: {ran.stdout.split()}")
         if shutil.which("zsh"):
-            for line, wanted in [("kdb ", commands()), ("kdb export user:/sw ", ["dump", "simpleini", "hosts"]),
+            for line, wanted in [("kdb ", commands()), ("kdb export user:/sw ", ["dump", "simpleini", "hosts", "json"]),
                                  ("kdb merge a b c d -s ", ["abort", "our", "their"]), ("kdb mounts ", []),
                                  ("kdb batch ", []), ("kdb gen ", []),
                                  ("kdb get ", ["user:/sw/a", "user:/sw/b", "spec:/", "dir:/", "user:/", "system:/"])]:

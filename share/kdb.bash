@@ -17,7 +17,7 @@ _kdb() {
   fi
   case $command:$count in
     mount:3) COMPREPLY=($(cd .kdb 2>/dev/null && compgen -f -- "$whole")); return ;;
-    mount:5 | export:4 | import:4) COMPREPLY=($(compgen -W $'dump\nsimpleini\nhosts' -- "$whole")); return ;;
+    mount:5 | export:4 | import:4) COMPREPLY=($(compgen -W $'dump\nsimpleini\nhosts\njson' -- "$whole")); return ;;
     mounts:* | batch:* | gen:*) return ;;
   esac
   case ${place[count - 2]} in
