@@ -15,14 +15,13 @@ use Rattle.model_history.specs.History.{Commit}
 use Rattle.model_maps.specs.KeyMap.{KeyMap}
 use Rattle.model_names.specs.Name.{Name}
 use Rattle.model_store.specs.Records.{Record}
-use Rattle.model_store.specs.Store.{Formats}
+use Rattle.model_store.specs.Store.{Formats, store_of}
 use Rattle.mounted_files.specs.declared.refusals.GetFault.{GetFault}
 use Rattle.seat_lock.specs.Known.{Place}
 use Rattle.seat_lock.proofs.Prefixes.{prefix-self}
 use Rattle.batch_run.specs.Stepping.{GoesOn, session_of}
 use Rattle.batch_run.proofs.Joining.{goes-one}
 use Rattle.batch_run.proofs.CommitNumbers.{longer-commits, numbers-since}
-use Rattle.store_core.specs.Plans.{store_of}
 use Rattle.store_core.specs.declared.cores.Plan.{Plan}
 use Rattle.store_core.specs.declared.getting.Got.{Got}
 use Rattle.store_verdict.specs.RecordView.{proc_of, record_of}

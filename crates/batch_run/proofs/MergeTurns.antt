@@ -32,7 +32,7 @@ use Rattle.model_maps.specs.KeyMap.{KeyMap}
 use Rattle.model_names.specs.Name.{Name}
 use Rattle.model_store.specs.Records.{IsRecord}
 use Rattle.model_store.specs.Sets.{front_in}
-use Rattle.model_store.specs.Store.{Formats, points_of}
+use Rattle.model_store.specs.Store.{Formats, points_of, store_of}
 use Rattle.mounted_files.specs.declared.files.MountedFile.{MountedFile}
 use Rattle.seat_lock.specs.Known.{Place}
 use Rattle.seat_lock.specs.Story.{made_by}
@@ -42,7 +42,6 @@ use Rattle.batch_run.proofs.CommitNumbers.{IsSince, longer-commits, since-self, 
 use Rattle.batch_run.proofs.GetTurns.{session_with}
 use Rattle.batch_run.proofs.Joining.{goes-one}
 use Rattle.batch_run.proofs.SetTurns.{Makes, judged-then, silent-makes, stored-makes, stored-means, stored-seen, unprepared-means, within}
-use Rattle.store_core.specs.Plans.{store_of}
 use Rattle.store_core.specs.declared.committing.CommitFault.{CommitFault}
 use Rattle.store_core.specs.declared.committing.CommitFault.TheVariants.{Conflict}
 use Rattle.store_core.specs.declared.committing.Done.{Done}

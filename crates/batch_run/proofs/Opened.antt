@@ -63,9 +63,6 @@ pub one-more : (handles all : List HandleValue) (handle : HandleValue) (place : 
 one-more handles all handle place pushed count = omega (arith, ap (λ (hs : List HandleValue). length hs) pushed, length_push handles handle)
 
 module _ {F : Type 0} (lock : Place Told) (plan : Plan F) where
-  pub fresh-none : (procs : ℕ → KeyMap) → AreFresh lock plan procs []
-  fresh-none procs i d lt = absurd (omega arith)
-
   pub fresh-push : (procs : ℕ → KeyMap) (handles : List HandleValue) (handle : HandleValue) → AreFresh lock plan procs handles → IsFresh lock plan (length handles + 1) (procs (length handles + 1)) handle → AreFresh lock plan procs (handles ++ handle ∷ [])
   fresh-push procs handles handle each last i d lt = by (cases_lt i (length handles))
     where
@@ -77,14 +74,6 @@ module _ {F : Type 0} (lock : Place Told) (plan : Plan F) where
       by (inr more) =
           let same : length handles ≡ i = omega (arith, length_push handles handle) in
           subst (Is i) (sym (get_or_push handles handle d i same)) (subst (λ (k : ℕ). Is k handle) same last)
-
-  -- no handle is opened yet
-  pub opened-none : (script : Script) (handles : List HandleValue) (seats : List (Known Told)) (room : ℕ) → handles ≡ [] → AreFree lock seats room → length seats ≡ lock.seats → AreOpened lock plan script handles seats room
-  opened-none script handles seats room none free all = record {
-    fresh = subst (AreFresh lock plan (procs_of script)) (sym none) (fresh-none (procs_of script));
-    free = free;
-    all = omega (arith, ap (λ (hs : List HandleValue). length hs) none);
-  }
 
   -- the next one is, for the session of its place
   pub opened-next : (script : Script) (numbers : List ℕ) (lines : List ProcLine) (place : ℕ) (handles all : List HandleValue) (handle : HandleValue) (seats left : List (Known Told)) (room now : ℕ) → numbers ≡ sessions_of script → lines ≡ script.proc → length handles ≡ place

@@ -1,6 +1,6 @@
 -- Rooms that stand in rows, one for each session, and the transcripts that are shown of them: both say the same.
 use Rattle.std.proofs.Common.{◌≡◌, ◌≢◌, ◌⊎◌, inl, inr, ℕ, zero, suc, ◌+◌, ◌<◌, ◌≤◌, Bool, true, false, cond, nat_eq, ◌||◌, List, [], ◌∷◌, ◌++◌, length, get_or, set, drop, slice_get, Some, map, refl, sym, ap, ◌∙◌, arith, eq-eqb, eqb-true, ne_eqb}
-use Rattle.std.proofs.lemmas.List.{drop_all, drop_more, get_or-map, length-map, nil_from_length, same_lists}
+use Rattle.std.proofs.lemmas.List.{drop_more, get_or-map, length-map, nil_from_length, same_lists}
 use Rattle.std.specs.List.{AllByRecursion, list_any}
 use Rattle.batch_script.specs.Rising.{IsRising}
 use Rattle.batch_script.specs.Rows.{most_sessions}
@@ -195,16 +195,6 @@ pub steps-found : (phase : List Steps) (k : ℕ) (d : Steps) (number : ℕ) → 
 steps-found phase k d number lt left is =
     let steps = get_or phase k d in
     sym (ap (λ b. cond b steps.steps (steps_in (drop (k + 1) phase) number)) (eq-eqb steps.session number is)) ∙ (ap (λ (l : List Steps). steps_in l number) (sym (drop_more phase k d lt)) ∙ left)
-
--- it is another, so the search goes on
-pub steps-passed : (phase : List Steps) (k : ℕ) (d : Steps) (number : ℕ) → k < length phase → steps_in (drop k phase) number ≡ steps_in phase number → number_of (get_or phase k d) ≢ number → steps_in (drop (k + 1) phase) number ≡ steps_in phase number
-steps-passed phase k d number lt left other =
-    let steps = get_or phase k d in
-    sym (ap (λ b. cond b steps.steps (steps_in (drop (k + 1) phase) number)) (ne_eqb steps.session number other)) ∙ (ap (λ (l : List Steps). steps_in l number) (sym (drop_more phase k d lt)) ∙ left)
-
--- none is left
-pub steps-none : (phase : List Steps) (k number : ℕ) → length phase ≤ k → steps_in (drop k phase) number ≡ steps_in phase number → [] ≡ steps_in phase number
-steps-none phase k number le left = ap (λ (l : List Steps). steps_in l number) (sym (drop_all k phase le)) ∙ left
 
 -- past its end a row has nothing
 pub in_row-past : {A : Type 0} (row : List (List A)) (i : ℕ) → length row ≤ i → in_row i row ≡ []

@@ -15,6 +15,7 @@ use Rattle.batch_run.specs.Stands.{HasTaken, IsFull, Stand}
 use Rattle.batch_run.specs.Workers.{IsSeated, handle_in}
 use Rattle.batch_run.specs.declared.workers.Worker.{Worker}
 use Rattle.batch_run.proofs.Counting.{covered}
+use Rattle.batch_run.proofs.ShownLemmas.{in_row-at}
 use Rattle.kdb_handle.specs.Handles.{HandleValue}
 use Rattle.kdb_handle.specs.Story.{Told, commits_of, failures_in, refusals_in}
 use Rattle.kdb_handle.specs.declared.replies.Reply.{Reply}
@@ -38,12 +39,6 @@ use Rattle.store_verdict.specs.RecordView.{proc_of}
 -- what a session has in one row more
 session-snoc : {A : Type 0} (i : ℕ) (rows : List (List (List A))) (row : List (List A)) → of_session i (rows ++ row ∷ []) ≡ of_session i rows ++ in_row i row
 session-snoc {A} i rows row = flat_map-append (in_row i) rows (row ∷ []) ∙ ap (λ (l : List A). of_session i rows ++ l) (append-nil (in_row i row))
-
--- what stands at a place of a row
-in_row-at : {A : Type 0} (row : List (List A)) (i : ℕ) (d : List A) → i < length row → in_row i row ≡ get_or row i d
-in_row-at [] i d lt = absurd (omega arith)
-in_row-at (x ∷ row) zero d lt = refl
-in_row-at (x ∷ row) (suc i) d lt = in_row-at row i d (omega arith)
 
 count-none : (n : ℕ) → count_told n [] ≡ 0
 count-none zero = refl

@@ -1,5 +1,5 @@
 //! The phases of a batch: in each the sessions take their steps on threads, and then all handles meet.
-ghost use Rattle.std.specs.Prelude.{◌≡◌, ℕ, ◌<◌, [], length, slice_index_or, map as over};
+ghost use Rattle.std.specs.Prelude.{ℕ, ◌<◌, [], length, slice_index_or, map as over};
 ghost use Rattle.batch_run.specs.Going.{IsThrough, Works};
 ghost use Rattle.batch_run.specs.Rooms.{ArePhaseRooms, HaveRoom, IsRoom, KeepShown, row_in, told_in};
 ghost use Rattle.batch_run.specs.Stands.{Stand, rows_of};
@@ -9,6 +9,7 @@ ghost use Rattle.kdb_handle.specs.Stores.{IsHandle};
 ghost use Rattle.kdb_handle.specs.Views.{lock_of, plan_of};
 ghost use Rattle.model_batch.specs.Scripts.{steps_in};
 ghost use Rattle.model_maps.specs.KeyMap.{KeyMap};
+ghost use Rattle.model_store.specs.Store.{formats_of};
 
 use crate::exchanges::exchange;
 use crate::meetings::meet_all;
@@ -43,8 +44,8 @@ pub fn all_phases<
 )
     requires resting { (i : ℕ) (d : Worker) → i < length workers.old → IsResting (lock_of store.now) (plan_of store.now) (slice_index_or workers.old i d) }
     requires rooms { ArePhaseRooms (over number_in workers.old) phases.now rooms.old }
-    ensures stand { (procs : ℕ → KeyMap) → Stand (record { text = F.text; IsStorable = F.is_storable; BreaksAt = F.breaks_at }) (lock_of store.now) (plan_of store.now) procs [] [] workers.old
-        → Stand (record { text = F.text; IsStorable = F.is_storable; BreaksAt = F.breaks_at }) (lock_of store.now) (plan_of store.now) procs (rows_of (over number_in workers.old) phases.now) (over row_in rooms.new) workers.new }
+    ensures stand { (procs : ℕ → KeyMap) → Stand (formats_of F.Formats) (lock_of store.now) (plan_of store.now) procs [] [] workers.old
+        → Stand (formats_of F.Formats) (lock_of store.now) (plan_of store.now) procs (rows_of (over number_in workers.old) phases.now) (over row_in rooms.new) workers.new }
     ensures shown { KeepShown rooms.old rooms.new }
 {
     for place in 0..phases.len() {
@@ -78,7 +79,7 @@ fn one_phase<
 )
     requires resting { (i : ℕ) (d : Worker) → i < length workers.old → IsResting (lock_of store.now) (plan_of store.now) (slice_index_or workers.old i d) }
     requires rooms { HaveRoom (over number_in workers.old) phase.now rooms.old }
-    ensures { IsThrough (record { text = F.text; IsStorable = F.is_storable; BreaksAt = F.breaks_at }) (lock_of store.now) (plan_of store.now) (over (steps_in phase.now) (over number_in workers.old)) (over told_in rooms.new) workers.old workers.new }
+    ensures { IsThrough (formats_of F.Formats) (lock_of store.now) (plan_of store.now) (over (steps_in phase.now) (over number_in workers.old)) (over told_in rooms.new) workers.old workers.new }
 {
     exchange(workers, rooms);
     take_all(rt, alloc, gate, store, phase, workers);
@@ -104,7 +105,7 @@ fn take_all<
     requires handles { (i : ℕ) (d : Worker) → i < length workers.old → IsHandle (lock_of store.now) (plan_of store.now) (slice_index_or workers.old i d).session.handle }
     requires rooms { (i : ℕ) (d : Worker) → i < length workers.old → IsRoom (length (steps_in phase.now (slice_index_or workers.old i d).session.number)) (slice_index_or workers.old i d).told }
     ensures { (i : ℕ) (d : Worker) → i < length workers.old
-        → Works (record { text = F.text; IsStorable = F.is_storable; BreaksAt = F.breaks_at }) (lock_of store.now) (plan_of store.now) (steps_in phase.now (slice_index_or workers.old i d).session.number) (slice_index_or workers.old i d) (slice_index_or workers.new i d) }
+        → Works (formats_of F.Formats) (lock_of store.now) (plan_of store.now) (steps_in phase.now (slice_index_or workers.old i d).session.number) (slice_index_or workers.old i d) (slice_index_or workers.new i d) }
 {
     if phase.len() < 2 {
         take_in_turn(rt, alloc, gate, store, phase, workers);
@@ -124,7 +125,7 @@ fn take_in_turn<G: Gate, D: Disk, F: Formats + Drop, P: Patterns + Drop, R: Wait
     requires handles { (i : ℕ) (d : Worker) → i < length workers.old → IsHandle (lock_of store.now) (plan_of store.now) (slice_index_or workers.old i d).session.handle }
     requires rooms { (i : ℕ) (d : Worker) → i < length workers.old → IsRoom (length (steps_in phase.now (slice_index_or workers.old i d).session.number)) (slice_index_or workers.old i d).told }
     ensures { (i : ℕ) (d : Worker) → i < length workers.old
-        → Works (record { text = F.text; IsStorable = F.is_storable; BreaksAt = F.breaks_at }) (lock_of store.now) (plan_of store.now) (steps_in phase.now (slice_index_or workers.old i d).session.number) (slice_index_or workers.old i d) (slice_index_or workers.new i d) }
+        → Works (formats_of F.Formats) (lock_of store.now) (plan_of store.now) (steps_in phase.now (slice_index_or workers.old i d).session.number) (slice_index_or workers.old i d) (slice_index_or workers.new i d) }
 {
     for worker in workers.iter_mut() {
         take_own(rt, alloc, gate, store, phase, worker);
@@ -149,7 +150,7 @@ fn take_beside<
     requires handles { (i : ℕ) (d : Worker) → i < length workers.old → IsHandle (lock_of store.now) (plan_of store.now) (slice_index_or workers.old i d).session.handle }
     requires rooms { (i : ℕ) (d : Worker) → i < length workers.old → IsRoom (length (steps_in phase.now (slice_index_or workers.old i d).session.number)) (slice_index_or workers.old i d).told }
     ensures { (i : ℕ) (d : Worker) → i < length workers.old
-        → Works (record { text = F.text; IsStorable = F.is_storable; BreaksAt = F.breaks_at }) (lock_of store.now) (plan_of store.now) (steps_in phase.now (slice_index_or workers.old i d).session.number) (slice_index_or workers.old i d) (slice_index_or workers.new i d) }
+        → Works (formats_of F.Formats) (lock_of store.now) (plan_of store.now) (steps_in phase.now (slice_index_or workers.old i d).session.number) (slice_index_or workers.old i d) (slice_index_or workers.new i d) }
 {
     let count = workers.len();
     if count == 0 {
@@ -174,7 +175,7 @@ fn take_own<G: Gate, D: Disk, F: Formats + Drop, P: Patterns + Drop, R: Wait>(
 )
     requires handle { IsHandle (lock_of store.now) (plan_of store.now) worker.old.session.handle }
     requires room { IsRoom (length (steps_in phase.now worker.old.session.number)) worker.old.told }
-    ensures { Works (record { text = F.text; IsStorable = F.is_storable; BreaksAt = F.breaks_at }) (lock_of store.now) (plan_of store.now) (steps_in phase.now worker.old.session.number) worker.old worker.new }
+    ensures { Works (formats_of F.Formats) (lock_of store.now) (plan_of store.now) (steps_in phase.now worker.old.session.number) worker.old worker.new }
 {
     let steps = steps_among(worker.session.number, phase);
     worker

@@ -1,19 +1,16 @@
 //! Plays a script on an open store.
 ghost use Rattle.std.specs.Prelude.{◌≡◌, ℕ, None, length};
-ghost use Rattle.std.specs.List.{AllByRecursion};
 ghost use Rattle.batch_script.specs.declared.steps.Script.{Script};
 ghost use Rattle.batch_run.specs.Opening.{AreOpened, HasPlaces};
 ghost use Rattle.batch_run.specs.Played.{IsPlayable, IsPlayed};
 ghost use Rattle.kdb_handle.specs.Stores.{AreFree, IsStarted};
-ghost use Rattle.kdb_handle.specs.Views.{files_in, files_of, first_story, fixed_of, lock_of, plan_of, room_of, seats_of};
+ghost use Rattle.kdb_handle.specs.Views.{files_in, files_of, first_story, lock_of, plan_of, room_of, seats_of};
 ghost use Rattle.model_batch.specs.Scripts.{sessions_of};
 ghost use Rattle.model_maps.specs.KeyMap.{KeyMap};
+ghost use Rattle.model_store.specs.Store.{store_of, formats_of};
 ghost use Rattle.model_store.specs.Worlds.{first_world};
-ghost use Rattle.mounted_files.specs.Short.{AreShort};
 ghost use Rattle.store_core.specs.Cores.{StandsIn};
-ghost use Rattle.store_core.specs.Plans.{store_of};
 ghost use Rattle.store_core.specs.declared.cores.Core.{Core};
-ghost use Rattle.store_verdict.specs.Preparing.{IsPlan};
 
 use crate::handles::open_all;
 use crate::running::{Sessions, run_sessions};
@@ -45,10 +42,8 @@ pub fn play_on<
     R: Threads + Wait + Sync,
 >(rt: &R, alloc: Global, gate: &G, plan: Plan<F>, core: Core<D, P>, script: &Script) -> Played<D, P>
     requires script { IsPlayable script.now }
-    requires world { (procs : ℕ → KeyMap) → StandsIn (record { text = F.text; IsStorable = F.is_storable; BreaksAt = F.breaks_at }) (store_of (files_of plan) procs) core (λ r m. None) (λ p. None) first_world }
-    requires fixed { (procs : ℕ → KeyMap) → IsPlan (store_of (files_of plan) procs) (fixed_of plan) }
-    requires short { AllByRecursion AreShort (fixed_of plan).shadows }
-    ensures { IsPlayed (record { text = F.text; IsStorable = F.is_storable; BreaksAt = F.breaks_at }) D.Disk P.refusals (files_of plan) script.now core result }
+    requires world { (procs : ℕ → KeyMap) → StandsIn (formats_of F.Formats) (store_of (files_of plan) procs) core (λ r m. None) (λ p. None) first_world }
+    ensures { IsPlayed (formats_of F.Formats) D.Disk P.refusals (files_of plan) script.now core result }
 {
     match places_of(alloc, script) {
         Ok(places) => play_shared(rt, alloc, gate, plan, core, script, places),
@@ -73,11 +68,9 @@ fn play_shared<
     places: Places,
 ) -> Played<D, P>
     requires script { IsPlayable script.now }
-    requires world { (procs : ℕ → KeyMap) → StandsIn (record { text = F.text; IsStorable = F.is_storable; BreaksAt = F.breaks_at }) (store_of (files_of plan) procs) core (λ r m. None) (λ p. None) first_world }
-    requires fixed { (procs : ℕ → KeyMap) → IsPlan (store_of (files_of plan) procs) (fixed_of plan) }
-    requires short { AllByRecursion AreShort (fixed_of plan).shadows }
+    requires world { (procs : ℕ → KeyMap) → StandsIn (formats_of F.Formats) (store_of (files_of plan) procs) core (λ r m. None) (λ p. None) first_world }
     requires places { HasPlaces script.now places }
-    ensures { IsPlayed (record { text = F.text; IsStorable = F.is_storable; BreaksAt = F.breaks_at }) D.Disk P.refusals (files_of plan) script.now core result }
+    ensures { IsPlayed (formats_of F.Formats) D.Disk P.refusals (files_of plan) script.now core result }
 {
     match NewStore::new(alloc, plan, core, seats_for(&places.numbers)) {
         Ok(NewStore { store, seats }) => {
@@ -109,7 +102,7 @@ fn play_with_seats<
     requires all { length (seats_of seats) ≡ (lock_of store).seats }
     requires places { HasPlaces script.now places }
     ensures { (core : Core D P) → (lock_of store).start ≡ first_story D.row.coded P.refusals (plan_of store) core
-        → IsPlayed (record { text = F.text; IsStorable = F.is_storable; BreaksAt = F.breaks_at }) D.Disk P.refusals (files_in store) script.now core result }
+        → IsPlayed (formats_of F.Formats) D.Disk P.refusals (files_in store) script.now core result }
 {
     let mut seats = seats;
     let Places {
@@ -146,7 +139,7 @@ fn play_with_handles<
     requires opened { AreOpened (lock_of store) (plan_of store) script.now handles.items (seats_of seats) (room_of seats) }
     requires all { length handles.items ≡ length (sessions_of script.now) }
     ensures { (core : Core D P) → (lock_of store).start ≡ first_story D.row.coded P.refusals (plan_of store) core
-        → IsPlayed (record { text = F.text; IsStorable = F.is_storable; BreaksAt = F.breaks_at }) D.Disk P.refusals (files_in store) script.now core result }
+        → IsPlayed (formats_of F.Formats) D.Disk P.refusals (files_in store) script.now core result }
 {
     let Sessions {
         handles,
@@ -162,8 +155,8 @@ fn play_with_handles<
 fn close_unplayed<D: Disk, F: Formats + Drop, P: Patterns + Drop>(
     unshared: NotShared<D, F, P>,
 ) -> Played<D, P>
-    requires { (procs : ℕ → KeyMap) → StandsIn (record { text = F.text; IsStorable = F.is_storable; BreaksAt = F.breaks_at }) (store_of (files_of unshared.plan) procs) unshared.core (λ r m. None) (λ p. None) first_world }
-    ensures { (script : Script) → IsPlayed (record { text = F.text; IsStorable = F.is_storable; BreaksAt = F.breaks_at }) D.Disk P.refusals (files_of unshared.plan) script unshared.core result }
+    requires { (procs : ℕ → KeyMap) → StandsIn (formats_of F.Formats) (store_of (files_of unshared.plan) procs) unshared.core (λ r m. None) (λ p. None) first_world }
+    ensures { (script : Script) → IsPlayed (formats_of F.Formats) D.Disk P.refusals (files_of unshared.plan) script unshared.core result }
 {
     let NotShared { core, .. } = unshared;
     Played {

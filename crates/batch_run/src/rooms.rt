@@ -1,5 +1,5 @@
 //! Room for all replies of a batch, taken before its first step.
-ghost use Rattle.std.specs.Prelude.{◌≡◌, IfOk};
+ghost use Rattle.std.specs.Prelude.{IfOk};
 ghost use Rattle.batch_run.specs.Rooms.{ArePhaseRooms, AreRooms, HaveRoom};
 
 use crate::places::steps_among;

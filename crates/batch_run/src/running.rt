@@ -6,6 +6,7 @@ ghost use Rattle.batch_run.specs.Shown.{IsOrdered};
 ghost use Rattle.kdb_handle.specs.Views.{files_in, lock_of, plan_of};
 ghost use Rattle.model_batch.specs.Scripts.{IsFairScript, procs_of, sessions_of};
 ghost use Rattle.model_history.specs.History.{Commit};
+ghost use Rattle.model_store.specs.Store.{formats_of};
 
 use crate::numbers::sessions_of;
 use crate::phases::all_phases;
@@ -50,7 +51,7 @@ pub fn run_sessions<
     requires fresh { AreFresh (lock_of store.now) (plan_of store.now) (procs_of script.now) handles }
     ensures back { AreBack (lock_of store.now) (plan_of store.now) (length handles) result.handles }
     ensures fair { (history : List Commit) → Closes (length handles) history result.handles
-        → IfSome result.transcripts (λ transcripts. IsFairScript (record { text = F.text; IsStorable = F.is_storable; BreaksAt = F.breaks_at }) (files_in store.now) history script.now transcripts) }
+        → IfSome result.transcripts (λ transcripts. IsFairScript (formats_of F.Formats) (files_in store.now) history script.now transcripts) }
     ensures counts { IfSome result.transcripts (TellOwn script.now result.handles) }
     ensures kept { result.transcripts ≡ None → result.handles ≡ handles }
 {
@@ -112,7 +113,7 @@ fn run_with<
     requires room { HasRoom script.now (length handles.items) room }
     ensures back { AreBack (lock_of store.now) (plan_of store.now) (length handles.items) result.handles }
     ensures fair { (history : List Commit) → Closes (length handles.items) history result.handles
-        → IfSome result.transcripts (λ transcripts. IsFairScript (record { text = F.text; IsStorable = F.is_storable; BreaksAt = F.breaks_at }) (files_in store.now) history script.now transcripts) }
+        → IfSome result.transcripts (λ transcripts. IsFairScript (formats_of F.Formats) (files_in store.now) history script.now transcripts) }
     ensures counts { IfSome result.transcripts (TellOwn script.now result.handles) }
     ensures some { result.transcripts ≢ None }
 {

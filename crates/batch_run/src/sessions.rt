@@ -4,6 +4,7 @@ ghost use Rattle.std.specs.Vec.{vec_capacity};
 ghost use Rattle.kdb_handle.specs.Stores.{IsHandle};
 ghost use Rattle.kdb_handle.specs.Views.{lock_of, plan_of};
 ghost use Rattle.batch_run.specs.Stepping.{GoesOn};
+ghost use Rattle.model_store.specs.Store.{formats_of};
 
 use crate::turns::take_step;
 use batch_script::Step;
@@ -41,7 +42,7 @@ impl Session {
         requires handle { IsHandle (lock_of store.now) (plan_of store.now) self.old.handle }
         requires none { replies.old.items ≡ [] }
         requires room { length steps.now ≤ vec_capacity replies.old }
-        ensures goes { GoesOn (record { text = F.text; IsStorable = F.is_storable; BreaksAt = F.breaks_at }) (lock_of store.now) (plan_of store.now) steps.now replies.new.items self.old.handle self.old.working self.new.handle self.new.working }
+        ensures goes { GoesOn (formats_of F.Formats) (lock_of store.now) (plan_of store.now) steps.now replies.new.items self.old.handle self.old.working self.new.handle self.new.working }
         ensures number { self.new.number ≡ self.old.number }
         ensures passed { self.old.passed + length steps.now < 2 ^ 32 → self.new.passed ≡ self.old.passed + length steps.now }
     {

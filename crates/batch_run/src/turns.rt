@@ -4,6 +4,7 @@ ghost use Rattle.batch_script.specs.declared.steps.Step.TheVariants as step;
 ghost use Rattle.kdb_handle.specs.Stores.{IsHandle};
 ghost use Rattle.kdb_handle.specs.Views.{lock_of, plan_of};
 ghost use Rattle.batch_run.specs.Stepping.{GoesOn};
+ghost use Rattle.model_store.specs.Store.{formats_of};
 
 use crate::editing::{cut, delete, look, put, set_meta};
 use batch_script::{Step, Tries};
@@ -27,7 +28,7 @@ pub(crate) fn take_step<D: Disk, F: Formats + Drop, P: Patterns + Drop, R: Wait>
     working: &mut KeySet,
 ) -> Reply
     requires { IsHandle (lock_of store.now) (plan_of store.now) handle.old }
-    ensures { GoesOn (record { text = F.text; IsStorable = F.is_storable; BreaksAt = F.breaks_at }) (lock_of store.now) (plan_of store.now) (step.now ∷ []) (result ∷ []) handle.old working.old handle.new working.new }
+    ensures { GoesOn (formats_of F.Formats) (lock_of store.now) (plan_of store.now) (step.now ∷ []) (result ∷ []) handle.old working.old handle.new working.new }
 {
     match step {
         Step::Get { parent } => get(rt, alloc, store, parent, handle, working),
@@ -55,7 +56,7 @@ fn get<D: Disk, F: Formats + Drop, P: Patterns + Drop, R: Wait>(
     working: &mut KeySet,
 ) -> Reply
     requires { IsHandle (lock_of store.now) (plan_of store.now) handle.old }
-    ensures { GoesOn (record { text = F.text; IsStorable = F.is_storable; BreaksAt = F.breaks_at }) (lock_of store.now) (plan_of store.now) (step.Get parent.now ∷ []) (result ∷ []) handle.old working.old handle.new working.new }
+    ensures { GoesOn (formats_of F.Formats) (lock_of store.now) (plan_of store.now) (step.Get parent.now ∷ []) (result ∷ []) handle.old working.old handle.new working.new }
 {
     match handle.kdb_get(rt, alloc, store, parent) {
         Ok(got) => {
@@ -80,7 +81,7 @@ fn set<D: Disk, F: Formats + Drop, P: Patterns + Drop, R: Wait>(
     working: &KeySet,
 ) -> Reply
     requires { IsHandle (lock_of store.now) (plan_of store.now) handle.old }
-    ensures { GoesOn (record { text = F.text; IsStorable = F.is_storable; BreaksAt = F.breaks_at }) (lock_of store.now) (plan_of store.now) (step.Set parent.now ∷ []) (result ∷ []) handle.old working.now handle.new working.now }
+    ensures { GoesOn (formats_of F.Formats) (lock_of store.now) (plan_of store.now) (step.Set parent.now ∷ []) (result ∷ []) handle.old working.now handle.new working.now }
 {
     match handle.kdb_set(rt, alloc, store, parent, working) {
         Ok(done) => Reply::SetDone(done),
@@ -100,7 +101,7 @@ fn merge<D: Disk, F: Formats + Drop, P: Patterns + Drop, R: Wait>(
     working: &mut KeySet,
 ) -> Reply
     requires { IsHandle (lock_of store.now) (plan_of store.now) handle.old }
-    ensures { GoesOn (record { text = F.text; IsStorable = F.is_storable; BreaksAt = F.breaks_at }) (lock_of store.now) (plan_of store.now) (step.Merge parent.now strategy tries.now ∷ []) (result ∷ []) handle.old working.old handle.new working.new }
+    ensures { GoesOn (formats_of F.Formats) (lock_of store.now) (plan_of store.now) (step.Merge parent.now strategy tries.now ∷ []) (result ∷ []) handle.old working.old handle.new working.new }
 {
     match handle.kdb_set_merged(rt, alloc, store, parent, working, strategy, tries.get()) {
         Ok(merging) => Reply::Merged(merging),

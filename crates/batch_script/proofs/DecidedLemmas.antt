@@ -1,9 +1,9 @@
 -- A line adds one thing behind the lines before it, or nothing: each part of it can be told.
-use Rattle.std.specs.Prelude.{◌≡◌, ◌≢◌, ◌⊎◌, ℕ, zero, suc, ◌+◌, ◌-◌, ◌<◌, ◌≤◌, Bool, true, false, not, ◌&&◌, List, [], ◌∷◌, ◌++◌, length, take, drop, Option, Some, None}
+use Rattle.std.specs.Prelude.{◌≡◌, ◌≢◌, ◌⊎◌, ℕ, zero, suc, ◌+◌, ◌-◌, ◌<◌, ◌≤◌, true, false, not, ◌&&◌, List, [], ◌∷◌, ◌++◌, length, take, drop, Option, Some, None}
 use Rattle.std.specs.List.{list_all}
 use Rattle.std.specs.Str.{IsUtf8}
 use Rattle.std.proofs.Common.{refl, sym, ap, subst, ◌∙◌, inl, inr, arith, length-append}
-use Rattle.std.proofs.lemmas.Bool.{cases_eq, ne_eqb}
+use Rattle.std.proofs.lemmas.Bool.{cases_Bool, cases_eq, ne_eqb}
 use Rattle.std.proofs.lemmas.List.{length-drop}
 use Rattle.model_lines.specs.Lines.{without_return}
 use Rattle.model_lines.proofs.Leading.{IsDecided}
@@ -16,10 +16,6 @@ use Rattle.batch_script.specs.Places.{may_follow}
 use Rattle.batch_script.specs.Scripts.{Adds}
 use Rattle.batch_script.proofs.WordLemmas.{bare-first, bare-lacks, behind-again, blank-behind, blank-from, blank-lacks, first-ahead, first-before, first-once, front-other, gap-of, quoted-first, quoted-lacks, quoted-more, quoted-no_text, quoted-start, written-shorter, IsInQuotes}
 use Rattle.batch_script.proofs.LineLemmas.{follow-lacks, item-adds, nothing-adds, said-lacks, words-lack}
-
-bool-cases : (t : Bool) → (t ≡ true) ⊎ (t ≡ false)
-bool-cases true = inl refl
-bool-cases false = inr refl
 
 -- some word and what stands behind it are the first of a line, or none are
 abbrev First : List ℕ → Type 0
@@ -34,7 +30,7 @@ pub record EndsAt (bytes : List ℕ) (end : ℕ) : Type 0 where
 run-told : (bytes : List ℕ) → (end : ℕ) × EndsAt bytes end
 run-told [] = (0, record { within = omega arith; run = refl; apart = tt })
 run-told (b ∷ bytes) =
-    elim (bool-cases (is_blank b)) [
+    elim (cases_Bool (is_blank b)) [
       | inl blank ↦ (0, record { within = omega arith; run = refl; apart = blank })
       | inr other ↦
           let more = run-told bytes in
@@ -72,7 +68,7 @@ quoted-told : (bytes : List ℕ) → First (34 ∷ bytes)
 quoted-told bytes =
     let line = 34 ∷ bytes in
     let stops = stops-by (suc (length bytes)) line bytes [] (omega arith) (quoted-start line refl) in
-    elim (bool-cases (closes stops.rest)) [
+    elim (cases_Bool (closes stops.rest)) [
       | inl closed ↦ elim (utf8-told stops.text) [
         | inl utf8 ↦
             let first = quoted-first line stops.rest stops.text stops.inside closed utf8 in
@@ -127,7 +123,7 @@ words-told line = words-by (suc (length line)) line (omega arith)
 pub Adds-told : IsDecided Adds
 Adds-told before line =
     elim (utf8-told line) [
-      | inl utf8 ↦ elim (bool-cases (is_nothing (behind_blanks (without_return line)))) [
+      | inl utf8 ↦ elim (cases_Bool (is_nothing (behind_blanks (without_return line)))) [
         | inl nothing ↦ inl (before, nothing-adds before line utf8 nothing)
         | inr something ↦ elim (words-told (behind_blanks (without_return line))) [
           | inl has ↦ by_said utf8 something has.0 has.1 (said has.0) refl
@@ -141,7 +137,7 @@ Adds-told before line =
         → ((after : List Item) × Adds before line after) ⊎ ((after : List Item) → Adds before line after → ⊥)
     by_said utf8 something words has None e = inr (λ after. said-lacks before after line words something has e)
     by_said utf8 something words has (Some item) e =
-        elim (bool-cases (may_follow before item)) [
+        elim (cases_Bool (may_follow before item)) [
           | inl follows ↦ inl (before ++ item ∷ [], item-adds before line words item utf8 has e follows)
           | inr fails ↦ inr (λ after. follow-lacks before after line words item something has e fails)
         ]

@@ -1,11 +1,11 @@
 -- What one item more does to what items say: to the phases, the session that was named last and the steps of a session.
-use Rattle.std.specs.Prelude.{◌≡◌, ◌≢◌, ◌⊎◌, ℕ, suc, ◌+◌, ◌<◌, Bool, true, false, List, [], ◌∷◌, ◌++◌, length, filter_map, reverse, slice_index_or, Option, Some, None}
+use Rattle.std.specs.Prelude.{◌≡◌, ◌≢◌, ℕ, suc, ◌+◌, ◌<◌, List, [], ◌∷◌, ◌++◌, length, filter_map, reverse, slice_index_or, Option, Some, None}
 use Rattle.std.specs.List.{cons_option, onto_first, range_with_len}
 use Rattle.std.specs.Option.{option_to_list}
 use Rattle.std.specs.declared.alloc.Global.{Global}
 use Rattle.std.specs.declared.vec.Vec.{Vec}
 use Rattle.std.proofs.Common.{refl, sym, ap, ◌∙◌, inl, inr, arith, append_assoc}
-use Rattle.std.proofs.lemmas.Bool.{cond-true, cond-false}
+use Rattle.std.proofs.lemmas.Bool.{cases_Bool, cond-true, cond-false}
 use Rattle.std.proofs.lemmas.List.{append-nil, reverse-append}
 use Rattle.batch_script.specs.declared.items.Item.{Item}
 use Rattle.batch_script.specs.declared.items.Item.TheVariants.{Proc, Session, Phase, Does}
@@ -14,10 +14,6 @@ use Rattle.batch_script.specs.declared.steps.Steps.{Steps}
 use Rattle.batch_script.specs.Places.{session_behind}
 use Rattle.batch_script.specs.Phases.{names, phases_of, steps_behind, with_steps}
 use Rattle.batch_script.specs.Rooms.{gathered}
-
-bool-cases : (t : Bool) → (t ≡ true) ⊎ (t ≡ false)
-bool-cases true = inl refl
-bool-cases false = inr refl
 
 -- ---- phases
 
@@ -95,7 +91,7 @@ steps-more session named (Phase ∷ items) more = steps-more session None items 
 steps-more session named (Does step ∷ items) more =
     let left = steps_behind session named items in
     let all = steps_behind session named (items ++ more) in
-    elim (bool-cases (names named session)) [
+    elim (cases_Bool (names named session)) [
       | inl is ↦
           cond-true (names named session) (step ∷ all) all is ∙ ap (λ steps. step ∷ steps) (steps-more session named items more)
           ∙ ap (λ steps. steps ++ steps_behind session (session_behind named items) more) (sym (cond-true (names named session) (step ∷ left) left is))

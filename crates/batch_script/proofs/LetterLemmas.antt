@@ -8,7 +8,7 @@ use Rattle.std.proofs.lemmas.Option.{cond_some, none-some, option_and_then_some,
 use Rattle.model_quoting.specs.Quoted.{hex_digit, quoted_byte}
 use Rattle.model_quoting.proofs.QuotedAs.{IsBare, quoted_byte-bare}
 use Rattle.batch_script.specs.Letters.{hex_value, byte_of_digits, hexadecimal_at, short_escape, escaped_at, is_plain, written_at, IsHexadecimal, IsWritten, StandsFor}
-use Rattle.batch_script.proofs.OptionLemmas.{option_map-some}
+use Rattle.model_names.proofs.RefusesLemmas.{from_map}
 
 -- ---- written, then read
 
@@ -120,7 +120,7 @@ hexadecimal-found : (bytes : List ℕ) (b : ℕ) (more : List ℕ) → hexadecim
 hexadecimal-found [] b more e = absurd (none-some _ e)
 hexadecimal-found (first ∷ []) b more e = absurd (none-some _ e)
 hexadecimal-found (first ∷ second ∷ bytes) b more e =
-    let found = option_map-some (λ (byte : ℕ). (byte, bytes)) (byte_of_digits first second) (b, more) e in
+    let found = from_map (λ (byte : ℕ). (byte, bytes)) (byte_of_digits first second) (b, more) e in
     let byte : found.0 ≡ b = ap (λ p. p.0) found.2 in
     let rest : bytes ≡ more = ap (λ p. p.1) found.2 in
     record {
@@ -162,7 +162,7 @@ escaped-found (letter ∷ bytes) b more e =
           let found = hexadecimal-found bytes b more (sym (cond-true (letter == 120) _ _ (eq-eqb letter 120 is)) ∙ e) in
           record { first = found.first; is = ap (λ (l : ℕ). 92 ∷ l ∷ bytes) is ∙ found.is; written = found.written }
       | inr other ↦
-          let found = option_map-some (λ (byte : ℕ). (byte, bytes)) (short_escape letter) (b, more) (sym (cond-false (letter == 120) _ _ (ne_eqb letter 120 other)) ∙ e) in
+          let found = from_map (λ (byte : ℕ). (byte, bytes)) (short_escape letter) (b, more) (sym (cond-false (letter == 120) _ _ (ne_eqb letter 120 other)) ∙ e) in
           let byte : found.0 ≡ b = ap (λ p. p.0) found.2 in
           let rest : bytes ≡ more = ap (λ p. p.1) found.2 in
           record {

@@ -1,4 +1,3 @@
-pub mod OptionLemmas
 pub mod LetterLemmas
 pub mod WordLemmas
 pub mod ItemLemmas

@@ -1,18 +1,14 @@
 -- The words of a line by what stands behind its blanks: one word after the other, in one way.
-use Rattle.std.specs.Prelude.{◌≡◌, ◌≢◌, ◌⊎◌, ℕ, zero, suc, ◌+◌, ◌-◌, ◌<◌, ◌≤◌, ◌==◌, Bool, true, false, not, ◌&&◌, List, [], ◌∷◌, ◌++◌, length, take, drop, Some, None}
+use Rattle.std.specs.Prelude.{◌≡◌, ◌≢◌, ℕ, zero, suc, ◌+◌, ◌-◌, ◌<◌, ◌≤◌, ◌==◌, Bool, true, false, not, ◌&&◌, List, [], ◌∷◌, ◌++◌, length, take, drop, Some, None}
 use Rattle.std.specs.List.{list_all}
 use Rattle.std.specs.Str.{IsUtf8}
 use Rattle.std.proofs.Common.{get_or, refl, sym, ap, subst, ◌∙◌, inl, inr, arith, append_assoc, length-append}
-use Rattle.std.proofs.lemmas.Bool.{and_parts, cond-true, cond-false, true≢false, eqb-true, ne_eqb}
+use Rattle.std.proofs.lemmas.Bool.{cases_Bool, and_parts, cond-true, cond-false, true≢false, eqb-true, ne_eqb}
 use Rattle.std.proofs.lemmas.List.{take-append-drop}
 use Rattle.std.proofs.Math.Seq.{drop-append-add}
 use Rattle.batch_script.specs.Letters.{written_at, StandsFor}
 use Rattle.batch_script.specs.Words.{is_blank, is_bare, behind_blanks, closes, EndsWord, HasWords, IsFirstTaken, IsFirstWord, IsSpelled, LacksWord}
 use Rattle.batch_script.proofs.LetterLemmas.{stands-more, stands-once, written-some, written_at-found}
-
-bool-cases : (t : Bool) → (t ≡ true) ⊎ (t ≡ false)
-bool-cases true = inl refl
-bool-cases false = inr refl
 
 not-true : (t : Bool) → not t ≡ true → t ≡ true → ⊥
 not-true true p q = true≢false (sym p)
@@ -40,7 +36,7 @@ pub record IsGap (line gap : List ℕ) : Type 0 where
 pub gap-of : (line : List ℕ) → (gap : List ℕ) × IsGap line gap
 gap-of [] = ([], record { is = refl; blank = refl })
 gap-of (b ∷ bytes) =
-    elim (bool-cases (is_blank b)) [
+    elim (cases_Bool (is_blank b)) [
       | inl e ↦
           let rest = gap-of bytes in
           (b ∷ rest.0, record { is = ap (λ t. b ∷ t) (rest.1.is ∙ ap (λ t. rest.0 ++ t) (sym (behind-blank b bytes e))); blank = ap (λ t. t && list_all is_blank rest.0) e ∙ rest.1.blank })
@@ -50,7 +46,7 @@ gap-of (b ∷ bytes) =
 pub behind-again : (line : List ℕ) → behind_blanks (behind_blanks line) ≡ behind_blanks line
 behind-again [] = refl
 behind-again (b ∷ bytes) =
-    elim (bool-cases (is_blank b)) [
+    elim (cases_Bool (is_blank b)) [
       | inl e ↦ ap behind_blanks (behind-blank b bytes e) ∙ behind-again bytes ∙ sym (behind-blank b bytes e)
       | inr e ↦ ap behind_blanks (behind-other b bytes e)
     ]
@@ -65,7 +61,7 @@ blank-behind (b ∷ bytes) e =
 pub blank-from : (line : List ℕ) → behind_blanks line ≡ [] → list_all is_blank line ≡ true
 blank-from [] e = refl
 blank-from (b ∷ bytes) e =
-    elim (bool-cases (is_blank b)) [
+    elim (cases_Bool (is_blank b)) [
       | inl blank ↦ ap (λ t. t && list_all is_blank bytes) blank ∙ blank-from bytes (sym (behind-blank b bytes blank) ∙ e)
       | inr other ↦ let none : b ∷ bytes ≡ [] = sym (behind-other b bytes other) ∙ e in absurd cc
     ]
@@ -74,7 +70,7 @@ pub behind-shorter : (line : List ℕ) → length (behind_blanks line) ≤ lengt
 behind-shorter [] = omega arith
 behind-shorter (c ∷ line) =
     let less = behind-shorter line in
-    elim (bool-cases (is_blank c)) [
+    elim (cases_Bool (is_blank c)) [
       | inl blank ↦ let same = ap length (behind-blank c line blank) in omega arith
       | inr other ↦ let same = ap length (behind-other c line other) in omega arith
     ]
@@ -82,7 +78,7 @@ behind-shorter (c ∷ line) =
 -- what a line begins with that has no blank at its front
 pub front-other : (b : ℕ) (bytes : List ℕ) → behind_blanks (b ∷ bytes) ≡ b ∷ bytes → is_blank b ≡ false
 front-other b bytes e =
-    elim (bool-cases (is_blank b)) [
+    elim (cases_Bool (is_blank b)) [
       | inl blank ↦ absurd (longer (b ∷ bytes) bytes (omega arith) (sym (behind-blank b bytes blank) ∙ e))
       | inr other ↦ other
     ]
@@ -99,7 +95,7 @@ spelled-front [] word rest (inr quoted) = absurd (let e = quoted.1 in cc)
 spelled-front (b ∷ bytes) word rest (inl bare) =
     let parts = and_parts (not (b == 34)) (list_all (λ c. not (is_blank c)) (b ∷ bytes)) bare.0 in
     let first = and_parts (not (is_blank b)) (list_all (λ c. not (is_blank c)) bytes) parts.1 in
-    behind-other b (bytes ++ rest) (elim (bool-cases (is_blank b)) [ inl blank ↦ absurd (not-true (is_blank b) first.0 blank) | inr other ↦ other ])
+    behind-other b (bytes ++ rest) (elim (cases_Bool (is_blank b)) [ inl blank ↦ absurd (not-true (is_blank b) first.0 blank) | inr other ↦ other ])
 spelled-front (b ∷ bytes) word rest (inr quoted) =
     let head : b ≡ 34 = let e = quoted.1 in cc in
     behind-other b (bytes ++ rest) (ap is_blank head)

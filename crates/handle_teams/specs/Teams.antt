@@ -3,7 +3,7 @@ use base.Growing.{prefix_prop}
 use mathlib.Core.List.{IsPrefix}
 use Rattle.std.proofs.Props.{props}
 use Rattle.std.specs.Coded.{Coded-set, code_by, coded×, coded_bool, coded_list, coded_option, coded_ℕ}
-use Rattle.std.specs.List.{All, AllByRecursion, AllByRecursion-prop}
+use Rattle.std.specs.List.{All}
 use Rattle.std.specs.Prelude.{Bool, List, Option, refl, ℕ}
 use Rattle.kdb_handle.specs.Handles.{HandleValue}
 use Rattle.kdb_handle.specs.Stores.{IsHandle, IsStarted}
@@ -12,7 +12,6 @@ use Rattle.key_set.specs.contracts.key_sets.KeySet as KeySet
 use Rattle.model_store.specs.Records.{Fetched}
 use Rattle.mount_table.specs.contracts.mounts.Mount as Mount
 use Rattle.mounted_files.specs.contracts.files.MountedFile as MountedFile
-use Rattle.mounted_files.specs.Short.{AreShort}
 use Rattle.seat_lock.specs.Known.{Place}
 use Rattle.store_core.specs.declared.cores.Plan.{Plan}
 
@@ -40,14 +39,11 @@ numbers_set = Coded-set (coded_option coded_ℕ)
 fetched_set : IsSet (Option Fetched)
 fetched_set = Coded-set (coded_option (code_by (ℕ × KeySet.the_row.Denot) (coded× coded_ℕ KeySet.the_row.coded) (λ f. (f.front, f.kept)) (λ p. record { front = p.0; kept = p.1 }) (λ _. refl)))
 
-short_prop : (shadows : List KeySet.the_row.Denot) → IsProp (AllByRecursion AreShort shadows)
-short_prop shadows = AllByRecursion-prop AreShort (λ keys. hlevel numbers_set) shadows
-
 pub started_prop : {F : Type 0} (lock : Place Told) (plan : Plan F) → IsProp (IsStarted lock plan)
-started_prop lock plan = hlevel (props, short_prop, files_set, mounts_set, keys_set, told_set, bools_set)
+started_prop lock plan = hlevel (props, files_set, mounts_set, keys_set, told_set, bools_set)
 
 handle_prop : {F : Type 0} (lock : Place Told) (plan : Plan F) (handle : HandleValue) → IsProp (IsHandle lock plan handle)
-handle_prop lock plan handle = hlevel (props, short_prop, seen_prop, files_set, mounts_set, keys_set, told_set, bools_set, fetched_set)
+handle_prop lock plan handle = hlevel (props, seen_prop, files_set, mounts_set, keys_set, told_set, bools_set, fetched_set)
 
 pub each_prop : {F : Type 0} (lock : Place Told) (plan : Plan F) (handles : List HandleValue) → IsProp (All (IsHandle lock plan) handles)
 each_prop lock plan handles = let one = handle_prop lock plan in hlevel one

@@ -5,6 +5,7 @@ use disk_memory::MemDisk;
 use handle_teams::{Answer, Ask, Team, disk_with_mounts, points_of};
 use key_name::KeyName;
 use key_set::KeySet;
+use mounted_files::FileState;
 use regex_check::RegexPatterns;
 use std::alloc::Global;
 use std::sync::Wait;
@@ -267,18 +268,24 @@ fn two_handles_on_threads_make_each_of_their_commits(rt: HostRuntime) -> Result<
     Ok(())
 }
 
+/// The keys that a file shows, unless it is bad.
+fn shown(state: &FileState) -> Option<&KeySet> {
+    match state {
+        FileState::Good { visible, .. } => Some(visible),
+        FileState::Bad { .. } => None,
+    }
+}
+
 /// The keys of all files of a disk.
 fn keys_of(alloc: Global, disk: MemDisk) -> Result<KeySet, Fail> {
     let opened = open_store(alloc, disk, AllFormats, RegexPatterns::new())
         .ok()
         .ok_or("it is opened")?;
-    let all = KeyName::parse(alloc, "/")?;
-    let keys = opened
-        .plan
-        .mounted()
-        .get(alloc, &all)
-        .ok()
-        .ok_or("no file is bad")?;
+    let mut keys = KeySet::new(alloc);
+    for file in opened.plan.mounted().files() {
+        let visible = shown(&file.state).ok_or("no file is bad")?;
+        keys.append_all(visible.copy()?)?;
+    }
     Ok(keys)
 }
 

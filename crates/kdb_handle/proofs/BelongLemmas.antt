@@ -20,7 +20,7 @@ use Rattle.model_store.specs.Sets.{front_in, prepared}
 use Rattle.model_store.specs.Store.{Formats, points_of}
 use Rattle.model_store.specs.Worlds.{World}
 use Rattle.model_store.proofs.Kept.{put-each, record-whole}
-use Rattle.mounted_files.specs.Getting.{visible_keys}
+use Rattle.mounted_files.specs.Visible.{visible_keys}
 use Rattle.mounted_files.specs.declared.files.MountedFile.{MountedFile}
 use Rattle.store_core.specs.Cores.{StandsIn}
 use Rattle.store_core.specs.Joined.{BelongsIn, IsReady}

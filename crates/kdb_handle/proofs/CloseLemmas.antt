@@ -28,7 +28,7 @@ use Rattle.kdb_handle.proofs.RunLemmas.{comes-to, risen-still}
 use Rattle.model_crashes.specs.Runs.{Run, files_of, IsReached}
 use Rattle.model_store.specs.Legal.{IsLegal}
 use Rattle.model_store.specs.Store.{Formats}
-use Rattle.mounted_files.specs.Getting.{visible_keys}
+use Rattle.mounted_files.specs.Visible.{visible_keys}
 use Rattle.mounted_files.specs.declared.files.MountedFile.{MountedFile}
 use Rattle.seat_lock.specs.Known.{Known, Place, knowledge}
 use Rattle.seat_lock.specs.Story.{made_by}
@@ -105,7 +105,8 @@ nobody_else opening other rest is = ap (drop 1) is
 others_made : (number : ℕ) (opening : Opening) (rest : List Told) → number ≢ 0 → made_by maker_of number (Opened opening ∷ rest) ≡ made_by maker_of number rest
 others_made number opening rest ne = ap (λ (b : Bool). cond b (Opened opening ∷ made_by maker_of number rest) (made_by maker_of number rest)) (ne_eqb 0 number (λ e. ne (sym e)))
 
-module _ {D P : Type 0} (formats : Formats) (g : Ghosts D) (code : Coded D) (refused : P → ℕ) {F : Type 0} (lock : Place Told) (plan : Plan F) (started : IsStarted lock plan) (free : List (Known Told)) (room : ℕ) (are_free : AreFree lock free room) (handles : List HandleValue) (core : Core D P) (entries : ℕ) where
+module _ {D P : Type 0} (formats : Formats) (g : Ghosts D) (code : Coded D) (refused : P → ℕ) {F : Type 0} (lock : Place Told) (plan : Plan F) (started : IsStarted lock plan) (free : List (Known Told)) (room : ℕ)
+    (are_free : AreFree lock free room) (handles : List HandleValue) (core : Core D P) (entries : ℕ) where
   abbrev all_seats : List (Known Told)
   all_seats = free ++ seats_back handles
 

@@ -33,13 +33,12 @@ use Rattle.model_store.specs.Legal.{IsLegal}
 use Rattle.model_store.specs.Records.{IsRecord, seen_at}
 use Rattle.model_store.specs.Sets as sets
 use Rattle.model_store.specs.Sets.{front_in, wants}
-use Rattle.model_store.specs.Store.{Store, Formats, points_at, points_of}
+use Rattle.model_store.specs.Store.{Store, Formats, points_at, points_of, store_of}
 use Rattle.model_store.specs.Verdicts.{commit_of}
 use Rattle.model_store.proofs.Kept.{record-moves, good_mount}
 use Rattle.model_store.proofs.Members.{nothing_at}
 use Rattle.model_store.proofs.OneVerdict.{breach-as}
 use Rattle.mount_table.specs.declared.mounts.Mount.{Mount}
-use Rattle.mounted_files.specs.Getting.{visible_keys}
 use Rattle.mounted_files.specs.declared.files.MountedFile.{MountedFile}
 use Rattle.mounted_files.specs.declared.refusals.GetFault.{GetFault}
 use Rattle.seat_lock.specs.Known.{Known, Place, knowledge}
@@ -50,7 +49,6 @@ use Rattle.set_split.specs.Involved.{involved_in}
 use Rattle.store_core.specs.Answers.{IsJudged}
 use Rattle.store_core.specs.Cores.{core_with}
 use Rattle.store_core.specs.Gets.{HasGot, IsGot}
-use Rattle.store_core.specs.Plans.{store_of}
 use Rattle.store_core.specs.declared.committing.CommitFault.{CommitFault}
 use Rattle.store_core.specs.declared.committing.CommitFault.TheVariants as fault
 use Rattle.store_core.specs.declared.committing.Done.{Done}
@@ -59,11 +57,10 @@ use Rattle.store_core.specs.declared.cores.Core.{Core}
 use Rattle.store_core.specs.declared.cores.Plan.{Plan}
 use Rattle.store_core.specs.declared.getting.Got.{Got}
 use Rattle.general_words.specs.Memory.{UnlessMemory}
-use Rattle.store_verdict.specs.Preparing.{IsMade, IsPlan}
-use Rattle.store_verdict.specs.Preparing.{IsRefused as IsSetRefused}
+use Rattle.mounted_files.specs.Visible.{visible_keys}
+use Rattle.store_verdict.specs.Preparing.{IsMade, IsRefused as IsSetRefused}
 use Rattle.store_verdict.specs.declared.faults.PrepareFault.{PrepareFault}
 use Rattle.store_verdict.specs.declared.faults.PrepareFault.TheVariants as prepare_fault
-use Rattle.store_verdict.specs.declared.plans.Plan.{Plan as VerdictPlan}
 use Rattle.store_verdict.specs.PreparedView.{prepared_of}
 use Rattle.store_verdict.specs.RecordView.{handle_of, places_of, proc_of, record_of}
 use Rattle.store_verdict.specs.declared.prepared.Prepared.{Prepared}
@@ -287,19 +284,22 @@ handle_met lock plan old new is place number seen own rec within = record {
 
 -- ---- a prepare
 
--- what a prepare makes by the plan it makes for the store, whose keys are in `proc` doesn't matter to it
-module _ (formats : Formats) (files : List MountedFile) (fixed : VerdictPlan) (is_plan : IsPlan (store_at files) fixed) (n number : ℕ) (old rec : Record) (same_number : n ≡ number) (same : old ≡ rec) (parent : Name) (keys : KeyMap) where
-  pub made_for : (result : Result Prepared PrepareFault) → IfOk result (λ set. (store : Store) → IsPlan store fixed → IsMade formats store n (record_of old) parent keys set) → IfOk result (λ set. IsMade formats (store_at files) number (record_of rec) parent keys set)
+-- what a prepare makes for the store of some files; whose keys are in `proc` doesn't matter to it
+module _ (formats : Formats) (files : List MountedFile) (n number : ℕ) (old rec : Record) (same_number : n ≡ number) (same : old ≡ rec) (parent : Name) (keys : KeyMap) where
+  pub made_for : (result : Result Prepared PrepareFault) → IfOk result (λ set. (procs : ℕ → KeyMap) → IsMade formats (store_of files procs) n (record_of old) parent keys set)
+      → IfOk result (λ set. IsMade formats (store_at files) number (record_of rec) parent keys set)
   made_for (Ok set) made =
-      subst (λ (r : Record). IsMade formats (store_at files) number (record_of r) parent keys set) same (subst (λ (k : ℕ). IsMade formats (store_at files) k (record_of old) parent keys set) same_number (made (store_at files) is_plan))
+      subst (λ (r : Record). IsMade formats (store_at files) number (record_of r) parent keys set) same
+      (subst (λ (k : ℕ). IsMade formats (store_at files) k (record_of old) parent keys set) same_number (made (λ r. no_keys)))
   made_for (Err why) made = made
 
-  pub refused_for : (result : Result Prepared PrepareFault) → IfErr result (λ why. UnlessMemory prepare_fault.Memory ((store : Store) → IsPlan store fixed → IsSetRefused formats store n (record_of old) parent keys why) why)
+  pub refused_for : (result : Result Prepared PrepareFault)
+      → IfErr result (λ why. UnlessMemory prepare_fault.Memory ((procs : ℕ → KeyMap) → IsSetRefused formats (store_of files procs) n (record_of old) parent keys why) why)
       → IfErr result (λ why. UnlessMemory prepare_fault.Memory (IsSetRefused formats (store_at files) number (record_of rec) parent keys why) why)
   refused_for (Ok set) refused = refused
   refused_for (Err why) refused = λ known.
       subst (λ (r : Record). IsSetRefused formats (store_at files) number (record_of r) parent keys why) same
-      (subst (λ (k : ℕ). IsSetRefused formats (store_at files) k (record_of old) parent keys why) same_number (refused known (store_at files) is_plan))
+      (subst (λ (k : ℕ). IsSetRefused formats (store_at files) k (record_of old) parent keys why) same_number (refused known (λ r. no_keys)))
 
 -- ---- in terms of the seat that took the turn
 

@@ -23,12 +23,12 @@ use Rattle.kdb_handle.proofs.RemakeLemmas.{base-outside, in_the_way, kept-now, r
 use Rattle.model_history.specs.History.{replay}
 use Rattle.model_maps.specs.KeyMap.{KeyMap}
 use Rattle.model_names.specs.Name.{Name}
-use Rattle.model_store.specs.Store.{Formats, points_of}
+use Rattle.model_store.specs.Legal.{IsLegal}
+use Rattle.model_store.specs.Store.{Formats, points_of, store_of}
 use Rattle.mounted_files.specs.declared.files.MountedFile.{MountedFile}
 use Rattle.seat_lock.specs.Known.{Place}
 use Rattle.seat_lock.proofs.Prefixes.{prefix-trans}
 use Rattle.set_split.specs.Parts.{in_reach, is_reached}
-use Rattle.store_core.specs.Plans.{store_of}
 use Rattle.store_core.specs.declared.committing.CommitFault.TheVariants as commit_fault
 use Rattle.store_core.specs.declared.committing.Done.{Done}
 use Rattle.store_core.specs.declared.cores.Plan.{Plan}
@@ -80,13 +80,13 @@ module _ (formats : Formats) {F : Type 0} (lock : Place Told) (plan : Plan F) (p
       kept-now points parent (length (commits_of new.seen)) (replay (store_at plan.mounted).start (commits_of new.seen)) (record_of between.rec) (record_of new.rec) theirs gives.kept theirs_are
 
   module _ (new : HandleValue) (base theirs : KeyMap) (base_is : IsKept points parent (record_of between.rec) base) (number : new.number ≡ between.number) (proc : proc_of new.rec ≡ proc_of between.rec)
-      (seen : IsPrefix between.seen new.seen) (own : new.own ≡ between.own) (got : Got) (is_got : GotClause new got) (theirs_is : theirs ≡ present_in new) where
+      (seen : IsPrefix between.seen new.seen) (own : new.own ≡ between.own) (legal : IsLegal formats (store_at plan.mounted) (commits_of new.seen)) (got : Got) (is_got : GotClause new got) (theirs_is : theirs ≡ present_in new) where
     abbrev item : Tried
     item = record { mount = mount; by = by; front = front; again = got.front }
 
     retry : (first : HandleValue) → between.number ≡ first.number → IsMet first → IsRetry formats plan.mounted parent first ours item new base theirs
     retry first numbered met =
-        record { between = between; stored = met; numbered = numbered; base_is = base_is; number = number; proc = proc; seen = seen; own = own; got = got; is_got = is_got; again = refl; theirs_is = theirs_is }
+        record { between = between; stored = met; numbered = numbered; base_is = base_is; number = number; proc = proc; seen = seen; own = own; legal = legal; got = got; is_got = is_got; again = refl; theirs_is = theirs_is }
 
     no_base : (name : Name) → is_reached points parent name ≡ false → map.get base name ≡ None
     no_base = base-outside (store_at plan.mounted) (commits_of between.seen) (record_of between.rec) parent base is.keeps base_is

@@ -25,6 +25,7 @@ use Rattle.model_store.specs.Records.{Fetched, IsRecord, Record, fetched_at}
 use Rattle.model_store.specs.Sets.{front_in, kept, wants}
 use Rattle.model_store.specs.Store.{Store, points_of}
 use Rattle.model_store.proofs.Members.{among-first, among-rest}
+use Rattle.model_store.proofs.Owners.{get-other}
 use Rattle.set_split.specs.Involved.{involved_in, owns}
 use Rattle.set_split.specs.Parts.{in_reach, is_reached, left_aside, owned_by}
 use Rattle.set_split.specs.Union.{IsUnion, last_entry}
@@ -58,9 +59,6 @@ module _ (points : List Name) where
       let parts = or_parts (owns points m name) (list_any (λ n. owns points n name) mounts) none in
       ap₂ option_or (last-none rec each mounts name parts.1) (each m name parts.0)
 
-  pub owned-none : (m : ℕ) (keys : KeyMap) (name : Name) → owns points m name ≡ false → map.get (owned_by points m keys) name ≡ None
-  owned-none m keys name off = get-retain name_cmp_total name_cmp-IsAntisymmetric keys (owns points m) name ∙ ap (λ (b : Bool). cond b (map.get keys name) None) off
-
 -- a record keeps of a mount what it owns alone
 keeps-owned : (store : Store) (history : List Commit) (rec : Record) → IsRecord store history (front_in rec) rec → (m : ℕ) (name : Name) → owns (points_of store) m name ≡ false → map.get (kept rec m) name ≡ None
 keeps-owned store history rec is m name off = by (front_in rec m) (is.is m)
@@ -69,7 +67,7 @@ keeps-owned store history rec is m name off = by (front_in rec m) (is.is m)
     by None there = ap (λ (o : Option Fetched). map.get (unwrap_or (option_map (λ (f : Fetched). f.kept) o) no_keys) name) there ∙ map.get-empty name_cmp name
     by (Some front) there =
         ap (λ (o : Option Fetched). map.get (unwrap_or (option_map (λ (f : Fetched). f.kept) o) no_keys) name) there
-        ∙ owned-none (points_of store) m (replay store.start (take front history)) name off
+        ∙ get-other (points_of store) m (replay store.start (take front history)) name off
 
 -- what no involved mount owns isn't in the base
 pub base-outside : (store : Store) (history : List Commit) (rec : Record) (parent : Name) (base : KeyMap) → IsRecord store history (front_in rec) rec → IsKept (points_of store) parent rec base → (name : Name) → is_reached (points_of store) parent name ≡ false → map.get base name ≡ None

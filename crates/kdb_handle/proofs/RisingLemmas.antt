@@ -1,9 +1,6 @@
 -- The commits in the way of a merged set have rising numbers: behind each get the fronts lie at or above the one before.
-use Rattle.std.proofs.Common.{◌≡◌, ◌⊎◌, inl, inr, ℕ, ◌<◌, ◌≤◌, Bool, true, false, cond, List, [], ◌∷◌, ◌++◌, length, map as over, Option, Some, None, Result, Ok, Err, refl, sym, ap, subst, ◌∙◌, append-nil, arith, length-append}
-use mathlib.Core.List.{IsPrefix}
-use Rattle.std.specs.Option.{option_and_then, option_map}
+use Rattle.std.proofs.Common.{◌≡◌, ◌⊎◌, inl, inr, ℕ, ◌<◌, ◌≤◌, List, [], ◌∷◌, ◌++◌, length, map as over, Some, Result, Ok, Err, refl, sym, ap, subst, ◌∙◌, append-nil, arith}
 use Rattle.std.proofs.lemmas.List.{map-append}
-use Rattle.general_words.proofs.Lists.{some_is}
 use Rattle.key_merge.specs.declared.strategies.Strategy.{Strategy}
 use Rattle.kdb_handle.specs.Gets.{Gives}
 use Rattle.kdb_handle.specs.Handles.{HandleValue}
@@ -17,19 +14,17 @@ use Rattle.kdb_handle.specs.declared.merging.MergeEnd.TheVariants as merge_end
 use Rattle.kdb_handle.specs.declared.merging.Tried.{Tried}
 use Rattle.kdb_handle.proofs.BlockLemmas.{SeesTo, blocked_at, blocks-behind, is_blocked, sees-keeping}
 use Rattle.kdb_handle.proofs.StoryLemmas.{commits-prefix}
-use Rattle.model_history.specs.History.{Commit, first_after, is_among, replay}
-use Rattle.model_history.proofs.HistoryLemmas.{first_after-behind, first_after-within}
+use Rattle.model_history.specs.History.{Commit, replay}
 use Rattle.model_maps.specs.KeyMap.{KeyMap}
 use Rattle.model_names.specs.Name.{Name}
-use Rattle.model_store.specs.Records.{Fetched, Fronts, Record}
+use Rattle.model_store.specs.Records.{Fronts, Record}
 use Rattle.model_store.specs.Sets.{Prepared as Set, front_in, only, wants}
-use Rattle.model_store.specs.Store.{Formats, points_of}
+use Rattle.model_store.specs.Store.{Formats, points_of, store_of}
 use Rattle.model_store.specs.Verdicts as late
 use Rattle.model_store.specs.Verdicts.{blocking, conflict}
 use Rattle.mounted_files.specs.declared.files.MountedFile.{MountedFile}
 use Rattle.set_split.specs.Involved.{involved_in}
 use Rattle.seat_lock.proofs.Prefixes.{prefix-length}
-use Rattle.store_core.specs.Plans.{store_of}
 use Rattle.store_core.specs.declared.committing.CommitFault.TheVariants as commit_fault
 use Rattle.store_core.specs.declared.committing.Done.{Done}
 use Rattle.store_verdict.specs.PreparedView.{prepared_of}

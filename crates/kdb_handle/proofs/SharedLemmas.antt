@@ -39,7 +39,7 @@ use Rattle.model_store.specs.Verdicts as late
 use Rattle.model_store.specs.Verdicts.{commit_of}
 use Rattle.model_store.specs.Worlds.{World, first_world}
 use Rattle.model_store.proofs.Owning.{Goes, follows}
-use Rattle.mounted_files.specs.Getting.{visible_keys}
+use Rattle.mounted_files.specs.Visible.{visible_keys}
 use Rattle.mounted_files.specs.declared.files.MountedFile.{MountedFile}
 use Rattle.store_core.specs.Answers.{IsAnswer, has_written}
 use Rattle.store_core.specs.Committing.{RunsOn}
@@ -92,7 +92,8 @@ core_by store old r set (Ok (done.Committed number aside)) = core_after store ol
 core_by store old r set (Ok (done.Same front aside)) = old
 core_by store old r set (Err why) = old
 
-module _ (formats : Formats) {D P : Type 0} (g : Ghosts D) (code : Coded D) (refused : P → ℕ) (files : List MountedFile) (core : Core D P) (entries : ℕ) (log : List Told) (rec : Record) (set : Prepared) (may : MayCommit formats g code refused files core entries log rec set) (after : Core D P) (new : Record) (risen : Bool) where
+module _ (formats : Formats) {D P : Type 0} (g : Ghosts D) (code : Coded D) (refused : P → ℕ) (files : List MountedFile) (core : Core D P) (entries : ℕ) (log : List Told)
+    (rec : Record) (set : Prepared) (may : MayCommit formats g code refused files core entries log rec set) (after : Core D P) (new : Record) (risen : Bool) where
   abbrev store : Store
   store = store_at files
 

@@ -18,7 +18,7 @@ use Rattle.kdb_handle.specs.Story.{Told, Opening, Opened, BeginsNone, maker_of, 
 use Rattle.model_crashes.specs.Runs.{Run, files_of, IsReached}
 use Rattle.model_store.specs.Legal.{IsLegal}
 use Rattle.model_store.specs.Store.{Formats}
-use Rattle.mounted_files.specs.Getting.{visible_keys}
+use Rattle.mounted_files.specs.Visible.{visible_keys}
 use Rattle.mounted_files.specs.declared.files.MountedFile.{MountedFile}
 use Rattle.seat_lock.specs.Story.{made_by}
 use Rattle.store_core.specs.declared.closing.Closed.{Closed}

@@ -9,6 +9,7 @@ pub mod Fronts
 pub mod Handles
 pub mod Views
 pub mod Stores
+pub mod NewStores
 pub mod Turns
 pub mod Gets
 pub mod Sets

@@ -19,10 +19,10 @@ use Rattle.kdb_handle.specs.declared.setting.SetFault.{SetFault}
 use Rattle.model_history.specs.History.{replay}
 use Rattle.model_maps.specs.KeyMap.{KeyMap}
 use Rattle.model_names.specs.Name.{Name}
-use Rattle.model_store.specs.Store.{Formats, points_of}
+use Rattle.model_store.specs.Legal.{IsLegal}
+use Rattle.model_store.specs.Store.{Formats, points_of, store_of}
 use Rattle.mounted_files.specs.declared.files.MountedFile.{MountedFile}
 use Rattle.set_split.specs.Parts.{in_reach}
-use Rattle.store_core.specs.Plans.{store_of}
 use Rattle.store_core.specs.declared.committing.CommitFault.TheVariants as commit_fault
 use Rattle.store_core.specs.declared.committing.Done.{Done}
 use Rattle.store_core.specs.declared.getting.Got.{Got}
@@ -47,8 +47,8 @@ abbrev pub Rise : ℕ → List ℕ → Type 0
 Rise before [] = Unit {0}
 Rise before (number ∷ numbers) = (before < number) × Rise number numbers
 
--- A set that met the conflict of an item, and the get behind it; both leave the number. The base is what the record kept of the involved mounts before that get, and theirs
--- is what these mounts have in the commits that it found
+-- A set that met the conflict of an item, and the get behind it, which finds a legal history; both leave the number. The base is what the record kept of the involved
+-- mounts before that get, and theirs is what these mounts have in the commits that it found
 pub record IsRetry (formats : Formats) (files : List MountedFile) (parent : Name) (old : HandleValue) (ours : KeyMap) (item : Tried) (new : HandleValue) (base theirs : KeyMap) : Type 0 where
   pub between : HandleValue
   pub stored : IsStored formats files old between parent ours (Err (commit_fault.Conflict item.mount item.by item.front))
@@ -58,6 +58,7 @@ pub record IsRetry (formats : Formats) (files : List MountedFile) (parent : Name
   pub proc : proc_of new.rec ≡ proc_of between.rec
   pub seen : IsPrefix between.seen new.seen
   pub own : new.own ≡ between.own
+  pub legal : IsLegal formats (store_at files) (commits_of new.seen)
   pub got : Got
   pub is_got : (procs : ℕ → KeyMap) → procs between.number ≡ proc_of between.rec
       → IsGotAt (store_of files procs) files (commits_of new.seen) between.number parent (record_of between.rec) (record_of new.rec) (Ok got)

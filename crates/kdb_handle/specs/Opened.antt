@@ -6,9 +6,8 @@ use Rattle.intent_journal.specs.Journal.{JournalValue}
 use Rattle.kdb_handle.specs.Datums.{coded_journal}
 use Rattle.kdb_handle.specs.Story.{Told, Opening, Opened, Committed, Failed, Refused}
 use Rattle.model_maps.specs.KeyMap.{no_keys}
-use Rattle.model_store.specs.Store.{Store}
+use Rattle.model_store.specs.Store.{Store, store_of}
 use Rattle.mounted_files.specs.declared.files.MountedFile.{MountedFile}
-use Rattle.store_core.specs.Plans.{store_of}
 
 -- the opening of some mounted files over a journal, with the matcher's count of refusals and whether it wrote to the disk
 abbrev pub opening_of : {D : Type 0} → Coded D → List MountedFile → JournalValue D → ℕ → Bool → Opening

@@ -17,7 +17,7 @@ use Rattle.model_history.specs.History.{replay}
 use Rattle.model_store.specs.Legal.{IsLegal}
 use Rattle.model_store.specs.Store.{Formats}
 use Rattle.model_store.specs.Verdicts.{commit_of}
-use Rattle.mounted_files.specs.Getting.{visible_keys}
+use Rattle.mounted_files.specs.Visible.{visible_keys}
 use Rattle.store_core.specs.declared.cores.Core.{Core}
 use Rattle.store_phases.specs.Stores.{IsStore}
 use Rattle.store_verdict.specs.PreparedView.{prepared_of}

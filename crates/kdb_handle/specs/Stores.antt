@@ -1,28 +1,21 @@
 -- An open store that handles share, and which handles are its own. (This project's own.)
 use Rattle.std.specs.Prelude.{◌≡◌, ℕ, ◌≤◌, ◌<◌, ◌+◌, ◌-◌, List, [], ◌∷◌, ◌++◌, length, slice_get, Some}
-use Rattle.std.specs.List.{AllByRecursion}
 use mathlib.Core.List.{IsPrefix}
 use Rattle.kdb_handle.specs.Fronts.{Cover}
 use Rattle.kdb_handle.specs.Handles.{HandleValue}
 use Rattle.kdb_handle.specs.Opened.{opening_in, store_at}
 use Rattle.kdb_handle.specs.Story.{Told, Opened, maker_of, commits_of}
-use Rattle.model_maps.specs.KeyMap.{KeyMap}
 use Rattle.model_store.specs.Records.{IsRecord}
 use Rattle.model_store.specs.Sets.{front_in}
-use Rattle.mounted_files.specs.Short.{AreShort}
 use Rattle.seat_lock.specs.Known.{Known, Place, knowledge}
 use Rattle.seat_lock.specs.Story.{made_by}
-use Rattle.store_core.specs.Plans.{store_of}
 use Rattle.store_core.specs.declared.cores.Plan.{Plan}
-use Rattle.store_verdict.specs.Preparing.{IsPlan}
 use Rattle.store_verdict.specs.RecordView.{places_of, record_of}
 
 -- the story began with the opening of the plan's own files
 pub record IsStarted {F : Type 0} (lock : Place Told) (plan : Plan F) : Type 0 where
   pub start : lock.start ≡ Opened (opening_in lock.start) ∷ []
   pub files : (opening_in lock.start).files ≡ plan.mounted
-  pub fixed : (procs : ℕ → KeyMap) → IsPlan (store_of plan.mounted procs) plan.fixed
-  pub short : AllByRecursion AreShort plan.fixed.shadows
 
 -- A handle of a store: it has seen the opening at least. What it made is what it has seen of its number. Its record is that of its fronts in the history that
 -- it has seen, so it stays so when the handle sees more; and these fronts cover the handle's own commits

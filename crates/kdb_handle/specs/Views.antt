@@ -10,7 +10,6 @@ use Rattle.mounted_files.specs.declared.files.MountedFile.{MountedFile}
 use Rattle.seat_lock.specs.Known.{Known, Place}
 use Rattle.store_core.specs.declared.cores.Core.{Core}
 use Rattle.store_core.specs.declared.cores.Plan.{Plan}
-use Rattle.store_verdict.specs.declared.plans.Plan.{Plan as VerdictPlan}
 
 -- the lock of a store: how many seats it has, and how the story began
 abbrev pub lock_of : {V F E : Type 0} → Locked V F E → Place E
@@ -20,12 +19,9 @@ lock_of store = store.lock
 abbrev pub plan_of : {V F E : Type 0} → Locked V F E → Plan F
 plan_of store = store.plan
 
--- the mounts with what their files held, and what the verdict asks of them
+-- the mounts with what their files held
 abbrev pub files_of : {F : Type 0} → Plan F → List MountedFile
 files_of plan = plan.mounted
-
-abbrev pub fixed_of : {F : Type 0} → Plan F → VerdictPlan
-fixed_of plan = plan.fixed
 
 -- the mounts of a store
 abbrev pub files_in : {V F E : Type 0} → Locked V F E → List MountedFile

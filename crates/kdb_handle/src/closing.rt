@@ -6,6 +6,7 @@ ghost use Rattle.kdb_handle.specs.Datums.{coded_journal};
 ghost use Rattle.kdb_handle.specs.Opened.{opening_in};
 ghost use Rattle.kdb_handle.specs.Stores.{AreFree, IsHandle, IsStarted, seat_of, seats_back};
 ghost use Rattle.kdb_handle.specs.Views.{files_in, lock_of, plan_of, room_of, seats_of};
+ghost use Rattle.model_store.specs.Store.{formats_of};
 
 use crate::{FreeSeats, Handle, Locked, Shared, SharedStore, StoryEntry};
 use kdb_outside::Disk;
@@ -23,7 +24,7 @@ impl<D: Disk, F: Formats + Drop, P: Patterns + Drop> Locked<Shared<D, F, P>, F> 
         requires handles { All (IsHandle (lock_of self) (plan_of self)) handles.items }
         requires all { length handles.items + length (seats_of seats) ≡ (lock_of self).seats }
         ensures { (journal : JournalValue D) → (opening_in (lock_of self).start).journal ≡ (coded_journal D.row.coded).code journal
-            → IsClosed (record { text = F.text; IsStorable = F.is_storable; BreaksAt = F.breaks_at }) D.Disk P.refusals (files_in self) journal (opening_in (lock_of self).start) (length handles.items) handles.items result }
+            → IsClosed (formats_of F.Formats) D.Disk P.refusals (files_in self) journal (opening_in (lock_of self).start) (length handles.items) handles.items result }
     {
         let seats = gather(seats, handles);
         let Locked { plan: _plan, lock } = self;

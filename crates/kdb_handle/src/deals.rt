@@ -1,9 +1,8 @@
 //! The seats of a shared store that no handle has yet.
-ghost use Rattle.std.specs.Prelude.{◌≡◌, ◌+◌, ◌-◌, [], IfOk, OnErr, OnOk, None, ℕ, length};
-ghost use Rattle.kdb_handle.specs.Stores.{AreFree, IsHandle, IsStarted};
+ghost use Rattle.kdb_handle.specs.NewStores.{OpensHandle};
+ghost use Rattle.kdb_handle.specs.Stores.{AreFree, IsStarted};
 ghost use Rattle.kdb_handle.specs.Views.{lock_of, plan_of, room_of, seats_of};
 ghost use Rattle.store_verdict.specs.ProcKeys.{AreProc};
-ghost use Rattle.store_verdict.specs.RecordView.{proc_of, record_of};
 
 use crate::{Handle, SharedStore, StoryEntry};
 use kdb_outside::Disk;
@@ -40,16 +39,7 @@ impl FreeSeats {
         requires started { IsStarted (lock_of store.now) (plan_of store.now) }
         requires free { AreFree (lock_of store.now) (seats_of self.old) (room_of self.old) }
         requires proc { AreProc proc }
-        ensures handle { IfOk result (λ handle. IsHandle (lock_of store.now) (plan_of store.now) handle) }
-        ensures number { IfOk result (λ handle. handle.number ≡ (lock_of store.now).seats - length (seats_of self.old) + 1) }
-        ensures seen { IfOk result (λ handle. handle.seen ≡ (lock_of store.now).start) }
-        ensures own { IfOk result (λ handle. handle.own ≡ []) }
-        ensures rec { IfOk result (λ handle. (m : ℕ) → record_of handle.rec m ≡ None) }
-        ensures proc { IfOk result (λ handle. proc_of handle.rec ≡ proc) }
-        ensures free { AreFree (lock_of store.now) (seats_of self.new) (room_of self.new) }
-        ensures fewer { OnOk result (length (seats_of self.new) + 1 ≡ length (seats_of self.old)) }
-        ensures none { result ≡ Err NoHandle.NoSeat → length (seats_of self.old) ≡ 0 }
-        ensures same { OnErr result (self.new ≡ self.old) }
+        ensures { OpensHandle (lock_of store.now) (plan_of store.now) proc self.old self.new result }
     {
         let Some(first) = self.seats.first() else {
             return Err(NoHandle::NoSeat);

@@ -8,7 +8,7 @@ ghost use Rattle.kdb_handle.specs.Stores.{IsHandle};
 ghost use Rattle.kdb_handle.specs.Views.{files_in, lock_of, plan_of};
 ghost use Rattle.model_maps.specs.KeyMap.{KeyMap};
 ghost use Rattle.model_store.specs.Legal.{IsLegal};
-ghost use Rattle.store_core.specs.Plans.{store_of};
+ghost use Rattle.model_store.specs.Store.{store_of, formats_of};
 ghost use Rattle.store_verdict.specs.RecordView.{proc_of, record_of};
 
 use crate::{Handle, SharedStore};
@@ -37,7 +37,7 @@ impl Handle {
         ensures proc { proc_of self.new.rec ≡ proc_of self.old.rec }
         ensures seen { IsPrefix self.old.seen self.new.seen }
         ensures own { self.new.own ≡ self.old.own }
-        ensures legal { IsLegal (record { text = F.text; IsStorable = F.is_storable; BreaksAt = F.breaks_at }) (store_at (files_in store.now)) (commits_of self.new.seen) }
+        ensures legal { IsLegal (formats_of F.Formats) (store_at (files_in store.now)) (commits_of self.new.seen) }
         ensures got { (procs : ℕ → KeyMap) → procs self.old.number ≡ proc_of self.old.rec
             → IsGotAt (store_of (files_in store.now) procs) (files_in store.now) (commits_of self.new.seen) self.old.number parent.now (record_of self.old.rec) (record_of self.new.rec) result }
     {

@@ -21,7 +21,7 @@ ghost use Rattle.model_names.specs.Name.{Name};
 ghost use Rattle.model_store.specs.Cores.{accepts};
 ghost use Rattle.model_store.specs.Records.{IsRecord, Record};
 ghost use Rattle.model_store.specs.Sets.{front_in};
-ghost use Rattle.model_store.specs.Store.{Store};
+ghost use Rattle.model_store.specs.Store.{Store, formats_of};
 ghost use Rattle.mounted_files.specs.declared.files.MountedFile.{MountedFile};
 ghost use Rattle.seat_lock.specs.Known.{Place};
 ghost use Rattle.store_core.specs.declared.committing.CommitFault.TheVariants as fault;
@@ -39,28 +39,28 @@ use storage_api::Formats;
 pub fn an_accepted_set_is_still_prepared<F: Formats>(_formats: &F)
     ensures { (files : List MountedFile) (earlier later : List Commit) (number handle : ℕ) (before rec : Record) (parent : Name) (keys : KeyMap) (set : Prepared)
         → IsPrefix earlier later → IsRecord (store_at files) earlier (front_in before) before → IsRecord (store_at files) later (front_in rec) rec
-        → IsMade (record { text = F.text; IsStorable = F.is_storable; BreaksAt = F.breaks_at }) (store_at files) handle before parent keys set
+        → IsMade (formats_of F.Formats) (store_at files) handle before parent keys set
         → accepts rec number (prepared_of set) ≡ true
-        → IsPrepared (record { text = F.text; IsStorable = F.is_storable; BreaksAt = F.breaks_at }) files number rec set }
+        → IsPrepared (formats_of F.Formats) files number rec set }
 {}
 
 /// The commit that blocks a set of a handle is another's: the handle's fronts cover its own commits.
 pub fn the_blocking_commit_is_anothers<F: Formats + Drop>(_formats: &F)
     ensures { (lock : Place Told) (plan : Plan F) (old new : HandleValue) (set : Prepared) (mount : Name) (by front : ℕ)
-        → IsHandle lock plan old → IsPrepared (record { text = F.text; IsStorable = F.is_storable; BreaksAt = F.breaks_at }) plan.mounted old.number (record_of old.rec) set
-        → (done : IsDone (record { text = F.text; IsStorable = F.is_storable; BreaksAt = F.breaks_at }) plan.mounted old new set (Err (fault.Conflict mount by front)))
+        → IsHandle lock plan old → IsPrepared (formats_of F.Formats) plan.mounted old.number (record_of old.rec) set
+        → (done : IsDone (formats_of F.Formats) plan.mounted old new set (Err (fault.Conflict mount by front)))
         → IsAnothers old.number (commits_of done.found) by }
 {}
 
 /// The commits in the way of a merged set have rising numbers, from 1 on: each lies behind all that the get before it found.
 pub fn the_commits_in_the_way_rise<F: Formats>(_formats: &F)
     ensures { (files : List MountedFile) (parent : Name) (strategy : Strategy) (tries : ℕ) (old new : HandleValue) (ours after : KeyMap) (tried : List Tried) (end : Result Done MergeEnd)
-        → IsMergedSet (record { text = F.text; IsStorable = F.is_storable; BreaksAt = F.breaks_at }) files parent strategy tries old ours new after tried end
+        → IsMergedSet (formats_of F.Formats) files parent strategy tries old ours new after tried end
         → Rise 0 (in_the_way tried end) }
 {}
 
 /// What a run comes to by a story: its files stay, its commits gain those of the story, and what was begun or is in doubt had been, or is a set of the story.
 pub fn a_run_comes_to_its_story<F: Formats>(_formats: &F)
-    ensures { (store : Store) (keys : KeyMap) (first last : Run) (story : List Told) → RunsBy (record { text = F.text; IsStorable = F.is_storable; BreaksAt = F.breaks_at }) store keys first story last
-        → ComesTo (record { text = F.text; IsStorable = F.is_storable; BreaksAt = F.breaks_at }) store keys first story last }
+    ensures { (store : Store) (keys : KeyMap) (first last : Run) (story : List Told) → RunsBy (formats_of F.Formats) store keys first story last
+        → ComesTo (formats_of F.Formats) store keys first story last }
 {}

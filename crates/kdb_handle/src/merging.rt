@@ -14,6 +14,7 @@ ghost use Rattle.key_merge.specs.declared.strategies.Strategy.{Strategy as Strat
 ghost use Rattle.key_name.specs.Owner.{IsPoints};
 ghost use Rattle.model_names.specs.Name.{Name};
 ghost use Rattle.model_store.specs.Sets.{kept};
+ghost use Rattle.model_store.specs.Store.{formats_of};
 ghost use Rattle.store_core.specs.declared.committing.CommitFault.TheVariants as fault;
 ghost use Rattle.store_verdict.specs.RecordView.{proc_of, record_of};
 
@@ -109,7 +110,7 @@ impl Handle {
         ensures handle { IsHandle (lock_of store.now) (plan_of store.now) self.new }
         ensures number { self.new.number ≡ self.old.number }
         ensures proc { proc_of self.new.rec ≡ proc_of self.old.rec }
-        ensures merged { IsMergedSet (record { text = F.text; IsStorable = F.is_storable; BreaksAt = F.breaks_at }) (files_in store.now) parent.now strategy tries self.old keys.old self.new keys.new (tried_in result) (end_of result) }
+        ensures merged { IsMergedSet (formats_of F.Formats) (files_in store.now) parent.now strategy tries self.old keys.old self.new keys.new (tried_in result) (end_of result) }
     {
         let mut tried = Vec::new(alloc);
         let end = self.try_all(rt, alloc, store, parent, keys, strategy, tries, &mut tried);
@@ -138,7 +139,7 @@ impl Handle {
         ensures handle { IsHandle (lock_of store.now) (plan_of store.now) self.new }
         ensures number { self.new.number ≡ self.old.number }
         ensures proc { proc_of self.new.rec ≡ proc_of self.old.rec }
-        ensures merged { IsMergedSet (record { text = F.text; IsStorable = F.is_storable; BreaksAt = F.breaks_at }) (files_in store.now) parent.now strategy tries self.old keys.old self.new keys.new tried.new.items result }
+        ensures merged { IsMergedSet (formats_of F.Formats) (files_in store.now) parent.now strategy tries self.old keys.old self.new keys.new tried.new.items result }
     {
         let mut ours = keys.copy()?;
         for _try in 1..tries {
@@ -169,7 +170,7 @@ impl Handle {
         ensures number { self.new.number ≡ self.old.number }
         ensures proc { proc_of self.new.rec ≡ proc_of self.old.rec }
         ensures end { (strategy : Strategies) (tries : ℕ) (made : List Items) → length made + 1 ≡ tries
-            → IsEnd (record { text = F.text; IsStorable = F.is_storable; BreaksAt = F.breaks_at }) (files_in store.now) parent.now strategy tries self.old ours.now made self.new made result }
+            → IsEnd (formats_of F.Formats) (files_in store.now) parent.now strategy tries self.old ours.now made self.new made result }
     {
         match self.kdb_set(rt, alloc, store, parent, ours) {
             Ok(done) => Ok(done),
@@ -195,7 +196,7 @@ impl Handle {
         ensures handle { IsHandle (lock_of store.now) (plan_of store.now) self.new }
         ensures number { self.new.number ≡ self.old.number }
         ensures proc { proc_of self.new.rec ≡ proc_of self.old.rec }
-        ensures attempt { IsAttempt (record { text = F.text; IsStorable = F.is_storable; BreaksAt = F.breaks_at }) (files_in store.now) parent.now strategy 0 self.old ours.now tried.old.items self.new tried.new.items result }
+        ensures attempt { IsAttempt (formats_of F.Formats) (files_in store.now) parent.now strategy 0 self.old ours.now tried.old.items self.new tried.new.items result }
     {
         match self.kdb_set(rt, alloc, store, parent, ours) {
             Ok(done) => Ok(Attempt::Stored(done)),
@@ -223,8 +224,8 @@ impl Handle {
         ensures handle { IsHandle (lock_of store.now) (plan_of store.now) self.new }
         ensures number { self.new.number ≡ self.old.number }
         ensures proc { proc_of self.new.rec ≡ proc_of self.old.rec }
-        ensures attempt { (first : HandleValue) → self.old.number ≡ first.number → IsStored (record { text = F.text; IsStorable = F.is_storable; BreaksAt = F.breaks_at }) (files_in store.now) first self.old parent.now ours.now (Err (fault.Conflict met.mount met.by met.front))
-            → IsAttempt (record { text = F.text; IsStorable = F.is_storable; BreaksAt = F.breaks_at }) (files_in store.now) parent.now strategy 0 first ours.now tried.old.items self.new tried.new.items result }
+        ensures attempt { (first : HandleValue) → self.old.number ≡ first.number → IsStored (formats_of F.Formats) (files_in store.now) first self.old parent.now ours.now (Err (fault.Conflict met.mount met.by met.front))
+            → IsAttempt (formats_of F.Formats) (files_in store.now) parent.now strategy 0 first ours.now tried.old.items self.new tried.new.items result }
     {
         let Met { mount, by, front } = met;
         tried.reserve(1)?;

@@ -6,6 +6,7 @@ ghost use Rattle.kdb_handle.specs.Sets.{IsDone, IsSet};
 ghost use Rattle.kdb_handle.specs.Stores.{IsHandle};
 ghost use Rattle.kdb_handle.specs.Turns.{IsPrepared};
 ghost use Rattle.kdb_handle.specs.Views.{files_in, lock_of, plan_of};
+ghost use Rattle.model_store.specs.Store.{formats_of};
 ghost use Rattle.store_verdict.specs.Preparing.{IsMade, IsRefused};
 ghost use Rattle.store_verdict.specs.RecordView.{proc_of, record_of};
 ghost use Rattle.store_verdict.specs.declared.faults.PrepareFault.TheVariants as fault;
@@ -38,8 +39,8 @@ impl Handle {
         keys: &KeySet,
     ) -> Result<Prepared, PrepareFault>
         requires { IsHandle (lock_of store.now) (plan_of store.now) self.now }
-        ensures made { IfOk result (λ set. IsMade (record { text = F.text; IsStorable = F.is_storable; BreaksAt = F.breaks_at }) (store_at (files_in store.now)) self.now.number (record_of self.now.rec) parent.now keys.now set) }
-        ensures refused { IfErr result (λ why. UnlessMemory fault.Memory (IsRefused (record { text = F.text; IsStorable = F.is_storable; BreaksAt = F.breaks_at }) (store_at (files_in store.now)) self.now.number (record_of self.now.rec) parent.now keys.now why) why) }
+        ensures made { IfOk result (λ set. IsMade (formats_of F.Formats) (store_at (files_in store.now)) self.now.number (record_of self.now.rec) parent.now keys.now set) }
+        ensures refused { IfErr result (λ why. UnlessMemory fault.Memory (IsRefused (formats_of F.Formats) (store_at (files_in store.now)) self.now.number (record_of self.now.rec) parent.now keys.now why) why) }
     {
         store.plan.prepare(alloc, &self.rec, parent, keys)
     }
@@ -54,11 +55,11 @@ impl Handle {
         prepared: Prepared,
     ) -> Result<Done, CommitFault>
         requires handle { IsHandle (lock_of store.now) (plan_of store.now) self.old }
-        requires prepared { IsPrepared (record { text = F.text; IsStorable = F.is_storable; BreaksAt = F.breaks_at }) (files_in store.now) self.old.number (record_of self.old.rec) prepared }
+        requires prepared { IsPrepared (formats_of F.Formats) (files_in store.now) self.old.number (record_of self.old.rec) prepared }
         ensures handle { IsHandle (lock_of store.now) (plan_of store.now) self.new }
         ensures number { self.new.number ≡ self.old.number }
         ensures proc { proc_of self.new.rec ≡ proc_of self.old.rec }
-        ensures done { IsDone (record { text = F.text; IsStorable = F.is_storable; BreaksAt = F.breaks_at }) (files_in store.now) self.old self.new prepared result }
+        ensures done { IsDone (formats_of F.Formats) (files_in store.now) self.old self.new prepared result }
     {
         let Some(seat) = self.seat.take() else {
             unreachable!()
@@ -84,7 +85,7 @@ impl Handle {
         ensures handle { IsHandle (lock_of store.now) (plan_of store.now) self.new }
         ensures number { self.new.number ≡ self.old.number }
         ensures proc { proc_of self.new.rec ≡ proc_of self.old.rec }
-        ensures set { IsSet (record { text = F.text; IsStorable = F.is_storable; BreaksAt = F.breaks_at }) (files_in store.now) self.old self.new parent.now keys.now result }
+        ensures set { IsSet (formats_of F.Formats) (files_in store.now) self.old self.new parent.now keys.now result }
     {
         match self.prepare(alloc, store, parent, keys) {
             Ok(prepared) => match self.commit(rt, alloc, store, prepared) {

@@ -30,16 +30,17 @@ pub struct Shared<D: Disk, F: Formats + Drop, P: Patterns + Drop> {
 }
 
 impl<D: Disk, F: Formats + Drop, P: Patterns + Drop> Storied for Shared<D, F, P> {
-    ghost use Rattle.std.specs.Prelude.{◌≡◌, [], ◌∷◌, length};
+    ghost use Rattle.std.specs.Prelude.{[], ◌∷◌};
     ghost use Rattle.kdb_handle.specs.Opened.{opening_of};
     ghost use Rattle.kdb_handle.specs.Shares.{IsShared, told_now};
     ghost use Rattle.kdb_handle.specs.Story.{Opened, maker_of};
+    ghost use Rattle.model_store.specs.Store.{formats_of};
 
     type Entry = StoryEntry;
 
     ghost maker = { maker_of };
 
-    ghost stands = { λ value log. IsShared (record { text = F.text; IsStorable = F.is_storable; BreaksAt = F.breaks_at }) D.Disk D.row.coded P.refusals value.core value.entries log };
+    ghost stands = { λ value log. IsShared (formats_of F.Formats) D.Disk D.row.coded P.refusals value.core value.entries log };
 
     ghost first = { λ value. Opened (opening_of D.row.coded value.plan.value.mounted value.core.journal (P.refusals value.core.patterns) value.core.wrote) ∷ [] };
 

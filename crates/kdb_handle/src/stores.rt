@@ -1,14 +1,11 @@
 //! An open store that handles share.
-ghost use Rattle.std.specs.Prelude.{◌≡◌, ◌≤◌, ◌<◌, ℕ, IfErr, IfOk, None, length};
-ghost use Rattle.std.specs.List.{AllByRecursion};
-ghost use Rattle.kdb_handle.specs.Stores.{AreFree, IsStarted};
-ghost use Rattle.kdb_handle.specs.Views.{files_of, first_story, fixed_of, lock_of, plan_of, room_of, seats_of};
+ghost use Rattle.std.specs.Prelude.{◌≡◌, ◌≤◌, ◌<◌, ℕ, None};
+ghost use Rattle.kdb_handle.specs.NewStores.{SharesStore};
+ghost use Rattle.kdb_handle.specs.Views.{files_of, plan_of};
 ghost use Rattle.model_maps.specs.KeyMap.{KeyMap};
+ghost use Rattle.model_store.specs.Store.{store_of, formats_of};
 ghost use Rattle.model_store.specs.Worlds.{first_world};
-ghost use Rattle.mounted_files.specs.Short.{AreShort};
 ghost use Rattle.store_core.specs.Cores.{StandsIn};
-ghost use Rattle.store_core.specs.Plans.{store_of};
-ghost use Rattle.store_verdict.specs.Preparing.{IsPlan};
 
 use crate::shared::Fresh;
 use crate::{FreeSeats, Shared};
@@ -51,16 +48,8 @@ impl<D: Disk, F: Formats + Drop, P: Patterns + Drop> NewStore<D, F, P> {
         handles: u32,
     ) -> Result<NewStore<D, F, P>, NotShared<D, F, P>>
         requires handles { (0 < handles) × (handles ≤ 32) }
-        requires world { (procs : ℕ → KeyMap) → StandsIn (record { text = F.text; IsStorable = F.is_storable; BreaksAt = F.breaks_at }) (store_of (files_of plan) procs) core (λ r m. None) (λ p. None) first_world }
-        requires fixed { (procs : ℕ → KeyMap) → IsPlan (store_of (files_of plan) procs) (fixed_of plan) }
-        requires short { AllByRecursion AreShort (fixed_of plan).shadows }
-        ensures plan { IfOk result (λ new. plan_of new.store ≡ plan) }
-        ensures start { IfOk result (λ new. (lock_of new.store).start ≡ first_story D.row.coded P.refusals plan core) }
-        ensures started { IfOk result (λ new. IsStarted (lock_of new.store) (plan_of new.store)) }
-        ensures count { IfOk result (λ new. (lock_of new.store).seats ≡ handles) }
-        ensures seats { IfOk result (λ new. AreFree (lock_of new.store) (seats_of new.seats) (room_of new.seats)) }
-        ensures all { IfOk result (λ new. length (seats_of new.seats) ≡ handles) }
-        ensures err { IfErr result (λ none. (none.plan ≡ plan) × (none.core ≡ core)) }
+        requires world { (procs : ℕ → KeyMap) → StandsIn (formats_of F.Formats) (store_of (files_of plan) procs) core (λ r m. None) (λ p. None) first_world }
+        ensures { SharesStore D.row.coded P.refusals plan core handles result }
     {
         let shared = Shared {
             core,

@@ -1,18 +1,13 @@
 //! What the core of an open store does in one turn.
-ghost use Rattle.std.specs.Prelude.{Bool, ◌≡◌, ◌≤◌, ◌<◌, ◌+◌, ◌-◌, ◌^◌, ◌++◌, ℕ, [], List, Option, length, map as over};
-ghost use Rattle.kdb_handle.specs.Opened.{store_at};
-ghost use Rattle.kdb_handle.specs.Shares.{IsShared, told_now};
-ghost use Rattle.kdb_handle.specs.Story.{Told, commits_of};
-ghost use Rattle.kdb_handle.specs.Turns.{MayCommit, record_by, told_by, told_of_refusal};
+ghost use Rattle.std.specs.Prelude.{◌≡◌, ◌≤◌, ◌<◌, ◌+◌, ◌-◌, ◌^◌, ℕ, [], List, Option, length};
+ghost use Rattle.kdb_handle.specs.Shares.{told_now};
+ghost use Rattle.kdb_handle.specs.Story.{Told};
+ghost use Rattle.kdb_handle.specs.Turns.{Commits, MayCommit, told_by, told_of_refusal};
 ghost use Rattle.model_maps.specs.KeyMap.{KeyMap};
 ghost use Rattle.model_store.specs.Records as model;
-ghost use Rattle.model_store.specs.Records.{IsRecord};
 ghost use Rattle.model_store.specs.Sets as sets;
-ghost use Rattle.model_store.specs.Sets.{front_in};
-ghost use Rattle.store_core.specs.Answers.{IsJudged};
+ghost use Rattle.model_store.specs.Store.{store_of, formats_of};
 ghost use Rattle.store_core.specs.Gets.{HasGot};
-ghost use Rattle.store_core.specs.Plans.{store_of};
-ghost use Rattle.store_verdict.specs.Preparing.{IsPlan};
 ghost use Rattle.store_verdict.specs.PreparedView.{prepared_of};
 ghost use Rattle.store_verdict.specs.RecordView.{handle_of, places_of, proc_of, record_of};
 
@@ -48,10 +43,9 @@ impl<D: Disk, F: Formats + Drop, P: Patterns + Drop> Shared<D, F, P> {
         rec: &mut Record,
         parent: &KeyName,
     ) -> Result<Got, GetFault>
-        requires fixed { (procs : ℕ → KeyMap) → IsPlan (store_of plan.now.mounted procs) plan.now.fixed }
         requires places { length plan.now.mounted ≤ places_of rec.old }
         ensures got { (procs : ℕ → KeyMap) (records : ℕ → model.Record) (prepared : ℕ → Option sets.Prepared) → procs (handle_of rec.old) ≡ proc_of rec.old → records (handle_of rec.old) ≡ record_of rec.old
-            → HasGot (record { text = F.text; IsStorable = F.is_storable; BreaksAt = F.breaks_at }) (store_of plan.now.mounted procs) plan.now.mounted self.old.core records prepared parent.now rec.old rec.new result }
+            → HasGot (formats_of F.Formats) (store_of plan.now.mounted procs) plan.now.mounted self.old.core records prepared parent.now rec.old rec.new result }
         ensures handle { handle_of rec.new ≡ handle_of rec.old }
         ensures places { places_of rec.new ≡ places_of rec.old }
         ensures proc { proc_of rec.new ≡ proc_of rec.old }
@@ -71,18 +65,8 @@ impl<D: Disk, F: Formats + Drop, P: Patterns + Drop> Shared<D, F, P> {
         rec: &mut Record,
         prepared: Prepared,
     ) -> Result<Done, CommitFault>
-        requires may { (log : List Told) × MayCommit (record { text = F.text; IsStorable = F.is_storable; BreaksAt = F.breaks_at }) D.Disk D.row.coded P.refusals plan.now.mounted self.old.core self.old.entries log rec.old prepared }
-        ensures shared { (log : List Told) → MayCommit (record { text = F.text; IsStorable = F.is_storable; BreaksAt = F.breaks_at }) D.Disk D.row.coded P.refusals plan.now.mounted self.old.core self.old.entries log rec.old prepared
-            → IsShared (record { text = F.text; IsStorable = F.is_storable; BreaksAt = F.breaks_at }) D.Disk D.row.coded P.refusals self.new.core self.new.entries (log ++ told_now self.new.fresh) }
-        ensures keeps { (log : List Told) → MayCommit (record { text = F.text; IsStorable = F.is_storable; BreaksAt = F.breaks_at }) D.Disk D.row.coded P.refusals plan.now.mounted self.old.core self.old.entries log rec.old prepared
-            → IsRecord (store_at plan.now.mounted) (commits_of (log ++ told_now self.new.fresh)) (front_in (record_of rec.new)) (record_of rec.new) }
-        ensures told { told_now self.new.fresh ≡ told_by (prepared_of prepared) result }
-        ensures judged { (risen : Bool) × IsJudged (over (λ file. file.mount) plan.now.mounted) risen self.old.core.history.commits self.old.core.keys (prepared_of prepared) result }
-        ensures kept { (log : List Told) → MayCommit (record { text = F.text; IsStorable = F.is_storable; BreaksAt = F.breaks_at }) D.Disk D.row.coded P.refusals plan.now.mounted self.old.core self.old.entries log rec.old prepared
-            → record_of rec.new ≡ record_by (store_at plan.now.mounted) self.old.core.history.commits (prepared_of prepared) result (record_of rec.old) }
-        ensures handle { handle_of rec.new ≡ handle_of rec.old }
-        ensures places { places_of rec.new ≡ places_of rec.old }
-        ensures proc { proc_of rec.new ≡ proc_of rec.old }
+        requires may { (log : List Told) × MayCommit (formats_of F.Formats) D.Disk D.row.coded P.refusals plan.now.mounted self.old.core self.old.entries log rec.old prepared }
+        ensures { Commits (formats_of F.Formats) D.Disk D.row.coded P.refusals plan.now.mounted self.old self.new rec.old rec.new prepared result }
     {
         self.fresh = Fresh::Nothing;
         if self.entries == u64::MAX {

@@ -1,4 +1,5 @@
--- The words of the lines of a batch's phases, and that they tell the replies, but for those to edits and the places of wants of memory.
+-- The words of the lines of a batch's phases, and that they tell the replies, but for those to edits and the places of
+-- wants of memory.
 use Rattle.std.specs.Prelude.{◌≡◌, ◌≢◌, ℕ, ◌+◌, ◌≤◌, not, List, [], ◌∷◌, ◌++◌, drop, map as over, filter, codes}
 use Rattle.std.proofs.Common.{refl, sym, ap, ap₂, ◌∙◌, subst, arith, append_assoc}
 use Rattle.std.specs.Fmt.{decimal}
@@ -174,7 +175,8 @@ sessions-cut (steps ∷ others) (x ∷ xs) (y ∷ ys) s t hs ks p q e =
     let rest = sessions-cut others xs ys s t hs.1 ks.1 p q first.1 in
     (ap₂ (λ replies all. replies ∷ all) first.0 rest.0, rest.1)
 
-pub phases-cut : (number : ℕ) (phases : List Phase) (xs ys : List (List (List Reply))) (s t : List Line) → AreOfPhases phases xs → AreOfPhases phases ys → Begins s → Begins t → words_of_phases number phases xs ++ s ≡ words_of_phases number phases ys ++ t → (over (over told) xs ≡ over (over told) ys) × (s ≡ t)
+pub phases-cut : (number : ℕ) (phases : List Phase) (xs ys : List (List (List Reply))) (s t : List Line) → AreOfPhases phases xs → AreOfPhases phases ys → Begins s → Begins t
+    → words_of_phases number phases xs ++ s ≡ words_of_phases number phases ys ++ t → (over (over told) xs ≡ over (over told) ys) × (s ≡ t)
 phases-cut number [] [] [] s t hs ks p q e = (refl, e)
 phases-cut number [] [] (y ∷ ys) s t hs ks p q e = absurd ks
 phases-cut number [] (x ∷ xs) ys s t hs ks p q e = absurd hs

@@ -203,7 +203,8 @@ no_change mounts sessions number (commit ∷ commits) =
 same_commit : (c d : Commit) → c.handle ≡ d.handle → c.touched ≡ d.touched → c.changes ≡ d.changes → c ≡ d
 same_commit c d handle touched changes = λ i. record { handle = handle i; touched = touched i; changes = changes i }
 
-pub commits-once : (mounts : List Mount) (sessions : List ℕ) → AreNamed mounts sessions → (number : ℕ) (cs ds : List Commit) → AllByRecursion (IsCommitOf mounts sessions) cs → AllByRecursion (IsCommitOf mounts sessions) ds → words_of_commits mounts sessions number cs ++ (codes "end", []) ∷ [] ≡ words_of_commits mounts sessions number ds ++ (codes "end", []) ∷ [] → cs ≡ ds
+pub commits-once : (mounts : List Mount) (sessions : List ℕ) → AreNamed mounts sessions → (number : ℕ) (cs ds : List Commit) → AllByRecursion (IsCommitOf mounts sessions) cs → AllByRecursion (IsCommitOf mounts sessions) ds
+    → words_of_commits mounts sessions number cs ++ (codes "end", []) ∷ [] ≡ words_of_commits mounts sessions number ds ++ (codes "end", []) ∷ [] → cs ≡ ds
 commits-once mounts sessions named number [] [] hs ks e = refl
 commits-once mounts sessions named number [] (d ∷ ds) hs ks e = absurd (other_byte (codes "end") (codes "commit") (λ f. numbers_test 101 99 f) (first_same e))
 commits-once mounts sessions named number (c ∷ cs) [] hs ks e = absurd (other_byte (codes "commit") (codes "end") (λ f. numbers_test 99 101 f) (first_same e))

@@ -28,12 +28,14 @@ pushed-on so_far one all start before after all_is was pushed =
     ∙ (append_assoc start (ended so_far) (ended one) ∙ ap (λ text. start ++ text) (sym (ap ended all_is ∙ ended-append so_far one))))
 
 -- the lines of one item more
-pub pushed-more : {A : Type 0} (lines_of : A → List (List ℕ)) (items : List A) (i : ℕ) (item : A) (start before after : List ℕ) → Some item ≡ slice_get items i → before ≡ start ++ ended (flat_map lines_of (take i items)) → after ≡ before ++ ended (lines_of item) → after ≡ start ++ ended (flat_map lines_of (take (i + 1) items))
+pub pushed-more : {A : Type 0} (lines_of : A → List (List ℕ)) (items : List A) (i : ℕ) (item : A) (start before after : List ℕ) → Some item ≡ slice_get items i
+    → before ≡ start ++ ended (flat_map lines_of (take i items)) → after ≡ before ++ ended (lines_of item) → after ≡ start ++ ended (flat_map lines_of (take (i + 1) items))
 pushed-more lines_of items i item start before after there was pushed =
     pushed-on (flat_map lines_of (take i items)) (lines_of item) (flat_map lines_of (take (i + 1) items)) start before after (flat_map-more lines_of items i item there) was pushed
 
 -- the line of one item more
-pub pushed-line : {A : Type 0} (line_of : A → List ℕ) (items : List A) (i : ℕ) (item : A) (start before after : List ℕ) → Some item ≡ slice_get items i → before ≡ start ++ ended (over line_of (take i items)) → after ≡ before ++ ended (line_of item ∷ []) → after ≡ start ++ ended (over line_of (take (i + 1) items))
+pub pushed-line : {A : Type 0} (line_of : A → List ℕ) (items : List A) (i : ℕ) (item : A) (start before after : List ℕ) → Some item ≡ slice_get items i
+    → before ≡ start ++ ended (over line_of (take i items)) → after ≡ before ++ ended (line_of item ∷ []) → after ≡ start ++ ended (over line_of (take (i + 1) items))
 pushed-line line_of items i item start before after there was pushed =
     pushed-on (over line_of (take i items)) (line_of item ∷ []) (over line_of (take (i + 1) items)) start before after (ap (over line_of) (take-next items i item there) ∙ map_push line_of (take i items) item) was pushed
 
@@ -57,7 +59,8 @@ flat_map-over f g [] = refl
 flat_map-over f g (x ∷ xs) = ap (λ rest. f (g x) ++ rest) (flat_map-over f g xs)
 
 -- the mountpoint of one mount more
-pub points-more : (mounts : List Mount) (touched : List ℕ) (i : ℕ) → i < length touched → flat_map (λ point. 32 ∷ shown point) (points_of mounts (take (i + 1) touched)) ≡ flat_map (λ point. 32 ∷ shown point) (points_of mounts (take i touched)) ++ flat_map (λ point. 32 ∷ shown point) (points_of mounts (get_or touched i 0 ∷ []))
+pub points-more : (mounts : List Mount) (touched : List ℕ) (i : ℕ) → i < length touched → flat_map (λ point. 32 ∷ shown point) (points_of mounts (take (i + 1) touched))
+    ≡ flat_map (λ point. 32 ∷ shown point) (points_of mounts (take i touched)) ++ flat_map (λ point. 32 ∷ shown point) (points_of mounts (get_or touched i 0 ∷ []))
 points-more mounts touched i within =
     let point_of = λ (number : ℕ). option_map (λ (mount : Mount). mount.at) (slice_get mounts number) in
     ap (flat_map (λ point. 32 ∷ shown point)) (ap (points_of mounts) (take_more touched i 0 within) ∙ filter_map-append point_of (take i touched) (get_or touched i 0 ∷ []))

@@ -27,8 +27,8 @@ use Rattle.store_core.specs.declared.committing.Done.TheVariants.{Committed, Sam
 use Rattle.store_verdict.specs.declared.faults.PrepareFault.{PrepareFault}
 use Rattle.store_verdict.specs.declared.faults.PrepareFault.TheVariants as preparing
 
--- what kind of line begins with a word: the answers of a get, a look and a set, refusals, those of a merge alone, the lines that begin a session, a
--- phase or the history, and the tries of a merge; 0 is any other
+-- what kind of line begins with a word: the answers of a get, a look and a set, refusals, those of a merge alone, the
+-- lines that begin a session, a phase or the history, and the tries of a merge; 0 is any other
 abbrev pub kind_of : Line → ℕ
 kind_of (first, words) =
     if is_text first (codes "got") then 1 else

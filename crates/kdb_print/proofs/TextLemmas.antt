@@ -37,8 +37,10 @@ batch-HasWords : (mounts : List Mount) (sessions : List ℕ) (script : Script) (
 batch-HasWords mounts sessions script replies commits =
     words-append (words_of_phases 1 script.phases replies) (words_behind mounts sessions commits) (phases-HasWords 1 script.phases replies) (behind-HasWords mounts sessions commits)
 
-pub printed-once : (mounts : List Mount) (sessions : List ℕ) (script : Script) (a b : List (List (List Reply))) (h k : List Commit) → AreNamed mounts sessions → IsBatch mounts sessions script a h → IsBatch mounts sessions script b k → printed mounts sessions script a h ≡ printed mounts sessions script b k → (over (over told) a ≡ over (over told) b) × (h ≡ k)
+pub printed-once : (mounts : List Mount) (sessions : List ℕ) (script : Script) (a b : List (List (List Reply))) (h k : List Commit) → AreNamed mounts sessions → IsBatch mounts sessions script a h → IsBatch mounts sessions script b k
+    → printed mounts sessions script a h ≡ printed mounts sessions script b k → (over (over told) a ≡ over (over told) b) × (h ≡ k)
 printed-once mounts sessions script a b h k named one other e =
-    let words = text_of-once (words_of_batch mounts sessions script a h) (words_of_batch mounts sessions script b k) (batch-HasWords mounts sessions script a h) (batch-HasWords mounts sessions script b k) (sym (printed-text_of mounts sessions script a h) ∙ (e ∙ printed-text_of mounts sessions script b k)) in
+    let words = text_of-once (words_of_batch mounts sessions script a h) (words_of_batch mounts sessions script b k) (batch-HasWords mounts sessions script a h) (batch-HasWords mounts sessions script b k)
+    (sym (printed-text_of mounts sessions script a h) ∙ (e ∙ printed-text_of mounts sessions script b k)) in
     let parts = phases-cut 1 script.phases a b (words_behind mounts sessions h) (words_behind mounts sessions k) one.shape other.shape refl refl words in
     (parts.0, commits-once mounts sessions named 1 h k one.made other.made (ap (drop 1) parts.1))

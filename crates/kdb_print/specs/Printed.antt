@@ -1,4 +1,5 @@
--- What a batch prints: the replies of its sessions, phase by phase, and the history that its sets made. (This project's own.)
+-- What a batch prints: the replies of its sessions, phase by phase, and the history that its sets made. (This project's
+-- own.)
 use Rattle.std.specs.Prelude.{ℕ, ◌+◌, ◌-◌, List, [], ◌∷◌, ◌++◌, length, map as over, filter_map, slice_get, slice_index, Some, None, codes}
 use Rattle.std.specs.FinMap as map
 use Rattle.std.specs.Fmt.{decimal}

@@ -128,8 +128,9 @@ told_last reply = if is_memory reply then Memory else last_of reply
 abbrev pub told_of : Reply → List Tried × Reply
 told_of reply = (tries_of reply, told_last reply)
 
--- what the lines of a session tell, of each reply but for those of edits. The last line of a merge can be that of a set: the steps tell which of both it is,
--- but not where an edit may have wanted memory, since then it isn't known which line is whose
+-- what the lines of a session tell, of each reply but for those of edits. The last line of a merge can be that of a set:
+-- the steps tell which of both it is, but not where an edit may have wanted memory, since then it isn't known which line
+-- is whose
 abbrev pub told : List Reply → List (List Tried × Reply)
 told replies = over told_of (filter (λ reply. not (is_quiet reply)) replies)
 

@@ -1,5 +1,5 @@
 //! The lines of a history.
-ghost use Rattle.std.specs.Prelude.{◌≡◌, ◌<◌, ◌+◌, ◌++◌, ◌∷◌, [], length, OnOk, IfOk, string_bytes};
+ghost use Rattle.std.specs.Prelude.{◌≡◌, ◌<◌, ◌+◌, ◌++◌, ◌∷◌, [], OnOk, IfOk, string_bytes};
 ghost use Rattle.std.specs.List.{flat_map};
 ghost use Rattle.commit_log.specs.CommitView.{commit_of};
 ghost use Rattle.kdb_print.specs.Printed.{line_of_touched, lines_of_commit, lines_of_history, points_of, session_of};

@@ -11,8 +11,8 @@ ghost use Rattle.store_core.specs.declared.committing.CommitFault.TheVariants.{C
 ghost use Rattle.store_core.specs.declared.committing.Done.TheVariants.{Committed, Same};
 ghost use Rattle.store_verdict.specs.declared.faults.PrepareFault.TheVariants.{NotFetched, Memory as Unprepared};
 
-/// Three sessions get; then each sets in a phase of its own. The second meets the commit of the first, and the third touches
-/// another mount.
+/// Three sessions get; then each sets in a phase of its own. The second meets the commit of the first, and the third
+/// touches another mount.
 pub fn a_batch_tells_its_phases_and_its_history()
     ensures { printed mounts (1 ∷ 2 ∷ 3 ∷ [])
         (script_of (phase_of (steps_of 1 ∷ steps_of 2 ∷ steps_of 3 ∷ []) ∷ phase_of (steps_of 1 ∷ []) ∷ phase_of (steps_of 2 ∷ []) ∷ phase_of (steps_of 3 ∷ []) ∷ []))
@@ -39,7 +39,8 @@ pub fn a_commit_tells_its_session_its_metadata_and_its_removals()
         ++ codes "commit 1 by 7\ntouched user:/ system:/\n+ user:/a \"x\"\n. \"m\" \"t\"\n- system:/b\nend\n" }
 {}
 
-/// A merge tells the tries that it merged, and behind them what its last set came to, the keys that both sides had changed, or the last conflict.
+/// A merge tells the tries that it merged, and behind them what its last set came to, the keys that both sides had
+/// changed, or the last conflict.
 pub fn a_merge_tells_its_tries_and_its_end()
     ensures { printed mounts (1 ∷ 2 ∷ 3 ∷ []) (script_of (phase_of (steps_of 1 ∷ steps_of 2 ∷ steps_of 3 ∷ []) ∷ []))
         (((merged (tried 1 2 4 ∷ tried 3 4 5 ∷ []) (Committed 6 1) ∷ merged [] (Same 6 1) ∷ [])

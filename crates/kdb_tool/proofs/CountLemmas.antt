@@ -22,6 +22,7 @@ use Rattle.model_batch.specs.Fair.{count_failed}
 use Rattle.model_batch.specs.Replies.{failures_of_end, failures_told}
 use Rattle.model_batch.specs.Scripts.{AnswerEach, AreTranscripts, has_session, replies_in, reply_rows, rows_by, sessions_of}
 use Rattle.store_core.specs.declared.committing.CommitFault.TheVariants.{DiskFault}
+use Rattle.tool_commands.specs.Report.{IsAnswered}
 
 -- ---- one session
 
@@ -166,3 +167,12 @@ status_by false false is = absurd (omega (arith, is))
 
 pub status-fault : (replies : List (List (List Reply))) → status_of replies ≡ 74 → some_reply is_disk_fault replies ≡ true
 status-fault replies is = status_by (some_reply is_memory replies) (some_reply is_disk_fault replies) is
+
+status_none_by : (memory fault : Bool) → IsAnswered (status_with memory fault) → status_with memory fault ≡ 0
+status_none_by true fault own = absurd (own.0 refl)
+status_none_by false true own = absurd (own.1 refl)
+status_none_by false false own = refl
+
+-- a status that is neither is 0
+pub status-none : (replies : List (List (List Reply))) → IsAnswered (status_of replies) → status_of replies ≡ 0
+status-none replies own = status_none_by (some_reply is_memory replies) (some_reply is_disk_fault replies) own

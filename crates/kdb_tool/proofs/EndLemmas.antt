@@ -14,9 +14,9 @@ use Rattle.store_lines.specs.Lines.{disk_fault, out_of_memory}
 use Rattle.kdb_tool.specs.Ends.{EndsBroken, EndsInFault, EndsWithoutMemory, GivesText, TellsBroken}
 use Rattle.kdb_tool.specs.Plays.{report_by}
 use Rattle.kdb_tool.specs.Reported.{IsOfDisk, IsReported, OfReplies, Own, StoresNone}
-use Rattle.kdb_tool.specs.Runs.{Played, RanBatch, TellsPlayed, Unplayed, Without}
+use Rattle.kdb_tool.specs.RunsBatch.{Played, RanBatch, TellsPlayed, Unplayed, Without}
 use Rattle.kdb_tool.specs.Scripts.{AsksFor}
-use Rattle.kdb_tool.specs.Unplayed.{AnswersUnplayed, IsUnopened, NotOpened, RefusesScript, ScriptRefused, WordsRefused}
+use Rattle.kdb_tool.specs.Unplayed.{AnswersUnplayed, NotOpened, ScriptRefused, WordsRefused}
 use Rattle.kdb_tool.specs.Unplayed as unplayed
 use Rattle.kdb_tool.specs.Working.{HasPlayed, NotPlayed, PlaysTold, Works}
 use Rattle.tool_commands.specs.Lines.{read_fault}

@@ -16,6 +16,7 @@ use Rattle.kdb_handle.specs.Rising.{HasRisenBy}
 use Rattle.kdb_handle.specs.Runs.{RunsBy}
 use Rattle.kdb_handle.specs.Story.{Told, BeginsNone, commits_of, failures_in, refusals_in}
 use Rattle.kdb_handle.specs.declared.replies.Transcripts.{Transcripts}
+use Rattle.kdb_outside.proofs.Frames.{GoesOn-then}
 use Rattle.kdb_outside.proofs.Rises.{risen_since}
 use Rattle.kdb_outside.specs.Faults.{HasRisen}
 use Rattle.kdb_outside.specs.Frames.{GoesOn, OnlyReads}
@@ -26,15 +27,15 @@ use Rattle.model_batch.specs.Scripts.{IsFairScript, reply_rows}
 use Rattle.model_crashes.proofs.Moments.{only_both}
 use Rattle.model_crashes.specs.Runs.{Run, IsReached, files_of, new_run}
 use Rattle.model_history.specs.History.{Commit}
-use Rattle.mounted_files.specs.Getting.{visible_keys}
+use Rattle.mounted_files.specs.Visible.{visible_keys}
 use Rattle.mounted_files.specs.Opening.{IsOpened}
 use Rattle.mounted_files.specs.declared.files.MountedFile.{MountedFile}
 use Rattle.store_core.specs.declared.cores.Core.{Core}
-use Rattle.kdb_tool.proofs.CountLemmas.{faults-count, status-fault}
+use Rattle.kdb_tool.proofs.CountLemmas.{faults-count, status-fault, status-none}
 use Rattle.kdb_tool.specs.Plays.{Plays, report_by}
-use Rattle.kdb_tool.specs.Reported.{IsReported, OfReplies}
+use Rattle.kdb_tool.specs.Reported.{IsReported, OfReplies, StoresNone}
 use Rattle.kdb_tool.specs.Working.{AnswersBy, HasEnded, HasPlayed, NotPlayed, Works}
-use Rattle.tool_commands.specs.Report.{Report}
+use Rattle.tool_commands.specs.Report.{IsAnswered, Report}
 use Rattle.tool_commands.specs.StepView.{report_of}
 use Rattle.tool_commands.specs.declared.reports.Report as code
 use Rattle.tool_single.proofs.CrashLemmas.{reached_none}
@@ -47,6 +48,7 @@ use Rattle.tool_single.specs.Serving as serving
 use Rattle.tool_single.specs.Sets.{formats}
 use Rattle.tool_single.specs.declared.answers.Ended.{Ended}
 use Rattle.tool_single.specs.declared.answers.Stop.{Stop}
+use Rattle.tool_single.specs.declared.answers.Stop.TheVariants as stops
 
 -- ---- counts
 
@@ -59,6 +61,11 @@ rises_since n a b c le (inr at_top) = let later = at_top.later in inr (record { 
 rose : (n before now : ℕ) → 0 < n → HasRisenBy n before now → HasRisen before now
 rose n before now some (inl by_so_much) = inl (omega (arith, some, by_so_much))
 rose n before now some (inr at_top) = at_top.rose
+
+-- one that rose by so much didn't fall
+rises-later : (n before now : ℕ) → HasRisenBy n before now → before ≤ now
+rises-later n before now (inl by_so_much) = omega (arith, by_so_much)
+rises-later n before now (inr at_top) = at_top.later
 
 -- what is known of the replies, where there are some
 pub at_some : (P : Transcripts → Type 0) (o : Option Transcripts) (transcripts : Transcripts) → o ≡ Some transcripts → IfSome o P → P transcripts
@@ -207,3 +214,30 @@ module _ {D P : Type 0} (g : Ghosts D) (refused : P → ℕ) (disk : D) (script 
       by (Some transcripts) there (Err stop) told = tt
       by None there (Ok report) same = absurd cc
       by None there (Err stop) same = tt
+
+  -- no answer is known but for want of memory
+  pub stops-ended : (stop : Stop) → ended.answer ≡ Err stop → stop ≡ stops.Memory
+  stops-ended stop is = by ends.played.transcripts (subst (λ (r : Result code.Report Stop). AnswersBy mounted script ends.played.closed.history.commits ends.played.transcripts r) is ends.told)
+    where
+      by : (o : Option Transcripts) → AnswersBy mounted script ends.played.closed.history.commits o (Err stop) → stop ≡ stops.Memory
+      by (Some transcripts) told = told
+      by None same = cc
+
+  -- the status of replies is 0, or that of no report of its own
+  pub stores-none-ended : StoresNone g ended.answer disk ended.disk
+  stores-none-ended = by ends.played.transcripts ended.answer ends.told
+    where
+      by : (o : Option Transcripts) (r : Result code.Report Stop) → AnswersBy mounted script ends.played.closed.history.commits o r → StoresNone g r disk ended.disk
+      by (Some transcripts) (Ok report) told = λ some own.
+          let status = ap (λ (made : Report). made.status) told in
+          absurd (some (status ∙ status-none transcripts.phases (subst IsAnswered status own)))
+      by (Some transcripts) (Err stop) told = tt
+      by None (Ok report) same = absurd cc
+      by None (Err stop) same = tt
+
+  pub goes-ended : GoesOn g disk ended.disk
+  goes-ended = subst (GoesOn g disk) (sym ends.disk) (GoesOn-then g disk core.journal.disk ends.played.closed.disk goes ends.is.goes)
+
+  pub later-ended : refused core.patterns ≤ refused ended.patterns
+  later-ended = subst (λ (p : P). refused core.patterns ≤ refused p) (sym ends.patterns)
+      (rises-later (refusals_in ends.is.story) (refused core.patterns) (refused ends.played.closed.patterns) ends.is.refused_by)

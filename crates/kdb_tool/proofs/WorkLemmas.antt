@@ -1,17 +1,19 @@
 -- What was done for a batch, under other answers, and what it leaves of a calm disk.
-use Rattle.std.specs.Prelude.{◌≡◌, ℕ, List, Option, Result, Ok, Err, IfOk}
+use Rattle.std.specs.Prelude.{◌≡◌, ◌≢◌, ℕ, List, Option, Result, Ok, Err, IfOk}
 use Rattle.std.proofs.Common.{refl, sym, subst}
 use Rattle.batch_script.specs.declared.steps.Script.{Script}
 use Rattle.intent_journal.specs.BadJournals.{opened_files}
 use Rattle.journal_codec.specs.declared.files.FileText.{FileText}
+use Rattle.kdb_outside.proofs.Frames.{OnlyReads-none}
 use Rattle.kdb_outside.specs.Faults.{HasRisen}
+use Rattle.kdb_outside.specs.Frames.{OnlyReads}
 use Rattle.kdb_outside.specs.Images.{Image}
 use Rattle.kdb_outside.specs.declared.disks.Disk.{Ghosts}
 use Rattle.model_crashes.specs.Runs.{files_of}
 use Rattle.store_lines.specs.Lines.{bad_journal}
 use Rattle.kdb_tool.specs.Ends.{Broken, TellsBroken}
-use Rattle.kdb_tool.specs.Reported.{IsReported, Own}
-use Rattle.kdb_tool.specs.Runs.{IsAtRest}
+use Rattle.kdb_tool.specs.Reported.{IsOfDisk, IsReported, Own, StoresNone}
+use Rattle.kdb_tool.specs.RunsBatch.{IsAtRest}
 use Rattle.kdb_tool.specs.Scripts.{AsksFor}
 use Rattle.kdb_tool.specs.Working.{HasPlayed, NotPlayed, Works}
 use Rattle.tool_commands.specs.Report.{IsAnswered, Report, warned}
@@ -59,3 +61,24 @@ made-is P wanted (Err why) answer same told holds = subst (λ (r : Result code.R
 pub made-reported : {E : Type 0} (failed : Type 0) (made : Result code.Report E) (answer : Result code.Report Stop) → answer ≡ or_memory made → IfOk made (λ report. IsAnswered report.status) → IfOk answer (λ report. IsReported failed (report_of report))
 made-reported failed (Ok report) answer same own = subst (λ (r : Result code.Report Stop). IfOk r (λ report. IsReported failed (report_of report))) (sym same) (Own own)
 made-reported failed (Err why) answer same own = subst (λ (r : Result code.Report Stop). IfOk r (λ report. IsReported failed (report_of report))) (sym same) tt
+
+pub made-not_of_disk : {E : Type 0} (made : Result code.Report E) (answer : Result code.Report Stop) → answer ≡ or_memory made → IfOk made (λ report. IsAnswered report.status) → IsOfDisk answer → ⊥
+made-not_of_disk (Ok report) answer same own is = own.1 (subst IsOfDisk same is)
+made-not_of_disk (Err why) answer same own is = subst IsOfDisk same is
+
+pub stopped-not_of_disk : (stop : Stop) → stop ≢ stops.DiskFault → IsOfDisk (Err stop) → ⊥
+stopped-not_of_disk stops.Memory own is = is
+stopped-not_of_disk stops.DiskFault own is = own refl
+stopped-not_of_disk stops.ReadFault own is = is
+
+-- an answer that only stops is one stop
+pub stop-is : (stop other : Stop) → ◌≡◌ {A = Result code.Report Stop} (Err stop) (Err other) → stop ≡ other
+stop-is stop other same = cc
+
+-- a disk that is handed back as it came was only read
+pub handed-reads : {D : Type 0} (g : Ghosts D) (disk end : D) → end ≡ disk → OnlyReads g disk end
+handed-reads g disk end same = subst (OnlyReads g disk) (sym same) (OnlyReads-none g disk)
+
+pub reads-none : {D : Type 0} (g : Ghosts D) (answer : Result code.Report Stop) (before after : D) → OnlyReads g before after → StoresNone g answer before after
+reads-none g (Ok report) before after reads = λ some answered. reads
+reads-none g (Err stop) before after reads = tt

@@ -4,11 +4,11 @@ pub mod Scripts
 pub mod Unplayed
 pub mod Plays
 pub mod Ends
-pub mod Runs
+pub mod RunsBatch
 pub mod Tasks
 pub mod Reported
 pub mod Working
-pub mod RunsOne
+pub mod Carried
 pub mod Rounds
 pub mod Generated
 pub mod RunsGenerated

@@ -26,7 +26,7 @@ use Rattle.model_crashes.specs.Runs.{Run, IsReached, files_of, new_run}
 use Rattle.model_history.specs.History.{Commit}
 use Rattle.model_store.specs.Legal.{IsLegal}
 use Rattle.mount_table.specs.declared.mounts.Mount.{Mount}
-use Rattle.mounted_files.specs.Getting.{visible_keys}
+use Rattle.mounted_files.specs.Visible.{visible_keys}
 use Rattle.mounted_files.specs.Opening.{IsOpened}
 use Rattle.mounted_files.specs.declared.files.MountedFile.{MountedFile}
 use Rattle.tool_commands.specs.Report.{Report}

@@ -1,19 +1,8 @@
 //! A script is played: the store is opened, the sessions take their steps, and it is closed.
-ghost use Rattle.std.specs.Prelude.{◌≡◌, ◌≢◌, ◌≤◌, ℕ, List, Option, Some, None, true, Err, IfOk};
+ghost use Rattle.kdb_tool.specs.Carried.{PlaysScript};
+ghost use Rattle.std.specs.Prelude.{◌≡◌};
 ghost use Rattle.batch_run.specs.Played.{IsPlayable};
-ghost use Rattle.intent_journal.specs.BadJournals.{bad_place, open_entry, opened_files};
-ghost use Rattle.intent_journal.specs.States.{IsCalm};
-ghost use Rattle.journal_codec.specs.Entry.{journal_name};
-ghost use Rattle.journal_codec.specs.declared.files.FileText.{FileText as Item};
-ghost use Rattle.kdb_outside.specs.Faults.{HasRisen};
-ghost use Rattle.kdb_outside.specs.Frames.{GoesOn, OnlyReads};
-ghost use Rattle.kdb_outside.specs.Images.{Image};
-ghost use Rattle.store_lines.specs.Lines.{bad_journal};
-ghost use Rattle.kdb_tool.specs.Reported.{IsReported, StoresNone};
-ghost use Rattle.kdb_tool.specs.Unplayed.{IsUnopened};
-ghost use Rattle.kdb_tool.specs.Working.{AnswersWith, HasEnded, Works};
-ghost use Rattle.tool_commands.specs.Report.{warned};
-ghost use Rattle.tool_commands.specs.StepView.{report_of};
+ghost use Rattle.kdb_tool.specs.Working.{AnswersWith, HasEnded};
 ghost use Rattle.tool_single.specs.Serving.{IsOpen};
 
 use crate::reporting::{Names, answer_of, names_of};
@@ -36,16 +25,7 @@ pub fn play_script<
     R: Threads + Wait + Sync,
 >(rt: &R, alloc: Global, gate: &G, script: &Script, disk: D, patterns: P) -> Ended<D, P>
     requires { IsPlayable script.now }
-    ensures worked { D.tells disk ≡ true → (files : Image) (doubt : Option (List Item)) → IsCalm (D.seen disk) (D.may_leave disk) files doubt
-        → Works D.Disk files doubt (P.refusals patterns) (P.refusals result.patterns) (IsUnopened (opened_files (D.seen disk))) (λ played. played ≡ script.now) result.answer disk result.disk }
-    ensures reported { IfOk result.answer (λ report. IsReported (HasRisen (D.faults disk) (D.faults result.disk)) (report_of report)) }
-    ensures unstored { D.tells disk ≡ true → open_entry (D.seen disk journal_name) ≡ None → StoresNone D.Disk result.answer disk result.disk }
-    ensures broken { D.tells disk ≡ true → (at : ℕ) → bad_place (D.seen disk journal_name) ≡ Some at → IfOk result.answer (λ report. report_of report ≡ warned 5 (bad_journal at)) }
-    ensures broken_stays { D.tells disk ≡ true → (at : ℕ) → bad_place (D.seen disk journal_name) ≡ Some at → OnlyReads D.Disk disk result.disk }
-    ensures cause { result.answer ≡ Err Stop.DiskFault → HasRisen (D.faults disk) (D.faults result.disk) }
-    ensures input { result.answer ≢ Err Stop.ReadFault }
-    ensures goes { GoesOn D.Disk disk result.disk }
-    ensures later { P.refusals patterns ≤ P.refusals result.patterns }
+    ensures { PlaysScript D.Disk P.Patterns script.now disk patterns result }
 {
     match open_store(alloc, disk, AllFormats, patterns) {
         Ok(opened) => {

@@ -1,5 +1,5 @@
 //! The runs of a batch and of a generated script.
-ghost use Rattle.kdb_tool.specs.Runs.{RunsBatch};
+ghost use Rattle.kdb_tool.specs.RunsBatch.{RunsBatch};
 ghost use Rattle.kdb_tool.specs.RunsGenerated.{RunsGenerated};
 
 use crate::generating::{Generated, generate};

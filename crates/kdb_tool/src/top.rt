@@ -1,10 +1,10 @@
 //! The run of a command line: a batch or a generated run by its first word, or else a single command.
 ghost use Rattle.std.specs.Prelude.{◌≡◌, true, false};
 ghost use Rattle.kdb_tool.specs.Rounds.{is_gen};
-ghost use Rattle.kdb_tool.specs.RunsOne.{RunsOne};
-ghost use Rattle.kdb_tool.specs.Runs.{RunsBatch};
+ghost use Rattle.kdb_tool.specs.RunsBatch.{RunsBatch};
 ghost use Rattle.kdb_tool.specs.RunsGenerated.{RunsGenerated};
 ghost use Rattle.kdb_tool.specs.Scripts.{is_batch};
+ghost use Rattle.tool_single.specs.RunsOne.{RunsOne};
 
 use crate::running::{run_batch, run_gen};
 use kdb_outside::{Disk, Gate, Sink, Source};

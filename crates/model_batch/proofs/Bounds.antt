@@ -1,5 +1,5 @@
 -- In fair transcripts each conflict is with the commit of another, and a merge is spent only where others made as many commits as it has tries.
-use Rattle.std.proofs.Common.{◌≡◌, ◌⊎◌, inl, inr, ℕ, zero, suc, ◌+◌, ◌-◌, ◌<◌, ◌≤◌, Bool, true, false, ◌||◌, nat_eq, List, [], ◌∷◌, ◌++◌, length, slice_get, Option, Some, None, Result, Ok, Err, refl, sym, ap, subst, ◌∙◌, arith}
+use Rattle.std.proofs.Common.{◌≡◌, ◌⊎◌, inl, inr, ℕ, zero, suc, ◌+◌, ◌-◌, ◌<◌, ◌≤◌, Bool, true, false, ◌||◌, nat_eq, List, [], ◌∷◌, ◌++◌, length, slice_get, Option, Some, None, Err, refl, sym, ap, subst, ◌∙◌, arith}
 use Rattle.std.specs.FinMap as map
 use Rattle.std.specs.List.{AllByRecursion, flat_map}
 use Rattle.batch_script.specs.declared.steps.Step.{Step}
@@ -18,7 +18,7 @@ use Rattle.model_batch.specs.Replies.{conflicts_told, look_reply, merge_reply, n
 use Rattle.model_batch.specs.Sessions.{Session, first_session}
 use Rattle.model_batch.specs.Sets.{Lacks, kept_then}
 use Rattle.model_batch.specs.Steps.{Edits, Means, got_then}
-use Rattle.model_batch.specs.Told.{IsAtLeast, Tells, count_of_others, numbers_by}
+use Rattle.model_batch.specs.Told.{IsAtLeast, Tells, count_of_others}
 use Rattle.model_batch.proofs.Covering.{AreTold, Covers, Leaves, covers-kept, lacks-covers, leaves, leaves-same, none-behind, set-covers}
 use Rattle.model_batch.proofs.MergesCover.{merges-cover, merges-spent}
 use Rattle.model_batch.proofs.OwnLemmas.{own-among}

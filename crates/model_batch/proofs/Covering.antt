@@ -12,7 +12,7 @@ use Rattle.kdb_handle.proofs.BlockLemmas.{another, blocked_at, is_blocked}
 use Rattle.kdb_handle.proofs.CoverLemmas.{cover-keeping, cover-own}
 use Rattle.model_batch.specs.Replies.{conflicts_told, numbers_told, set_reply}
 use Rattle.model_batch.specs.Sessions.{Session}
-use Rattle.model_batch.specs.Sets.{IsJudgedThen, Lacks, MeansSet, StandsNext, kept_then, record_then, set_by, told_then}
+use Rattle.model_batch.specs.Sets.{Lacks, MeansSet, StandsNext, kept_then, record_then, set_by, told_then}
 use Rattle.model_batch.proofs.OwnLemmas.{anothers-longer, place-longer, place-shorter}
 use Rattle.model_history.specs.History.{Commit, is_among, replay, touches}
 use Rattle.model_maps.specs.KeyMap.{KeyMap}

@@ -1,10 +1,10 @@
 -- A merged set: what is in the way of each try is the commit of another, behind that of the try before; and the fronts cover as before.
-use Rattle.std.proofs.Common.{◌≡◌, ◌⊎◌, inl, inr, ℕ, ◌+◌, ◌<◌, ◌≤◌, Bool, true, false, List, [], ◌∷◌, ◌++◌, length, map as over, take, Some, Result, Ok, Err, refl, sym, ap, subst, ◌∙◌, arith, length-append}
+use Rattle.std.proofs.Common.{◌≡◌, inl, inr, ℕ, ◌+◌, ◌≤◌, Bool, true, false, List, [], ◌∷◌, ◌++◌, length, map as over, take, Some, Result, Ok, Err, refl, sym, ap, subst, ◌∙◌, arith, length-append}
 use Rattle.std.specs.List.{AllByRecursion}
 use mathlib.Core.List.{IsPrefix}
 use Rattle.general_words.proofs.Lists.{all_append, all_map}
 use Rattle.key_merge.specs.declared.strategies.Strategy.{Strategy}
-use Rattle.kdb_handle.specs.Fronts.{Cover, IsAnothers}
+use Rattle.kdb_handle.specs.Fronts.{IsAnothers}
 use Rattle.kdb_handle.specs.Opened.{store_at}
 use Rattle.kdb_handle.specs.Remaking.{AreTries, IsCutBy, IsTryBy}
 use Rattle.kdb_handle.specs.Sets.{tells_refusal}
@@ -19,7 +19,7 @@ use Rattle.kdb_handle.proofs.BlockLemmas.{SeesTo, another, blocked_at, blocks-be
 use Rattle.model_batch.specs.Merges.{EndsSo, Merges, Retries, SetsSo, Stays}
 use Rattle.model_batch.specs.Replies.{conflicts_told, merge_reply, numbers_told, set_reply, stored_reply}
 use Rattle.model_batch.specs.Sessions.{Session}
-use Rattle.model_batch.specs.Sets.{IsJudgedThen, MeansSet, StandsNext, kept_then, record_then, set_by, told_then}
+use Rattle.model_batch.specs.Sets.{IsJudgedThen, StandsNext, kept_then, record_then, set_by, told_then}
 use Rattle.model_batch.specs.Told.{count_of_others}
 use Rattle.model_batch.proofs.Covering.{AreAnothers, AreTold, Covers, Leaves, NoneBetween, covers-kept, leaves, none-behind, past-cover, set-covers}
 use Rattle.model_batch.proofs.OwnLemmas.{anothers-longer, count-first, count-more}

@@ -1,6 +1,6 @@
 -- What a merged set means to a session: tries one after another, each a set that met a conflict and the get behind it, and then an end. Each set and
 -- each get means what such a step would mean, but that the working set stays meanwhile. (This project's own.)
-use Rattle.std.specs.Prelude.{◌≡◌, ℕ, ◌≤◌, List, length, None, Result, Ok, Err}
+use Rattle.std.specs.Prelude.{◌≡◌, ℕ, ◌≤◌, List, length, None, Result, Err}
 use mathlib.Core.List.{IsPrefix}
 use Rattle.key_merge.specs.declared.strategies.Strategy.{Strategy}
 use Rattle.kdb_handle.specs.Opened.{store_at}

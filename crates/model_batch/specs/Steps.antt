@@ -18,14 +18,13 @@ use Rattle.model_maps.specs.KeyMap.{KeyMap, not_below}
 use Rattle.model_names.specs.Name.{Name}
 use Rattle.model_specified.specs.Specified.{specified}
 use Rattle.model_store.specs.Events.{first_bad, got}
-use Rattle.model_store.specs.Store.{Formats, points_of}
+use Rattle.model_store.specs.Store.{Formats, points_of, store_of}
 use Rattle.mounted_files.specs.declared.files.MountedFile.{MountedFile}
 use Rattle.mounted_files.specs.declared.refusals.GetFault.{GetFault}
 use Rattle.mounted_files.specs.declared.refusals.GetFault.TheVariants as get_fault
 use Rattle.set_split.specs.Involved.{involved_in}
 use Rattle.spec_cascade.specs.Found.{found}
 use Rattle.store_core.specs.Gets.{fault_at}
-use Rattle.store_core.specs.Plans.{store_of}
 
 -- what a get of a parent gives after some commits, where the handle has these keys in `proc`
 abbrev pub got_then : List MountedFile → KeyMap → ℕ → List Commit → Name → KeyMap

@@ -16,6 +16,7 @@ ghost use Rattle.model_batch.specs.Told.{count_of_others};
 ghost use Rattle.model_history.specs.History.{Commit};
 ghost use Rattle.model_maps.specs.KeyMap.{KeyMap};
 ghost use Rattle.model_names.specs.Name.{Name};
+ghost use Rattle.model_store.specs.Store.{formats_of};
 ghost use Rattle.mounted_files.specs.declared.files.MountedFile.{MountedFile};
 
 use storage_api::Formats;
@@ -23,17 +24,17 @@ use storage_api::Formats;
 /// In fair transcripts each commit that a session is told of as in the way is another's. So a session alone is told of none.
 pub fn a_conflict_is_with_the_commit_of_another<F: Formats>(_formats: &F)
     ensures anothers { (files : List MountedFile) (sessions : ℕ) (procs : ℕ → KeyMap) (history : List Commit) (steps : List (List (List Step))) (replies : List (List (List Reply)))
-        → IsFair (record { text = F.text; IsStorable = F.is_storable; BreaksAt = F.breaks_at }) files sessions procs history steps replies
+        → IsFair (formats_of F.Formats) files sessions procs history steps replies
         → (i : ℕ) → i < sessions → AllByRecursion (λ answer. AllByRecursion (IsAnothers (i + 1) history) (conflicts_told answer)) (of_session i replies) }
     ensures alone { (files : List MountedFile) (sessions : ℕ) (procs : ℕ → KeyMap) (history : List Commit) (steps : List (List (List Step))) (replies : List (List (List Reply)))
-        → sessions ≡ 1 → IsFair (record { text = F.text; IsStorable = F.is_storable; BreaksAt = F.breaks_at }) files sessions procs history steps replies
+        → sessions ≡ 1 → IsFair (formats_of F.Formats) files sessions procs history steps replies
         → AllByRecursion (λ answer. conflicts_told answer ≡ []) (of_session 0 replies) }
 {}
 
 /// In fair transcripts a merge spends all its tries only where others made as many commits: each try met one more of them.
 pub fn a_merge_is_not_spent_by_fewer_commits_than_its_tries<F: Formats>(_formats: &F)
     ensures { (files : List MountedFile) (sessions : ℕ) (procs : ℕ → KeyMap) (history : List Commit) (steps : List (List (List Step))) (replies : List (List (List Reply)))
-        → IsFair (record { text = F.text; IsStorable = F.is_storable; BreaksAt = F.breaks_at }) files sessions procs history steps replies
+        → IsFair (formats_of F.Formats) files sessions procs history steps replies
         → (i at : ℕ) → i < sessions → (parent : Name) (strategy : Strategy) (tries : ℕ) → slice_get (of_session i steps) at ≡ Some (step.Merge parent strategy tries)
         → (tried : List Tried) (mount : Name) (by front : ℕ) → slice_get (of_session i replies) at ≡ Some (reply.MergeRefused (record { tried = tried; end = merge_end.TriesSpent mount by front }))
         → tries ≤ count_of_others (i + 1) history }

@@ -4,17 +4,16 @@
 mod examples;
 mod laws;
 
-ghost use Rattle.std.specs.Prelude.{◌≡◌, ℕ, ◌≤◌, List, ◌++◌};
+ghost use Rattle.std.specs.Prelude.{ℕ, ◌≤◌, List, ◌++◌};
 ghost use Rattle.std.specs.List.{AllByRecursion};
 ghost use mathlib.Core.List.{IsPrefix};
 ghost use Rattle.batch_script.specs.declared.steps.Step.{Step};
 ghost use Rattle.kdb_handle.specs.declared.replies.Reply.{Reply};
-ghost use Rattle.model_batch.specs.Fair.{IsFair};
-ghost use Rattle.model_batch.specs.Scripts.{IsFairScript};
 ghost use Rattle.model_batch.specs.Sessions.{Session};
-ghost use Rattle.model_batch.specs.Told.{IsAtLeast, Tells, numbers_by};
+ghost use Rattle.model_batch.specs.Told.{IsAtLeast, Tells};
 ghost use Rattle.model_history.specs.History.{Commit};
 ghost use Rattle.model_maps.specs.KeyMap.{KeyMap};
+ghost use Rattle.model_store.specs.Store.{formats_of};
 ghost use Rattle.mounted_files.specs.declared.files.MountedFile.{MountedFile};
 
 pub use examples::{
@@ -30,13 +29,13 @@ use storage_api::Formats;
 /// it was told of never falls, and each front is at least that number at first.
 pub fn a_session_is_told_step_by_step<F: Formats>(_formats: &F)
     ensures more { (files : List MountedFile) (procs : KeyMap) (number : ℕ) (history longer : List Commit) (old new : Session) (steps : List Step) (answers : List Reply)
-        → IsPrefix history longer → Tells (record { text = F.text; IsStorable = F.is_storable; BreaksAt = F.breaks_at }) files procs number history old steps answers new
-        → Tells (record { text = F.text; IsStorable = F.is_storable; BreaksAt = F.breaks_at }) files procs number longer old steps answers new }
+        → IsPrefix history longer → Tells (formats_of F.Formats) files procs number history old steps answers new
+        → Tells (formats_of F.Formats) files procs number longer old steps answers new }
     ensures both { (files : List MountedFile) (procs : KeyMap) (number : ℕ) (history : List Commit) (old mid new : Session) (steps later : List Step) (answers others : List Reply)
-        → Tells (record { text = F.text; IsStorable = F.is_storable; BreaksAt = F.breaks_at }) files procs number history old steps answers mid
-        → Tells (record { text = F.text; IsStorable = F.is_storable; BreaksAt = F.breaks_at }) files procs number history mid later others new
-        → Tells (record { text = F.text; IsStorable = F.is_storable; BreaksAt = F.breaks_at }) files procs number history old (steps ++ later) (answers ++ others) new }
+        → Tells (formats_of F.Formats) files procs number history old steps answers mid
+        → Tells (formats_of F.Formats) files procs number history mid later others new
+        → Tells (formats_of F.Formats) files procs number history old (steps ++ later) (answers ++ others) new }
     ensures later { (files : List MountedFile) (procs : KeyMap) (number : ℕ) (history : List Commit) (old new : Session) (steps : List Step) (answers : List Reply)
-        → Tells (record { text = F.text; IsStorable = F.is_storable; BreaksAt = F.breaks_at }) files procs number history old steps answers new
+        → Tells (formats_of F.Formats) files procs number history old steps answers new
         → (old.told ≤ new.told) × AllByRecursion (IsAtLeast old.told) answers }
 {}

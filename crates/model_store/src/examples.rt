@@ -4,7 +4,7 @@ ghost use Rattle.std.specs.FinMap as map;
 ghost use Rattle.model_maps.specs.KeyMap.{KeyMap, no_keys};
 ghost use Rattle.model_names.specs.Name.{Name};
 ghost use Rattle.model_store.specs.Fitting.{NotFetched};
-ghost use Rattle.model_store.specs.Store.{Store};
+ghost use Rattle.model_store.specs.Store.{Store, formats_of};
 ghost use Rattle.model_store.specs.Verdicts.{Conflict, IsEarly, IsLate, Same, blocking};
 
 use storage_api::Formats;
@@ -12,7 +12,7 @@ use storage_api::Formats;
 /// A set at a parent that involves the mounts 0 and 2, of which its handle has seen mount 0 alone, is refused for mount 2,
 /// whatever else is wrong with it.
 pub fn an_unseen_mount_is_refused_first<F: Formats>(_formats: &F)
-    ensures { (store : Store) (keys : KeyMap) (front : ℕ) → IsEarly (record { text = F.text; IsStorable = F.is_storable; BreaksAt = F.breaks_at }) store (record { handle = 1; involved = 0 ∷ 2 ∷ []; fronts = λ m. if nat_eq m 0 then Some front else None; keys = keys; touched = 0 ∷ []; changes = map.empty; aside = 0 }) (Some (NotFetched 2)) }
+    ensures { (store : Store) (keys : KeyMap) (front : ℕ) → IsEarly (formats_of F.Formats) store (record { handle = 1; involved = 0 ∷ 2 ∷ []; fronts = λ m. if nat_eq m 0 then Some front else None; keys = keys; touched = 0 ∷ []; changes = map.empty; aside = 0 }) (Some (NotFetched 2)) }
 {}
 
 /// A set that touches no mount comes to nothing, whatever others have stored.

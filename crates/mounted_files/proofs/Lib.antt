@@ -1,16 +1,9 @@
 pub mod MapLemmas
-pub mod WholeLemmas
-pub mod FirstLemmas
 pub mod LimitLemmas
 pub mod ChangeLemmas
 pub mod WeighLemmas
-pub mod PreparingLemmas
 pub mod StateLemmas
 pub mod PointLemmas
-pub mod GetLemmas
-pub mod ReachLemmas
-pub mod SeenLemmas
-pub mod WriteLemmas
 pub mod OneOpening
 pub mod SomeOpening
 pub mod PlaceLemmas

@@ -1,8 +1,8 @@
--- What a get gives has short texts and weighs little enough for a file, and so has what is at or below a name.
-use Rattle.std.proofs.Common.{◌≡◌, ◌⊎◌, ℕ, zero, suc, ◌+◌, ◌≤◌, Bool, true, false, cond, List, [], ◌∷◌, ◌++◌, length, length-append, take, drop, map as over, filter, filter_map, slice_get, Option, Some, None, Result, Ok, Err, refl, sym, ap, subst, ◌∙◌, arith, inl, inr}
+-- Keys that are got have short texts and weigh little enough for a file, and so has what is at or below a name.
+use Rattle.std.proofs.Common.{◌≡◌, ◌⊎◌, ℕ, zero, suc, ◌+◌, ◌≤◌, Bool, true, false, cond, List, [], ◌∷◌, ◌++◌, length, length-append, take, drop, map as over, filter_map, slice_get, Option, Some, None, refl, sym, ap, subst, ◌∙◌, arith, inl, inr}
 use Rattle.std.specs.FinMap as map
-use Rattle.std.specs.FinMap.Entries.{by_order, put}
-use Rattle.std.specs.List.{cons_option, flat_map, fold, insert, range_with_len, remove, sum_by}
+use Rattle.std.specs.FinMap.Entries.{by_order, put, where_key}
+use Rattle.std.specs.List.{cons_option, flat_map, fold, insert, remove, sum_by}
 use Rattle.std.specs.List.Sorted.{IsStrictlySortedBy}
 use Rattle.std.specs.Option.{option_map}
 use Rattle.std.specs.declared.cmp.Ordering.{Ordering}
@@ -21,21 +21,20 @@ use Rattle.model_maps.specs.KeyMap.{KeyMap, heaviest_map, no_keys, weight, weigh
 use Rattle.mount_table.specs.Points.{own_point}
 use Rattle.mount_table.specs.Table.{own_mount}
 use Rattle.mount_table.specs.declared.mounts.Mount.{Mount}
-use Rattle.general_words.proofs.Maps.{entries-empty}
-use Rattle.general_words.specs.Searches.{first_some}
-use Rattle.set_split.specs.Involved.{is_involved}
-use Rattle.mounted_files.specs.Files.{points_of}
-use Rattle.mounted_files.specs.Getting.{got, involved_files, visible_keys, visible_of, fault_in}
+use Rattle.general_words.proofs.Maps.{entries-empty, entries-retain}
+use Rattle.model_maps.specs.Limits.{IsLimited}
+use Rattle.mounted_files.specs.Sound.{AreSound}
+use Rattle.mounted_files.specs.Visible.{visible_keys, visible_of}
 use Rattle.mounted_files.specs.Short.{AreShort, HasShortTexts, HaveShortTexts}
 use Rattle.mounted_files.specs.Weighed.{added_weight, is_own, visible_weight}
 use Rattle.mounted_files.specs.Whole.{as_way, relative}
 use Rattle.mounted_files.specs.declared.files.FileState.{FileState}
 use Rattle.mounted_files.specs.declared.files.FileState.TheVariants.{Good, Bad}
 use Rattle.mounted_files.specs.declared.files.MountedFile.{MountedFile}
-use Rattle.mounted_files.specs.declared.refusals.GetFault.{GetFault}
 use Rattle.mounted_files.proofs.BegunLemmas.{number_of-other, slice_get-remove}
 use Rattle.mounted_files.specs.Begun.{number_of}
-use Rattle.mounted_files.proofs.ChangeLemmas.{short-with_all}
+use Rattle.mounted_files.proofs.ChangeLemmas.{short-relative, short-with_all}
+use Rattle.mounted_files.proofs.LimitLemmas.{limited-from}
 use Rattle.mounted_files.proofs.MapLemmas.{each-none}
 use Rattle.mounted_files.proofs.PlaceLemmas.{one_place}
 
@@ -94,93 +93,24 @@ fold-short : (files : List MountedFile) (keys : KeyMap) → HaveShortTexts files
 fold-short [] keys all short = short
 fold-short (file ∷ files) keys all short = fold-short files (with_all (visible_of file.state) keys) all.1 (short-with_all (visible_of file.state) keys (visible_of-short file.state all.0) short)
 
--- ---- some of the files weigh no more than all, and are as short
+-- the visible keys of some files are light and short where the files are
+pub visible-light : (files : List MountedFile) → sum_by (λ file. visible_weight file.state) files ≤ heaviest_map → weight (visible_keys files) ≤ heaviest_map
+visible-light files light = omega (arith, light, fold-weight files no_keys, no_weight)
 
-slice_get-behind : (front files : List MountedFile) (file : MountedFile) → slice_get (front ++ file ∷ files) (length front) ≡ Some file
-slice_get-behind [] files file = refl
-slice_get-behind (f ∷ front) files file = slice_get-behind front files file
+pub visible-short : (files : List MountedFile) → HaveShortTexts files → AreShort (visible_keys files)
+visible-short files short = fold-short files no_keys short (each-none _)
 
-one_longer : (front files : List MountedFile) (file : MountedFile) → (front ++ file ∷ []) ++ files ≡ front ++ file ∷ files
-one_longer [] files file = refl
-one_longer (f ∷ front) files file = ap (λ l. f ∷ l) (one_longer front files file)
-
-module _ (p : ℕ → Bool) where
-  abbrev some : List MountedFile → ℕ → ℕ → List MountedFile
-  some all at n = filter_map (slice_get all) (filter p (range_with_len at n))
-
-  some-next : (front files : List MountedFile) (file : MountedFile) → some (front ++ file ∷ files) (length front) (suc (length files)) ≡ cond (p (length front)) (file ∷ some (front ++ file ∷ files) (length front + 1) (length files)) (some (front ++ file ∷ files) (length front + 1) (length files))
-  some-next front files file = by (p (length front))
-    where
-      rest : List ℕ
-      rest = filter p (range_with_len (length front + 1) (length files))
-
-      by : (b : Bool) → filter_map (slice_get (front ++ file ∷ files)) (cond b (length front ∷ rest) rest) ≡ cond b (file ∷ filter_map (slice_get (front ++ file ∷ files)) rest) (filter_map (slice_get (front ++ file ∷ files)) rest)
-      by true = ap (λ o. cons_option o (filter_map (slice_get (front ++ file ∷ files)) rest)) (slice_get-behind front files file)
-      by false = refl
-
-  some-moved : (front files : List MountedFile) (file : MountedFile) → some ((front ++ file ∷ []) ++ files) (length (front ++ file ∷ [])) (length files) ≡ some (front ++ file ∷ files) (length front + 1) (length files)
-  some-moved front files file = ap (λ all. some all (length (front ++ file ∷ [])) (length files)) (one_longer front files file) ∙ ap (λ n. some (front ++ file ∷ files) n (length files)) (length-append front (file ∷ []))
-
-  some-weight : (front files : List MountedFile) → sum_by file_weight (some (front ++ files) (length front) (length files)) ≤ sum_by file_weight files
-  some-weight front [] = omega arith
-  some-weight front (file ∷ files) =
-      subst (λ (l : List MountedFile). sum_by file_weight l ≤ sum_by file_weight (file ∷ files)) (sym (some-next front files file))
-      (by (p (length front)) (subst (λ (l : List MountedFile). sum_by file_weight l ≤ sum_by file_weight files) (some-moved front files file) (some-weight (front ++ file ∷ []) files)))
-    where
-      by : (b : Bool) → sum_by file_weight (some (front ++ file ∷ files) (length front + 1) (length files)) ≤ sum_by file_weight files
-          → sum_by file_weight (cond b (file ∷ some (front ++ file ∷ files) (length front + 1) (length files)) (some (front ++ file ∷ files) (length front + 1) (length files))) ≤ sum_by file_weight (file ∷ files)
-      by true le = omega (arith, le, sum_by-cons file_weight file files, sum_by-cons file_weight file (some (front ++ file ∷ files) (length front + 1) (length files)))
-      by false le = omega (arith, le, sum_by-cons file_weight file files)
-
-  some-short : (front files : List MountedFile) → HaveShortTexts files → HaveShortTexts (some (front ++ files) (length front) (length files))
-  some-short front [] all = tt
-  some-short front (file ∷ files) all =
-      subst (λ (l : List MountedFile). HaveShortTexts l) (sym (some-next front files file))
-      (by (p (length front)) (subst (λ (l : List MountedFile). HaveShortTexts l) (some-moved front files file) (some-short (front ++ file ∷ []) files all.1)))
-    where
-      by : (b : Bool) → HaveShortTexts (some (front ++ file ∷ files) (length front + 1) (length files))
-          → HaveShortTexts (cond b (file ∷ some (front ++ file ∷ files) (length front + 1) (length files)) (some (front ++ file ∷ files) (length front + 1) (length files)))
-      by true rest = (all.0, rest)
-      by false rest = rest
-
-points-length : (files : List MountedFile) → length (points_of files) ≡ length files
-points-length [] = refl
-points-length (file ∷ files) = ap suc (points-length files)
-
--- ---- what a get gives
-
-ok_keys : (keys found : KeyMap) → ◌≡◌ {A = Result KeyMap GetFault} (Ok keys) (Ok found) → keys ≡ found
-ok_keys keys found is = ap (λ (r : Result KeyMap GetFault). elim r [ Ok k ↦ k | Err why ↦ keys ]) is
-
-pub got-visible : (files : List MountedFile) (parent : Name) (keys : KeyMap) → got files parent ≡ Ok keys → visible_keys (involved_files files parent) ≡ keys
-got-visible files parent keys is = by (first_fault) is
+-- keys that pass a test weigh no more than all
+passing-weight : (p : Name → Bool) (es : List (Name × Entry)) → sum_by weighs (where_key name_cmp p es) ≤ sum_by weighs es
+passing-weight p [] = omega arith
+passing-weight p (e ∷ es) = by (p e.0) (passing-weight p es)
   where
-    first_fault : Option GetFault
-    first_fault = first_some fault_in (involved_files files parent)
+    by : (b : Bool) → sum_by weighs (where_key name_cmp p es) ≤ sum_by weighs es → sum_by weighs (cond b (e ∷ where_key name_cmp p es) (where_key name_cmp p es)) ≤ sum_by weighs (e ∷ es)
+    by true rest = omega (arith, rest, sum_by-cons weighs e es, sum_by-cons weighs e (where_key name_cmp p es))
+    by false rest = omega (arith, rest, sum_by-cons weighs e es)
 
-    answer : Option GetFault → Result KeyMap GetFault
-    answer None = Ok (visible_keys (involved_files files parent))
-    answer (Some why) = Err why
-
-    by : (o : Option GetFault) → answer o ≡ Ok keys → visible_keys (involved_files files parent) ≡ keys
-    by None e = ok_keys (visible_keys (involved_files files parent)) keys e
-    by (Some why) e = absurd cc
-
-module _ (files : List MountedFile) (parent : Name) (keys : KeyMap) (is : got files parent ≡ Ok keys) where
-  same_files : involved_files files parent ≡ some (is_involved (points_of files) parent) files 0 (length files)
-  same_files = ap (λ n. some (is_involved (points_of files) parent) files 0 n) (points-length files)
-
-  pub got-light : sum_by (λ file. visible_weight file.state) files ≤ heaviest_map → weight keys ≤ heaviest_map
-  got-light light =
-      let all = some-weight (is_involved (points_of files) parent) [] files in
-      let involved = subst (λ (l : List MountedFile). sum_by file_weight l ≤ sum_by file_weight files) (sym same_files) all in
-      let visible = fold-weight (involved_files files parent) no_keys in
-      subst (λ (k : KeyMap). weight k ≤ heaviest_map) (got-visible files parent keys is) (omega (arith, visible, involved, light, no_weight))
-
-  pub got-short : HaveShortTexts files → AreShort keys
-  got-short short =
-      let involved = subst (λ (l : List MountedFile). HaveShortTexts l) (sym same_files) (some-short (is_involved (points_of files) parent) [] files short) in
-      subst (λ (k : KeyMap). AreShort k) (got-visible files parent keys is) (fold-short (involved_files files parent) no_keys involved (each-none _))
+pub kept-weight : (keys : KeyMap) (p : Name → Bool) → weight (map.retain_keys keys p) ≤ weight keys
+kept-weight keys p = subst (λ (es : List (Name × Entry)). sum_by weighs es ≤ weight keys) (sym (entries-retain name_cmp_total name_cmp-IsAntisymmetric keys p)) (passing-weight p (map.entries keys))
 
 -- ---- a name that leads to a key is no longer than the key's
 
@@ -230,6 +160,10 @@ ways-weight point (e ∷ es) = omega (arith, ways-weight point es, way-weight po
 
 pub relative-weight : (point : Name) (keys : KeyMap) → weight (relative point keys) ≤ weight keys
 relative-weight point keys = omega (arith, with_keys-weight (filter_map (as_way point) (map.entries keys)) no_keys, ways-weight point (map.entries keys), no_weight)
+
+-- what is at or below a name, of keys that are short and light, is within the limits of a file
+pub limited-below : (name : Name) (keys : KeyMap) → AreShort keys → weight keys ≤ heaviest_map → AreSound name (relative name keys) → IsLimited (relative name keys)
+limited-below name keys short light sound = limited-from name (relative name keys) sound (short-relative name keys short) (omega (arith, relative-weight name keys, light))
 
 -- ---- the files of an opening weigh what it has counted
 

@@ -11,7 +11,7 @@ use Rattle.mounted_files.specs.declared.files.FileState.{FileState}
 use Rattle.mounted_files.specs.declared.files.MountedFile.{MountedFile}
 use Rattle.mounted_files.specs.declared.holding.Holding.{Holding}
 use Rattle.mounted_files.specs.declared.holding.Holding.TheVariants.{Keys, Bad}
-use Rattle.mounted_files.proofs.WholeLemmas.{over-append}
+use Rattle.std.proofs.lemmas.List.{map_push}
 
 -- a file is what its keys make it, or bad as they are
 pub state-held : (Reads : Reading) (IsBad : Badness) (points : List Name) (i : ℕ) (mount : Mount) (bytes : List ℕ) (holding : Holding) (state : FileState) → IsHolding Reads IsBad mount.at mount.kind bytes holding → IsStateOf points i holding state → IsState Reads IsBad points i mount bytes state
@@ -21,7 +21,7 @@ state-held Reads IsBad points i mount bytes (Bad cause) state holds is = subst (
 -- with the file of the next mount, files are those of the first mounts still
 pub mounts-next : (table : List Mount) (files : List MountedFile) (file : MountedFile) (i : ℕ) (next : Mount) → i ≡ length files → file.mount ≡ next → Some next ≡ slice_get table i → over (λ f. f.mount) files ≡ take (length files) table → over (λ f. f.mount) (files ++ file ∷ []) ≡ take (length (files ++ file ∷ [])) table
 mounts-next table files file i next i_is mount_is next_is before =
-    over-append (λ (f : MountedFile). f.mount) files file
+    map_push (λ (f : MountedFile). f.mount) files file
     ∙ (λ k. before k ++ mount_is k ∷ [])
     ∙ sym (take-next table (length files) next (next_is ∙ ap (slice_get table) i_is))
     ∙ ap (λ n. take n table) (sym (length-append files (file ∷ [])))

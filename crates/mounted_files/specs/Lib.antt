@@ -5,13 +5,12 @@ pub mod Whole
 pub mod Files
 pub mod Weighed
 pub mod Opening
-pub mod Getting
+pub mod Visible
+pub mod Faults
 pub mod Setting
-pub mod Preparing
 pub mod Short
 pub mod Sound
 pub mod Holding
-pub mod Written
 pub mod Refusing
 pub mod Begun
 pub mod Begins

@@ -3,8 +3,8 @@ use Rattle.std.specs.Prelude.{◌≡◌, Result, Err, List}
 use Rattle.general_words.specs.Memory.{UnlessMemory}
 use Rattle.mount_table.specs.declared.faults.TableFault.{TableFault}
 use Rattle.mount_table.specs.declared.mounts.Mount.{Mount}
-use Rattle.mounted_files.specs.declared.causes.FileCause.{FileCause}
-use Rattle.mounted_files.specs.declared.causes.FileCause.TheVariants as cause
+use Rattle.mounted_files.specs.declared.causes.Cause.{Cause}
+use Rattle.mounted_files.specs.declared.causes.Cause.TheVariants as cause
 use Rattle.mounted_files.specs.declared.refusals.OpenRefusal.{OpenRefusal}
 use Rattle.mounted_files.specs.declared.refusals.OpenRefusal.TheVariants.{TooLong, BadFile, BadTable, Memory}
 
@@ -18,7 +18,8 @@ pub record IsTableFault (made : Result (List Mount) TableFault) (refusal : OpenR
 abbrev pub RefusesTable : Result (List Mount) TableFault → OpenRefusal → Type 0
 RefusesTable made refusal = UnlessMemory Memory (IsTableFault made refusal) refusal
 
--- the refusal for what is wrong with the own file
-abbrev pub refusal_of : FileCause → OpenRefusal
-refusal_of (cause.TooLong bytes) = TooLong bytes
-refusal_of (cause.BadFile line) = BadFile line
+-- a refusal tells what is wrong with the own file, which is never what it weighs beside others
+abbrev pub IsRefusalFor : Cause → OpenRefusal → Type 0
+IsRefusalFor (cause.TooLong bytes) refusal = refusal ≡ TooLong bytes
+IsRefusalFor (cause.BadFile line) refusal = refusal ≡ BadFile line
+IsRefusalFor (cause.TooHeavy weight) refusal = ⊥

@@ -1,37 +1,13 @@
 -- What the names and texts of keys are that a file is to hold, whatever their lengths.
-use Rattle.std.specs.Prelude.{◌≡◌, ℕ, List, Some}
+use Rattle.std.specs.Prelude.{◌≡◌, Some}
 use Rattle.std.specs.FinMap as map
-use Rattle.std.specs.List.{AllByRecursion}
-use Rattle.std.specs.Str.{IsUtf8}
 use Rattle.key_name.specs.Joining.{joined}
-use Rattle.model_names.specs.declared.namespaces.Namespace.TheVariants.{Cascading}
+pub use Rattle.key_set.specs.Sound.{AreCascading, AreSound, IsSound}
 use Rattle.model_names.specs.Name.{Name}
 use Rattle.model_names.specs.WellFormed.{IsName}
-use Rattle.model_maps.specs.Entry.{Entry, IsMetaName}
+use Rattle.model_maps.specs.Entry.{Entry}
 use Rattle.model_maps.specs.KeyMap.{KeyMap}
-use Rattle.mounted_files.specs.declared.changes.Change.{Change}
-
--- every name is cascading
-abbrev pub AreCascading : KeyMap → Type 0
-AreCascading keys = (name : Name) (entry : Entry) → map.get keys name ≡ Some entry → name.namespace ≡ Cascading
-
--- a key behind a mountpoint: its name and its whole name are names, and its texts are texts
-pub record IsSound (point name : Name) (entry : Entry) : Type 0 where
-  pub is_name : IsName name
-  pub cascading : name.namespace ≡ Cascading
-  pub whole_is_name : IsName (joined point name)
-  pub value : IsUtf8 entry.value
-  pub meta_names : (meta_name text : List ℕ) → map.get entry.meta meta_name ≡ Some text → IsMetaName meta_name
-  pub meta_texts : (meta_name text : List ℕ) → map.get entry.meta meta_name ≡ Some text → IsUtf8 text
-
--- every key is such
-abbrev pub AreSound : Name → KeyMap → Type 0
-AreSound point keys = (name : Name) (entry : Entry) → map.get keys name ≡ Some entry → IsSound point name entry
 
 -- the whole names of keys behind a mountpoint are names
 abbrev pub AreNames : Name → KeyMap → Type 0
 AreNames point keys = (name : Name) (entry : Entry) → map.get keys name ≡ Some entry → IsName (joined point name)
-
--- so are the keys that each changed file is to hold
-abbrev pub AreSoundChanges : List Change → Type 0
-AreSoundChanges all = AllByRecursion (λ change. AreSound change.mount.at change.contents) all

@@ -1,14 +1,5 @@
 //! Why a mount is bad.
 
-/// What is wrong with a file by itself.
-#[derive(Clone, Copy, Debug, PartialEq, Eq)]
-pub enum FileCause {
-    /// It has more than 1,048,576 bytes: so many.
-    TooLong { bytes: u64 },
-    /// It doesn't read as keys: the line, from 1. Line 0 says that the whole name of a key would be too long.
-    BadFile { line: u64 },
-}
-
 /// What is wrong with the file of a mount.
 #[derive(Clone, Copy, Debug, PartialEq, Eq)]
 pub enum Cause {

@@ -1,12 +1,11 @@
 //! What the bytes of a file hold for a mountpoint.
 ghost use Rattle.std.specs.Prelude.{◌≡◌, ◌≤◌, IfOk, List, ℕ, length};
 ghost use Rattle.backend_files.specs.WholeFile.{IsWhole, longest_file};
-ghost use Rattle.mounted_files.specs.Holding.{IsHolding, IsShortHolding, cause_of};
-ghost use Rattle.mounted_files.specs.declared.causes.FileCause.TheVariants.{BadFile};
+ghost use Rattle.mounted_files.specs.Holding.{IsAlone, IsHolding, IsShortHolding};
+ghost use Rattle.mounted_files.specs.declared.causes.Cause.TheVariants.{BadFile};
 ghost use Rattle.mounted_files.specs.declared.holding.Holding.TheVariants.{Bad};
 
 use crate::Cause;
-use crate::causes::FileCause;
 use crate::whole::whole;
 use backend_files::FileRead;
 use kdb_outside::Kind;
@@ -16,11 +15,11 @@ use key_set::KeySet;
 use std::alloc::{AllocError, Global};
 use storage_api::{Formats, ReadRefusal};
 
-/// Keys under whole names, or why there are none.
+/// Keys under whole names, or why there are none, which is never what other files weigh.
 #[derive(Debug, Drop)]
 pub enum Holding {
     Keys { keys: KeySet },
-    Bad { cause: FileCause },
+    Bad { cause: Cause },
 }
 
 /// What a file holds, given what it gave.
@@ -33,11 +32,12 @@ pub fn read_holding<F: Formats>(
 ) -> Result<Holding, Memory>
     ensures is { IfOk result (λ holding. (bytes : List ℕ) → IsWhole bytes read.now → IsHolding F.reads F.is_bad_at point.now kind bytes holding) }
     ensures short { IfOk result IsShortHolding }
+    ensures alone { IfOk result IsAlone }
 {
     match read {
         FileRead::Bytes(bytes) => holding_of(alloc, formats, point, kind, bytes.as_slice()),
         FileRead::TooLong { bytes } => Ok(Holding::Bad {
-            cause: FileCause::TooLong { bytes: *bytes },
+            cause: Cause::TooLong { bytes: *bytes },
         }),
     }
 }
@@ -52,6 +52,7 @@ fn holding_of<F: Formats>(
 ) -> Result<Holding, Memory>
     ensures is { IfOk result (λ holding. length bytes.now ≤ longest_file → IsHolding F.reads F.is_bad_at point.now kind bytes.now holding) }
     ensures short { IfOk result IsShortHolding }
+    ensures alone { IfOk result IsAlone }
 {
     match formats.read(alloc, kind, bytes) {
         Ok(keys) => match whole(point, keys)? {
@@ -67,16 +68,6 @@ fn bad_at(line: u64) -> Holding
     ensures { result ≡ Bad (BadFile line) }
 {
     Holding::Bad {
-        cause: FileCause::BadFile { line },
-    }
-}
-
-/// A mount is bad for what is wrong with its file.
-pub fn cause_of(cause: FileCause) -> Cause
-    ensures { result ≡ cause_of cause }
-{
-    match cause {
-        FileCause::TooLong { bytes } => Cause::TooLong { bytes },
-        FileCause::BadFile { line } => Cause::BadFile { line },
+        cause: Cause::BadFile { line },
     }
 }

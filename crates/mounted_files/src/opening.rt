@@ -19,7 +19,7 @@ ghost use Rattle.mounted_files.specs.Weighed.{weighed_behind};
 ghost use Rattle.mounted_files.specs.declared.files.FileState.TheVariants.{Good};
 ghost use Rattle.set_split.specs.Parts.{owned_by};
 
-use crate::holding::{Holding, cause_of, read_holding};
+use crate::holding::{Holding, read_holding};
 use crate::owned::good_state;
 use crate::table_file::{TableFile, read_table_file};
 use crate::weighing::{is_own_point, weigh, weigh_state};
@@ -221,8 +221,6 @@ fn state_of(
 {
     match holding {
         Holding::Keys { keys } => good_state(alloc, points, i, &keys),
-        Holding::Bad { cause } => Ok(FileState::Bad {
-            cause: cause_of(cause),
-        }),
+        Holding::Bad { cause } => Ok(FileState::Bad { cause }),
     }
 }

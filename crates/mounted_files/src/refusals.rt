@@ -1,8 +1,11 @@
-//! Why a store isn't opened, why keys aren't got, and why a set of keys isn't taken.
-ghost use Rattle.std.specs.Prelude.{◌≡◌};
+//! Why a store isn't opened, and why keys aren't got.
+ghost use Rattle.std.specs.Prelude.{◌≡◌, IfOk};
+ghost use Rattle.mounted_files.specs.Faults.{fault_of};
 ghost use Rattle.mounted_files.specs.declared.refusals.OpenRefusal.TheVariants as opening;
 ghost use Rattle.mounted_files.specs.declared.refusals.GetFault.TheVariants as getting;
 
+use crate::Cause;
+use key_meta::Memory;
 use key_name::KeyName;
 use mount_table::TableFault;
 use std::alloc::AllocError;
@@ -49,15 +52,14 @@ impl From<AllocError> for GetFault {
     }
 }
 
-/// What refuses a set of keys before any history is asked.
-#[derive(Debug, Drop)]
-pub enum SetRefusal {
-    /// A value or a metadata text has more than 65,536 bytes: so many.
-    ValueTooLong { key: KeyName, bytes: u64 },
-    /// The file of a mount would hold keys that weigh more than 16,777,216, or have more than 1,048,576 bytes: so many.
-    FileTooLarge { mount: KeyName, bytes: u64 },
-    /// The format of a mount can't hold a key.
-    NotStorable { mount: KeyName, key: KeyName },
-    /// The keys below `system:/elektra` would make no table.
-    BadTable { fault: TableFault },
+/// A mount is bad for a cause.
+pub fn fault_of(mount: &KeyName, cause: Cause) -> Result<GetFault, Memory>
+    ensures { IfOk result (λ fault. fault ≡ fault_of mount.now cause) }
+{
+    let mount = mount.copy()?;
+    Ok(match cause {
+        Cause::TooLong { bytes } => GetFault::TooLong { mount, bytes },
+        Cause::BadFile { line } => GetFault::BadFile { mount, line },
+        Cause::TooHeavy { weight } => GetFault::TooHeavy { mount, weight },
+    })
 }

@@ -5,13 +5,13 @@ ghost use Rattle.mount_table.specs.Points.{own_point};
 ghost use Rattle.mount_table.specs.Table.{table_of};
 ghost use Rattle.kdb_outside.specs.declared.kinds.Kind.TheVariants.{Dump};
 ghost use Rattle.mounted_files.specs.Files.{Holds};
+ghost use Rattle.mounted_files.specs.Holding.{IsOfFile};
 ghost use Rattle.mounted_files.specs.Opening.{RefusesOpening};
-ghost use Rattle.mounted_files.specs.Refusing.{RefusesTable, refusal_of};
+ghost use Rattle.mounted_files.specs.Refusing.{IsRefusalFor, RefusesTable};
 ghost use Rattle.mounted_files.specs.Short.{AreShort};
 
-use crate::OpenRefusal;
-use crate::causes::FileCause;
 use crate::holding::{Holding, read_holding};
+use crate::{Cause, OpenRefusal};
 use backend_files::FileRead;
 use kdb_outside::Kind;
 use key_meta::Memory;
@@ -71,11 +71,13 @@ fn table_of(alloc: Global, keys: &KeySet) -> Result<MountTable, OpenRefusal>
 }
 
 /// Why a store isn't opened whose own file is bad.
-fn refusal_of(cause: FileCause) -> OpenRefusal
-    ensures { result ≡ refusal_of cause }
+fn refusal_of(cause: Cause) -> OpenRefusal
+    requires { IsOfFile cause }
+    ensures { IsRefusalFor cause result }
 {
     match cause {
-        FileCause::TooLong { bytes } => OpenRefusal::TooLong { bytes },
-        FileCause::BadFile { line } => OpenRefusal::BadFile { line },
+        Cause::TooLong { bytes } => OpenRefusal::TooLong { bytes },
+        Cause::BadFile { line } => OpenRefusal::BadFile { line },
+        Cause::TooHeavy { .. } => unreachable!(),
     }
 }

@@ -4,9 +4,6 @@ pub mod VisibleLemmas
 pub mod CommitLemmas
 pub mod EnteringLemmas
 pub mod AnswerLemmas
-pub mod JudgedLemmas
-pub mod PlanLemmas
+pub mod CommitEnds
 pub mod GetLemmas
-pub mod MadeAnswers
 pub mod MadeLemmas
-pub mod FileGets

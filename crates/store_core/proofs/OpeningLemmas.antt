@@ -26,17 +26,17 @@ use Rattle.model_files.specs.Texts.{entries_of}
 use Rattle.model_maps.specs.KeyMap.{KeyMap}
 use Rattle.model_history.specs.History.{Commit}
 use Rattle.model_store.specs.Promise.{Stands}
-use Rattle.model_store.specs.Store.{Store, Formats}
+use Rattle.model_store.specs.Store.{Store, Formats, store_of}
 use Rattle.model_store.specs.Worlds.{first_world}
 use Rattle.model_store.proofs.Owning.{first_stands}
 use Rattle.mount_table.specs.Table.{own_mount, table_of}
 use Rattle.mount_table.specs.declared.mounts.Mount.{Mount}
 use Rattle.mount_table.proofs.OwnFileLemmas.{own_files, named_files, free_files, few_mounts}
-use Rattle.mounted_files.specs.Getting.{visible_keys}
 use Rattle.mounted_files.specs.Files.{Reading, Badness, IsState, points_of}
 use Rattle.mounted_files.specs.Opening.{MakesTable, IsOpened}
 use Rattle.mounted_files.specs.declared.files.MountedFile.{MountedFile}
 use Rattle.mounted_files.proofs.WeighLemmas.{mounts-from}
+use Rattle.mounted_files.specs.Visible.{visible_keys}
 use Rattle.mounted_files.specs.Weighed.{own_weight}
 use Rattle.store_phases.specs.Stores.{IsStore}
 use Rattle.store_phases.proofs.Stores.{IsStore-read, IsStore-from_now}
@@ -44,7 +44,6 @@ use Rattle.store_core.specs.Cores.{StandsFor, StandsIn}
 use Rattle.store_core.specs.Faults.{RefusesBroken, RefusesStore, of_journal}
 use Rattle.store_core.specs.Frames.{OnlyReadsFiles}
 use Rattle.store_core.specs.Opened.{may_be_of_journal}
-use Rattle.store_core.specs.Plans.{store_of}
 use Rattle.store_core.specs.declared.cores.Core.{Core}
 use Rattle.store_core.specs.declared.faults.OpenFault.{OpenFault}
 use Rattle.store_core.specs.declared.faults.OpenFault.TheVariants.{BadJournal}

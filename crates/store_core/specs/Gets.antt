@@ -7,13 +7,12 @@ use Rattle.model_store.specs.Events as event
 use Rattle.model_store.specs.Events.{Answer, Get, put}
 use Rattle.model_store.specs.Records as model
 use Rattle.model_store.specs.Sets as sets
-use Rattle.model_store.specs.Store.{Store, Formats}
-use Rattle.mounted_files.specs.Getting.{fault_in}
+use Rattle.model_store.specs.Store.{Store, Formats, is_bad}
+use Rattle.mounted_files.specs.Faults.{fault_in}
 use Rattle.mounted_files.specs.declared.files.MountedFile.{MountedFile}
 use Rattle.mounted_files.specs.declared.refusals.GetFault.{GetFault}
 use Rattle.mounted_files.specs.declared.refusals.GetFault.TheVariants as fault
 use Rattle.store_core.specs.Cores.{core_with}
-use Rattle.store_core.specs.Plans.{is_bad}
 use Rattle.store_core.specs.declared.cores.Core.{Core}
 use Rattle.store_core.specs.declared.getting.Got.{Got}
 use Rattle.store_verdict.specs.RecordView.{handle_of, record_of}

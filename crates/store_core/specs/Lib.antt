@@ -1,9 +1,12 @@
 pub mod Answers
+pub mod Closes
+pub mod Commits
 pub mod Committing
 pub mod Cores
+pub mod Entering
 pub mod Faults
 pub mod Frames
 pub mod Gets
 pub mod Joined
 pub mod Opened
-pub mod Plans
+pub mod Opens

@@ -10,13 +10,11 @@ use mounted_files::Mounted;
 use regex_check::Patterns;
 use storage_api::Formats;
 
-/// What an opening fixes: the formats, and the mounts with what their files held; and of these, for the verdict, which are bad and the keys
-/// that each file keeps for other mounts.
+/// What an opening fixes: the formats, and the mounts with what their files held.
 #[derive(Drop)]
 pub struct Plan<F: Formats + Drop> {
     pub(crate) formats: F,
     pub(crate) mounted: Mounted,
-    pub(crate) fixed: store_verdict::Plan,
 }
 
 impl<F: Formats + Drop> Plan<F> {

@@ -1,21 +1,18 @@
 //! What a get gives a handle.
-ghost use Rattle.std.specs.Prelude.{◌≡◌, ◌≤◌, ◌⊎◌, ℕ, IfOk, Option, Some, true, length};
+ghost use Rattle.std.specs.Prelude.{◌≡◌, ◌≤◌, ◌⊎◌, ℕ, Option, Some, true, length};
 ghost use Rattle.model_maps.specs.KeyMap.{KeyMap};
 ghost use Rattle.model_store.specs.Records as model;
 ghost use Rattle.model_store.specs.Sets as sets;
-ghost use Rattle.mounted_files.specs.Getting.{fault_of};
+ghost use Rattle.model_store.specs.Store.{formats_of, store_of};
 ghost use Rattle.mounted_files.specs.declared.refusals.GetFault.TheVariants as fault;
 ghost use Rattle.store_core.specs.Gets.{HasGot, fault_at, is_bad_mount};
-ghost use Rattle.store_core.specs.Plans.{store_of};
-ghost use Rattle.store_verdict.specs.Preparing.{IsPlan};
 ghost use Rattle.store_verdict.specs.RecordView.{handle_of, places_of, proc_of, record_of};
 
 use crate::{Core, Plan};
 use kdb_outside::Disk;
-use key_meta::Memory;
 use key_name::KeyName;
 use key_set::KeySet;
-use mounted_files::{Cause, FileState, GetFault, MountedFile};
+use mounted_files::{FileState, GetFault, MountedFile, fault_of};
 use regex_check::Patterns;
 use std::alloc::Global;
 use storage_api::Formats;
@@ -38,16 +35,15 @@ impl<D: Disk, P: Patterns + Drop> Core<D, P> {
         rec: &mut Record,
         parent: &KeyName,
     ) -> Result<Got, GetFault>
-        requires fixed { (procs : ℕ → KeyMap) → IsPlan (store_of plan.now.mounted procs) plan.now.fixed }
         requires places { length plan.now.mounted ≤ places_of rec.old }
         ensures got { (procs : ℕ → KeyMap) (records : ℕ → model.Record) (prepared : ℕ → Option sets.Prepared) → procs (handle_of rec.old) ≡ proc_of rec.old → records (handle_of rec.old) ≡ record_of rec.old
-            → HasGot (record { text = F.text; IsStorable = F.is_storable; BreaksAt = F.breaks_at }) (store_of plan.now.mounted procs) plan.now.mounted self.now records prepared parent.now rec.old rec.new result }
+            → HasGot (formats_of F.Formats) (store_of plan.now.mounted procs) plan.now.mounted self.now records prepared parent.now rec.old rec.new result }
         ensures handle { handle_of rec.new ≡ handle_of rec.old }
         ensures places { places_of rec.new ≡ places_of rec.old }
         ensures proc { proc_of rec.new ≡ proc_of rec.old }
     {
         let front = self.history.len();
-        let got = match get(alloc, &plan.fixed, &self.keys, front, rec, parent) {
+        let got = match get(alloc, &plan.mounted, &self.keys, front, rec, parent) {
             Ok(got) => got,
             Err(_) => return Err(GetFault::Memory),
         };
@@ -73,16 +69,4 @@ fn fault_at(files: &[MountedFile], mount: usize) -> GetFault
         Ok(fault) => fault,
         Err(_) => GetFault::Memory,
     }
-}
-
-/// A mount is bad for a cause.
-fn fault_of(mount: &KeyName, cause: Cause) -> Result<GetFault, Memory>
-    ensures { IfOk result (λ fault. fault ≡ fault_of mount.now cause) }
-{
-    let mount = mount.copy()?;
-    Ok(match cause {
-        Cause::TooLong { bytes } => GetFault::TooLong { mount, bytes },
-        Cause::BadFile { line } => GetFault::BadFile { mount, line },
-        Cause::TooHeavy { weight } => GetFault::TooHeavy { mount, weight },
-    })
 }

@@ -9,7 +9,6 @@ mod getting;
 mod laws;
 mod mounting;
 mod opening;
-mod plans;
 mod preparing;
 mod storing;
 mod validating;
@@ -20,8 +19,5 @@ pub use committing::{CommitFault, Done};
 pub use cores::{Core, Plan};
 pub use faults::{OpenFault, OpenRefused};
 pub use getting::Got;
-pub use laws::{
-    a_core_stands_after_each_commit, a_first_get_gives_what_the_files_give,
-    a_prepared_set_may_be_committed,
-};
+pub use laws::{a_core_stands_after_each_commit, a_prepared_set_may_be_committed};
 pub use opening::{Opened, open_store};

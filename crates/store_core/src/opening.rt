@@ -1,34 +1,16 @@
 //! The opening of a store: its journal first, and then its files.
-ghost use Rattle.std.specs.Prelude.{◌≡◌, ℕ, [], false, List, Option, Some, None, true, is_some, Err, IfOk, IfErr, MatchResult, map as over};
-ghost use Rattle.std.specs.List.{AllByRecursion};
-ghost use Rattle.kdb_outside.specs.Crashes.{EveryImage};
+ghost use Rattle.std.specs.Prelude.{◌≡◌, ℕ, [], true, Err, IfOk, MatchResult, map as over};
 ghost use Rattle.kdb_outside.specs.Faults.{HasRisen};
-ghost use Rattle.kdb_outside.specs.Frames.{GoesOn, OnlyReads};
-ghost use Rattle.kdb_outside.specs.Images.{Image};
-ghost use Rattle.journal_codec.specs.declared.files.FileText.{FileText as Item};
-ghost use Rattle.journal_codec.specs.Entry.{journal_name};
-ghost use Rattle.intent_journal.specs.declared.states.State.TheVariants.{Doubt as IsDoubt};
-ghost use Rattle.intent_journal.specs.BadJournals.{bad_place, open_entry, opened_files, opened_doubt};
-ghost use Rattle.intent_journal.specs.Moments.{LeavesOnly};
-ghost use Rattle.intent_journal.specs.Outcomes.{SameFiles, HasOnly, IsEither};
-ghost use Rattle.intent_journal.specs.States.{IsCalm};
-ghost use Rattle.model_crashes.specs.Runs.{new_run};
 ghost use Rattle.model_files.specs.Files.{HaveFiles};
-ghost use Rattle.model_maps.specs.KeyMap.{KeyMap};
-ghost use Rattle.model_store.specs.Worlds.{first_world};
+ghost use Rattle.model_store.specs.Store.{formats_of};
 ghost use Rattle.mount_table.specs.Table.{own_mount};
-ghost use Rattle.mounted_files.specs.Getting.{visible_keys};
 ghost use Rattle.mounted_files.specs.Opening.{IsOpened};
-ghost use Rattle.mounted_files.specs.Short.{AreShort};
-ghost use Rattle.store_core.specs.Cores.{StandsFor, StandsIn};
-ghost use Rattle.store_core.specs.Faults.{RefusesBroken, RefusesStore};
+ghost use Rattle.mounted_files.specs.Visible.{visible_keys};
+ghost use Rattle.store_core.specs.Faults.{RefusesStore};
 ghost use Rattle.store_core.specs.Frames.{OnlyReadsFiles};
-ghost use Rattle.store_core.specs.Opened.{IsLeft, disk_of, fault_of, may_be_of_journal, patterns_of};
-ghost use Rattle.store_core.specs.Plans.{store_of};
-ghost use Rattle.store_verdict.specs.Preparing.{IsPlan};
+ghost use Rattle.store_core.specs.Opens.{OpensFiles, OpensStore};
 
 use crate::mounting::mount_files;
-use crate::plans::plan_of;
 use crate::visible::visible_keys;
 use crate::{Core, OpenFault, OpenRefused, Plan};
 use commit_log::History;
@@ -56,47 +38,7 @@ pub fn open_store<D: Disk, F: Formats + Drop, P: Patterns + Drop>(
     formats: F,
     patterns: P,
 ) -> Result<Opened<D, F, P>, OpenRefused<D, P>>
-    ensures patterns { patterns_of result ≡ patterns }
-    ensures opened { D.tells disk ≡ true → (files : Image) (doubt : Option (List Item)) → IsCalm (D.seen disk) (D.may_leave disk) files doubt
-        → IfOk result (λ opened. IsOpened F.reads F.is_bad_at (opened_files (D.seen disk)) opened.plan.mounted) }
-    ensures stands { D.tells disk ≡ true → (files : Image) (doubt : Option (List Item)) → IsCalm (D.seen disk) (D.may_leave disk) files doubt
-        → IfOk result (λ opened. (procs : ℕ → KeyMap) →
-        StandsFor (record { text = F.text; IsStorable = F.is_storable; BreaksAt = F.breaks_at }) D.Disk (store_of opened.plan.mounted procs) opened.core.journal.disk
-        opened.core (λ r m. None) (λ p. None) first_world (new_run (opened_files (D.seen disk)) (D.faults disk) (opened_doubt (D.seen disk)))) }
-    ensures own { D.tells disk ≡ true → (files : Image) (doubt : Option (List Item)) → IsCalm (D.seen disk) (D.may_leave disk) files doubt → SameFiles files (opened_files (D.seen disk))
-        → IfOk result (λ opened. (procs : ℕ → KeyMap) →
-        StandsFor (record { text = F.text; IsStorable = F.is_storable; BreaksAt = F.breaks_at }) D.Disk (store_of opened.plan.mounted procs) opened.core.journal.disk
-        opened.core (λ r m. None) (λ p. None) first_world (new_run files (D.faults disk) doubt)) }
-    ensures shown { D.tells disk ≡ true → (files : Image) (doubt : Option (List Item)) → IsCalm (D.seen disk) (D.may_leave disk) files doubt → may_be_of_journal (fault_of result) ≡ false
-        → SameFiles (D.seen (disk_of result)) (opened_files (D.seen disk)) }
-    ensures world { IfOk result (λ opened. (procs : ℕ → KeyMap) → StandsIn (record { text = F.text; IsStorable = F.is_storable; BreaksAt = F.breaks_at }) (store_of opened.plan.mounted procs) opened.core (λ r m. None) (λ p. None) first_world) }
-    ensures wrote { D.tells disk ≡ true → IfOk result (λ opened. opened.core.wrote ≡ is_some (open_entry (D.seen disk journal_name))) }
-    ensures doubt { IfOk result (λ opened. opened.core.journal.state ≡ IsDoubt) }
-    ensures as_seen { D.tells disk ≡ true → open_entry (D.seen disk journal_name) ≡ None →
-        MatchResult result (λ opened. IsOpened F.reads F.is_bad_at (D.seen disk) opened.plan.mounted) (λ refused. RefusesStore F.reads F.is_bad_at (D.seen disk own_mount.file) refused.fault) }
-    ensures left_alone { D.tells disk ≡ true → open_entry (D.seen disk journal_name) ≡ None → OnlyReads D.Disk disk (disk_of result) }
-    ensures files { D.tells disk ≡ true → (files : Image) (doubt : Option (List Item)) → IsCalm (D.seen disk) (D.may_leave disk) files doubt
-        → IfOk result (λ _. IsEither files doubt (opened_files (D.seen disk))) }
-    ensures fixed { IfOk result (λ opened. (procs : ℕ → KeyMap) → IsPlan (store_of opened.plan.mounted procs) opened.plan.fixed) }
-    ensures short { IfOk result (λ opened. AllByRecursion AreShort opened.plan.fixed.shadows) }
-    ensures keys { IfOk result (λ opened. opened.core.keys ≡ visible_keys opened.plan.mounted) }
-    ensures none { IfOk result (λ opened. opened.core.history.commits ≡ []) }
-    ensures refused { D.tells disk ≡ true → (files : Image) (doubt : Option (List Item)) → IsCalm (D.seen disk) (D.may_leave disk) files doubt
-        → IfErr result (λ refused. RefusesStore F.reads F.is_bad_at (opened_files (D.seen disk) own_mount.file) refused.fault) }
-    ensures bad { D.tells disk ≡ true → (at : ℕ) → fault_of result ≡ Some (OpenFault.BadJournal at) → bad_place (D.seen disk journal_name) ≡ Some at }
-    ensures broken { D.tells disk ≡ true → (at : ℕ) → bad_place (D.seen disk journal_name) ≡ Some at → MatchResult result (λ _. ⊥) (λ refused. RefusesBroken at refused.fault) }
-    ensures calm { D.tells disk ≡ true → (files : Image) (doubt : Option (List Item)) → IsCalm (D.seen disk) (D.may_leave disk) files doubt
-        → (at : ℕ) → fault_of result ≡ Some (OpenFault.BadJournal at) → ⊥ }
-    ensures calm_still { D.tells disk ≡ true → (files : Image) (doubt : Option (List Item)) → IsCalm (D.seen disk) (D.may_leave disk) files doubt → ¬ HasRisen (D.faults disk) (D.faults (disk_of result))
-        → IsCalm (D.seen (disk_of result)) (D.may_leave (disk_of result)) files doubt }
-    ensures left { D.tells disk ≡ true → (files : Image) (doubt : Option (List Item)) → IsCalm (D.seen disk) (D.may_leave disk) files doubt → ¬ HasRisen (D.faults disk) (D.faults (disk_of result))
-        → IsLeft D.Disk disk (disk_of result) }
-    ensures any_moment { D.tells disk ≡ true → (files : Image) (doubt : Option (List Item)) → IsCalm (D.seen disk) (D.may_leave disk) files doubt
-        → LeavesOnly D.Disk disk (disk_of result) (HasOnly (IsEither files doubt)) }
-    ensures rests { D.tells disk ≡ true → (files : Image) (doubt : Option (List Item)) → IsCalm (D.seen disk) (D.may_leave disk) files doubt
-        → EveryImage (D.may_leave (disk_of result)) (HasOnly (IsEither files doubt)) }
-    ensures goes { GoesOn D.Disk disk (disk_of result) }
-    ensures cause { fault_of result ≡ Some OpenFault.DiskFault → HasRisen (D.faults disk) (D.faults (disk_of result)) }
+    ensures { OpensStore (formats_of F.Formats) F.reads F.is_bad_at D.Disk disk patterns result }
 {
     match open(alloc, disk) {
         Ok(journal) => open_files(alloc, journal, formats, patterns),
@@ -115,20 +57,7 @@ fn open_files<D: Disk, F: Formats + Drop, P: Patterns + Drop>(
     formats: F,
     patterns: P,
 ) -> Result<Opened<D, F, P>, OpenRefused<D, P>>
-    ensures patterns { patterns_of result ≡ patterns }
-    ensures told { D.tells journal.disk ≡ true →
-        MatchResult result (λ opened. IsOpened F.reads F.is_bad_at (D.seen journal.disk) opened.plan.mounted)
-        (λ refused. RefusesStore F.reads F.is_bad_at (D.seen journal.disk own_mount.file) refused.fault) }
-    ensures world { IfOk result (λ opened. (procs : ℕ → KeyMap) → StandsIn (record { text = F.text; IsStorable = F.is_storable; BreaksAt = F.breaks_at }) (store_of opened.plan.mounted procs) opened.core (λ r m. None) (λ p. None) first_world) }
-    ensures fixed { IfOk result (λ opened. (procs : ℕ → KeyMap) → IsPlan (store_of opened.plan.mounted procs) opened.plan.fixed) }
-    ensures short { IfOk result (λ opened. AllByRecursion AreShort opened.plan.fixed.shadows) }
-    ensures keys { IfOk result (λ opened. opened.core.keys ≡ visible_keys opened.plan.mounted) }
-    ensures none { IfOk result (λ opened. opened.core.history.commits ≡ []) }
-    ensures wrote { IfOk result (λ opened. opened.core.wrote ≡ journal.recovered) }
-    ensures journal { IfOk result (λ opened. OnlyReadsFiles D.Disk journal opened.core.journal) }
-    ensures reads { OnlyReads D.Disk journal.disk (disk_of result) }
-    ensures own { (at : ℕ) → fault_of result ≡ Some (OpenFault.BadJournal at) → ⊥ }
-    ensures cause { fault_of result ≡ Some OpenFault.DiskFault → HasRisen (D.faults journal.disk) (D.faults (disk_of result)) }
+    ensures { OpensFiles (formats_of F.Formats) F.reads F.is_bad_at D.Disk journal patterns result }
 {
     let mut journal = journal;
     let wrote = journal.has_recovered();
@@ -136,16 +65,11 @@ fn open_files<D: Disk, F: Formats + Drop, P: Patterns + Drop>(
         Ok(
             FirstState {
                 mounted,
-                fixed,
                 history,
                 keys,
             },
         ) => Ok(Opened {
-            plan: Plan {
-                formats,
-                mounted,
-                fixed,
-            },
+            plan: Plan { formats, mounted },
             core: Core {
                 journal,
                 history,
@@ -166,7 +90,6 @@ fn open_files<D: Disk, F: Formats + Drop, P: Patterns + Drop>(
 #[derive(Drop)]
 struct FirstState {
     mounted: Mounted,
-    fixed: store_verdict::Plan,
     history: History,
     keys: KeySet,
 }
@@ -181,8 +104,6 @@ fn first_state<D: Disk, F: Formats>(
         MatchResult result (λ first. IsOpened F.reads F.is_bad_at (D.seen journal.old.disk) first.mounted)
         (RefusesStore F.reads F.is_bad_at (D.seen journal.old.disk own_mount.file)) }
     ensures files { IfOk result (λ first. HaveFiles (over (λ file. file.mount) first.mounted)) }
-    ensures fixed { IfOk result (λ first. (procs : ℕ → KeyMap) → IsPlan (store_of first.mounted procs) first.fixed) }
-    ensures short { IfOk result (λ first. AllByRecursion AreShort first.fixed.shadows) }
     ensures keys { IfOk result (λ first. first.keys ≡ visible_keys first.mounted) }
     ensures none { IfOk result (λ first. first.history.commits ≡ []) }
     ensures own { (at : ℕ) → result ≡ Err (OpenFault.BadJournal at) → ⊥ }
@@ -190,12 +111,10 @@ fn first_state<D: Disk, F: Formats>(
     ensures reads { OnlyReadsFiles D.Disk journal.old journal.new }
 {
     let mounted = mount_files(alloc, journal, formats)?;
-    let fixed = plan_of(alloc, &mounted)?;
     let history = History::new(alloc, mounted.table().len())?;
     let keys = visible_keys(alloc, mounted.files())?;
     Ok(FirstState {
         mounted,
-        fixed,
         history,
         keys,
     })

@@ -1,10 +1,9 @@
 //! What a handle's set of keys makes against what its record keeps.
-ghost use Rattle.std.specs.Prelude.{IfErr, IfOk};
-ghost use Rattle.std.specs.List.{AllByRecursion};
+ghost use Rattle.std.specs.Prelude.{◌≡◌, ℕ, IfErr, IfOk};
 ghost use Rattle.general_words.specs.Memory.{UnlessMemory};
-ghost use Rattle.model_store.specs.Store.{Store};
-ghost use Rattle.mounted_files.specs.Short.{AreShort};
-ghost use Rattle.store_verdict.specs.Preparing.{IsMade, IsPlan, IsRefused};
+ghost use Rattle.model_maps.specs.KeyMap.{KeyMap};
+ghost use Rattle.model_store.specs.Store.{formats_of, store_of};
+ghost use Rattle.store_verdict.specs.Preparing.{IsMade, IsRefused};
 ghost use Rattle.store_verdict.specs.RecordView.{handle_of, record_of};
 ghost use Rattle.store_verdict.specs.declared.faults.PrepareFault.TheVariants as fault;
 
@@ -24,10 +23,9 @@ impl<F: Formats + Drop> Plan<F> {
         parent: &KeyName,
         keys: &KeySet,
     ) -> Result<Prepared, PrepareFault>
-        requires shadows { AllByRecursion AreShort self.now.fixed.shadows }
-        ensures made { IfOk result (λ set. (store : Store) → IsPlan store self.now.fixed → IsMade (record { text = F.text; IsStorable = F.is_storable; BreaksAt = F.breaks_at }) store (handle_of rec.now) (record_of rec.now) parent.now keys.now set) }
-        ensures refused { IfErr result (λ why. UnlessMemory fault.Memory ((store : Store) → IsPlan store self.now.fixed → IsRefused (record { text = F.text; IsStorable = F.is_storable; BreaksAt = F.breaks_at }) store (handle_of rec.now) (record_of rec.now) parent.now keys.now why) why) }
+        ensures made { IfOk result (λ set. (procs : ℕ → KeyMap) → IsMade (formats_of F.Formats) (store_of self.now.mounted procs) (handle_of rec.now) (record_of rec.now) parent.now keys.now set) }
+        ensures refused { IfErr result (λ why. UnlessMemory fault.Memory ((procs : ℕ → KeyMap) → IsRefused (formats_of F.Formats) (store_of self.now.mounted procs) (handle_of rec.now) (record_of rec.now) parent.now keys.now why) why) }
     {
-        prepare(alloc, &self.formats, &self.fixed, rec, parent, keys)
+        prepare(alloc, &self.formats, &self.mounted, rec, parent, keys)
     }
 }

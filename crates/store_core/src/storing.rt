@@ -1,90 +1,50 @@
-//! A commit on an open store: memory is taken first, then the disk is written, and then the commit is kept.
-ghost use Rattle.std.specs.Prelude.{◌≡◌, ◌≢◌, ◌≤◌, ◌++◌, ◌∷◌, [], true, List, Option, Err, OnOk, OnErr};
-ghost use Rattle.kdb_outside.specs.Faults.{HasRisen};
-ghost use Rattle.kdb_outside.specs.Frames.{GoesOn};
+//! A set that is a commit enters the history: memory is taken first, then the disk is written, and then the commit is kept.
+ghost use Rattle.std.specs.Prelude.{◌≤◌, ◌<◌, ◌++◌, ◌∷◌, [], All};
 ghost use Rattle.commit_log.specs.CommitView.{commit_of};
-ghost use Rattle.journal_codec.specs.declared.files.FileText.{FileText as Item};
 ghost use Rattle.journal_codec.specs.Entry.{IsEntry};
-ghost use Rattle.intent_journal.specs.Moments.{LeavesOnly};
-ghost use Rattle.model_crashes.specs.Runs.{Run, files_of, IsAmid, IsOneOf, after_begun, after_commit};
 ghost use Rattle.model_history.specs.History.{history_weight, heaviest_history};
-ghost use Rattle.store_core.specs.Frames.{IsUnwritten};
-ghost use Rattle.store_core.specs.declared.storing.StoreFault.TheVariants.{Memory as OfMemory, DiskFault as OfDisk};
-ghost use Rattle.store_phases.specs.Stores.{IsStore};
+ghost use Rattle.store_core.specs.Entering.{EntersHistory};
+ghost use Rattle.store_verdict.specs.RecordView.{places_of};
 
-use crate::Core;
+use crate::{CommitFault, Core, Done};
 use commit_log::Commit;
-use journal_codec::{FileText, encode};
-use kdb_outside::{Disk, Failed};
-use key_meta::List;
+use journal_codec::encode;
+use kdb_outside::Disk;
 use key_set::KeySet;
 use regex_check::Patterns;
-use std::alloc::{AllocError, Global};
+use std::alloc::Global;
 use store_phases::commit;
-
-/// A commit that enters the history: with the texts of the files that it touches, in the order of their names, and the keys of all mounts after it.
-#[derive(Drop)]
-pub(crate) struct Entering {
-    pub(crate) commit: Commit,
-    pub(crate) texts: List<FileText>,
-    pub(crate) keys: KeySet,
-}
-
-/// Why a commit isn't stored.
-#[derive(Clone, Copy, Debug, PartialEq, Eq)]
-pub(crate) enum StoreFault {
-    DiskFault,
-    Memory,
-}
-
-impl From<AllocError> for StoreFault {
-    ghost from_gives = { λ _ fault. fault ≡ OfMemory };
-
-    fn from(_: AllocError) -> StoreFault {
-        StoreFault::Memory
-    }
-}
-
-impl From<Failed> for StoreFault {
-    ghost from_gives = { λ _ fault. fault ≡ OfDisk };
-
-    fn from(_: Failed) -> StoreFault {
-        StoreFault::DiskFault
-    }
-}
+use store_verdict::{Prepared, Record};
 
 impl<D: Disk, P: Patterns + Drop> Core<D, P> {
-    /// Stores a commit. All memory is taken before the disk is touched. From `Ok` on every crash leaves the commit, and it is kept; else what is kept is
-    /// as it was, and after `DiskFault` at most one entry may still come into the files.
-    pub(crate) fn store(&mut self, alloc: Global, entering: Entering) -> Result<(), StoreFault>
-        requires entry { IsEntry entering.texts }
-        requires light { history_weight (self.old.history.commits ++ commit_of entering.commit ∷ []) ≤ heaviest_history }
-        ensures history { OnOk result (self.new.history.commits ≡ self.old.history.commits ++ commit_of entering.commit ∷ []) }
-        ensures keys { OnOk result (self.new.keys ≡ entering.keys) }
-        ensures same { OnErr result ((self.new.history.commits ≡ self.old.history.commits) × (self.new.keys ≡ self.old.keys)) }
-        ensures unwritten { result ≡ Err StoreFault.Memory → IsUnwritten self.old self.new }
-        ensures wrote { result ≢ Err StoreFault.Memory → self.new.wrote ≡ true }
-        ensures committed { (opened : D) (run : Run) → IsStore D.Disk opened self.old.journal run
-            → OnOk result (IsStore D.Disk opened self.new.journal (after_commit run entering.texts)) }
-        ensures failed { (opened : D) (run : Run) → IsStore D.Disk opened self.old.journal run → result ≡ Err StoreFault.DiskFault
-            → (later : Option (List Item)) × IsOneOf later run.doubt entering.texts × IsStore D.Disk opened self.new.journal (after_begun run entering.texts later) }
-        ensures any_moment { (opened : D) (run : Run) → IsStore D.Disk opened self.old.journal run
-            → LeavesOnly D.Disk self.old.journal.disk self.new.journal.disk (IsAmid (files_of run) run.doubt entering.texts) }
-        ensures patterns { self.new.patterns ≡ self.old.patterns }
-        ensures goes { GoesOn D.Disk self.old.journal.disk self.new.journal.disk }
-        ensures cause { result ≡ Err StoreFault.DiskFault → HasRisen (D.faults self.old.journal.disk) (D.faults self.new.journal.disk) }
+    /// Stores a set that is a commit, and has its record keep what was wanted. All memory is taken before the disk is touched. From `Ok` on every crash
+    /// leaves the commit; else what is kept is as it was, and after `DiskFault` at most one entry may still come into the files.
+    pub(crate) fn enter(
+        &mut self,
+        alloc: Global,
+        rec: &mut Record,
+        prepared: Prepared,
+        entering: Commit,
+        keys: KeySet,
+        left_aside: u64,
+    ) -> Result<Done, CommitFault>
+        requires entry { IsEntry prepared.texts }
+        requires light { history_weight (self.old.history.commits ++ commit_of entering ∷ []) ≤ heaviest_history }
+        requires places { All (λ part. part.mount < places_of rec.old) prepared.wanted }
+        ensures { EntersHistory D.Disk (commit_of entering) left_aside keys prepared self.old self.new rec.old rec.new result }
     {
-        let Entering {
-            commit: entered,
-            texts,
-            keys,
-        } = entering;
+        let front = self.history.len();
+        let Prepared { texts, wanted, .. } = prepared;
         let encoded = encode(alloc, texts.as_slice())?;
-        self.history.reserve(entered.touched.as_slice())?;
+        self.history.reserve(entering.touched.as_slice())?;
         self.wrote = true;
-        commit(&mut self.journal, &encoded, texts)?;
-        self.history.push(entered);
+        let Ok(()) = commit(&mut self.journal, &encoded, texts) else {
+            return Err(CommitFault::DiskFault { front });
+        };
+        self.history.push(entering);
         self.keys = keys;
-        Ok(())
+        let number = self.history.len();
+        rec.keep(number, wanted);
+        Ok(Done::Committed { number, left_aside })
     }
 }

@@ -1,7 +1,7 @@
 //! The keys of all mounts together.
 ghost use Rattle.std.specs.Prelude.{◌≡◌, IfOk, OnOk};
 ghost use Rattle.key_set.specs.WithAll.{with_all};
-ghost use Rattle.mounted_files.specs.Getting.{visible_keys, visible_of};
+ghost use Rattle.mounted_files.specs.Visible.{visible_keys, visible_of};
 
 use key_meta::Memory;
 use key_set::KeySet;

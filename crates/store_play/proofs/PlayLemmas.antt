@@ -8,12 +8,11 @@ use Rattle.model_maps.specs.KeyMap.{KeyMap}
 use Rattle.model_store.specs.Cores.{Made, first_core}
 use Rattle.model_store.specs.Events as event
 use Rattle.model_store.specs.Promise.{Runs}
-use Rattle.model_store.specs.Store.{Store, Formats}
+use Rattle.model_store.specs.Store.{Store, Formats, store_of}
 use Rattle.model_store.specs.Sets as sets
 use Rattle.model_store.specs.Worlds.{World}
 use Rattle.model_store.proofs.Owning.{one_owner}
 use Rattle.mounted_files.specs.declared.files.MountedFile.{MountedFile}
-use Rattle.store_core.specs.Plans.{store_of}
 use Rattle.store_core.specs.declared.cores.Core.{Core}
 use Rattle.store_play.specs.Handles.{Holds}
 use Rattle.store_play.specs.Plays.{AreCalls, Does, HasPlayed, Plays, Stepped, Stood}

@@ -1,12 +1,13 @@
 -- A store from its opening to its close.
 use Rattle.std.proofs.Common.{◌≡◌, ℕ, ◌≤◌, Bool, List, [], ◌∷◌, length, Option, Some, None, Result, Ok, Err, ◌≢◌, inl, inr, true, false, refl, sym, ap, subst, ◌∙◌}
-use Rattle.std.specs.Prelude.{IfErr}
+use Rattle.std.specs.Prelude.{IfErr, IfOk}
 use Rattle.kdb_outside.specs.Crashes.{EveryImage}
 use Rattle.kdb_outside.specs.Faults.{HasRisen}
 use Rattle.kdb_outside.specs.Frames.{GoesOn}
 use Rattle.kdb_outside.specs.Images.{Image}
 use Rattle.kdb_outside.specs.declared.disks.Disk.{Ghosts}
 use Rattle.kdb_outside.proofs.Rises.{risen_since, risen_still}
+use Rattle.intent_journal.specs.BadJournals.{opened_files}
 use Rattle.intent_journal.specs.Moments.{LeavesOnly}
 use Rattle.intent_journal.specs.Outcomes.{HasOnly, IsEither}
 use Rattle.intent_journal.specs.States.{IsCalm, IsSettled}
@@ -25,6 +26,7 @@ use Rattle.model_store.specs.Verdicts.{Late, Same, Conflict, Invalid, DatabaseFu
 use Rattle.model_store.specs.Worlds.{first_world}
 use Rattle.model_store.proofs.Owning.{one_owner}
 use Rattle.mounted_files.specs.Files.{Reading, Badness}
+use Rattle.mounted_files.specs.Opening.{IsOpened}
 use Rattle.mounted_files.specs.declared.files.MountedFile.{MountedFile}
 use Rattle.store_core.specs.Committing.{BeginsSet, RunsOn}
 use Rattle.store_core.specs.Cores.{StandsFor}
@@ -35,7 +37,7 @@ use Rattle.store_core.specs.declared.faults.OpenFault.TheVariants.{BadJournal, D
 use Rattle.store_core.specs.declared.faults.OpenRefused.{OpenRefused}
 use Rattle.store_play.specs.Handles.{Holds, AreHandles, AreNew, HoldNothing, procs_at, records_of}
 use Rattle.store_play.specs.Plays.{Does, HasPlayed, Plays}
-use Rattle.store_play.specs.Ran.{HasPlayedNew, HasRun, HasRunOpened, IsNeverBroken, WasOrReached, disk_of, first_stage, store_with}
+use Rattle.store_play.specs.Ran.{HasPlayedNew, HasRun, HasRunFiles, HasRunOpened, IsNeverBroken, WasOrReached, disk_of, first_stage, store_with}
 use Rattle.store_play.specs.Stages.{Stage, set_asked, stage_of}
 use Rattle.store_play.specs.Told.{asked_of}
 use Rattle.store_play.specs.declared.events.Answer.{Answer}
@@ -127,6 +129,12 @@ module _ (formats : Formats) {D P : Type 0} (g : Ghosts D) (mounted : List Mount
         stands = stood.holds.stands;
       }
 
+  pub new_played : {E : Type 0} (events : List Event) (result : Result (List Answer) E) (after : Core D P) (later_records : List Record) (later_places : List (Option Prepared)) (room : ℕ) → length records ≡ length procs → length places ≡ room
+      → IfOk result (λ answers. HasPlayed formats g mounted (procs_at procs) opened (stage_of core records places (λ p. None) run) events answers after later_records later_places)
+      → IfOk result (λ answers. HasPlayedNew formats g mounted procs room opened run events answers after)
+  new_played events (Ok answers) after later_records later_places room counts rooms played = played_new events answers after later_records later_places room counts rooms played
+  new_played events (Err why) after later_records later_places room counts rooms played = tt
+
 -- ---- from the opening to the close
 
 module _ (formats : Formats) {D P : Type 0} (g : Ghosts D) (mounted : List MountedFile) (procs : List KeyMap) (places : ℕ) (disk opened : D) (files : Image) (doubt : Option (List FileText)) (begun : Run) (events : List Event) (ran : Ran D P)
@@ -161,6 +169,20 @@ module _ (formats : Formats) {D P : Type 0} (g : Ghosts D) (mounted : List Mount
         calm = λ still. has.calm (subst (λ n. ¬ HasRisen n (g.faults ran.disk)) (sym faults) still);
       }
 
+-- the opening, the run behind it and the close
+module _ (formats : Formats) (Reads : Reading) (IsBad : Badness) {D P : Type 0} (g : Ghosts D) (mounted : List MountedFile) (procs : List KeyMap) (places : ℕ) (events : List Event) (disk opened : D) (files : Image) (doubt : Option (List FileText)) (begun : Run)
+    (later : g.moment disk ≤ g.moment opened) (opening : LeavesOnly g disk opened (HasOnly (IsEither files doubt))) where
+  pub ran_files : (result : Result (Ran D P) (OpenRefused D P)) → IsOpened Reads IsBad (opened_files (g.seen disk)) mounted → IfOk result (HasRunOpened formats g mounted procs places opened begun events)
+      → IfOk result (HasRunFiles formats Reads IsBad g procs places events disk files doubt begun)
+  ran_files (Ok ran) is has = (mounted, is, has_run formats g mounted procs places disk opened files doubt begun events ran has later opening)
+  ran_files (Err refused) is has = tt
+
+  pub reached_files : (result : Result (Ran D P) (OpenRefused D P)) → IfErr result (λ refused. LeavesOnly g opened refused.disk (IsReached begun.files begun.commits begun.begun))
+      → IfErr result (λ refused. LeavesOnly g disk refused.disk (WasOrReached files doubt begun))
+  reached_files (Ok ran) reached = tt
+  reached_files (Err refused) reached =
+      only_both g disk opened refused.disk (HasOnly (IsEither files doubt)) (IsReached begun.files begun.commits begun.begun) (WasOrReached files doubt begun) (λ image held. inl held) (λ image held. inr held) later opening reached
+
 -- ---- a journal that isn't broken
 
 pub sound_now : {D : Type 0} (g : Ghosts D) (disk : D) (P : Image → Type 0) → EveryImage (g.may_leave disk) (HasOnly P) → IsNeverBroken g disk
@@ -181,12 +203,6 @@ memory_is_no_journal fault at is = λ bad. let e : OfMemory ≡ BadJournal at = 
 
 pub memory_is_no_fault : (fault : OpenFault) → fault ≡ OfMemory → fault ≢ OfDisk
 memory_is_no_fault fault is = λ disk. let e : OfMemory ≡ OfDisk = sym is ∙ disk in absurd cc
-
--- the opening, and then the close of what it opened
-pub reached_behind : {D : Type 0} (g : Ghosts D) (disk opened end : D) (files : Image) (doubt : Option (List FileText)) (run : Run) → g.moment disk ≤ g.moment opened → LeavesOnly g disk opened (HasOnly (IsEither files doubt))
-    → LeavesOnly g opened end (IsReached run.files run.commits run.begun) → LeavesOnly g disk end (WasOrReached files doubt run)
-reached_behind g disk opened end files doubt run later opening reached =
-    only_both g disk opened end (HasOnly (IsEither files doubt)) (IsReached run.files run.commits run.begun) (WasOrReached files doubt run) (λ image held. inl held) (λ image held. inr held) later opening reached
 
 -- ---- a run that is refused behind the opening
 

@@ -17,7 +17,7 @@ use Rattle.model_store.specs.Events as event
 use Rattle.model_store.specs.Events.{put}
 use Rattle.model_store.specs.Records as model
 use Rattle.model_store.specs.Sets as sets
-use Rattle.model_store.specs.Store.{Store, Formats, points_of}
+use Rattle.model_store.specs.Store.{Store, Formats, points_of, store_of}
 use Rattle.model_store.specs.Verdicts.{IsEarly}
 use Rattle.model_store.specs.Worlds.{World}
 use Rattle.model_store.proofs.Owning.{follows}
@@ -27,7 +27,6 @@ use Rattle.store_core.specs.Committing.{IsCommitted, RunsOn}
 use Rattle.store_core.specs.Cores.{core_with}
 use Rattle.store_core.specs.Gets.{HasGot}
 use Rattle.store_core.specs.Joined.{Belongs, BelongsIn, HasAnswered}
-use Rattle.store_core.specs.Plans.{store_of}
 use Rattle.store_core.specs.declared.committing.CommitFault.{CommitFault}
 use Rattle.store_core.specs.declared.committing.Done.{Done}
 use Rattle.store_core.specs.declared.cores.Core.{Core}
@@ -44,12 +43,11 @@ use Rattle.store_play.specs.declared.events.Event.TheVariants as asked
 use Rattle.store_play.specs.declared.events.Skip.{Skip}
 use Rattle.store_play.specs.declared.events.Skip.TheVariants as skip
 use Rattle.store_play.proofs.PlaceLemmas.{set-cases, records_of-set, held_in-set}
-use Rattle.store_verdict.specs.Preparing.{IsMade, IsPlan, IsRefused}
+use Rattle.store_verdict.specs.Preparing.{IsMade, IsRefused}
 use Rattle.store_verdict.specs.PreparedView.{prepared_of}
 use Rattle.store_verdict.specs.RecordView.{handle_of, places_of, proc_of, record_of}
 use Rattle.store_verdict.specs.declared.faults.PrepareFault.{PrepareFault}
 use Rattle.store_verdict.specs.declared.faults.PrepareFault.TheVariants as fault
-use Rattle.store_verdict.specs.declared.plans.Plan.{Plan}
 use Rattle.store_verdict.specs.declared.prepared.Prepared.{Prepared}
 use Rattle.store_verdict.specs.declared.records.Record.{Record}
 
@@ -218,16 +216,16 @@ module _ (formats : Formats) {D P : Type 0} (g : Ghosts D) (files : List Mounted
     }
 
     -- what became of a prepare, by its answer
-    pub prepared_so : (result : Result (Unit {0}) PrepareFault) (place d : Option Prepared) (plan : Plan) → p < length places → IsPlan store plan
-        → IfOk result (λ done. (new : Prepared) × (place ≡ Some new) × ((of : Store) → IsPlan of plan → IsMade formats of (handle_of rec) (record_of rec) parent keys new))
-        → IfErr result (λ why. UnlessMemory fault.Memory ((of : Store) → IsPlan of plan → IsRefused formats of (handle_of rec) (record_of rec) parent keys why) why)
+    pub prepared_so : (result : Result (Unit {0}) PrepareFault) (place d : Option Prepared) → p < length places
+        → IfOk result (λ done. (new : Prepared) × (place ≡ Some new) × ((of : ℕ → KeyMap) → IsMade formats (store_of files of) (handle_of rec) (record_of rec) parent keys new))
+        → IfErr result (λ why. UnlessMemory fault.Memory ((of : ℕ → KeyMap) → IsRefused formats (store_of files of) (handle_of rec) (record_of rec) parent keys why) why)
         → OnErr result (place ≡ get_or places p d)
         → Stepped formats g files procs opened first (asked.Prepare r p parent keys) (told.Prepared result) core records (set places p place)
-    prepared_so (Ok done) place d plan lt is_plan made refused same =
-        subst (λ (o : Option Prepared). Stepped formats g files procs opened first (asked.Prepare r p parent keys) (told.Prepared (Ok done)) core records (set places p o)) (sym made.1) (readied done made.0 lt (made.2 store is_plan))
-    prepared_so (Err why) place d plan lt is_plan made refused same =
+    prepared_so (Ok done) place d lt made refused same =
+        subst (λ (o : Option Prepared). Stepped formats g files procs opened first (asked.Prepare r p parent keys) (told.Prepared (Ok done)) core records (set places p o)) (sym made.1) (readied done made.0 lt (made.2 procs))
+    prepared_so (Err why) place d lt made refused same =
         subst (λ (ps : List (Option Prepared)). Stepped formats g files procs opened first (asked.Prepare r p parent keys) (told.Prepared (Err why)) core records ps) (sym (ap (set places p) same ∙ set-get_or places p d))
-        (unready why (λ ne. refused ne store is_plan))
+        (unready why (λ ne. refused ne procs))
 
   -- ---- a commit
 

@@ -8,11 +8,10 @@ use Rattle.model_maps.specs.KeyMap.{KeyMap, no_keys}
 use Rattle.model_names.specs.Name.{Name}
 use Rattle.model_store.specs.Records as model
 use Rattle.model_store.specs.Sets as sets
-use Rattle.model_store.specs.Store.{Store, Formats}
+use Rattle.model_store.specs.Store.{Store, Formats, store_of}
 use Rattle.model_store.specs.Worlds.{World}
 use Rattle.mounted_files.specs.declared.files.MountedFile.{MountedFile}
 use Rattle.store_core.specs.Cores.{StandsFor}
-use Rattle.store_core.specs.Plans.{store_of}
 use Rattle.store_core.specs.declared.cores.Core.{Core}
 use Rattle.store_play.specs.declared.handles.Handles.{Handles}
 use Rattle.store_verdict.specs.Preparing.{IsMade}

@@ -7,12 +7,11 @@ use Rattle.model_store.specs.Cores.{Made, accepts, first_core}
 use Rattle.model_store.specs.Events as event
 use Rattle.model_store.specs.Promise.{IsOneOwner, Runs}
 use Rattle.model_store.specs.Sets as sets
-use Rattle.model_store.specs.Store.{Store, Formats}
+use Rattle.model_store.specs.Store.{Store, Formats, store_of}
 use Rattle.model_store.specs.Worlds.{World}
 use Rattle.mounted_files.specs.declared.files.MountedFile.{MountedFile}
 use Rattle.store_core.specs.Committing.{RunsOn}
 use Rattle.store_core.specs.Cores.{core_with}
-use Rattle.store_core.specs.Plans.{store_of}
 use Rattle.store_core.specs.declared.cores.Core.{Core}
 use Rattle.store_play.specs.Handles.{Holds, records_of}
 use Rattle.store_play.specs.Stages.{Stage, stage_of, set_asked, held_after}

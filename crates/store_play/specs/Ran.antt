@@ -1,16 +1,19 @@
 -- What a whole run of a store promises: it was opened on a calm disk, played, and closed. (This project's own.)
-use Rattle.std.specs.Prelude.{◌≡◌, ◌⊎◌, ℕ, List, length, Option, None, Result, Ok, Err}
+use Rattle.std.specs.Prelude.{◌≡◌, ◌≢◌, ◌⊎◌, ℕ, ◌≤◌, All, List, length, Option, None, Result, Ok, Err, IfOk, IfErr}
 use Rattle.kdb_outside.specs.Crashes.{EveryImage}
 use Rattle.kdb_outside.specs.Faults.{HasRisen}
+use Rattle.kdb_outside.specs.Frames.{GoesOn}
 use Rattle.kdb_outside.specs.Images.{Image}
 use Rattle.kdb_outside.specs.declared.disks.Disk.{Ghosts}
+use Rattle.intent_journal.specs.BadJournals.{opened_doubt, opened_files}
 use Rattle.intent_journal.specs.JournalBytes.{IsBroken}
 use Rattle.intent_journal.specs.Moments.{LeavesOnly}
 use Rattle.intent_journal.specs.Outcomes.{HasOnly, IsEither, SameFiles}
 use Rattle.intent_journal.specs.States.{IsCalm}
+use Rattle.intent_journal.specs.declared.states.State.TheVariants.{Doubt}
 use Rattle.journal_codec.specs.Entry.{journal_name}
 use Rattle.journal_codec.specs.declared.files.FileText.{FileText}
-use Rattle.model_crashes.specs.Runs.{Run, files_of, IsReached}
+use Rattle.model_crashes.specs.Runs.{Run, files_of, IsReached, new_run}
 use Rattle.model_files.specs.Texts.{entries_of}
 use Rattle.model_maps.specs.KeyMap.{KeyMap}
 use Rattle.model_store.specs.Cores.{first_core}
@@ -18,13 +21,18 @@ use Rattle.model_store.specs.Events as event
 use Rattle.model_store.specs.Promise.{IsOneOwner}
 use Rattle.model_store.specs.Records.{Record}
 use Rattle.model_store.specs.Sets.{Prepared}
-use Rattle.model_store.specs.Store.{Store, Formats}
-use Rattle.model_store.specs.Worlds.{World}
+use Rattle.model_store.specs.Store.{Store, Formats, store_of}
+use Rattle.model_store.specs.Worlds.{World, first_world}
+use Rattle.mount_table.specs.Table.{own_mount}
+use Rattle.mounted_files.specs.Files.{Reading, Badness}
+use Rattle.mounted_files.specs.Opening.{IsOpened}
 use Rattle.mounted_files.specs.declared.files.MountedFile.{MountedFile}
 use Rattle.store_core.specs.Cores.{StandsFor, core_with}
-use Rattle.store_core.specs.Plans.{store_of}
+use Rattle.store_core.specs.Faults.{RefusesStore}
 use Rattle.store_core.specs.declared.cores.Core.{Core}
+use Rattle.store_core.specs.declared.faults.OpenFault.TheVariants.{BadJournal, DiskFault, Memory}
 use Rattle.store_core.specs.declared.faults.OpenRefused.{OpenRefused}
+use Rattle.store_play.specs.Causes.{IsCaused}
 use Rattle.store_play.specs.Handles.{procs_at}
 use Rattle.store_play.specs.Plays.{AreCalls, Plays}
 use Rattle.store_play.specs.Stages.{Stage}
@@ -91,3 +99,54 @@ pub record HasRun (formats : Formats) {D P : Type 0} (g : Ghosts D) (mounted : L
   pub now : EveryImage (g.may_leave ran.disk) (HasOnly (IsEither (files_of last.run) last.run.doubt))
   pub shown : ¬ HasRisen first.faults (g.faults ran.disk) → SameFiles (g.seen ran.disk) (files_of last.run)
   pub calm : ¬ HasRisen first.faults (g.faults ran.disk) → IsCalm (g.seen ran.disk) (g.may_leave ran.disk) (files_of last.run) last.run.doubt
+
+-- ---- what the calls promise, by their answers
+
+-- whatever files a calm disk has, and whatever is in doubt on it
+abbrev pub FromCalm : {D : Type 0} → Ghosts D → D → (Image → Option (List FileText) → Type 0) → Type 0
+FromCalm g disk P = (files : Image) (doubt : Option (List FileText)) → IsCalm (g.seen disk) (g.may_leave disk) files doubt → P files doubt
+
+-- the run that begins on the files that the journal of a disk leaves, or on these files
+abbrev pub opened_run : {D : Type 0} → Ghosts D → D → Run
+opened_run g disk = new_run (opened_files (g.seen disk)) (g.faults disk) (opened_doubt (g.seen disk))
+
+-- events were played on the store of some opened files, behind a run that began as the first one
+abbrev pub HasRunFiles : Formats → Reading → Badness → {D P : Type 0} → Ghosts D → List KeyMap → ℕ → List Event → D → Image → Option (List FileText) → Run → Ran D P → Type 0
+HasRunFiles formats Reads IsBad g procs places events disk files doubt first ran =
+    (mounted : List MountedFile) × IsOpened Reads IsBad (opened_files (g.seen disk)) mounted × HasRun formats g mounted procs places disk files doubt first events ran
+
+-- of `run`
+pub record RunsStore (formats : Formats) (Reads : Reading) (IsBad : Badness) {D P : Type 0} (g : Ghosts D) (refusals : P → ℕ) (procs : List KeyMap) (places : ℕ) (events : List Event) (disk : D) (matcher : P) (result : Result (Ran D P) (OpenRefused D P)) : Type 0 where
+  pub sound : IsNeverBroken g (disk_of result)
+  pub ran : FromCalm g disk (λ files doubt. IfOk result (HasRunFiles formats Reads IsBad g procs places events disk files doubt (opened_run g disk)))
+  pub own : FromCalm g disk (λ files doubt. SameFiles files (opened_files (g.seen disk)) → IfOk result (HasRunFiles formats Reads IsBad g procs places events disk files doubt (new_run files (g.faults disk) doubt)))
+  pub causes : IfOk result (λ ran. All (IsCaused (g.faults disk) (g.faults ran.disk) (refusals matcher) (refusals ran.patterns)) ran.answers)
+  pub later : IfOk result (λ ran. refusals matcher ≤ refusals ran.patterns)
+  -- it is refused for the files of the opening, never for a bad journal, or for a fault, with its cause
+  pub refused : FromCalm g disk (λ files doubt. IfErr result (λ refused. RefusesStore Reads IsBad (opened_files (g.seen disk) own_mount.file) refused.fault))
+  pub calm : IfErr result (λ refused. (at : ℕ) → refused.fault ≢ BadJournal at)
+  pub cause : IfErr result (λ refused. refused.fault ≡ DiskFault → HasRisen (g.faults disk) (g.faults refused.disk))
+  pub patterns : IfErr result (λ refused. refused.patterns ≡ matcher)
+  -- and leaves the disk as calm as before, where it didn't fail, and whole whenever it crashed
+  pub calm_still : FromCalm g disk (λ files doubt. IfErr result (λ refused. ¬ HasRisen (g.faults disk) (g.faults refused.disk) → IsCalm (g.seen refused.disk) (g.may_leave refused.disk) files doubt))
+  pub any_moment : FromCalm g disk (λ files doubt. IfErr result (λ refused. LeavesOnly g disk refused.disk (WasOrReached files doubt (opened_run g disk))))
+  pub own_any_moment : FromCalm g disk (λ files doubt. SameFiles files (opened_files (g.seen disk)) → IfErr result (λ refused. LeavesOnly g disk refused.disk (WasOrReached files doubt (new_run files (g.faults disk) doubt))))
+  pub goes : GoesOn g disk (disk_of result)
+
+-- a core that was just opened stands for a run
+abbrev pub StandsNew : Formats → {D P : Type 0} → Ghosts D → List MountedFile → List KeyMap → Core D P → D → Run → Type 0
+StandsNew formats g mounted procs core start run = StandsFor formats g (store_with mounted procs) start core (λ r m. None) (λ p. None) first_world run
+
+-- of the run of a store that was just opened
+pub record RunsOpened (formats : Formats) {D P : Type 0} (g : Ghosts D) (refusals : P → ℕ) (mounted : List MountedFile) (procs : List KeyMap) (places : ℕ) (events : List Event) (core : Core D P) (result : Result (Ran D P) (OpenRefused D P)) : Type 0 where
+  pub ran : (start : D) (run : Run) → StandsNew formats g mounted procs core start run → IfOk result (HasRunOpened formats g mounted procs places start run events)
+  pub sound : IsNeverBroken g (disk_of result)
+  pub causes : IfOk result (λ ran. All (IsCaused (g.faults core.journal.disk) (g.faults ran.disk) (refusals core.patterns) (refusals ran.patterns)) ran.answers)
+  pub later : IfOk result (λ ran. refusals core.patterns ≤ refusals ran.patterns)
+  pub refused : IfErr result (λ refused. refused.fault ≡ Memory)
+  pub patterns : IfErr result (λ refused. refused.patterns ≡ core.patterns)
+  pub reached : (start : D) (run : Run) → StandsNew formats g mounted procs core start run → IfErr result (λ refused. LeavesOnly g start refused.disk (IsReached run.files run.commits run.begun))
+  pub still : (start : D) (run : Run) (files : Image) (doubt : Option (List FileText)) → StandsNew formats g mounted procs core start run → core.journal.state ≡ Doubt → IsEither files doubt (files_of run)
+      → IfErr result (λ refused. ¬ HasRisen (g.faults core.journal.disk) (g.faults refused.disk) → IsCalm (g.seen core.journal.disk) (g.may_leave core.journal.disk) files doubt
+      → IsCalm (g.seen refused.disk) (g.may_leave refused.disk) files doubt)
+  pub goes : GoesOn g core.journal.disk (disk_of result)

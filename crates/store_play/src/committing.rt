@@ -5,6 +5,7 @@ ghost use Rattle.model_crashes.specs.Runs.{Run};
 ghost use Rattle.model_maps.specs.KeyMap.{KeyMap};
 ghost use Rattle.model_store.specs.Cores.{accepts};
 ghost use Rattle.model_store.specs.Sets as sets;
+ghost use Rattle.model_store.specs.Store.{formats_of};
 ghost use Rattle.model_store.specs.Worlds.{World};
 ghost use Rattle.store_play.specs.Causes.{IsCaused};
 ghost use Rattle.store_play.specs.Handles.{Holds, IsHolding};
@@ -32,10 +33,10 @@ pub(crate) fn play_commit<D: Disk, F: Formats + Drop, P: Patterns + Drop>(
     handle: usize,
     number: usize,
 ) -> Answer
-    requires { IsHolding (record { text = F.text; IsStorable = F.is_storable; BreaksAt = F.breaks_at }) D.Disk plan.now.mounted core.old records.old places.old }
+    requires { IsHolding (formats_of F.Formats) D.Disk plan.now.mounted core.old records.old places.old }
     ensures stepped { (procs : ℕ → KeyMap) (opened : D) (known : ℕ → Option sets.Prepared) (world : World) (run : Run)
-        → Holds (record { text = F.text; IsStorable = F.is_storable; BreaksAt = F.breaks_at }) D.Disk plan.now.mounted procs opened core.old records.old places.old known world run
-        → Stepped (record { text = F.text; IsStorable = F.is_storable; BreaksAt = F.breaks_at }) D.Disk plan.now.mounted procs opened (stage_of core.old records.old places.old known run) (event.Commit handle number) result core.new records.new places.new }
+        → Holds (formats_of F.Formats) D.Disk plan.now.mounted procs opened core.old records.old places.old known world run
+        → Stepped (formats_of F.Formats) D.Disk plan.now.mounted procs opened (stage_of core.old records.old places.old known run) (event.Commit handle number) result core.new records.new places.new }
     ensures goes { GoesOn D.Disk core.old.journal.disk core.new.journal.disk }
     ensures later { P.refusals core.old.patterns ≤ P.refusals core.new.patterns }
     ensures cause { IsCaused (D.faults core.old.journal.disk) (D.faults core.new.journal.disk) (P.refusals core.old.patterns) (P.refusals core.new.patterns) result }

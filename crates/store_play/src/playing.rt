@@ -1,18 +1,15 @@
 //! Events that are played one after the other.
 ghost use Rattle.std.specs.Prelude.{◌≡◌, ◌≤◌, ℕ, All, IfOk, List, OnErr, Option};
-ghost use Rattle.std.specs.List.{AllByRecursion};
 ghost use Rattle.kdb_outside.specs.Frames.{GoesOn};
 ghost use Rattle.model_crashes.specs.Runs.{Run};
 ghost use Rattle.model_maps.specs.KeyMap.{KeyMap};
 ghost use Rattle.model_store.specs.Sets as sets;
+ghost use Rattle.model_store.specs.Store.{formats_of};
 ghost use Rattle.model_store.specs.Worlds.{World};
-ghost use Rattle.mounted_files.specs.Short.{AreShort};
-ghost use Rattle.store_core.specs.Plans.{store_of};
 ghost use Rattle.store_play.specs.Causes.{IsCaused};
 ghost use Rattle.store_play.specs.Handles.{Holds, IsHolding, places_in, records_in};
 ghost use Rattle.store_play.specs.Plays.{HasPlayed, Stepped};
 ghost use Rattle.store_play.specs.Stages.{stage_of};
-ghost use Rattle.store_verdict.specs.Preparing.{IsPlan};
 
 use crate::committing::play_commit;
 use crate::getting::play_get;
@@ -37,12 +34,10 @@ pub fn play<D: Disk, F: Formats + Drop, P: Patterns + Drop>(
     handles: &mut Handles,
     events: &[Event],
 ) -> Result<List<Answer>, Memory>
-    requires fixed { (procs : ℕ → KeyMap) → IsPlan (store_of plan.now.mounted procs) plan.now.fixed }
-    requires short { AllByRecursion AreShort plan.now.fixed.shadows }
-    requires holding { IsHolding (record { text = F.text; IsStorable = F.is_storable; BreaksAt = F.breaks_at }) D.Disk plan.now.mounted core.old (records_in handles.old) (places_in handles.old) }
+    requires holding { IsHolding (formats_of F.Formats) D.Disk plan.now.mounted core.old (records_in handles.old) (places_in handles.old) }
     ensures played { (procs : ℕ → KeyMap) (opened : D) (known : ℕ → Option sets.Prepared) (world : World) (run : Run)
-        → Holds (record { text = F.text; IsStorable = F.is_storable; BreaksAt = F.breaks_at }) D.Disk plan.now.mounted procs opened core.old (records_in handles.old) (places_in handles.old) known world run
-        → IfOk result (λ answers. HasPlayed (record { text = F.text; IsStorable = F.is_storable; BreaksAt = F.breaks_at }) D.Disk plan.now.mounted procs opened (stage_of core.old (records_in handles.old) (places_in handles.old) known run) events.now answers core.new (records_in handles.new) (places_in handles.new)) }
+        → Holds (formats_of F.Formats) D.Disk plan.now.mounted procs opened core.old (records_in handles.old) (places_in handles.old) known world run
+        → IfOk result (λ answers. HasPlayed (formats_of F.Formats) D.Disk plan.now.mounted procs opened (stage_of core.old (records_in handles.old) (places_in handles.old) known run) events.now answers core.new (records_in handles.new) (places_in handles.new)) }
     ensures causes { IfOk result (All (IsCaused (D.faults core.old.journal.disk) (D.faults core.new.journal.disk) (P.refusals core.old.patterns) (P.refusals core.new.patterns))) }
     ensures goes { GoesOn D.Disk core.old.journal.disk core.new.journal.disk }
     ensures later { P.refusals core.old.patterns ≤ P.refusals core.new.patterns }
@@ -64,12 +59,10 @@ fn step<D: Disk, F: Formats + Drop, P: Patterns + Drop>(
     handles: &mut Handles,
     event: &Event,
 ) -> Answer
-    requires fixed { (procs : ℕ → KeyMap) → IsPlan (store_of plan.now.mounted procs) plan.now.fixed }
-    requires short { AllByRecursion AreShort plan.now.fixed.shadows }
-    requires holding { IsHolding (record { text = F.text; IsStorable = F.is_storable; BreaksAt = F.breaks_at }) D.Disk plan.now.mounted core.old (records_in handles.old) (places_in handles.old) }
+    requires holding { IsHolding (formats_of F.Formats) D.Disk plan.now.mounted core.old (records_in handles.old) (places_in handles.old) }
     ensures stepped { (procs : ℕ → KeyMap) (opened : D) (known : ℕ → Option sets.Prepared) (world : World) (run : Run)
-        → Holds (record { text = F.text; IsStorable = F.is_storable; BreaksAt = F.breaks_at }) D.Disk plan.now.mounted procs opened core.old (records_in handles.old) (places_in handles.old) known world run
-        → Stepped (record { text = F.text; IsStorable = F.is_storable; BreaksAt = F.breaks_at }) D.Disk plan.now.mounted procs opened (stage_of core.old (records_in handles.old) (places_in handles.old) known run) event.now result core.new (records_in handles.new) (places_in handles.new) }
+        → Holds (formats_of F.Formats) D.Disk plan.now.mounted procs opened core.old (records_in handles.old) (places_in handles.old) known world run
+        → Stepped (formats_of F.Formats) D.Disk plan.now.mounted procs opened (stage_of core.old (records_in handles.old) (places_in handles.old) known run) event.now result core.new (records_in handles.new) (places_in handles.new) }
     ensures goes { GoesOn D.Disk core.old.journal.disk core.new.journal.disk }
     ensures later { P.refusals core.old.patterns ≤ P.refusals core.new.patterns }
     ensures cause { IsCaused (D.faults core.old.journal.disk) (D.faults core.new.journal.disk) (P.refusals core.old.patterns) (P.refusals core.new.patterns) result }

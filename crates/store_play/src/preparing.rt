@@ -1,20 +1,17 @@
 //! A prepare that is played.
 ghost use Rattle.std.specs.Prelude.{◌≡◌, ◌<◌, ℕ, IfErr, IfOk, OnErr, Option, Some};
-ghost use Rattle.std.specs.List.{AllByRecursion};
 ghost use Rattle.general_words.specs.Memory.{UnlessMemory};
 ghost use Rattle.model_crashes.specs.Runs.{Run};
 ghost use Rattle.model_maps.specs.KeyMap.{KeyMap};
 ghost use Rattle.model_store.specs.Sets as sets;
-ghost use Rattle.model_store.specs.Store.{Store};
+ghost use Rattle.model_store.specs.Store.{formats_of, store_of};
 ghost use Rattle.model_store.specs.Worlds.{World};
-ghost use Rattle.mounted_files.specs.Short.{AreShort};
-ghost use Rattle.store_core.specs.Plans.{store_of};
 ghost use Rattle.store_play.specs.Causes.{IsCaused};
 ghost use Rattle.store_play.specs.Handles.{Holds};
 ghost use Rattle.store_play.specs.Plays.{Stepped};
 ghost use Rattle.store_play.specs.Stages.{stage_of};
 ghost use Rattle.store_play.specs.declared.events.Event.TheVariants as event;
-ghost use Rattle.store_verdict.specs.Preparing.{IsMade, IsPlan, IsRefused};
+ghost use Rattle.store_verdict.specs.Preparing.{IsMade, IsRefused};
 ghost use Rattle.store_verdict.specs.RecordView.{handle_of, record_of};
 ghost use Rattle.store_verdict.specs.declared.faults.PrepareFault.TheVariants as fault;
 ghost use Rattle.store_verdict.specs.declared.prepared.Prepared as code;
@@ -42,11 +39,9 @@ pub(crate) fn play_prepare<D: Disk, F: Formats + Drop, P: Patterns + Drop>(
     parent: &KeyName,
     keys: &KeySet,
 ) -> Answer
-    requires fixed { (procs : ℕ → KeyMap) → IsPlan (store_of plan.now.mounted procs) plan.now.fixed }
-    requires short { AllByRecursion AreShort plan.now.fixed.shadows }
     ensures stepped { (procs : ℕ → KeyMap) (opened : D) (known : ℕ → Option sets.Prepared) (world : World) (run : Run)
-        → Holds (record { text = F.text; IsStorable = F.is_storable; BreaksAt = F.breaks_at }) D.Disk plan.now.mounted procs opened _core.now records.now places.old known world run
-        → Stepped (record { text = F.text; IsStorable = F.is_storable; BreaksAt = F.breaks_at }) D.Disk plan.now.mounted procs opened (stage_of _core.now records.now places.old known run) (event.Prepare handle number parent.now keys.now) result _core.now records.now places.new }
+        → Holds (formats_of F.Formats) D.Disk plan.now.mounted procs opened _core.now records.now places.old known world run
+        → Stepped (formats_of F.Formats) D.Disk plan.now.mounted procs opened (stage_of _core.now records.now places.old known run) (event.Prepare handle number parent.now keys.now) result _core.now records.now places.new }
     ensures cause { (faults now refusals later : ℕ) → IsCaused faults now refusals later result }
 {
     if handle >= records.len() {
@@ -74,9 +69,8 @@ fn hold<F: Formats + Drop>(
     parent: &KeyName,
     keys: &KeySet,
 ) -> Result<(), PrepareFault>
-    requires { AllByRecursion AreShort plan.now.fixed.shadows }
-    ensures made { IfOk result (λ _. (set : code.Prepared) × (place.new ≡ Some set) × ((store : Store) → IsPlan store plan.now.fixed → IsMade (record { text = F.text; IsStorable = F.is_storable; BreaksAt = F.breaks_at }) store (handle_of rec.now) (record_of rec.now) parent.now keys.now set)) }
-    ensures refused { IfErr result (λ why. UnlessMemory fault.Memory ((store : Store) → IsPlan store plan.now.fixed → IsRefused (record { text = F.text; IsStorable = F.is_storable; BreaksAt = F.breaks_at }) store (handle_of rec.now) (record_of rec.now) parent.now keys.now why) why) }
+    ensures made { IfOk result (λ _. (set : code.Prepared) × (place.new ≡ Some set) × ((procs : ℕ → KeyMap) → IsMade (formats_of F.Formats) (store_of plan.now.mounted procs) (handle_of rec.now) (record_of rec.now) parent.now keys.now set)) }
+    ensures refused { IfErr result (λ why. UnlessMemory fault.Memory ((procs : ℕ → KeyMap) → IsRefused (formats_of F.Formats) (store_of plan.now.mounted procs) (handle_of rec.now) (record_of rec.now) parent.now keys.now why) why) }
     ensures same { OnErr result (place.new ≡ place.old) }
 {
     match plan.prepare(alloc, rec, parent, keys) {

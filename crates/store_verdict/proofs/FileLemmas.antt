@@ -1,276 +1,271 @@
--- What is refused of the files of touched mounts, mount by mount, is what the definitions refuse of a set.
-use Rattle.std.proofs.Common.{◌≡◌, ◌⊎◌, ℕ, zero, suc, ◌+◌, nat_lt, Bool, true, false, cond, List, [], ◌∷◌, ◌++◌, length, take, filter_map, slice_get, Option, Some, None, option_and_then, IsSomeAnd, Result, Ok, Err, inl, inr, refl, sym, ap, ap₂, subst, ◌∙◌, append-nil}
-use Rattle.std.specs.List.{AllByRecursion, cons_option}
-use Rattle.std.specs.Option.{option_map, option_or}
-use Rattle.backend_files.specs.WholeFile.{longest_file}
+-- What is told of the file of a touched mount is what the definitions tell of the mount.
+use Rattle.std.proofs.Common.{◌≡◌, ℕ, zero, suc, ◌+◌, ◌≤◌, nat_lt, true, false, cond, List, [], ◌∷◌, ◌++◌, take, map as over, slice_get, Option, Some, None, option_and_then, Result, Ok, Err, MatchResult, IfErr, inl, inr, refl, sym, ap, ap₂, subst, ◌∙◌}
+use Rattle.std.specs.FinMap as map
+use Rattle.std.specs.FinMap.Entries.{put}
+use Rattle.std.specs.List.{AllByRecursion}
+use Rattle.std.specs.Option.{option_map, option_map_or, option_or}
+use Rattle.std.specs.Result.{IsErrAnd}
+use Rattle.std.proofs.lemmas.Bool.{ltb-false}
+use Rattle.std.proofs.lemmas.Cmp.{nat_list_cmp_total}
+use Rattle.std.proofs.lemmas.List.{map-append}
+use Rattle.std.proofs.lemmas.Option.{slice_get-map}
 use Rattle.general_words.specs.Saturated.{saturated}
 use Rattle.general_words.specs.Searches.{first_some}
-use Rattle.general_words.proofs.Lists.{some_is}
+use Rattle.general_words.specs.Texts.{text_cmp}
+use Rattle.general_words.proofs.Lists.{head_is, some_is, tail_is, take-next}
+use Rattle.general_words.proofs.Maps.{entries-empty}
+use Rattle.general_words.proofs.Searches.{first_some-found, none_before, none_behind}
+use Rattle.journal_codec.specs.declared.files.FileText.{FileText}
 use Rattle.key_name.specs.Joining.{joined}
-use Rattle.model_names.specs.Name.{Name}
-use Rattle.model_names.specs.Order.{name_eq}
-use Rattle.model_maps.specs.KeyMap.{KeyMap, weight, heaviest_map}
-use Rattle.mount_table.specs.Points.{own_point}
-use Rattle.mount_table.specs.Table.{table_of}
-use Rattle.mount_table.specs.declared.faults.TableFault.{TableFault}
-use Rattle.mount_table.specs.declared.mounts.Mount.{Mount}
-use Rattle.mounted_files.specs.Preparing as files
-use Rattle.mounted_files.specs.Preparing.{Prepares, Breaks, AreStorable, early_refusal, late_refusal}
-use Rattle.mounted_files.specs.Setting.{first_long_in}
-use Rattle.mounted_files.specs.declared.changes.Change.{Change}
-use Rattle.mounted_files.specs.declared.refusals.SetRefusal.{SetRefusal}
-use Rattle.mounted_files.specs.declared.refusals.SetRefusal.TheVariants as refused
-use Rattle.model_store.specs.Fitting.{Early, ValueTooLong, TooHeavy, NotStorable, TooLong, too_heavy, too_long, bad_table, heavy_contents, long_text, fault_of_table, IsStorableAt, BreaksAtMount}
-use Rattle.model_store.specs.Sets.{Prepared}
-use Rattle.model_store.specs.Store.{Store, Formats, points_of, contents}
-use Rattle.model_store.specs.Verdicts.{Follows, IsEarly, FromFormats, wanted_in, not_fetched, long_value, before_formats, behind_formats}
-use Rattle.std.proofs.lemmas.List.{map-append}
-use Rattle.std.proofs.lemmas.List.Elements.{filter_map-append}
-use Rattle.general_words.proofs.Lists.{take-next}
 use Rattle.key_set.specs.WithAll.{with_all}
-use Rattle.model_maps.specs.Entry.{Entry}
-use Rattle.mounted_files.specs.Setting as setting
-use Rattle.mounted_files.specs.Short.{AreShort}
+use Rattle.model_files.specs.Texts.{as_file, texts_at, with_text}
+use Rattle.model_maps.specs.KeyMap.{KeyMap, heaviest_map, no_keys, weight}
+use Rattle.model_names.specs.Name.{Name}
+use Rattle.model_store.specs.Fitting.{Early, ValueTooLong, TooHeavy, NotStorable, IsStorableAt, too_heavy, too_long, bad_table, heavy_contents, long_text}
+use Rattle.model_store.specs.Sets as model
+use Rattle.model_store.specs.Store.{Formats, Store, contents, shadow_of, store_of}
+use Rattle.model_store.specs.Verdicts.{Follows, FromFormats, IsEarly, before_formats, behind_formats, wanted_in}
+use Rattle.mount_table.specs.declared.mounts.Mount.{Mount}
+use Rattle.mounted_files.specs.Short.{AreShort, HasShortTexts, HaveShortTexts}
+use Rattle.mounted_files.specs.Whole.{relative}
+use Rattle.mounted_files.specs.declared.files.FileState.{FileState}
+use Rattle.mounted_files.specs.declared.files.FileState.TheVariants.{Good, Bad}
+use Rattle.mounted_files.specs.declared.files.MountedFile.{MountedFile}
 use Rattle.mounted_files.proofs.ChangeLemmas.{short-relative, short-with_all}
+use Rattle.mounted_files.proofs.LimitLemmas.{limited-from}
 use Rattle.mounted_files.proofs.MapLemmas.{each-none}
 use Rattle.set_split.specs.Seen.{numbered}
 use Rattle.set_split.specs.declared.parts.Part.{Part}
-use Rattle.store_verdict.specs.Filing.{fault_for, file_at, file_of, shadow_at}
-use Rattle.store_verdict.specs.Preparing.{fault_of}
+use Rattle.store_verdict.specs.Filing.{AreUnwritten, AreWritten, HasTexts, IsAsked, IsSoundFile, IsStorableFile, IsTold, IsWritable, Tells, by_name, contents_of, file_of, heavy_at, long_at, long_told, table_at, written_of}
+use Rattle.store_verdict.specs.Preparing.{IsRefusedSet}
+use Rattle.store_verdict.specs.declared.faults.PrepareFault.{PrepareFault}
+use Rattle.store_verdict.specs.declared.faults.PrepareFault.TheVariants as fault
+use Rattle.store_verdict.specs.declared.files.FileToWrite.{FileToWrite}
 
-module _ (formats : Formats) (store : Store) (set : Prepared) where
-  -- a refusal of the definitions and one of files are one
-  abbrev pub Agrees : Option Early → Option SetRefusal → Type 0
-  Agrees None None = Unit {0}
-  Agrees (Some why) (Some refusal) = fault_of store.mounts why ≡ Some (fault_for refusal)
-  Agrees None (Some refusal) = ⊥
-  Agrees (Some why) None = ⊥
+-- ---- a fault that is handed on
 
-  pub none-agrees : (answer : Option Early) → Agrees answer None → answer ≡ None
-  none-agrees None h = refl
-  none-agrees (Some why) h = absurd h
+pub handed-on : {A : Type 0} (Q : A → Type 0) (P : PrepareFault → Type 0) (r : Result A PrepareFault) (why : PrepareFault) → IsErrAnd r (λ fault. fault ≡ why) → P why → MatchResult r Q P
+handed-on Q P (Ok x) why is holds = absurd is
+handed-on Q P (Err fault) why is holds = subst P (sym is) holds
 
-  pub some-agrees : (answer : Option Early) (refusal : SetRefusal) → Agrees answer (Some refusal) → (why : Early) × (answer ≡ Some why) × (fault_of store.mounts why ≡ Some (fault_for refusal))
-  some-agrees None refusal h = absurd h
-  some-agrees (Some why) refusal h = (why, refl, h)
+pub handed-err : {A : Type 0} (P : PrepareFault → Type 0) (r : Result A PrepareFault) (why : PrepareFault) → IsErrAnd r (λ fault. fault ≡ why) → P why → IfErr r P
+handed-err P (Ok x) why is holds = absurd is
+handed-err P (Err fault) why is holds = subst P (sym is) holds
+
+-- ---- the first of which something is told
+
+pub told-first : {A : Type 0} (mounts : List Mount) (f : A → Option Early) (xs : List A) (k : ℕ) (x : A) (why : PrepareFault) → Some x ≡ slice_get xs k → first_some f (take k xs) ≡ None → IsTold mounts (f x) why → IsTold mounts (first_some f xs) why
+told-first mounts f xs k x why there none told other =
+    let one = told other in
+    record { early = one.early; first = first_some-found f xs k x one.early there none one.first; is = one.is }
+
+pub told-same : (mounts : List Mount) (one other : Option Early) (why : PrepareFault) → one ≡ other → IsTold mounts one why → IsTold mounts other why
+told-same mounts one other why same told = subst (λ (o : Option Early). IsTold mounts o why) same told
+
+pub tells-behind : (mounts : List Mount) (one other : Option Early) (why : PrepareFault) → one ≡ None → Tells mounts other why → Tells mounts (option_or one other) why
+tells-behind mounts one other why none told = record { early = told.early; first = ap (λ o. option_or o other) none ∙ told.first; is = told.is }
+
+pub no-long : (o : Option (Name × ℕ)) → option_map {U = Early} (λ (long : Name × ℕ). ValueTooLong long.0 long.1) o ≡ None → o ≡ None
+no-long None e = refl
+no-long (Some long) e = absurd cc
+
+-- ---- what can be written
+
+module _ (mounts : List Mount) where
+  -- sound and short contents that aren't too heavy can be written
+  is-light : (file : FileToWrite) (mount : Mount) → slice_get mounts file.mount ≡ Some mount → heavy_at mounts file ≡ None → weight file.contents ≤ heaviest_map
+  is-light file mount there none = ltb-false heaviest_map (weight file.contents) (by (nat_lt heaviest_map (weight file.contents)) (sym (ap (option_and_then (λ (k : Mount). heavy_contents file.mount file.contents)) there) ∙ none))
+    where
+      by : (b : _) → cond b (Some (TooHeavy file.mount (saturated (weight file.contents)))) None ≡ None → b ≡ false
+      by true h = absurd cc
+      by false h = refl
+
+  pub writable : (files : List FileToWrite) → AllByRecursion (IsSoundFile mounts) files → AllByRecursion (λ (file : FileToWrite). AreShort file.contents) files → first_some (heavy_at mounts) files ≡ None → AllByRecursion (IsWritable mounts) files
+  writable [] sound short light = tt
+  writable (file ∷ files) sound short light = (
+    λ mount there. (
+      limited-from mount.at file.contents (sound.0 mount there) short.0 (is-light file mount there (none_before _ _ light)),
+      λ name entry found. (sound.0 mount there name entry found).whole_is_name,
+    ),
+    writable files sound.1 short.1 (none_behind _ _ light),
+  )
+
+-- ---- what files are to hold is short, where what is wanted and what they keep for others is
+
+shadow-short : (state : FileState) → HasShortTexts state → AreShort (shadow_of state)
+shadow-short (Good visible shadow) short = short.1
+shadow-short (Bad cause) short = each-none _
+
+contents-short : (files : List MountedFile) (m : ℕ) (keys : KeyMap) → HaveShortTexts files → AreShort keys → AreShort (contents_of files (m, keys))
+contents-short [] m keys all short = each-none _
+contents-short (file ∷ files) zero keys all short = short-relative file.mount.at (with_all keys (shadow_of file.state)) (short-with_all keys (shadow_of file.state) short (shadow-short file.state all.0))
+contents-short (file ∷ files) (suc m) keys all short = contents-short files m keys all.1 short
+
+pub files-short : (files : List MountedFile) (parts : List (ℕ × KeyMap)) → HaveShortTexts files → AllByRecursion (λ (part : ℕ × KeyMap). AreShort part.1) parts → AllByRecursion (λ (file : FileToWrite). AreShort file.contents) (over (file_of files) parts)
+files-short files [] all short = tt
+files-short files (part ∷ parts) all short = (contents-short files part.0 part.1 all short.0, files-short files parts all short.1)
+
+-- one more file
+pub files-more : (files : List MountedFile) (parts : List Part) (k : ℕ) (part : Part) → Some part ≡ slice_get parts k → over (file_of files) (numbered (take (k + 1) parts)) ≡ over (file_of files) (numbered (take k parts)) ++ file_of files (part.mount, part.keys) ∷ []
+files-more files parts k part there =
+    ap (over (file_of files)) (ap numbered (take-next parts k part there) ∙ map-append (λ (p : Part). (p.mount, p.keys)) (take k parts) (part ∷ []))
+    ∙ map-append (file_of files) (numbered (take k parts)) ((part.mount, part.keys) ∷ [])
+
+-- ---- mount by mount
+
+module _ (formats : Formats) (files : List MountedFile) (procs : ℕ → KeyMap) (set : model.Prepared) where
+  abbrev store : Store
+  store = store_of files procs
+
+  abbrev table : List Mount
+  table = over (λ (file : MountedFile). file.mount) files
 
   abbrev wanted : ℕ → KeyMap
-  wanted m = wanted_in store set m
+  wanted m = wanted_in (store_of files procs) set m
 
-  -- what the file of a mount is to hold
-  abbrev pub file_for : ℕ → Mount → Change
-  file_for m mount = record { mount = mount; wanted = wanted_in store set m; contents = contents store m mount (wanted_in store set m) }
+  abbrev pair : ℕ → ℕ × KeyMap
+  pair m = (m, wanted_in (store_of files procs) set m)
 
-  abbrev pub made : ℕ → Option Change
-  made m = option_map (file_for m) (slice_get store.mounts m)
-
-  agrees-or : (a : Option Early) (b : Option SetRefusal) (c : Option Early) (d : Option SetRefusal) → Agrees a b → Agrees c d → Agrees (option_or a c) (option_or b d)
-  agrees-or None None c d h k = k
-  agrees-or (Some why) (Some refusal) c d h k = h
-  agrees-or None (Some refusal) c d h k = absurd h
-  agrees-or (Some why) None c d h k = absurd h
-
-  agrees-first : (f : ℕ → Option Early) (g : Change → Option SetRefusal) → ((m : ℕ) → Agrees (f m) (option_and_then g (made m))) → (ms : List ℕ) → Agrees (first_some f ms) (first_some g (filter_map made ms))
-  agrees-first f g one [] = tt
-  agrees-first f g one (m ∷ ms) = by (made m) (one m) (agrees-first f g one ms)
+  contents-is : (m : ℕ) (mount : Mount) (keys : KeyMap) → slice_get table m ≡ Some mount → contents_of files (m, keys) ≡ contents store m mount keys
+  contents-is m mount keys there = by (slice_get files m) (sym (slice_get-map (λ (file : MountedFile). file.mount) files m) ∙ there)
     where
-      by : (o : Option Change) → Agrees (f m) (option_and_then g o) → Agrees (first_some f ms) (first_some g (filter_map made ms)) → Agrees (option_or (f m) (first_some f ms)) (first_some g (cons_option o (filter_map made ms)))
-      by None h rest = agrees-or (f m) None (first_some f ms) (first_some g (filter_map made ms)) h rest
-      by (Some change) h rest = agrees-or (f m) (g change) (first_some f ms) (first_some g (filter_map made ms)) h rest
+      by : (o : Option MountedFile) → option_map (λ (file : MountedFile). file.mount) o ≡ Some mount
+          → option_map_or (λ (file : MountedFile). relative file.mount.at (with_all keys (shadow_of file.state))) o no_keys ≡ relative mount.at (with_all keys (option_map_or (λ (file : MountedFile). shadow_of file.state) o no_keys))
+      by None e = absurd cc
+      by (Some file) e = ap (λ (k : Mount). relative k.at (with_all keys (shadow_of file.state))) (some_is file.mount mount e)
 
-  -- ---- each test of one mount
-
-  heavy-agrees : (m : ℕ) → Agrees (too_heavy store wanted m) (option_and_then files.too_heavy (made m))
-  heavy-agrees m = by (slice_get store.mounts m) refl
+  at-alike : (f g : Mount → Option Early) (m : ℕ) → ((mount : Mount) → slice_get table m ≡ Some mount → f mount ≡ g mount) → option_and_then f (slice_get table m) ≡ option_and_then g (slice_get table m)
+  at-alike f g m same = by (slice_get table m) refl
     where
-      by : (o : Option Mount) → slice_get store.mounts m ≡ o
-          → Agrees (option_and_then (λ (mount : Mount). heavy_contents m (contents store m mount (wanted m))) o) (option_and_then files.too_heavy (option_map (file_for m) o))
-      by None is = tt
-      by (Some mount) is =
-          let w : ℕ = weight (contents store m mount (wanted m)) in
-          elim (nat_lt heaviest_map w) as (λ b. Agrees (cond b (Some (TooHeavy m (saturated w))) None) (cond b (Some (refused.FileTooLarge mount.at (saturated w))) None)) [
-            | true ↦ ap (option_map (λ (n : Mount). fault_for (refused.FileTooLarge n.at (saturated w)))) is
-            | false ↦ tt
-          ]
+      by : (o : Option Mount) → slice_get table m ≡ o → option_and_then f o ≡ option_and_then g o
+      by None is = refl
+      by (Some mount) is = same mount is
 
-  long-agrees : (m : ℕ) → Agrees (too_long formats store wanted m) (option_and_then (files.too_long formats.text) (made m))
-  long-agrees m = by (slice_get store.mounts m) refl
+  text-is : (m : ℕ) (mount : Mount) → slice_get table m ≡ Some mount → (written_of formats table (file_of files (pair m))).bytes ≡ formats.text mount.kind (contents store m mount (wanted m))
+  text-is m mount there =
+      ap (λ (o : Option Mount). option_map_or (λ (k : Mount). formats.text k.kind (contents_of files (pair m))) o []) there
+      ∙ ap (formats.text mount.kind) (contents-is m mount (wanted m) there)
+
+  heavy-is : (m : ℕ) → heavy_at table (file_of files (pair m)) ≡ too_heavy store wanted m
+  heavy-is m = at-alike _ _ m (λ mount there. ap (heavy_contents m) (contents-is m mount (wanted m) there))
+
+  long-is : (m : ℕ) → long_at table (written_of formats table (file_of files (pair m))) ≡ too_long formats store wanted m
+  long-is m = at-alike _ _ m (λ mount there. ap (long_text m) (text-is m mount there))
+
+  abbrev made : List ℕ → List FileToWrite
+  made ms = over (file_of files) (over pair ms)
+
+  heavy-all : (ms : List ℕ) → first_some (heavy_at table) (made ms) ≡ first_some (too_heavy store wanted) ms
+  heavy-all [] = refl
+  heavy-all (m ∷ ms) = ap₂ option_or (heavy-is m) (heavy-all ms)
+
+  long-all : (ms : List ℕ) → first_some (long_at table) (over (written_of formats table) (made ms)) ≡ first_some (too_long formats store wanted) ms
+  long-all [] = refl
+  long-all (m ∷ ms) = ap₂ option_or (long-is m) (long-all ms)
+
+  table-all : (ms : List ℕ) → first_some (table_at table) (over pair ms) ≡ first_some (bad_table store wanted) ms
+  table-all [] = refl
+  table-all (m ∷ ms) = ap (option_or (bad_table store wanted m)) (table-all ms)
+
+  storable-all : (ms : List ℕ) → AllByRecursion (IsStorableFile formats table) (made ms) → AllByRecursion (IsStorableAt formats store wanted) ms
+  storable-all [] all = tt
+  storable-all (m ∷ ms) all = (λ mount there. subst (λ (keys : KeyMap). formats.IsStorable mount.kind keys) (contents-is m mount (wanted m) there) (all.0 mount there), storable-all ms all.1)
+
+  texts-all : (ms : List ℕ) → by_name table (over (written_of formats table) (made ms)) ≡ map.entries (texts_at formats store set.keys ms)
+  texts-all [] = sym (entries-empty text_cmp (List ℕ))
+  texts-all (m ∷ ms) = by (slice_get table m) refl (texts-all ms)
     where
-      by : (o : Option Mount) → slice_get store.mounts m ≡ o
-          → Agrees (option_and_then (λ (mount : Mount). long_text m (formats.text mount.kind (contents store m mount (wanted m)))) o) (option_and_then (files.too_long formats.text) (option_map (file_for m) o))
-      by None is = tt
-      by (Some mount) is =
-          let n : ℕ = length (formats.text mount.kind (contents store m mount (wanted m))) in
-          elim (nat_lt longest_file n) as (λ b. Agrees (cond b (Some (TooLong m n)) None) (cond b (Some (refused.FileTooLarge mount.at n)) None)) [
-            | true ↦ ap (option_map (λ (k : Mount). fault_for (refused.FileTooLarge k.at n))) is
-            | false ↦ tt
-          ]
+      by : (o : Option Mount) → slice_get table m ≡ o → by_name table (over (written_of formats table) (made ms)) ≡ map.entries (texts_at formats store set.keys ms)
+          → option_map_or (λ (mount : Mount). put text_cmp mount.file (written_of formats table (file_of files (pair m))).bytes (by_name table (over (written_of formats table) (made ms)))) o (by_name table (over (written_of formats table) (made ms)))
+          ≡ map.entries (with_text formats store set.keys m o (texts_at formats store set.keys ms))
+      by None is rest = rest
+      by (Some mount) is rest =
+          ap₂ (put text_cmp mount.file) (text-is m mount is) rest
+          ∙ sym (map.entries-insert nat_list_cmp_total (texts_at formats store set.keys ms) mount.file (formats.text mount.kind (contents store m mount (wanted m))))
 
-  table-agrees : (m : ℕ) → Agrees (bad_table store wanted m) (option_and_then files.bad_table (made m))
-  table-agrees m = by (slice_get store.mounts m)
-    where
-      at : (change : Change) → Agrees (cond (name_eq change.mount.at own_point) (fault_of_table (table_of change.wanted)) None) (files.bad_table change)
-      at change = told (table_of change.wanted) refl (name_eq change.mount.at own_point) refl
-        where
-          told : (r : Result (List Mount) TableFault) → table_of change.wanted ≡ r → (b : Bool) → name_eq change.mount.at own_point ≡ b → Agrees (cond (name_eq change.mount.at own_point) (fault_of_table (table_of change.wanted)) None) (files.bad_table change)
-          told (Ok mounts) e true f = rw f (rw e tt)
-          told (Err fault) e true f = rw f (rw e refl)
-          told (Ok mounts) e false f = rw f tt
-          told (Err fault) e false f = rw f tt
-
-      by : (o : Option Mount)
-          → Agrees (option_and_then (λ (mount : Mount). cond (name_eq mount.at own_point) (fault_of_table (table_of (wanted m))) None) o) (option_and_then files.bad_table (option_map (file_for m) o))
-      by None = tt
-      by (Some mount) = at (file_for m mount)
-
-  -- ---- the tests before the formats are asked
-
-  early-agrees : Agrees (option_or (long_value store set) (first_some (too_heavy store wanted) set.touched)) (early_refusal (points_of store) set.involved set.keys (filter_map made set.touched))
-  early-agrees = agrees-or (long_value store set) (option_map (λ (long : Name × ℕ). refused.ValueTooLong long.0 long.1) (first_long_in (points_of store) set.involved set.keys)) _ _
-      (long (first_long_in (points_of store) set.involved set.keys))
-      (agrees-first (too_heavy store wanted) files.too_heavy heavy-agrees set.touched)
-    where
-      long : (o : Option (Name × ℕ)) → Agrees (option_map {U = Early} (λ (l : Name × ℕ). ValueTooLong l.0 l.1) o) (option_map {U = SetRefusal} (λ (l : Name × ℕ). refused.ValueTooLong l.0 l.1) o)
-      long None = tt
-      long (Some l) = refl
-
-  -- ---- what the formats hold
-
-  storable-at : (ms : List ℕ) → AreStorable formats.IsStorable (filter_map made ms) → AllByRecursion (IsStorableAt formats store wanted) ms
-  storable-at [] all = tt
-  storable-at (m ∷ ms) all = by (slice_get store.mounts m) refl all (storable-at ms)
-    where
-      by : (o : Option Mount) → slice_get store.mounts m ≡ o
-          → AreStorable formats.IsStorable (cons_option (option_map (file_for m) o) (filter_map made ms))
-          → (AreStorable formats.IsStorable (filter_map made ms) → AllByRecursion (IsStorableAt formats store wanted) ms)
-          → AllByRecursion (IsStorableAt formats store wanted) (m ∷ ms)
-      by None is h rest = (λ mount there. absurd (let no : ◌≡◌ {A = Option Mount} None (Some mount) = sym is ∙ there in cc), rest h)
-      by (Some n) is h rest = (λ mount there. subst (λ (k : Mount). formats.IsStorable k.kind (contents store m k (wanted m))) (some_is n mount (sym is ∙ there)) h.0, rest h.1)
-
-  -- one of the changes is that of a touched mount
-  record Cut (ms : List ℕ) (before : List Change) (change : Change) : Type 0 where
+  -- one of the files is that of a touched mount
+  record Cut (ms : List ℕ) (before : List FileToWrite) (file : FileToWrite) : Type 0 where
     front : List ℕ
     mount : ℕ
     rest : List ℕ
     stand : ms ≡ front ++ mount ∷ rest
-    is : made mount ≡ Some change
-    before_is : filter_map made front ≡ before
+    is : file_of files (pair mount) ≡ file
+    before_is : made front ≡ before
 
-  cut : (ms : List ℕ) (before : List Change) (change : Change) (behind : List Change) → filter_map made ms ≡ before ++ change ∷ behind → Cut ms before change
-  cut [] [] change behind e = absurd cc
-  cut [] (b ∷ before) change behind e = absurd cc
-  cut (m ∷ ms) before change behind e = by (made m) refl before e (λ b. cut ms b change behind)
-    where
-      by : (o : Option Change) → made m ≡ o → (before : List Change) → cons_option o (filter_map made ms) ≡ before ++ change ∷ behind
-          → ((b : List Change) → filter_map made ms ≡ b ++ change ∷ behind → Cut ms b change) → Cut (m ∷ ms) before change
-      by None is before h again =
-          let r = again before h in
-          record { front = m ∷ r.front; mount = r.mount; rest = r.rest; stand = ap (λ l. m ∷ l) r.stand; is = r.is; before_is = ap (λ o. cons_option o (filter_map made r.front)) is ∙ r.before_is }
-      by (Some x) is [] h again =
-          let same : x ≡ change = cc in
-          record { front = []; mount = m; rest = ms; stand = refl; is = is ∙ ap Some same; before_is = refl }
-      by (Some x) is (b ∷ before) h again =
-          let same : x ≡ b = cc in
-          let tail : filter_map made ms ≡ before ++ change ∷ behind = cc in
-          let r = again before tail in
-          record { front = m ∷ r.front; mount = r.mount; rest = r.rest; stand = ap (λ l. m ∷ l) r.stand; is = r.is; before_is = ap (λ o. cons_option o (filter_map made r.front)) is ∙ ap₂ (λ y ys. y ∷ ys) same r.before_is }
+  cut : (ms : List ℕ) (before : List FileToWrite) (file : FileToWrite) (behind : List FileToWrite) → made ms ≡ before ++ file ∷ behind → Cut ms before file
+  cut [] [] file behind e = absurd cc
+  cut [] (b ∷ before) file behind e = absurd cc
+  cut (m ∷ ms) [] file behind e = record { front = []; mount = m; rest = ms; stand = refl; is = head_is _ _ _ _ e; before_is = refl }
+  cut (m ∷ ms) (b ∷ before) file behind e =
+      let r = cut ms before file behind (tail_is _ _ _ _ e) in
+      record { front = m ∷ r.front; mount = r.mount; rest = r.rest; stand = ap (λ l. m ∷ l) r.stand; is = r.is; before_is = ap₂ (λ y ys. y ∷ ys) (head_is _ _ _ _ e) r.before_is }
 
-  breaks-at : (m : ℕ) (change : Change) (key : Name) → made m ≡ Some change → formats.BreaksAt change.mount.kind change.contents key → BreaksAtMount formats store wanted m (joined change.mount.at key)
-  breaks-at m change key is breaks = by (slice_get store.mounts m) refl is
-    where
-      by : (o : Option Mount) → slice_get store.mounts m ≡ o → option_map (file_for m) o ≡ Some change → BreaksAtMount formats store wanted m (joined change.mount.at key)
-      by None there h = absurd cc
-      by (Some mount) there h =
-          let same = sym (some_is (file_for m mount) change h) in
-          record { mount = mount; there = there; key = key; breaks = subst (λ (c : Change). formats.BreaksAt c.mount.kind c.contents key) same breaks; is = ap (λ (c : Change). joined c.mount.at key) same }
+  -- ---- the set
 
-  fault-at : (m : ℕ) (change : Change) (name : Name) → made m ≡ Some change → fault_of store.mounts (NotStorable m name) ≡ Some (fault_for (refused.NotStorable change.mount.at name))
-  fault-at m change name is = by (slice_get store.mounts m) is
-    where
-      by : (o : Option Mount) → option_map (file_for m) o ≡ Some change → option_map (λ (n : Mount). fault_for (refused.NotStorable n.at name)) o ≡ Some (fault_for (refused.NotStorable change.mount.at name))
-      by None h = absurd cc
-      by (Some mount) h = ap (λ (c : Change). Some (fault_for (refused.NotStorable c.mount.at name))) (some_is (file_for m mount) change h)
+  module _ (mounts : List ℕ) (keys : KeyMap) (parts : List (ℕ × KeyMap)) (asked : IsAsked store mounts keys parts set) where
+    abbrev all : List FileToWrite
+    all = over (file_of files) parts
 
-  -- ---- all of them
+    all-made : all ≡ made set.touched
+    all-made = ap (over (file_of files)) asked.parts_are
 
-  pub record Bridge (refusal : Option SetRefusal) : Type 0 where
-    pub answer : Option Early
-    pub early : IsEarly formats store set answer
-    pub agrees : Agrees answer refusal
+    -- what is told first, before the formats are asked
+    before-is : before_formats store set ≡ option_or (long_told table mounts keys) (first_some (heavy_at table) all)
+    before-is =
+        ap (λ (o : Option Early). option_or o (option_or (long_told table set.involved set.keys) (first_some (too_heavy store wanted) set.touched))) asked.fetched
+        ∙ ap₂ (λ (ms : List ℕ) (ks : KeyMap). option_or (long_told table ms ks) (first_some (too_heavy store wanted) set.touched)) asked.involved asked.keys_are
+        ∙ ap (option_or (long_told table mounts keys)) (sym (ap (first_some (heavy_at table)) all-made ∙ heavy-all set.touched))
 
-  abbrev Rest : Option SetRefusal → Type 0
-  Rest refusal = IsSomeAnd refusal (Breaks formats.IsStorable formats.BreaksAt (filter_map made set.touched)) ⊎ (AreStorable formats.IsStorable (filter_map made set.touched) × (refusal ≡ late_refusal formats.text (filter_map made set.touched)))
+    pub refused-heavy : (why : PrepareFault) → long_told table mounts keys ≡ None → Tells table (first_some (heavy_at table) all) why → IsRefusedSet formats store set why
+    refused-heavy why no_long told =
+        let first = tells-behind table _ _ why no_long told in
+        record {
+          early = first.early;
+          refused = subst (λ (o : Option Early). Follows o (Some first.early) (FromFormats formats store set (Some first.early))) (sym (before-is ∙ first.first)) refl;
+          is = first.is;
+        }
 
-  -- what is refused of the files is refused of the set, where all involved mounts were fetched
-  pub bridge : (refusal : Option SetRefusal) → not_fetched set ≡ None → Prepares formats.text formats.IsStorable formats.BreaksAt (points_of store) set.involved set.keys (filter_map made set.touched) refusal → Bridge refusal
-  bridge refusal fetched prepares =
-      by (option_or (long_value store set) (first_some (too_heavy store wanted) set.touched)) refl (early_refusal (points_of store) set.involved set.keys (filter_map made set.touched)) early-agrees prepares
-    where
-      before_is : (o : Option Early) → option_or (long_value store set) (first_some (too_heavy store wanted) set.touched) ≡ o → before_formats store set ≡ o
-      before_is o is = ap (λ first. option_or first (option_or (long_value store set) (first_some (too_heavy store wanted) set.touched))) fetched ∙ is
+    module _ (no_long : long_told table mounts keys ≡ None) (no_heavy : first_some (heavy_at table) all ≡ None) where
+      from-formats : (answer : Option Early) → FromFormats formats store set answer → IsEarly formats store set answer
+      from-formats answer from = subst (λ (o : Option Early). Follows o answer (FromFormats formats store set answer)) (sym (before-is ∙ ap₂ option_or no_long no_heavy)) from
 
-      breaks : (r : Option SetRefusal) → refusal ≡ r → IsSomeAnd r (Breaks formats.IsStorable formats.BreaksAt (filter_map made set.touched)) → before_formats store set ≡ None → Bridge refusal
-      breaks None is h none = absurd h
-      breaks (Some v) is h none =
-          let at = cut set.touched h.before h.change h.behind h.stand in
-          let why : Early = NotStorable at.mount (joined h.change.mount.at h.key) in
+      behind-is : behind_formats formats store set ≡ option_or (first_some (long_at table) (over (written_of formats table) all)) (first_some (table_at table) parts)
+      behind-is = sym (ap₂ option_or
+          (ap (λ (fs : List FileToWrite). first_some (long_at table) (over (written_of formats table) fs)) all-made ∙ long-all set.touched)
+          (ap (first_some (table_at table)) asked.parts_are ∙ table-all set.touched))
+
+      all-storable : AllByRecursion (IsStorableFile formats table) all → AllByRecursion (IsStorableAt formats store wanted) set.touched
+      all-storable storable = storable-all set.touched (subst (λ (fs : List FileToWrite). AllByRecursion (IsStorableFile formats table) fs) all-made storable)
+
+      pub passes : (texts : List FileText) → AreWritten formats table all parts texts → HasTexts formats store set texts
+      passes texts well = record {
+        early = from-formats None (inr (all-storable well.storable, sym (behind-is ∙ ap₂ option_or well.short well.table)));
+        are = well.are ∙ ap (λ (fs : List FileToWrite). over as_file (by_name table (over (written_of formats table) fs))) all-made ∙ ap (over as_file) (texts-all set.touched);
+      }
+
+      pub refused-behind : (why : PrepareFault) → AreUnwritten formats table all parts why → IsRefusedSet formats store set why
+      refused-behind why (inr late) = record {
+        early = late.1.early;
+        refused = from-formats (Some late.1.early) (inr (all-storable late.0, sym (behind-is ∙ late.1.first)));
+        is = late.1.is;
+      }
+      refused-behind why (inl broken) =
+          let at = cut set.touched broken.before broken.file broken.behind (sym all-made ∙ broken.stand) in
+          let b = broken.breaks in
+          let there : slice_get table at.mount ≡ Some b.mount = ap (λ (f : FileToWrite). slice_get table f.mount) at.is ∙ b.there in
+          let name : Name = joined b.mount.at b.key in
+          let contents_are : broken.file.contents ≡ contents store at.mount b.mount (wanted at.mount) = ap (λ (f : FileToWrite). f.contents) (sym at.is) ∙ contents-is at.mount b.mount (wanted at.mount) there in
           record {
-            answer = Some why;
-            early = subst (λ (o : Option Early). Follows o (Some why) (FromFormats formats store set (Some why))) (sym none)
-                (inl (record {
-                  before = at.front;
-                  mount = at.mount;
-                  behind = at.rest;
-                  stand = at.stand;
-                  storable = storable-at at.front (subst (λ (cs : List Change). AreStorable formats.IsStorable cs) (sym at.before_is) h.storable);
-                  name = joined h.change.mount.at h.key;
-                  breaks = breaks-at at.mount h.change h.key at.is h.breaks;
-                  is = refl;
-                }));
-            agrees = subst (λ (o : Option SetRefusal). Agrees (Some why) o) (sym (is ∙ ap Some h.is)) (fault-at at.mount h.change (joined h.change.mount.at h.key) at.is);
+            early = NotStorable at.mount name;
+            refused = from-formats (Some (NotStorable at.mount name)) (inl (record {
+              before = at.front;
+              mount = at.mount;
+              behind = at.rest;
+              stand = at.stand;
+              storable = storable-all at.front (subst (λ (fs : List FileToWrite). AllByRecursion (IsStorableFile formats table) fs) (sym at.before_is) broken.storable);
+              name = name;
+              breaks = record { mount = b.mount; there = there; key = b.key; breaks = subst (λ (ks : KeyMap). formats.BreaksAt b.mount.kind ks b.key) contents_are b.breaks; is = refl };
+              is = refl;
+            }));
+            is = ap (option_map (λ (k : Mount). fault.NotStorable k.at name)) there ∙ ap Some (sym b.is);
           }
-
-      by : (e : Option Early) → option_or (long_value store set) (first_some (too_heavy store wanted) set.touched) ≡ e → (v : Option SetRefusal) → Agrees e v → files.Follows v refusal (Rest refusal) → Bridge refusal
-      by (Some why) is (Some v) h p = record {
-        answer = Some why;
-        early = subst (λ (o : Option Early). Follows o (Some why) (FromFormats formats store set (Some why))) (sym (before_is (Some why) is)) refl;
-        agrees = subst (λ (o : Option SetRefusal). Agrees (Some why) o) (sym p) h;
-      }
-      by (Some why) is None h p = absurd h
-      by None is (Some v) h p = absurd h
-      by None is None h (inl some) = breaks refusal refl some (before_is None is)
-      by None is None h (inr can) = record {
-        answer = behind_formats formats store set;
-        early = subst (λ (o : Option Early). Follows o (behind_formats formats store set) (FromFormats formats store set (behind_formats formats store set))) (sym (before_is None is)) (inr (storable-at set.touched can.0, refl));
-        agrees = subst (λ (o : Option SetRefusal). Agrees (behind_formats formats store set) o) (sym can.1)
-            (agrees-or (first_some (too_long formats store wanted) set.touched) (first_some (files.too_long formats.text) (filter_map made set.touched)) _ _
-            (agrees-first (too_long formats store wanted) (files.too_long formats.text) long-agrees set.touched)
-            (agrees-first (bad_table store wanted) files.bad_table table-agrees set.touched));
-      }
-
--- ---- files one by one
-
--- one more part
-pub files-more : (g : ℕ × KeyMap → Option Change) (parts : List Part) (k : ℕ) (part : Part) (o : Option Change) → Some part ≡ slice_get parts k → o ≡ g (part.mount, part.keys) → filter_map g (numbered (take (k + 1) parts)) ≡ filter_map g (numbered (take k parts)) ++ cons_option o []
-files-more g parts k part o there is =
-    ap (filter_map g) (ap numbered (take-next parts k part there) ∙ map-append (λ (p : Part). (p.mount, p.keys)) (take k parts) (part ∷ []))
-    ∙ filter_map-append g (numbered (take k parts)) ((part.mount, part.keys) ∷ [])
-    ∙ ap (λ x. filter_map g (numbered (take k parts)) ++ cons_option x []) (sym is)
-
-pub files-same : (g : ℕ × KeyMap → Option Change) (parts : List Part) (k : ℕ) (part : Part) → Some part ≡ slice_get parts k → None ≡ g (part.mount, part.keys) → filter_map g (numbered (take (k + 1) parts)) ≡ filter_map g (numbered (take k parts))
-files-same g parts k part there is = files-more g parts k part None there is ∙ append-nil _
-
-shadow-short : (shadows : List KeyMap) → AllByRecursion AreShort shadows → (m : ℕ) → AreShort (shadow_at shadows m)
-shadow-short [] all m = each-none (λ _ (x : Entry). setting.long_text x ≡ None)
-shadow-short (shadow ∷ shadows) all zero = all.0
-shadow-short (shadow ∷ shadows) all (suc m) = shadow-short shadows all.1 m
-
--- what files are to hold is short, where what is wanted and what they keep for others is
-pub short-files : (table : List Mount) (shadows : List KeyMap) (parts : List Part) → AllByRecursion AreShort shadows → AllByRecursion (λ (part : Part). AreShort part.keys) parts → AllByRecursion (λ (c : Change). AreShort c.contents) (filter_map (file_at table shadows) (numbered parts))
-short-files table shadows [] short wanted = tt
-short-files table shadows (part ∷ parts) short wanted = by (slice_get table part.mount) (short-files table shadows parts short wanted.1)
-  where
-    by : (o : Option Mount) → AllByRecursion (λ (c : Change). AreShort c.contents) (filter_map (file_at table shadows) (numbered parts))
-        → AllByRecursion (λ (c : Change). AreShort c.contents) (cons_option (option_map (file_of shadows (part.mount, part.keys)) o) (filter_map (file_at table shadows) (numbered parts)))
-    by None rest = rest
-    by (Some mount) rest = (short-relative mount.at (with_all part.keys (shadow_at shadows part.mount)) (short-with_all part.keys (shadow_at shadows part.mount) wanted.0 (shadow-short shadows short part.mount)), rest)

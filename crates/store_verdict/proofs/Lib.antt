@@ -2,8 +2,8 @@ pub mod KeepLemmas
 pub mod ChangeSetLemmas
 pub mod DifferLemmas
 pub mod WalkingLemmas
-pub mod FileLemmas
-pub mod TextLemmas
 pub mod SetLemmas
 pub mod LateLemmas
+pub mod FirstLemmas
+pub mod FileLemmas
 pub mod PrepareLemmas

@@ -8,6 +8,7 @@ pub mod PreparedView
 pub mod LateView
 pub mod Seeing
 pub mod Wanting
-pub mod Filing
+pub mod BadMounts
 pub mod Preparing
+pub mod Filing
 pub mod Gets

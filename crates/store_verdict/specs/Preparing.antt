@@ -1,5 +1,5 @@
 -- What a preparing makes or refuses, as the definitions have it.
-use Rattle.std.specs.Prelude.{◌≡◌, ℕ, Bool, if◌then◌else◌, List, map as over, slice_get, Option, Some, None, is_some, option_and_then}
+use Rattle.std.specs.Prelude.{◌≡◌, ℕ, List, map as over, slice_get, Option, Some, None}
 use Rattle.std.specs.Option.{option_map}
 use Rattle.model_files.specs.Files.{HaveOwnFiles}
 use Rattle.model_files.specs.Texts.{as_entry, texts_at}
@@ -8,31 +8,16 @@ use Rattle.model_names.specs.Name.{Name}
 use Rattle.model_store.specs.Fitting.{Early}
 use Rattle.model_store.specs.Fitting as early
 use Rattle.model_store.specs.Records.{Record}
+use Rattle.model_store.specs.Sets as model
 use Rattle.model_store.specs.Sets.{prepared, wants}
 use Rattle.model_store.specs.Store.{Store, Formats, points_of}
 use Rattle.model_store.specs.Verdicts.{IsEarly}
 use Rattle.mount_table.specs.declared.mounts.Mount.{Mount}
-use Rattle.mounted_files.specs.declared.causes.Cause.{Cause}
 use Rattle.set_split.specs.Seen.{numbered}
-use Rattle.store_verdict.specs.Filing.{shadow_at}
 use Rattle.store_verdict.specs.PreparedView.{prepared_of}
 use Rattle.store_verdict.specs.declared.faults.PrepareFault.{PrepareFault}
 use Rattle.store_verdict.specs.declared.faults.PrepareFault.TheVariants as fault
-use Rattle.store_verdict.specs.declared.plans.Plan.{Plan}
 use Rattle.store_verdict.specs.declared.prepared.Prepared.{Prepared}
-
--- a mount is bad where there is a cause
-abbrev pub is_bad_at : List (Option Cause) → ℕ → Bool
-is_bad_at causes m = is_some (option_and_then (λ cause. cause) (slice_get causes m))
-
-abbrev pub bad_at : List (Option Cause) → ℕ → Option ℕ
-bad_at causes m = if is_bad_at causes m then Some m else None
-
--- what an opening fixes, as the code has it
-pub record IsPlan (store : Store) (plan : Plan) : Type 0 where
-  pub mounts : store.mounts ≡ plan.table
-  pub shadows : (m : ℕ) → store.shadow m ≡ shadow_at plan.shadows m
-  pub bad : (m : ℕ) → store.is_bad m ≡ is_bad_at plan.causes m
 
 -- a fault tells a mount by its name
 abbrev pub at_name : List Mount → (Name → PrepareFault) → ℕ → Option PrepareFault
@@ -53,8 +38,12 @@ pub record IsMade (formats : Formats) (store : Store) (handle : ℕ) (rec : Reco
   pub wanted : numbered set.wanted ≡ over (λ m. (m, wants (points_of store) keys m)) set.touched
   pub texts : HaveOwnFiles store.mounts → set.texts ≡ as_entry (texts_at formats store keys set.touched)
 
--- the set of the definitions is refused, and this is the fault
-pub record IsRefused (formats : Formats) (store : Store) (handle : ℕ) (rec : Record) (parent : Name) (keys : KeyMap) (why : PrepareFault) : Type 0 where
+-- a set is refused, and this is the fault
+pub record IsRefusedSet (formats : Formats) (store : Store) (set : model.Prepared) (why : PrepareFault) : Type 0 where
   pub early : Early
-  pub refused : IsEarly formats store (prepared (points_of store) handle rec parent keys) (Some early)
+  pub refused : IsEarly formats store set (Some early)
   pub is : fault_of store.mounts early ≡ Some why
+
+-- that of the definitions is
+abbrev pub IsRefused : Formats → Store → ℕ → Record → Name → KeyMap → PrepareFault → Type 0
+IsRefused formats store handle rec parent keys why = IsRefusedSet formats store (prepared (points_of store) handle rec parent keys) why

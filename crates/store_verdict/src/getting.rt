@@ -1,19 +1,21 @@
 //! What a get gives a handle.
-ghost use Rattle.std.specs.Prelude.{◌≡◌, ◌≤◌, IfOk, OnErr, length, map as over};
+ghost use Rattle.std.specs.Prelude.{◌≡◌, ◌≤◌, ℕ, IfOk, OnErr, length, map as over};
 ghost use Rattle.general_words.specs.Searches.{first_some};
+ghost use Rattle.model_maps.specs.KeyMap.{KeyMap};
 ghost use Rattle.model_store.specs.Events.{first_bad, got, shows_proc};
-ghost use Rattle.model_store.specs.Store.{Store};
+ghost use Rattle.model_store.specs.Store.{Store, is_bad, store_of};
+ghost use Rattle.mounted_files.specs.Files.{points_of};
 ghost use Rattle.set_split.specs.Parts.{in_reach};
-ghost use Rattle.store_verdict.specs.Preparing.{IsPlan, bad_at, is_bad_at};
+ghost use Rattle.store_verdict.specs.BadMounts.{bad_at, is_bad_at};
 ghost use Rattle.store_verdict.specs.Gets.{IsGetting};
 ghost use Rattle.store_verdict.specs.RecordView.{handle_of, places_of, proc_of, record_of};
 
-use crate::{Plan, Record};
+use crate::Record;
 use key_meta::Memory;
 use key_name::{KeyName, Namespace};
 use key_set::KeySet;
 use mount_table::MountTable;
-use mounted_files::Cause;
+use mounted_files::{FileState, Mounted, MountedFile};
 use set_split::{involved, split, unite};
 use std::alloc::Global;
 
@@ -28,42 +30,46 @@ pub enum Getting {
 /// involved mount, unless one of them is bad.
 pub fn get(
     alloc: Global,
-    plan: &Plan,
+    mounted: &Mounted,
     keys: &KeySet,
     front: u64,
     rec: &mut Record,
     parent: &KeyName,
 ) -> Result<Getting, Memory>
-    requires { length plan.now.table ≤ places_of rec.old }
-    ensures got { IfOk result (λ made. (store : Store) → IsPlan store plan.now → store.procs (handle_of rec.old) ≡ proc_of rec.old → IsGetting store keys.now front parent.now rec.old rec.new made) }
+    requires { length mounted.now ≤ places_of rec.old }
+    ensures got { IfOk result (λ made. (procs : ℕ → KeyMap) → procs (handle_of rec.old) ≡ proc_of rec.old → IsGetting (store_of mounted.now procs) keys.now front parent.now rec.old rec.new made) }
     ensures err { OnErr result (record_of rec.new ≡ record_of rec.old) }
     ensures handle { handle_of rec.new ≡ handle_of rec.old }
     ensures places { places_of rec.new ≡ places_of rec.old }
     ensures proc { proc_of rec.new ≡ proc_of rec.old }
 {
-    if let Some(mount) = first_bad(alloc, plan, parent)? {
+    if let Some(mount) = first_bad(alloc, mounted, parent)? {
         return Ok(Getting::Bad { mount });
     }
-    let found = got(alloc, &plan.table, rec, keys, parent)?;
-    let parts = split(alloc, plan.table.points(), parent, keys)?;
+    let found = got(alloc, mounted.table(), rec, keys, parent)?;
+    let parts = split(alloc, mounted.table().points(), parent, keys)?;
     rec.keep(front, parts.parts);
     Ok(Getting::Keys { keys: found })
 }
 
 /// The lowest involved mount that is bad.
-pub fn first_bad(alloc: Global, plan: &Plan, parent: &KeyName) -> Result<Option<usize>, Memory>
-    ensures { IfOk result (λ bad. (store : Store) → IsPlan store plan.now → bad ≡ first_bad store parent.now) }
+pub fn first_bad(
+    alloc: Global,
+    mounted: &Mounted,
+    parent: &KeyName,
+) -> Result<Option<usize>, Memory>
+    ensures { IfOk result (λ bad. (procs : ℕ → KeyMap) → bad ≡ first_bad (store_of mounted.now procs) parent.now) }
 {
-    let mounts = involved(alloc, plan.table.points(), parent)?;
-    Ok(first_bad_of(plan.causes.as_slice(), mounts.as_slice()))
+    let mounts = involved(alloc, mounted.table().points(), parent)?;
+    Ok(first_bad_of(mounted.files(), mounts.as_slice()))
 }
 
 /// The first of some mounts that is bad.
-fn first_bad_of(causes: &[Option<Cause>], mounts: &[usize]) -> Option<usize>
-    ensures { result ≡ first_some (bad_at causes.now) mounts.now }
+fn first_bad_of(files: &[MountedFile], mounts: &[usize]) -> Option<usize>
+    ensures { result ≡ first_some (bad_at files.now) mounts.now }
 {
     for mount in mounts {
-        if is_bad(causes, *mount) {
+        if is_bad(files, *mount) {
             return Some(*mount);
         }
     }
@@ -71,12 +77,22 @@ fn first_bad_of(causes: &[Option<Cause>], mounts: &[usize]) -> Option<usize>
 }
 
 /// Whether a mount is bad.
-fn is_bad(causes: &[Option<Cause>], mount: usize) -> bool
-    ensures { result ≡ is_bad_at causes.now mount }
+fn is_bad(files: &[MountedFile], mount: usize) -> bool
+    ensures { result ≡ is_bad_at files.now mount }
 {
-    match causes.get(mount) {
-        Some(Some(_)) => true,
-        _ => false,
+    match files.get(mount) {
+        Some(file) => is_bad_state(&file.state),
+        None => false,
+    }
+}
+
+/// Whether a file is bad.
+fn is_bad_state(state: &FileState) -> bool
+    ensures { result ≡ is_bad state.now }
+{
+    match state {
+        FileState::Good { .. } => false,
+        FileState::Bad { .. } => true,
     }
 }
 

@@ -4,24 +4,28 @@
 
 mod accepting;
 mod change_sets;
+mod entries;
 mod faults;
+mod files;
 mod getting;
 mod judging;
-mod plans;
+mod long_texts;
 mod prepared;
 mod preparing;
 mod records;
 mod seeing;
+mod tables;
 mod texts;
 mod touching;
 mod walking;
 mod wanting;
+mod weighing;
+mod writing;
 
 pub use change_sets::ChangeSet;
 pub use faults::PrepareFault;
 pub use getting::{Getting, first_bad, get, got};
 pub use judging::{Late, judge};
-pub use plans::Plan;
 pub use prepared::{Prepared, Seen};
 pub use preparing::prepare;
 pub use records::{Fetched, Record};

@@ -1,22 +1,22 @@
 //! What a set of keys at a parent makes, against what its handle keeps, or why it is refused.
-ghost use Rattle.std.specs.Prelude.{◌≡◌, ◌<◌, IfErr, IfOk, Some, length};
-ghost use Rattle.std.specs.List.{AllByRecursion};
+ghost use Rattle.std.specs.Prelude.{◌≡◌, ◌<◌, ℕ, IfErr, IfOk, Some, length};
 ghost use Rattle.general_words.specs.Memory.{UnlessMemory};
+ghost use Rattle.model_maps.specs.KeyMap.{KeyMap};
 ghost use Rattle.model_store.specs.Fitting.{NotFetched};
-ghost use Rattle.model_store.specs.Store.{Store};
-ghost use Rattle.mounted_files.specs.Short.{AreShort};
-ghost use Rattle.store_verdict.specs.Preparing.{IsMade, IsPlan, IsRefused, fault_of};
+ghost use Rattle.model_store.specs.Store.{formats_of, store_of};
+ghost use Rattle.store_verdict.specs.Preparing.{IsMade, IsRefused, fault_of};
 ghost use Rattle.store_verdict.specs.RecordView.{handle_of, record_of};
 ghost use Rattle.store_verdict.specs.declared.faults.PrepareFault.TheVariants as fault;
 
 use crate::seeing::{Seeing, all_seen};
 use crate::texts::texts_of;
 use crate::wanting::wanted_of;
-use crate::{Plan, PrepareFault, Prepared, Record};
+use crate::{PrepareFault, Prepared, Record};
 use key_meta::Memory;
 use key_name::KeyName;
 use key_set::KeySet;
 use mount_table::MountTable;
+use mounted_files::Mounted;
 use set_split::involved;
 use std::alloc::Global;
 use storage_api::Formats;
@@ -34,25 +34,25 @@ use storage_api::Formats;
 pub fn prepare<F: Formats>(
     alloc: Global,
     formats: &F,
-    plan: &Plan,
+    mounted: &Mounted,
     rec: &Record,
     parent: &KeyName,
     keys: &KeySet,
 ) -> Result<Prepared, PrepareFault>
-    requires shadows { AllByRecursion AreShort plan.now.shadows }
-    ensures made { IfOk result (λ set. (store : Store) → IsPlan store plan.now → IsMade (record { text = F.text; IsStorable = F.is_storable; BreaksAt = F.breaks_at }) store (handle_of rec.now) (record_of rec.now) parent.now keys.now set) }
-    ensures refused { IfErr result (λ why. UnlessMemory fault.Memory ((store : Store) → IsPlan store plan.now → IsRefused (record { text = F.text; IsStorable = F.is_storable; BreaksAt = F.breaks_at }) store (handle_of rec.now) (record_of rec.now) parent.now keys.now why) why) }
+    ensures made { IfOk result (λ set. (procs : ℕ → KeyMap) → IsMade (formats_of F.Formats) (store_of mounted.now procs) (handle_of rec.now) (record_of rec.now) parent.now keys.now set) }
+    ensures refused { IfErr result (λ why. UnlessMemory fault.Memory ((procs : ℕ → KeyMap) → IsRefused (formats_of F.Formats) (store_of mounted.now procs) (handle_of rec.now) (record_of rec.now) parent.now keys.now why) why) }
 {
-    let mounts = involved(alloc, plan.table.points(), parent)?;
+    let table = mounted.table();
+    let mounts = involved(alloc, table.points(), parent)?;
     let seen = match all_seen(alloc, rec, mounts.as_slice())? {
         Seeing::All { seen } => seen,
-        Seeing::Missing { mount } => return Err(not_fetched(&plan.table, mount)?),
+        Seeing::Missing { mount } => return Err(not_fetched(table, mount)?),
     };
-    let wanted = wanted_of(alloc, plan.table.points(), rec, parent, keys)?;
+    let wanted = wanted_of(alloc, table.points(), rec, parent, keys)?;
     let texts = match texts_of(
         alloc,
         formats,
-        plan,
+        mounted,
         mounts.as_slice(),
         keys,
         wanted.parts.as_slice(),

@@ -1,5 +1,5 @@
 -- Answers by what was got, and by the mounts.
-use Rattle.std.specs.Prelude.{◌≡◌, ◌≢◌, ℕ, ◌<◌, true, List, ◌∷◌, ◌++◌, [], length, slice_get, map as over, Option, Some, None, IsSomeAnd, option_and_then}
+use Rattle.std.specs.Prelude.{◌≡◌, ◌≢◌, ℕ, ◌<◌, true, List, ◌∷◌, ◌++◌, [], length, slice_get, map as over, Option, Some, None, IsSomeAnd, option_and_then, Err}
 use Rattle.std.specs.Option.{option_map}
 use Rattle.std.specs.List.{flat_map}
 use Rattle.std.proofs.Common.{sym, ap, ◌∙◌, subst}
@@ -7,6 +7,7 @@ use Rattle.std.proofs.lemmas.List.{length-map}
 use Rattle.std.proofs.lemmas.Option.{none-some, same_Some, slice_get-map}
 use Rattle.std.proofs.lemmas.List.Folds.{flat_map-map}
 use Rattle.general_words.proofs.Places.{there_is}
+use Rattle.general_words.specs.Memory.{UnlessMemory}
 use Rattle.all_formats.specs.Meanings as all
 use Rattle.all_formats.specs.Laws as laws
 use Rattle.storage_api.specs.Formats.{RefusesToWrite}
@@ -25,11 +26,11 @@ use Rattle.model_names.specs.Namespaces.{has_files}
 use Rattle.mount_table.proofs.RootLemmas.{has_owner}
 use Rattle.mount_table.specs.declared.mounts.Mount.{Mount}
 use Rattle.mounted_files.specs.Files.{points_of}
-use Rattle.mounted_files.specs.Getting.{got, Gets}
 use Rattle.mounted_files.specs.Opening.{IsMadeByKeys}
 use Rattle.mounted_files.specs.declared.files.MountedFile.{MountedFile}
 use Rattle.mounted_files.specs.declared.refusals.GetFault.{GetFault}
 use Rattle.mounted_files.specs.declared.refusals.GetFault.TheVariants as faults
+use Rattle.tool_single.specs.Alone.{got_alone}
 use Rattle.tool_single.specs.Answer.{Answer, done, refused}
 use Rattle.tool_commands.specs.Lines.{line_of_mount}
 use Rattle.tool_words.specs.Request.{Action}
@@ -38,10 +39,10 @@ use Rattle.tool_single.specs.Answers.{AnswersGot, file_told, line_of_get, owner_
 use Rattle.mounted_files.proofs.PointLemmas.{points-of_mounts}
 
 -- the answer to one whose keys can't be got
-pub got-fault : (MayRefuse : List ℕ → Type 0) (files : List MountedFile) (name parent : Name) (action : Action) (fault : GetFault) (answer : Answer) → parent ≡ parent_of name action → Gets (got files parent) fault → fault ≢ faults.Memory
-    → answer ≡ refused 5 (line_of_get fault) → AnswersGot MayRefuse files name action (got files (parent_of name action)) answer
+pub got-fault : (MayRefuse : List ℕ → Type 0) (files : List MountedFile) (name parent : Name) (action : Action) (fault : GetFault) (answer : Answer) → parent ≡ parent_of name action → UnlessMemory faults.Memory (got_alone files parent ≡ Err fault) fault → fault ≢ faults.Memory
+    → answer ≡ refused 5 (line_of_get fault) → AnswersGot MayRefuse files name action (got_alone files (parent_of name action)) answer
 got-fault MayRefuse files name parent action fault answer parent_is gets no_memory is =
-    subst (λ r. AnswersGot MayRefuse files name action r answer) (sym (ap (λ p. got files p) (sym parent_is) ∙ gets no_memory)) is
+    subst (λ r. AnswersGot MayRefuse files name action r answer) (sym (ap (got_alone files) (sym parent_is) ∙ gets no_memory)) is
 
 -- a table has an owner of each key in files
 pub no-owner : (table : List Mount) (points : List Name) (name : Name) → IsMadeByKeys table → has_files name.namespace ≡ true → points ≡ over (λ mount. mount.at) table → None ≡ owner_of points name → ⊥

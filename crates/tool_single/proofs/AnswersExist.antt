@@ -5,7 +5,6 @@ use Rattle.all_formats.specs.Meanings as all
 use Rattle.all_formats.specs.Laws as laws
 use Rattle.model_names.specs.Name.{Name}
 use Rattle.model_maps.specs.KeyMap.{KeyMap}
-use Rattle.mounted_files.specs.Getting.{got}
 use Rattle.mounted_files.specs.declared.files.MountedFile.{MountedFile}
 use Rattle.mounted_files.specs.declared.refusals.GetFault.{GetFault}
 use Rattle.mounted_files.specs.declared.refusals.OpenRefusal.{OpenRefusal}
@@ -20,10 +19,12 @@ use Rattle.tool_commands.specs.Step.{Step, Tells, Sets}
 use Rattle.kdb_outside.specs.declared.kinds.Kind.{Kind}
 use Rattle.key_name.specs.Joining.{joined}
 use Rattle.store_lines.specs.Lines.{not_storable}
+use Rattle.tool_single.specs.Alone.{got_alone}
 use Rattle.tool_single.specs.Answer.{Answer, tells, done, refused}
 use Rattle.tool_single.specs.Input.{taken}
 use Rattle.mounted_files.specs.Files.{Holds, IsCause}
-use Rattle.mounted_files.specs.Getting.{below, fault_of}
+use Rattle.mounted_files.specs.Whole.{relative}
+use Rattle.mounted_files.specs.Faults.{fault_of}
 use Rattle.mounted_files.specs.declared.causes.Cause.{Cause}
 use Rattle.tool_single.specs.Answers.{AnswersBelow, AnswersChecked, AnswersImport, AnswersText, Written, NotHeld, Held, Bad, AnswersStep, AnswersGot, AnswersIn, AnswersOpened, AnswersOver, AnswersRequest, Answers, file_told, mounts_told, line_of_get, line_of_opening}
 use Rattle.mounted_files.specs.Opening.{IsMade, IsMadeByKeys, Opens}
@@ -59,7 +60,7 @@ text_exists name kind keys = by (laws.storable-or_breaks kind keys)
     by (inr breaks) = this (AnswersText name kind keys) (refused 5 (not_storable name (joined name breaks.0))) (NotHeld breaks.0 breaks.1 refl)
 
 below_exists : (name : Name) (kind : Kind) (keys : Result KeyMap GetFault) → Some (AnswersBelow name kind keys)
-below_exists name kind (Ok keys) = text_exists name kind keys
+below_exists name kind (Ok keys) = text_exists name kind (relative name keys)
 below_exists name kind (Err fault) = this (AnswersBelow name kind (Err fault)) (refused 5 (line_of_get fault)) refl
 
 checked_exists : (MayRefuse : List ℕ → Type 0) → RefusesEach MayRefuse → (name : Name) (keys : Result KeyMap GetFault) → Some (AnswersChecked MayRefuse name keys)
@@ -71,9 +72,9 @@ in_exists MayRefuse each files Mounts made names = this (AnswersIn MayRefuse fil
 in_exists MayRefuse each files (FileOf name) made names =
     let owner = owner_in-there files name made names in
     this (AnswersIn MayRefuse files (FileOf name)) (file_told owner.0) (subst (λ o. IsSomeAnd o (λ file. file_told owner.0 ≡ file_told file)) (sym owner.1) refl)
-in_exists MayRefuse each files (TextOf name kind) made names = below_exists name kind (below files name)
-in_exists MayRefuse each files (ViolationsOf name) made names = checked_exists MayRefuse each name (got files every_key)
-in_exists MayRefuse each files (On name action) made names = got_exists MayRefuse each files name action (got files (parent_of name action))
+in_exists MayRefuse each files (TextOf name kind) made names = below_exists name kind (got_alone files name)
+in_exists MayRefuse each files (ViolationsOf name) made names = checked_exists MayRefuse each name (got_alone files every_key)
+in_exists MayRefuse each files (On name action) made names = got_exists MayRefuse each files name action (got_alone files (parent_of name action))
 
 opened_exists : (MayRefuse : List ℕ → Type 0) → RefusesEach MayRefuse → (bytes_of : List ℕ → List ℕ) (opened : Result (List MountedFile) OpenRefusal) (question : Question) → Opens all.Reads all.IsBadAt bytes_of opened → NamesFiles question → IsMade opened → Some (AnswersOpened MayRefuse opened question)
 opened_exists MayRefuse each bytes_of (Ok files) question opens names made = in_exists MayRefuse each files question (opened-made all.Reads all.IsBadAt bytes_of files opens) names

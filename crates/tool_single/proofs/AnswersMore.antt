@@ -3,7 +3,6 @@ use Rattle.std.specs.Prelude.{◌≡◌, ℕ, List, [], ◌∷◌, Result, Ok, E
 use Rattle.std.proofs.Common.{refl, sym, ap, ◌∙◌}
 use Rattle.model_maps.specs.KeyMap.{KeyMap}
 use Rattle.model_names.specs.Name.{Name}
-use Rattle.mounted_files.specs.Getting.{got}
 use Rattle.mounted_files.specs.declared.files.MountedFile.{MountedFile}
 use Rattle.mounted_files.specs.declared.refusals.GetFault.{GetFault}
 use Rattle.mounted_files.specs.declared.refusals.OpenRefusal.{OpenRefusal}
@@ -14,6 +13,7 @@ use Rattle.tool_commands.specs.Step.{Step, Tells, Sets}
 use Rattle.tool_words.specs.Request.{Action, Replace, Question, Mounts, FileOf, TextOf, ViolationsOf, On, Request, Refuses, Bars, Asks, Imports}
 use Rattle.tool_words.specs.Rows.{request}
 use Rattle.kdb_outside.specs.declared.kinds.Kind.{Kind}
+use Rattle.tool_single.specs.Alone.{got_alone}
 use Rattle.tool_single.specs.Answer.{Answer, Texts}
 use Rattle.tool_single.specs.Answers.{Answers, AnswersChecked, AnswersGot, AnswersImport, AnswersIn, AnswersOpened, AnswersOver, AnswersRequest, AnswersStep, Bad, Held}
 use Rattle.tool_single.specs.Input.{taken}
@@ -37,8 +37,8 @@ module _ (Fewer More : List ℕ → Type 0) (a : Answer) (follows : a.stored ≡
   in_more files Mounts p = p
   in_more files (FileOf name) p = p
   in_more files (TextOf name kind) p = p
-  in_more files (ViolationsOf name) p = checked_more name (got files every_key) p
-  in_more files (On name action) p = got_more files name action (got files (parent_of name action)) p
+  in_more files (ViolationsOf name) p = checked_more name (got_alone files every_key) p
+  in_more files (On name action) p = got_more files name action (got_alone files (parent_of name action)) p
 
   opened_more : (opened : Result (List MountedFile) OpenRefusal) (question : Question) → AnswersOpened Fewer opened question a → AnswersOpened More opened question a
   opened_more (Ok files) question p = in_more files question p

@@ -3,12 +3,13 @@ use Rattle.std.specs.Prelude.{◌≡◌, ℕ, List, Option, Some, None, IsSomeAn
 use Rattle.std.proofs.Common.{sym, ap, subst, ◌∙◌}
 use Rattle.model_names.specs.Name.{Name}
 use Rattle.model_maps.specs.KeyMap.{KeyMap}
-use Rattle.mounted_files.specs.Getting.{got}
 use Rattle.mounted_files.specs.declared.files.MountedFile.{MountedFile}
 use Rattle.mounted_files.specs.declared.refusals.GetFault.{GetFault}
 use Rattle.mounted_files.specs.declared.refusals.OpenRefusal.{OpenRefusal}
 use Rattle.tool_words.specs.Request.{Action, Replace, Question, Mounts, FileOf, TextOf, ViolationsOf, On, Request, Refuses, Bars, Asks, Imports}
 use Rattle.tool_words.specs.Rows.{request}
+use Rattle.mounted_files.specs.Whole.{relative}
+use Rattle.tool_single.specs.Alone.{got_alone}
 use Rattle.tool_single.specs.Answer.{Answer}
 use Rattle.tool_commands.specs.Step.{Step, Tells, Sets}
 use Rattle.tool_commands.specs.Commands.{every_key, parent_of, step_of}
@@ -21,7 +22,7 @@ use Rattle.key_name.specs.Joining.{joined}
 use Rattle.store_lines.specs.Lines.{not_storable}
 use Rattle.tool_single.specs.Answer.{refused, tells}
 use Rattle.tool_single.specs.Input.{taken}
-use Rattle.mounted_files.specs.Getting.{below, fault_of}
+use Rattle.mounted_files.specs.Faults.{fault_of}
 use Rattle.tool_single.specs.Answers.{AnswersBelow, AnswersImport, AnswersText, Written, NotHeld, Held, Bad, line_of_get, AnswersChecked, AnswersStep, AnswersGot, AnswersIn, AnswersOpened, AnswersOver, AnswersRequest, Answers, file_told, owner_in}
 use Rattle.all_formats.specs.Meanings as all
 use Rattle.all_formats.specs.Laws as laws
@@ -45,7 +46,7 @@ text_once name kind keys a b (NotHeld key breaks p) (NotHeld other again q) =
     p ∙ (ap (λ k. refused 5 (not_storable name (joined name k))) (laws.BreaksAt-once kind keys key other breaks again) ∙ sym q)
 
 below_once : (name : Name) (kind : Kind) (keys : Result KeyMap GetFault) (a b : Answer) → AnswersBelow name kind keys a → AnswersBelow name kind keys b → a ≡ b
-below_once name kind (Ok keys) a b p q = text_once name kind keys a b p q
+below_once name kind (Ok keys) a b p q = text_once name kind (relative name keys) a b p q
 below_once name kind (Err fault) a b p q = p ∙ sym q
 
 file_once : (found : Option MountedFile) (a b : Answer) → IsSomeAnd found (λ file. a ≡ file_told file) → IsSomeAnd found (λ file. b ≡ file_told file) → a ≡ b
@@ -59,9 +60,9 @@ checked_once MayRefuse off name (Err fault) a b p q = p ∙ sym q
 in_once : (MayRefuse : List ℕ → Type 0) → RefusesNoPattern MayRefuse → (files : List MountedFile) (question : Question) (a b : Answer) → AnswersIn MayRefuse files question a → AnswersIn MayRefuse files question b → a ≡ b
 in_once MayRefuse off files Mounts a b p q = p ∙ sym q
 in_once MayRefuse off files (FileOf name) a b p q = file_once (owner_in files name) a b p q
-in_once MayRefuse off files (TextOf name kind) a b p q = below_once name kind (below files name) a b p q
-in_once MayRefuse off files (ViolationsOf name) a b p q = checked_once MayRefuse off name (got files every_key) a b p q
-in_once MayRefuse off files (On name action) a b p q = got_once MayRefuse off files name action (got files (parent_of name action)) a b p q
+in_once MayRefuse off files (TextOf name kind) a b p q = below_once name kind (got_alone files name) a b p q
+in_once MayRefuse off files (ViolationsOf name) a b p q = checked_once MayRefuse off name (got_alone files every_key) a b p q
+in_once MayRefuse off files (On name action) a b p q = got_once MayRefuse off files name action (got_alone files (parent_of name action)) a b p q
 
 opened_once : (MayRefuse : List ℕ → Type 0) → RefusesNoPattern MayRefuse → (opened : Result (List MountedFile) OpenRefusal) (question : Question) (a b : Answer) → AnswersOpened MayRefuse opened question a → AnswersOpened MayRefuse opened question b → a ≡ b
 opened_once MayRefuse off (Ok files) question a b p q = in_once MayRefuse off files question a b p q

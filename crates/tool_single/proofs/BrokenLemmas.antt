@@ -11,7 +11,7 @@ use Rattle.kdb_outside.specs.declared.kinds.Kind.{Kind}
 use Rattle.model_maps.specs.KeyMap.{KeyMap}
 use Rattle.model_names.specs.Name.{Name}
 use Rattle.mounted_files.specs.Files.{Holds, IsCause}
-use Rattle.mounted_files.specs.Getting.{fault_of}
+use Rattle.mounted_files.specs.Faults.{fault_of}
 use Rattle.mounted_files.specs.declared.causes.Cause.{Cause}
 use Rattle.store_core.specs.Faults.{RefusesBroken}
 use Rattle.store_core.specs.declared.faults.OpenFault.{OpenFault}

@@ -57,7 +57,8 @@ use Rattle.tool_single.specs.Refusing.{IsRefusalOf}
 use Rattle.tool_single.specs.Serving.{BeginsEntry, FailsToStore, HasFetched, Serves, Serving, run_with}
 use Rattle.tool_single.specs.declared.answers.Stop.{Stop}
 use Rattle.tool_single.specs.declared.answers.Stop.TheVariants as stops
-use Rattle.tool_single.specs.Sets.{AnswersSet, Judged, formats, set_alone, store_alone, stored_by, the_handle}
+use Rattle.tool_single.specs.Alone.{store_alone, the_handle}
+use Rattle.tool_single.specs.Sets.{AnswersSet, Judged, formats, set_alone, stored_by}
 
 -- ---- where nothing was committed before
 
@@ -276,15 +277,6 @@ module _ {D P : Type 0} (g : Ghosts D) (files : List MountedFile) (core : Core D
     refused_serving (fault.HistoryFull weight front) (Err stop) may refusal judged has kept wrote = subst (λ (s : Stop). Serving g Answered (Err s) core after) (sym refusal) (kept refl)
     refused_serving (fault.DiskFault front) result may refusal judged has kept wrote = subst (λ (r : Result code.Report Stop). Serving g Answered r core after) (sym refusal) (fault_fails front (wrote refl) judged has)
     refused_serving fault.Memory result may refusal judged has kept wrote = subst (λ (r : Result code.Report Stop). Serving g Answered r core after) (sym refusal) (kept refl)
-
--- where memory was wanting the store is as it was
-pub refused_memory : {D P : Type 0} (why : CommitFault) (result : Result code.Report Stop) (core after : Core D P) → IsRefusalOf why result → (has_written (Err why) ≡ false → IsUnwritten core after) → result ≡ Err stops.Memory → IsUnwritten core after
-refused_memory (fault.Conflict mount by front) result core after refusal kept is = kept refl
-refused_memory (fault.Invalid violation front) result core after refusal kept is = kept refl
-refused_memory (fault.DatabaseFull weight front) result core after refusal kept is = kept refl
-refused_memory (fault.HistoryFull weight front) result core after refusal kept is = kept refl
-refused_memory (fault.DiskFault front) result core after refusal kept is = absurd (let both : ◌≡◌ {A = Result code.Report Stop} (Err stops.DiskFault) (Err stops.Memory) = sym refusal ∙ is in cc)
-refused_memory fault.Memory result core after refusal kept is = kept refl
 
 stop_apart : (stop : Stop) → stop ≡ stops.Memory → ◌≡◌ {A = Result code.Report Stop} (Err stop) (Err stops.DiskFault) → ⊥
 stop_apart stops.Memory memory is = absurd cc

@@ -1,5 +1,5 @@
 -- How a run ends, from the answer that was worked out and what became of it on out and err.
-use Rattle.std.specs.Prelude.{◌≡◌, ◌≢◌, ℕ, ◌⊎◌, List, [], ◌++◌, length, Option, Some, None, Result, Ok, Err, IfOk, IsOk}
+use Rattle.std.specs.Prelude.{◌≡◌, ◌≢◌, ℕ, ◌<◌, ◌⊎◌, List, [], ◌++◌, length, Option, Some, None, Result, Ok, Err, IfOk, IsOk}
 use Rattle.std.proofs.Common.{refl, sym, ap, ◌∙◌, subst, inl, inr, arith}
 use Rattle.std.proofs.Math.Seq.{take-length}
 use Rattle.tool_single.specs.declared.answers.Stop.{Stop}
@@ -20,6 +20,21 @@ use Rattle.kdb_outside.specs.declared.sources.Source.{Ghosts}
 use Rattle.tool_single.specs.Outcome.{Failed, Gives, Gains, GainsFront, Delivers, Whole, OutFails, ErrFails}
 use Rattle.tool_commands.specs.Report.{IsAnswered, IsEnd}
 use Rattle.tool_single.specs.Ends.{LosesSink, EndsRefused, Refused, NoMemory, SinkFails, EndsByWords, EndsWithoutMemory, EndsInFault, FaultCause, OfDisk, OfInput, OfOut, OfErr}
+
+-- ---- statuses of commands that reached the files
+
+-- none is that of want of memory or of a fault
+pub end-answered : (status : ℕ) → status < 70 → IsAnswered status
+end-answered status few = ((λ e. absurd (omega (arith, few, e))), (λ e. absurd (omega (arith, few, e))))
+
+pub refused-answered : (wanted status : ℕ) → wanted < 70 → status ≡ wanted → IsAnswered status
+refused-answered wanted status few is = end-answered status (omega (arith, few, is))
+
+-- any of them may be refused by the store
+pub refused-end : (own : List ℕ) (status : ℕ) → status ≡ 5 → IsEnd own status
+refused-end own status is = (inr (inl is), omega (arith, is))
+
+-- ---- ends
 
 not_fault : (status : ℕ) → status ≡ 70 → status ≢ 74
 not_fault status e f = absurd (omega arith)

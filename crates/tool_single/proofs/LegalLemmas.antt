@@ -6,7 +6,7 @@ use Rattle.std.proofs.lemmas.Option.{none-some, same_Some}
 use Rattle.key_name.specs.Joining.{joined}
 use Rattle.kdb_outside.specs.declared.kinds.Kind.{Kind}
 use Rattle.model_history.specs.History.{Commit}
-use Rattle.model_maps.specs.KeyMap.{KeyMap, no_keys}
+use Rattle.model_maps.specs.KeyMap.{KeyMap}
 use Rattle.model_names.specs.Name.{Name}
 use Rattle.model_store.specs.Cores as cores
 use Rattle.model_store.specs.Cores.{core_after, first_core}
@@ -15,13 +15,13 @@ use Rattle.model_store.specs.Events.{first_bad, if_bad, put}
 use Rattle.model_store.specs.First.{first_record}
 use Rattle.model_store.specs.Legal.{IsLegal}
 use Rattle.model_store.specs.Sets as sets
-use Rattle.model_store.specs.Store.{Store, points_of}
+use Rattle.model_store.specs.Store.{Store, is_bad, points_of}
 use Rattle.model_store.specs.Verdicts.{Same, Conflict, Invalid, DatabaseFull, HistoryFull, Commits, IsEarly, IsLate}
 use Rattle.model_store.specs.Worlds.{first_world}
 use Rattle.model_store.proofs.Accepting.{accepts-own}
 use Rattle.model_store.proofs.Owning.{Goes, first_stands, follows}
 use Rattle.mount_table.specs.declared.mounts.Mount.{Mount}
-use Rattle.mounted_files.specs.Getting.{below, fault_in, fault_of, got}
+use Rattle.mounted_files.specs.Faults.{fault_in, fault_of}
 use Rattle.mounted_files.specs.Opening.{IsOpened, Opens}
 use Rattle.mounted_files.specs.declared.files.FileState.{FileState}
 use Rattle.mounted_files.specs.declared.files.FileState.TheVariants as state
@@ -30,8 +30,6 @@ use Rattle.mounted_files.specs.declared.refusals.GetFault.{GetFault}
 use Rattle.mounted_files.specs.declared.refusals.OpenRefusal.{OpenRefusal}
 use Rattle.all_formats.specs.Meanings as all
 use Rattle.store_core.specs.Gets.{fault_at}
-use Rattle.store_core.specs.Plans.{is_bad}
-use Rattle.store_core.proofs.FileGets.{got-refused}
 use Rattle.set_split.specs.Involved.{involved_in}
 use Rattle.store_verdict.specs.Preparing as preparing
 use Rattle.store_verdict.specs.declared.faults.PrepareFault.{PrepareFault}
@@ -44,12 +42,15 @@ use Rattle.tool_commands.specs.Step.{Step, Tells, Sets}
 use Rattle.tool_words.specs.Request.{Action, Replace, Question, Mounts, FileOf, TextOf, ViolationsOf, On, Request, Refuses, Bars, Asks, Imports}
 use Rattle.tool_words.specs.Lines.{not_writable}
 use Rattle.tool_words.specs.Rows.{request}
+use Rattle.mounted_files.specs.Whole.{relative}
+use Rattle.tool_single.specs.Alone.{got_alone, store_alone, the_handle}
 use Rattle.tool_single.specs.Answer.{Answer, tells}
 use Rattle.tool_single.specs.Answers.{Answers, AnswersBelow, AnswersChecked, AnswersGot, AnswersImport, AnswersIn, AnswersOpened, AnswersOver, AnswersRequest, AnswersStep, AnswersText, Bad, Held, NotHeld, Written, file_told, line_of_get, line_of_opening, owner_in}
 use Rattle.tool_single.specs.Input.{taken}
 use Rattle.tool_single.specs.OneCommit.{IsOneCommit}
+use Rattle.tool_single.proofs.GetLemmas.{alone-bad}
 use Rattle.tool_single.proofs.SetLemmas.{first_is}
-use Rattle.tool_single.specs.Sets.{AnswersSet, IsRefusal, Judged, Refused, formats, set_alone, store_alone, the_handle}
+use Rattle.tool_single.specs.Sets.{AnswersSet, IsRefusal, Judged, Refused, formats, set_alone}
 
 -- ---- the mounts of a parent that was got are good
 
@@ -66,7 +67,7 @@ bad_fault files n m bad = by (slice_get files n) refl bad
     by None there e = absurd (none-some m e)
     by (Some file) there e = in_state file.mount file.state there e
 
-good_parent : (files : List MountedFile) (parent : Name) (keys : KeyMap) → got files parent ≡ Ok keys → first_bad (store_alone files) parent ≡ None
+good_parent : (files : List MountedFile) (parent : Name) (keys : KeyMap) → got_alone files parent ≡ Ok keys → first_bad (store_alone files) parent ≡ None
 good_parent files parent keys has = by (first_bad (store_alone files) parent) refl
   where
     by : (o : Option ℕ) → first_bad (store_alone files) parent ≡ o → first_bad (store_alone files) parent ≡ None
@@ -74,7 +75,7 @@ good_parent files parent keys has = by (first_bad (store_alone files) parent) re
     by (Some m) is =
         let found = first_is (if_bad (store_alone files)) (involved_in (points_of (store_alone files)) parent) m is in
         let bad = bad_fault files found.0 m found.1 in
-        absurd (let both : Err bad.0 ≡ Ok keys = sym (got-refused files (λ h. no_keys) parent m bad.0 is bad.1) ∙ has in cc)
+        absurd (let both : Err bad.0 ≡ Ok keys = sym (alone-bad files parent m bad.0 is bad.1) ∙ has in cc)
 
 -- ---- a set that is a commit
 
@@ -150,7 +151,7 @@ module _ (MayRefuse : List ℕ → Type 0) (bytes_of : List ℕ → List ℕ) (a
     of_step parent (Tells report) good p = nothing a report p some
     of_step parent (Sets keys out) good p = of_set parent keys out good p
 
-    of_got : (name : Name) (action : Action) (keys : Result KeyMap GetFault) → got files (parent_of name action) ≡ keys → AnswersGot MayRefuse files name action keys a → One
+    of_got : (name : Name) (action : Action) (keys : Result KeyMap GetFault) → got_alone files (parent_of name action) ≡ keys → AnswersGot MayRefuse files name action keys a → One
     of_got name action (Ok keys) is p = of_step (parent_of name action) (step_of keys name action) (good_parent files (parent_of name action) keys is) p
     of_got name action (Err why) is p = nothing a (warned 5 (line_of_get why)) p some
 
@@ -159,7 +160,7 @@ module _ (MayRefuse : List ℕ → Type 0) (bytes_of : List ℕ → List ℕ) (a
     of_text name kind keys (NotHeld key breaks p) = nothing a (warned 5 (not_storable name (joined name key))) p some
 
     of_below : (name : Name) (kind : Kind) (keys : Result KeyMap GetFault) → AnswersBelow name kind keys a → One
-    of_below name kind (Ok keys) p = of_text name kind keys p
+    of_below name kind (Ok keys) p = of_text name kind (relative name keys) p
     of_below name kind (Err why) p = nothing a (warned 5 (line_of_get why)) p some
 
     of_checked : (name : Name) (keys : Result KeyMap GetFault) → AnswersChecked MayRefuse name keys a → One
@@ -173,9 +174,9 @@ module _ (MayRefuse : List ℕ → Type 0) (bytes_of : List ℕ → List ℕ) (a
     of_question : (question : Question) → AnswersIn MayRefuse files question a → One
     of_question Mounts p = nothing a (told (flat_map (λ (file : MountedFile). line_of_mount file.mount) files)) p some
     of_question (FileOf name) p = of_owner (owner_in files name) p
-    of_question (TextOf name kind) p = of_below name kind (below files name) p
-    of_question (ViolationsOf name) p = of_checked name (got files every_key) p
-    of_question (On name action) p = of_got name action (got files (parent_of name action)) refl p
+    of_question (TextOf name kind) p = of_below name kind (got_alone files name) p
+    of_question (ViolationsOf name) p = of_checked name (got_alone files every_key) p
+    of_question (On name action) p = of_got name action (got_alone files (parent_of name action)) refl p
 
   of_opened : (opened : Result (List MountedFile) OpenRefusal) (question : Question) → Opens all.Reads all.IsBadAt bytes_of opened → AnswersOpened MayRefuse opened question a → One
   of_opened (Ok files) question opens p = of_question files opens question p

@@ -16,6 +16,7 @@ pub mod InputLemmas
 pub mod EndLemmas
 pub mod BrokenLemmas
 pub mod BrokenPlaces
+pub mod CarryLemmas
 pub mod RunLemmas
 pub mod TakeLemmas
 pub mod LegalLemmas

@@ -273,6 +273,10 @@ serve_weaker g files doubt P Q (Err stops.DiskFault) before after follows (Stori
 serve_weaker g files doubt P Q (Err stops.DiskFault) before after follows (Seeking left) = Seeking left
 serve_weaker g files doubt P Q (Err stops.ReadFault) before after follows s = s
 
+-- an open store reads no input
+pub serving_no_read : {D C : Type 0} (g : Ghosts D) (P : Answer → Type 0) (result : Result code.Report Stop) (before after : Core D C) → Serving g P result before after → result ≢ Err stops.ReadFault
+serving_no_read g P result before after s is = subst (λ (r : Result code.Report Stop). Serving g P r before after) is s
+
 -- a run without an answer whose disk didn't fail stored nothing
 pub serve_unserved : {D : Type 0} (g : Ghosts D) (files : Image) (doubt : Option (List FileText)) (P : Answer → Type 0) (result : Result code.Report Stop) (before after : D)
     → Serve g files doubt P result before after → (result ≡ Err stops.Memory) ⊎ (result ≡ Err stops.ReadFault) → Unserved g files doubt before after

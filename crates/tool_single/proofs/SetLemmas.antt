@@ -35,7 +35,8 @@ use Rattle.store_verdict.specs.declared.faults.PrepareFault.TheVariants as fault
 use Rattle.store_lines.specs.Lines.{bad_table as bad_table_line, value_too_long, file_too_large, not_storable, invalid, database_full, history_full}
 use Rattle.tool_single.specs.Answer.{Answer, done, stores, refused}
 use Rattle.tool_single.specs.Serving.{HasFetched}
-use Rattle.tool_single.specs.Sets.{AnswersSet, Refused, Judged, IsRefusal, IsJudgement, formats, set_alone, store_alone, stored_by, the_handle}
+use Rattle.tool_single.specs.Alone.{store_alone, the_handle}
+use Rattle.tool_single.specs.Sets.{AnswersSet, Refused, Judged, IsRefusal, IsJudgement, formats, set_alone, stored_by}
 use Rattle.tool_single.proofs.VerdictsBy.{IsPermitted, told_alone, verdict-once, verdict-some}
 
 -- ---- one answer

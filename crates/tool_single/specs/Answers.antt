@@ -11,7 +11,7 @@ use Rattle.model_specified.specs.Violations.{AreViolationsBy, is_within}
 use Rattle.model_specified.specs.declared.violations.Violation.{Violation}
 use Rattle.mount_table.specs.Points.{own_point}
 use Rattle.mounted_files.specs.Files.{points_of, Holds, IsCause}
-use Rattle.mounted_files.specs.Getting.{below, fault_of, got}
+use Rattle.mounted_files.specs.Faults.{fault_of}
 use Rattle.mounted_files.specs.Opening.{Opens}
 use Rattle.mounted_files.specs.declared.causes.Cause.{Cause}
 use Rattle.mounted_files.specs.declared.files.MountedFile.{MountedFile}
@@ -19,9 +19,11 @@ use Rattle.mounted_files.specs.declared.refusals.GetFault.{GetFault}
 use Rattle.mounted_files.specs.declared.refusals.GetFault.TheVariants as faults
 use Rattle.mounted_files.specs.declared.refusals.OpenRefusal.{OpenRefusal}
 use Rattle.mounted_files.specs.declared.refusals.OpenRefusal.TheVariants as refusals
+use Rattle.mounted_files.specs.Whole.{relative}
 use Rattle.tool_commands.specs.Lines.{line_of_mount}
 use Rattle.store_lines.specs.Lines.{too_long, bad_file, too_heavy, bad_table, not_storable, out_of_memory}
 use Rattle.tool_words.specs.Lines.{not_writable}
+use Rattle.tool_single.specs.Alone.{got_alone}
 use Rattle.tool_single.specs.Answer.{Answer, tells, done, refused}
 use Rattle.tool_single.specs.Input.{taken}
 use Rattle.tool_single.specs.Sets.{AnswersSet}
@@ -48,14 +50,14 @@ abbrev pub AnswersGot : (List ℕ → Type 0) → List MountedFile → Name → 
 AnswersGot MayRefuse files name action (Ok keys) answer = AnswersStep MayRefuse files (parent_of name action) (step_of keys name action) answer
 AnswersGot MayRefuse files name action (Err fault) answer = answer ≡ refused 5 (line_of_get fault)
 
--- `export` of what a file at a name would hold: its text in a format, or the whole name of the first key that the format can't hold
+-- `export` of keys under the names that lead to them from a name: their text in a format, or the whole name of the first that the format can't hold
 pub data AnswersText (name : Name) (kind : Kind) (keys : KeyMap) (answer : Answer) : Type 0 where
   Written : all.IsStorable kind keys → answer ≡ done (all.text kind keys) → AnswersText name kind keys answer
   NotHeld : (key : Name) → all.BreaksAt kind keys key → answer ≡ refused 5 (not_storable name (joined name key)) → AnswersText name kind keys answer
 
--- `export`, by what it got
+-- `export`, by what it got: what a file at the name would hold of that
 abbrev pub AnswersBelow : Name → Kind → Result KeyMap GetFault → Answer → Type 0
-AnswersBelow name kind (Ok keys) answer = AnswersText name kind keys answer
+AnswersBelow name kind (Ok keys) answer = AnswersText name kind (relative name keys) answer
 AnswersBelow name kind (Err fault) answer = answer ≡ refused 5 (line_of_get fault)
 
 -- the mounted file that holds a key
@@ -79,9 +81,9 @@ AnswersChecked MayRefuse name (Err fault) answer = answer ≡ refused 5 (line_of
 abbrev pub AnswersIn : (List ℕ → Type 0) → List MountedFile → Question → Answer → Type 0
 AnswersIn MayRefuse files Mounts answer = answer ≡ mounts_told files
 AnswersIn MayRefuse files (FileOf name) answer = IsSomeAnd (owner_in files name) (λ file. answer ≡ file_told file)
-AnswersIn MayRefuse files (TextOf name kind) answer = AnswersBelow name kind (below files name) answer
-AnswersIn MayRefuse files (ViolationsOf name) answer = AnswersChecked MayRefuse name (got files every_key) answer
-AnswersIn MayRefuse files (On name action) answer = AnswersGot MayRefuse files name action (got files (parent_of name action)) answer
+AnswersIn MayRefuse files (TextOf name kind) answer = AnswersBelow name kind (got_alone files name) answer
+AnswersIn MayRefuse files (ViolationsOf name) answer = AnswersChecked MayRefuse name (got_alone files every_key) answer
+AnswersIn MayRefuse files (On name action) answer = AnswersGot MayRefuse files name action (got_alone files (parent_of name action)) answer
 
 -- the line of what refuses an opening
 abbrev pub line_of_opening : OpenRefusal → List ℕ

@@ -10,7 +10,7 @@ use Rattle.kdb_outside.specs.declared.kinds.Kind.{Kind}
 use Rattle.model_maps.specs.KeyMap.{KeyMap}
 use Rattle.model_names.specs.Name.{Name}
 use Rattle.mounted_files.specs.Files.{Holds, IsCause}
-use Rattle.mounted_files.specs.Getting.{fault_of}
+use Rattle.mounted_files.specs.Faults.{fault_of}
 use Rattle.mounted_files.specs.declared.causes.Cause.{Cause}
 use Rattle.store_lines.specs.Lines.{bad_journal}
 use Rattle.tool_commands.specs.Report.{IsAnswered, Report, warned}

@@ -1,6 +1,7 @@
 pub mod Answer
 pub mod Input
 pub mod Lines
+pub mod Alone
 pub mod Sets
 pub mod Answers
 pub mod Untold
@@ -14,5 +15,7 @@ pub mod Ending
 pub mod Delivery
 pub mod Stops
 pub mod Refusing
+pub mod Carried
+pub mod RunsOne
 pub mod OneCommit
 pub mod Runs

@@ -6,7 +6,8 @@ use Rattle.model_store.specs.Legal.{IsLegal}
 use Rattle.mounted_files.specs.Opening.{IsOpened}
 use Rattle.mounted_files.specs.declared.files.MountedFile.{MountedFile}
 use Rattle.tool_single.specs.Answer.{Texts}
-use Rattle.tool_single.specs.Sets.{formats, store_alone, stored_by}
+use Rattle.tool_single.specs.Alone.{store_alone}
+use Rattle.tool_single.specs.Sets.{formats, stored_by}
 
 -- some texts are those of one commit, which is legal on what the files mean
 pub record IsOneCommit (bytes_of : List ℕ → List ℕ) (stored : Texts) : Type 0 where

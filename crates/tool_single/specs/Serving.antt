@@ -1,6 +1,5 @@
 -- What a command does to a store, by how it ended: on the open store, and on the disk from the opening to the close. (This project's own.)
 use Rattle.std.specs.Prelude.{◌≡◌, ◌≢◌, ℕ, true, List, [], ◌∷◌, length, Option, None, Result, Ok, Err}
-use Rattle.std.specs.List.{AllByRecursion}
 use Rattle.intent_journal.specs.BadJournals.{open_entry, opened_files}
 use Rattle.intent_journal.specs.Journal.{JournalValue}
 use Rattle.intent_journal.specs.Moments.{LeavesOnly}
@@ -17,16 +16,15 @@ use Rattle.model_maps.specs.KeyMap.{KeyMap, no_keys}
 use Rattle.model_names.specs.Name.{Name}
 use Rattle.model_store.specs.Events.{first_bad}
 use Rattle.model_store.specs.First.{first_record}
+use Rattle.model_store.specs.Store.{store_of}
 use Rattle.model_store.specs.Worlds.{first_world}
-use Rattle.mounted_files.specs.Short.{AreShort}
 use Rattle.mounted_files.specs.declared.files.MountedFile.{MountedFile}
 use Rattle.store_core.specs.Cores.{StandsIn}
 use Rattle.store_core.specs.Frames.{IsUnwritten}
-use Rattle.store_core.specs.Plans.{store_of}
 use Rattle.store_core.specs.declared.cores.Core.{Core}
 use Rattle.store_core.specs.declared.cores.Plan.{Plan}
 use Rattle.store_phases.specs.Stores.{IsStore}
-use Rattle.store_verdict.specs.Preparing.{IsMade, IsPlan}
+use Rattle.store_verdict.specs.Preparing.{IsMade}
 use Rattle.store_verdict.specs.RecordView.{handle_of, places_of, proc_of, record_of}
 use Rattle.store_verdict.specs.declared.prepared.Prepared.{Prepared}
 use Rattle.store_verdict.specs.declared.records.Record.{Record}
@@ -35,7 +33,8 @@ use Rattle.tool_commands.specs.StepView.{report_of}
 use Rattle.tool_commands.specs.declared.reports.Report as code
 use Rattle.tool_single.specs.Answer.{Answer, Texts, entry_of}
 use Rattle.tool_single.specs.Crashing.{IsUncommitted, MayBeLeft, MayRemain, Shows, StaysCalm}
-use Rattle.tool_single.specs.Sets.{formats, store_alone, the_handle}
+use Rattle.tool_single.specs.Alone.{store_alone, the_handle}
+use Rattle.tool_single.specs.Sets.{formats}
 use Rattle.tool_single.specs.declared.answers.Stop.{Stop}
 use Rattle.tool_single.specs.declared.answers.Stop.TheVariants as stops
 
@@ -43,8 +42,6 @@ use Rattle.tool_single.specs.declared.answers.Stop.TheVariants as stops
 
 -- a store was opened, and nothing committed
 pub record IsOpen {D F P : Type 0} (plan : Plan F) (core : Core D P) : Type 0 where
-  pub fixed : (procs : ℕ → KeyMap) → IsPlan (store_of plan.mounted procs) plan.fixed
-  pub short : AllByRecursion AreShort plan.fixed.shadows
   pub world : (procs : ℕ → KeyMap) → StandsIn formats (store_of plan.mounted procs) core (λ r m. None) (λ p. None) first_world
 
 -- and the handle of a command got a parent

@@ -6,7 +6,7 @@ use Rattle.all_formats.specs.Meanings as all
 use Rattle.model_files.specs.Texts.{texts_at}
 use Rattle.model_history.specs.Changes.{changed_by}
 use Rattle.model_history.specs.History.{Commit}
-use Rattle.model_maps.specs.KeyMap.{KeyMap, no_keys}
+use Rattle.model_maps.specs.KeyMap.{KeyMap}
 use Rattle.model_names.specs.Name.{Name}
 use Rattle.model_store.specs.First.{first_set}
 use Rattle.model_store.specs.Fitting.{Early}
@@ -14,24 +14,16 @@ use Rattle.model_store.specs.Sets.{Prepared}
 use Rattle.model_store.specs.Store.{Store, Formats, points_of}
 use Rattle.model_store.specs.Verdicts.{Late, Same, Conflict, Invalid, DatabaseFull, HistoryFull, Commits, IsEarly, IsLate}
 use Rattle.mounted_files.specs.declared.files.MountedFile.{MountedFile}
-use Rattle.store_core.specs.Plans.{store_of}
 use Rattle.store_verdict.specs.Preparing.{fault_of}
 use Rattle.store_verdict.specs.declared.faults.PrepareFault.{PrepareFault}
 use Rattle.store_verdict.specs.declared.faults.PrepareFault.TheVariants as fault
 use Rattle.store_lines.specs.Lines.{bad_table, value_too_long, file_too_large, not_storable, invalid, database_full, history_full}
+use Rattle.tool_single.specs.Alone.{store_alone, the_handle}
 use Rattle.tool_single.specs.Answer.{Answer, Texts, done, stores, refused}
 
 -- the formats of all files
 abbrev pub formats : Formats
 formats = record { text = all.text; IsStorable = all.IsStorable; BreaksAt = all.BreaksAt }
-
--- the store of a command, whose handle has no keys in `proc`
-abbrev pub store_alone : List MountedFile → Store
-store_alone files = store_of files (λ handle. no_keys)
-
--- the number of its handle
-abbrev pub the_handle : ℕ
-the_handle = 0
 
 -- the set of some keys at a parent that it got first of all
 abbrev pub set_alone : Store → Name → KeyMap → Prepared

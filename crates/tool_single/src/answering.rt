@@ -2,15 +2,14 @@
 ghost use Rattle.std.specs.Prelude.{◌≡◌, ◌≢◌, ◌≤◌, ℕ, true, List, ◌++◌, ◌∷◌, [], Some, Ok, Err, IfOk, IfErr, OnOk, IsSomeAnd, string_bytes};
 ghost use Rattle.std.specs.List.{flat_map};
 ghost use Rattle.std.specs.Option.{option_map};
-ghost use Rattle.all_formats.specs.Meanings.{Reads, IsBadAt};
 ghost use Rattle.kdb_outside.specs.Faults.{HasRisen};
 ghost use Rattle.kdb_outside.specs.Frames.{GoesOn};
 ghost use Rattle.model_maps.specs.Limits.{IsLimited};
-ghost use Rattle.mounted_files.specs.Getting.{below, got, Gets};
-ghost use Rattle.store_core.specs.Frames.{IsUnwritten};
-ghost use Rattle.mounted_files.specs.Opening.{IsOpened};
 ghost use Rattle.tool_commands.specs.StepView.{report_of, seen_step};
 ghost use Rattle.mounted_files.specs.declared.refusals.GetFault.TheVariants.{Memory as OutOfMemory};
+ghost use Rattle.mounted_files.specs.Whole.{relative};
+ghost use Rattle.general_words.specs.Memory.{UnlessMemory};
+ghost use Rattle.tool_single.specs.Alone.{got_alone};
 ghost use Rattle.tool_single.specs.Answer.{done, refused, tells};
 ghost use Rattle.tool_commands.specs.Report.{IsEnd, warned};
 ghost use Rattle.tool_commands.specs.Step.{TellsEnd};
@@ -57,12 +56,9 @@ pub fn answer_in<D: Disk, P: Patterns + Drop>(
 ) -> Result<Report, Stop>
     requires names { NamesFiles (question_of question) }
     requires open { IsOpen plan.now core.old }
-    ensures serving { (bytes_of : List ℕ → List ℕ) → IsOpened Reads IsBadAt bytes_of plan.now.mounted
-        → Serving D.Disk (AnswersIn (MayRefuse result (P.refusals core.old.patterns) (P.refusals core.new.patterns)) plan.now.mounted (question_of question.entry)) result core.old core.new }
-    ensures memory { result ≡ Err Stop.Memory → IsUnwritten core.old core.new }
+    ensures serving { Serving D.Disk (AnswersIn (MayRefuse result (P.refusals core.old.patterns) (P.refusals core.new.patterns)) plan.now.mounted (question_of question.entry)) result core.old core.new }
     ensures status { IfOk result (λ report. IsStatusOf (question_of question.entry) report.status) }
     ensures cause { result ≡ Err Stop.DiskFault → HasRisen (D.faults core.old.journal.disk) (D.faults core.new.journal.disk) }
-    ensures input { result ≢ Err Stop.ReadFault }
     ensures goes { GoesOn D.Disk core.old.journal.disk core.new.journal.disk }
     ensures later { P.refusals core.old.patterns ≤ P.refusals core.new.patterns }
 {
@@ -70,7 +66,7 @@ pub fn answer_in<D: Disk, P: Patterns + Drop>(
     match question {
         Question::Mounts => Ok(tell_mounts(alloc, mounted)?),
         Question::FileOf(name) => Ok(tell_file(alloc, mounted, &name)?),
-        Question::TextOf { name, kind } => Ok(tell_text(alloc, mounted, &name, kind)?),
+        Question::TextOf { name, kind } => Ok(tell_text(alloc, plan, core, &name, kind)?),
         Question::ViolationsOf(name) => Ok(check_keys(alloc, plan, core, &name)?),
         Question::On { name, action } => act(alloc, plan, core, &name, action),
     }
@@ -131,14 +127,42 @@ fn tell_name_of(alloc: Global, file: &FileName) -> Result<Report, Memory>
 }
 
 /// `export`: what a file at a name would hold, as its text in a format.
-fn tell_text(alloc: Global, mounted: &Mounted, name: &KeyName, kind: Kind) -> Result<Report, Memory>
-    ensures answers { IfOk result (λ report. AnswersBelow name.now kind (below mounted.now name.now) (tells (report_of report))) }
+fn tell_text<D: Disk, P: Patterns + Drop>(
+    alloc: Global,
+    plan: &Plan<AllFormats>,
+    core: &Core<D, P>,
+    name: &KeyName,
+    kind: Kind,
+) -> Result<Report, Memory>
+    requires { IsOpen plan.now core.now }
+    ensures answers { IfOk result (λ report. AnswersBelow name.now kind (got_alone plan.now.mounted name.now) (tells (report_of report))) }
     ensures status { IfOk result (λ report. IsEnd [] report.status) }
 {
-    match mounted.below(alloc, name) {
-        Ok(keys) => tell_keys(alloc, name, kind, &keys),
+    let mut rec = new_record(alloc, plan)?;
+    match fetch(alloc, plan, core, &mut rec, name) {
+        Ok(keys) => {
+            let found = keys_below(alloc, plan.mounted(), name, &keys)?;
+            tell_keys(alloc, name, kind, &found)
+        }
         Err(fault) => refuse_get(alloc, fault),
     }
+}
+
+/// The keys at or below a name, of those that a get of it gave, under the names that lead there. They are within the limits of a file.
+fn keys_below(
+    alloc: Global,
+    mounted: &Mounted,
+    name: &KeyName,
+    keys: &KeySet,
+) -> Result<KeySet, Memory>
+    requires { got_alone mounted.now name.now ≡ Ok keys.now }
+    ensures is { IfOk result (λ found. found ≡ relative name.now keys.now) }
+    ensures limited { IfOk result IsLimited }
+    ensures names { IfOk result (AreNames name.now) }
+{
+    // How long the texts of the files are and what their keys weigh is known where they are asked for.
+    let _files = mounted.files();
+    Ok(keys.relative_to(alloc, name)?)
 }
 
 /// The text of some keys in a format, or the refusal of the first that the format can't hold.
@@ -193,12 +217,9 @@ fn act<D: Disk, P: Patterns + Drop>(
     action: Action<'_>,
 ) -> Result<Report, Stop>
     requires open { IsOpen plan.now core.old }
-    ensures serving { (bytes_of : List ℕ → List ℕ) → IsOpened Reads IsBadAt bytes_of plan.now.mounted
-        → Serving D.Disk (AnswersGot (MayRefuse result (P.refusals core.old.patterns) (P.refusals core.new.patterns)) plan.now.mounted name.now (action_of action.entry) (got plan.now.mounted (parent_of name.now (action_of action.entry)))) result core.old core.new }
-    ensures memory { result ≡ Err Stop.Memory → IsUnwritten core.old core.new }
+    ensures serving { Serving D.Disk (AnswersGot (MayRefuse result (P.refusals core.old.patterns) (P.refusals core.new.patterns)) plan.now.mounted name.now (action_of action.entry) (got_alone plan.now.mounted (parent_of name.now (action_of action.entry)))) result core.old core.new }
     ensures status { IfOk result (λ report. IsEnd (row_of name.now (action_of action.entry)).statuses report.status) }
     ensures cause { result ≡ Err Stop.DiskFault → HasRisen (D.faults core.old.journal.disk) (D.faults core.new.journal.disk) }
-    ensures input { result ≢ Err Stop.ReadFault }
     ensures goes { GoesOn D.Disk core.old.journal.disk core.new.journal.disk }
     ensures later { P.refusals core.old.patterns ≤ P.refusals core.new.patterns }
 {
@@ -230,8 +251,8 @@ pub fn fetch<D: Disk, P: Patterns + Drop>(
 ) -> Result<KeySet, GetFault>
     requires open { IsOpen plan.now core.now }
     requires new { IsNew plan.now.mounted rec.old }
-    ensures keys { (bytes_of : List ℕ → List ℕ) → IsOpened Reads IsBadAt bytes_of plan.now.mounted → IfOk result (λ keys. got plan.now.mounted parent.now ≡ Ok keys) }
-    ensures fault { IfErr result (Gets (got plan.now.mounted parent.now)) }
+    ensures keys { IfOk result (λ keys. got_alone plan.now.mounted parent.now ≡ Ok keys) }
+    ensures fault { IfErr result (λ why. UnlessMemory OutOfMemory (got_alone plan.now.mounted parent.now ≡ Err why) why) }
     ensures fetched { OnOk result (HasFetched plan.now.mounted parent.now rec.new) }
 {
     match core.get(alloc, plan, rec, parent) {
@@ -274,10 +295,8 @@ fn take_step<D: Disk, P: Patterns + Drop>(
     requires open { IsOpen plan.now core.old }
     requires fetched { HasFetched plan.now.mounted parent.now rec.old }
     ensures serving { Serving D.Disk (AnswersStep (MayRefuse result (P.refusals core.old.patterns) (P.refusals core.new.patterns)) plan.now.mounted parent.now (seen_step step)) result core.old core.new }
-    ensures memory { result ≡ Err Stop.Memory → IsUnwritten core.old core.new }
     ensures status { (own : List ℕ) → TellsEnd own (seen_step step) → IfOk result (λ report. IsEnd own report.status) }
     ensures cause { result ≡ Err Stop.DiskFault → HasRisen (D.faults core.old.journal.disk) (D.faults core.new.journal.disk) }
-    ensures input { result ≢ Err Stop.ReadFault }
     ensures goes { GoesOn D.Disk core.old.journal.disk core.new.journal.disk }
     ensures later { P.refusals core.old.patterns ≤ P.refusals core.new.patterns }
 {

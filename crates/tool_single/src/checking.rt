@@ -1,14 +1,12 @@
 //! `validate`: which rules the keys break.
-ghost use Rattle.std.specs.Prelude.{◌≤◌, ℕ, List, IfOk};
-ghost use Rattle.all_formats.specs.Meanings.{Reads, IsBadAt};
+ghost use Rattle.std.specs.Prelude.{◌≤◌, IfOk};
 ghost use Rattle.kdb_outside.specs.Faults.{HasRisen};
 ghost use Rattle.kdb_outside.specs.Frames.{GoesOn};
-ghost use Rattle.mounted_files.specs.Getting.{got};
-ghost use Rattle.mounted_files.specs.Opening.{IsOpened};
 ghost use Rattle.store_core.specs.Frames.{IsUnwritten};
 ghost use Rattle.tool_commands.specs.Commands.{every_key};
 ghost use Rattle.tool_commands.specs.StepView.{report_of};
 ghost use Rattle.tool_words.specs.Request.{ViolationsOf};
+ghost use Rattle.tool_single.specs.Alone.{got_alone};
 ghost use Rattle.tool_single.specs.Answer.{tells};
 ghost use Rattle.tool_single.specs.Answers.{AnswersChecked};
 ghost use Rattle.tool_single.specs.Serving.{IsOpen};
@@ -32,8 +30,7 @@ pub fn check_keys<D: Disk, P: Patterns + Drop>(
     name: &KeyName,
 ) -> Result<Report, Memory>
     requires open { IsOpen plan.now core.old }
-    ensures answers { (bytes_of : List ℕ → List ℕ) → IsOpened Reads IsBadAt bytes_of plan.now.mounted
-        → IfOk result (λ report. AnswersChecked (λ _. HasRisen (P.refusals core.old.patterns) (P.refusals core.new.patterns)) name.now (got plan.now.mounted every_key) (tells (report_of report))) }
+    ensures answers { IfOk result (λ report. AnswersChecked (λ _. HasRisen (P.refusals core.old.patterns) (P.refusals core.new.patterns)) name.now (got_alone plan.now.mounted every_key) (tells (report_of report))) }
     ensures kept { IsUnwritten core.old core.new }
     ensures status { IfOk result (λ report. IsStatusOf (ViolationsOf name.now) report.status) }
     ensures later { P.refusals core.old.patterns ≤ P.refusals core.new.patterns }

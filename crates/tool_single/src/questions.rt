@@ -1,19 +1,9 @@
 //! A question to the store: it is opened, answers, and is closed.
-ghost use Rattle.std.specs.Prelude.{◌≡◌, ◌≢◌, ◌≤◌, ℕ, List, Option, Some, None, true, IfOk, OnOk, Err, string_bytes};
-ghost use Rattle.intent_journal.specs.BadJournals.{bad_place, open_entry, opened_files};
-ghost use Rattle.intent_journal.specs.States.{IsCalm};
-ghost use Rattle.journal_codec.specs.Entry.{journal_name};
-ghost use Rattle.journal_codec.specs.declared.files.FileText.{FileText as Item};
-ghost use Rattle.kdb_outside.specs.Faults.{HasRisen};
-ghost use Rattle.kdb_outside.specs.Frames.{GoesOn, OnlyReads};
-ghost use Rattle.kdb_outside.specs.Images.{Image};
-ghost use Rattle.tool_single.specs.Answers.{AnswersOver};
+ghost use Rattle.tool_single.specs.Carried.{PutsQuestion};
+ghost use Rattle.std.specs.Prelude.{◌≡◌, ◌≢◌, IfOk, OnOk, Err, string_bytes};
 ghost use Rattle.tool_single.specs.Lines.{line_of_store};
-ghost use Rattle.tool_single.specs.Serving.{MayRefuse, MayStore, Serve, StoresNothing};
-ghost use Rattle.tool_single.specs.Untold.{IsStatusOf};
 ghost use Rattle.store_core.specs.declared.faults.OpenFault.TheVariants.{DiskFault as OfDisk, Memory as OfMemory};
-ghost use Rattle.store_lines.specs.Lines.{bad_journal};
-ghost use Rattle.tool_commands.specs.Report.{IsAnswered, warned};
+ghost use Rattle.tool_commands.specs.Report.{warned};
 ghost use Rattle.tool_commands.specs.StepView.{report_of};
 ghost use Rattle.tool_words.specs.Request.{NamesFiles};
 ghost use Rattle.tool_words.specs.RequestView.{question_of};
@@ -38,19 +28,7 @@ pub fn answer_question<D: Disk, P: Patterns + Drop>(
     patterns: P,
 ) -> Ended<D, P>
     requires { NamesFiles (question_of question) }
-    ensures served { D.tells disk ≡ true → (files : Image) (doubt : Option (List Item)) → IsCalm (D.seen disk) (D.may_leave disk) files doubt
-        → Serve D.Disk files doubt (AnswersOver (MayRefuse result.answer (P.refusals patterns) (P.refusals result.patterns)) (question_of question.entry) (opened_files (D.seen disk))) result.answer disk result.disk }
-    ensures untouched { D.tells disk ≡ true → open_entry (D.seen disk journal_name) ≡ None
-        → StoresNothing (AnswersOver (MayRefuse result.answer (P.refusals patterns) (P.refusals result.patterns)) (question_of question.entry) (D.seen disk)) → OnlyReads D.Disk disk result.disk }
-    ensures unstored { D.tells disk ≡ true → open_entry (D.seen disk journal_name) ≡ None → ¬ MayStore result.answer → OnlyReads D.Disk disk result.disk }
-    ensures broken { D.tells disk ≡ true → (at : ℕ) → bad_place (D.seen disk journal_name) ≡ Some at → IfOk result.answer (λ report. report_of report ≡ warned 5 (bad_journal at)) }
-    ensures broken_stays { D.tells disk ≡ true → (at : ℕ) → bad_place (D.seen disk journal_name) ≡ Some at → OnlyReads D.Disk disk result.disk }
-    ensures status { IfOk result.answer (λ report. IsStatusOf (question_of question.entry) report.status) }
-    ensures own { IfOk result.answer (λ report. IsAnswered report.status) }
-    ensures cause { result.answer ≡ Err Stop.DiskFault → HasRisen (D.faults disk) (D.faults result.disk) }
-    ensures input { result.answer ≢ Err Stop.ReadFault }
-    ensures goes { GoesOn D.Disk disk result.disk }
-    ensures later { P.refusals patterns ≤ P.refusals result.patterns }
+    ensures { PutsQuestion D.Disk P.Patterns (question_of question.entry) disk patterns result }
 {
     match open_store(alloc, disk, AllFormats, patterns) {
         Ok(opened) => {

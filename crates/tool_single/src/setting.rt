@@ -1,14 +1,14 @@
 //! What becomes of the keys that a command sets: they are prepared against what its handle got, and committed.
-ghost use Rattle.std.specs.Prelude.{◌≡◌, ◌≢◌, ◌≤◌, ℕ, List, Err, IfOk, map as over, string_bytes};
+ghost use Rattle.std.specs.Prelude.{◌≡◌, ◌≢◌, ◌≤◌, ℕ, List, Err, IfOk, string_bytes};
 ghost use Rattle.kdb_outside.specs.Faults.{HasRisen};
 ghost use Rattle.kdb_outside.specs.Frames.{GoesOn};
 ghost use Rattle.tool_single.specs.Answer.{tells};
 ghost use Rattle.tool_single.specs.Serving.{HasFetched, IsAlone, IsOpen, MayRefuse, Serving};
 ghost use Rattle.tool_single.specs.Refusing.{IsRefusalOf};
-ghost use Rattle.tool_single.specs.Sets.{AnswersSet, IsRefusal, store_alone, the_handle, formats};
+ghost use Rattle.tool_single.specs.Alone.{store_alone, the_handle};
+ghost use Rattle.tool_single.specs.Sets.{AnswersSet, IsRefusal, formats};
 ghost use Rattle.model_maps.specs.KeyMap.{KeyMap};
 ghost use Rattle.model_names.specs.Name.{Name};
-ghost use Rattle.store_core.specs.Frames.{IsUnwritten};
 ghost use Rattle.store_verdict.specs.Preparing.{IsMade};
 ghost use Rattle.store_verdict.specs.RecordView.{record_of};
 ghost use Rattle.store_core.specs.declared.committing.CommitFault.TheVariants.{Conflict as IsConflict};
@@ -44,10 +44,8 @@ pub fn set_keys<D: Disk, P: Patterns + Drop>(
     requires open { IsOpen plan.now core.old }
     requires fetched { HasFetched plan.now.mounted parent.now rec.old }
     ensures serving { Serving D.Disk (AnswersSet (MayRefuse result (P.refusals core.old.patterns) (P.refusals core.new.patterns)) plan.now.mounted parent.now keys.now (string_bytes out)) result core.old core.new }
-    ensures memory { result ≡ Err Stop.Memory → IsUnwritten core.old core.new }
     ensures status { (own : List ℕ) → IfOk result (λ report. IsEnd own report.status) }
     ensures cause { result ≡ Err Stop.DiskFault → HasRisen (D.faults core.old.journal.disk) (D.faults core.new.journal.disk) }
-    ensures input { result ≢ Err Stop.ReadFault }
     ensures goes { GoesOn D.Disk core.old.journal.disk core.new.journal.disk }
     ensures later { P.refusals core.old.patterns ≤ P.refusals core.new.patterns }
 {
@@ -92,10 +90,8 @@ fn commit_set<D: Disk, P: Patterns + Drop>(
     requires alone { IsAlone plan.now.mounted rec.old prepared }
     ensures serving { (parent : Name) (keys : KeyMap) → HasFetched plan.now.mounted parent rec.old → IsMade formats (store_alone plan.now.mounted) the_handle (record_of rec.old) parent keys prepared
         → Serving D.Disk (AnswersSet (MayRefuse result (P.refusals core.old.patterns) (P.refusals core.new.patterns)) plan.now.mounted parent keys (string_bytes out)) result core.old core.new }
-    ensures memory { result ≡ Err Stop.Memory → IsUnwritten core.old core.new }
     ensures status { (own : List ℕ) → IfOk result (λ report. IsEnd own report.status) }
     ensures cause { result ≡ Err Stop.DiskFault → HasRisen (D.faults core.old.journal.disk) (D.faults core.new.journal.disk) }
-    ensures input { result ≢ Err Stop.ReadFault }
     ensures goes { GoesOn D.Disk core.old.journal.disk core.new.journal.disk }
     ensures later { P.refusals core.old.patterns ≤ P.refusals core.new.patterns }
 {
@@ -111,7 +107,6 @@ fn refuse_commit(alloc: Global, fault: CommitFault) -> Result<Report, Stop>
     requires { (mount : Name) (by front : ℕ) → fault ≢ IsConflict mount by front }
     ensures refused { IsRefusalOf fault result }
     ensures status { IfOk result (λ report. report.status ≡ 5) }
-    ensures input { result ≢ Err Stop.ReadFault }
 {
     match fault {
         CommitFault::Invalid { violation, .. } => {

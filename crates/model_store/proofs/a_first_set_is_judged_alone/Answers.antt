@@ -1,11 +1,12 @@
 -- By what a record keeps of the mounts that its first get involved.
+use Rattle.model_store.specs.Store.{formats_of}
 use Rattle.model_store.proofs.FirstSets.{never-blocked, never-full, never-unseen}
 use Rattle.model_store.proofs.a_first_set_is_judged_alone.Goals as goal
 
 pub returns-clause-fetched : goal.returns-clause-fetched
 returns-clause-fetched g c store handle parent keys early m is =
     let f = g.F.Formats in
-    never-unseen (record { text = f.text; IsStorable = f.is_storable; BreaksAt = f.breaks_at }) store handle parent keys early m is
+    never-unseen (formats_of f) store handle parent keys early m is
 
 pub returns-clause-free : goal.returns-clause-free
 returns-clause-free g c = never-blocked

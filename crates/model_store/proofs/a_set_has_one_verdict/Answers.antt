@@ -1,16 +1,17 @@
 -- By the laws of the formats.
+use Rattle.model_store.specs.Store.{formats_of}
 use Rattle.model_store.proofs.OneVerdict.{IsEarly-once, IsEarly-some, IsLate-once, IsLate-some, breach-caused}
 use Rattle.model_store.proofs.a_set_has_one_verdict.Goals as goal
 
 pub returns-clause-some_early : goal.returns-clause-some_early
 returns-clause-some_early g c =
     let f = g.F.Formats in
-    IsEarly-some (record { text = f.text; IsStorable = f.is_storable; BreaksAt = f.breaks_at }) f.storable_or_breaks
+    IsEarly-some (formats_of f) f.storable_or_breaks
 
 pub returns-clause-one_early : goal.returns-clause-one_early
 returns-clause-one_early g c =
     let f = g.F.Formats in
-    IsEarly-once (record { text = f.text; IsStorable = f.is_storable; BreaksAt = f.breaks_at }) f.storable_breaks_nowhere f.one_break
+    IsEarly-once (formats_of f) f.storable_breaks_nowhere f.one_break
 
 pub returns-clause-some_late : goal.returns-clause-some_late
 returns-clause-some_late g c = IsLate-some

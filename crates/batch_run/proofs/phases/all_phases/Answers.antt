@@ -12,7 +12,7 @@ use Rattle.batch_run.proofs.Growing.{done-next, left-next}
 use Rattle.batch_run.proofs.Phasing.{phase-next, rest-next}
 use Rattle.batch_script.specs.declared.steps.Phase.{Phase}
 use Rattle.batch_script.specs.declared.steps.Steps.{Steps}
-use Rattle.model_store.specs.Store.{Formats}
+use Rattle.model_store.specs.Store.{Formats, formats_of}
 use Rattle.kdb_handle.specs.Views.{lock_of, plan_of}
 use Rattle.kdb_handle.specs.declared.replies.Reply.{Reply}
 use Rattle.model_batch.specs.Scripts.{steps_in}
@@ -20,7 +20,7 @@ use Rattle.batch_run.proofs.phases.all_phases.Goals as goal
 
 pub loop-place-preserved : goal.loop-place-preserved
 loop-place-preserved g c =
-    let formats : Formats = record { text = g.F.Formats.text; IsStorable = g.F.Formats.is_storable; BreaksAt = g.F.Formats.breaks_at } in
+    let formats : Formats = formats_of g.F.Formats in
     let lock = lock_of c.args.store.now in
     let plan = plan_of c.args.store.now in
     let was = c.loop-place.invariant in
@@ -49,7 +49,7 @@ loop-place-preserved g c =
 
 pub returns-clause-stand : goal.returns-clause-stand
 returns-clause-stand g c = λ procs first.
-    let formats : Formats = record { text = g.F.Formats.text; IsStorable = g.F.Formats.is_storable; BreaksAt = g.F.Formats.breaks_at } in
+    let formats : Formats = formats_of g.F.Formats in
     let names = over number_in c.args.workers.now in
     let k = c.loop-place.place in
     let rooms = c.loop-place.rooms in

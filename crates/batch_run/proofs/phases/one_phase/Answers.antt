@@ -5,6 +5,7 @@ use Rattle.batch_run.specs.Workers.{number_in}
 use Rattle.batch_run.proofs.Through.{home-handles, ready-handles, ready-rooms, through}
 use Rattle.kdb_handle.specs.Views.{lock_of, plan_of}
 use Rattle.batch_run.proofs.phases.one_phase.Goals as goal
+use Rattle.model_store.specs.Store.{formats_of}
 
 pub exchange-requires : goal.exchange-requires
 exchange-requires g c = c.requires.rooms.many ∙ length-map c.args.workers.now number_in
@@ -18,13 +19,13 @@ take_all-requires-clause-rooms g c κs within = λ i d lt. ready-rooms c.args.ph
 
 pub meet_all-requires : goal.meet_all-requires
 meet_all-requires g c = λ i d lt.
-    home-handles (record { text = g.F.Formats.text; IsStorable = g.F.Formats.is_storable; BreaksAt = g.F.Formats.breaks_at }) (lock_of c.args.store.now) (plan_of c.args.store.now) c.args.phase.now c.exchange.new.workers c.take_all.new.workers
+    home-handles (formats_of g.F.Formats) (lock_of c.args.store.now) (plan_of c.args.store.now) c.args.phase.now c.exchange.new.workers c.take_all.new.workers
     c.exchange-2.new.workers c.exchange.new.rooms c.exchange-2.new.rooms (omega arith) (omega (arith, c.requires.rooms.many, length-map c.args.workers.now number_in)) c.take_all.ensures c.exchange-2.ensures i d (omega arith)
 
 pub returns : goal.returns
 returns g c =
     let rooms = c.requires.rooms.many ∙ length-map c.args.workers.now number_in in
-    through (record { text = g.F.Formats.text; IsStorable = g.F.Formats.is_storable; BreaksAt = g.F.Formats.breaks_at }) (lock_of c.args.store.now) (plan_of c.args.store.now) c.args.phase.now c.args.workers.now c.exchange.new.workers
+    through (formats_of g.F.Formats) (lock_of c.args.store.now) (plan_of c.args.store.now) c.args.phase.now c.args.workers.now c.exchange.new.workers
     c.take_all.new.workers c.exchange-2.new.workers c.meet_all.new.workers c.args.rooms.now c.exchange.new.rooms c.exchange-2.new.rooms
     (record {
       given_many = omega arith;

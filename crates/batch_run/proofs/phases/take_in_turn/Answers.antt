@@ -4,14 +4,14 @@ use Rattle.std.proofs.lemmas.List.{get_or_default}
 use Rattle.batch_run.specs.Going.{Works}
 use Rattle.batch_run.specs.declared.workers.Worker.{Worker}
 use Rattle.batch_run.proofs.Growing.{done-next, left-next}
-use Rattle.model_store.specs.Store.{Formats}
+use Rattle.model_store.specs.Store.{Formats, formats_of}
 use Rattle.kdb_handle.specs.Views.{lock_of, plan_of}
 use Rattle.model_batch.specs.Scripts.{steps_in}
 use Rattle.batch_run.proofs.phases.take_in_turn.Goals as goal
 
 pub loop-worker-preserved : goal.loop-worker-preserved
 loop-worker-preserved g c =
-    let formats : Formats = record { text = g.F.Formats.text; IsStorable = g.F.Formats.is_storable; BreaksAt = g.F.Formats.breaks_at } in
+    let formats : Formats = formats_of g.F.Formats in
     let lock = lock_of c.args.store.now in
     let plan = plan_of c.args.store.now in
     let phase = c.args.phase.now in

@@ -2,11 +2,10 @@
 use Rattle.std.proofs.Common.{◌∙◌, ℕ, List, None, ap, arith, length, subst, sym}
 use Rattle.batch_run.proofs.Opened.{few-sessions}
 use Rattle.kdb_handle.specs.Views.{files_of}
-use Rattle.model_store.specs.Store.{Formats}
+use Rattle.model_store.specs.Store.{Formats, store_of, formats_of}
 use Rattle.model_store.specs.Worlds.{first_world}
 use Rattle.mounted_files.specs.declared.files.MountedFile.{MountedFile}
 use Rattle.store_core.specs.Cores.{StandsIn}
-use Rattle.store_core.specs.Plans.{store_of}
 use Rattle.store_core.specs.declared.cores.Core.{Core}
 use Rattle.batch_run.proofs.playing.play_shared.Goals as goal
 
@@ -22,7 +21,7 @@ new-requires-clause-handles g c =
 
 pub close_unplayed-requires : goal.close_unplayed-requires
 close_unplayed-requires g c = λ procs.
-    let formats : Formats = record { text = g.F.Formats.text; IsStorable = g.F.Formats.is_storable; BreaksAt = g.F.Formats.breaks_at } in
+    let formats : Formats = formats_of g.F.Formats in
     let none = c.in-Err.ensures.err in
     let Stands : List MountedFile → Core g.row.D.Denot g.row.P.Denot → Type 0 = λ files core. StandsIn formats (store_of files procs) core (λ r m. None) (λ p. None) first_world in
     subst (Stands (files_of c.in-Err.unshared.plan)) (sym none.1) (subst (λ (files : List MountedFile). Stands files c.args.core) (sym (ap (λ p. files_of p) none.0)) (c.requires.world procs))

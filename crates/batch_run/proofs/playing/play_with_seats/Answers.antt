@@ -2,12 +2,12 @@
 use Rattle.std.proofs.Common.{None}
 use Rattle.batch_run.proofs.Ending.{fresh-done, journal_is, played}
 use Rattle.kdb_handle.specs.Views.{lock_of, plan_of}
-use Rattle.model_store.specs.Store.{Formats}
+use Rattle.model_store.specs.Store.{Formats, formats_of}
 use Rattle.batch_run.proofs.playing.play_with_seats.Goals as goal
 
 pub returns : goal.returns
 returns g c = λ core start.
-    let formats : Formats = record { text = g.F.Formats.text; IsStorable = g.F.Formats.is_storable; BreaksAt = g.F.Formats.breaks_at } in
+    let formats : Formats = formats_of g.F.Formats in
     let lock = lock_of c.args.store in
     let plan = plan_of c.args.store in
     let script = c.args.script.now in

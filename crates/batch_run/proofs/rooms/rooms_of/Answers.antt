@@ -13,8 +13,9 @@ loop-phase-preserved c =
     let one = c.in_ok-phase_rooms.field-0 in
     let items = c.in_ok-push.ensures.items in
     let Has : ℕ → PhaseRooms → Type 0 = λ p rooms. (phase : Phase) → AreRooms c.args.numbers.now (get_or c.args.phases.now p phase).sessions rooms in
+    let there = subst (λ (k : ℕ). c.phase-item.result ≡ get_or c.args.phases.now k c.phase-item.result) (sym was.many) c.phase-item.is in
     let new : Has (length c.loop-phase.rooms.items) one = λ phase.
-    subst (λ (it : Phase). AreRooms c.args.numbers.now it.sessions one) (get_or_read c.args.phases.now (length c.loop-phase.rooms.items) c.phase-item.result (omega (arith, was.many)) (subst (λ (k : ℕ). c.phase-item.result ≡ get_or c.args.phases.now k c.phase-item.result) (sym was.many) c.phase-item.is) phase)
+    subst (λ (it : Phase). AreRooms c.args.numbers.now it.sessions one) (get_or_read c.args.phases.now (length c.loop-phase.rooms.items) c.phase-item.result (omega (arith, was.many)) there phase)
     (subst (λ ss. AreRooms c.args.numbers.now ss one) c.as_slice.ensures c.in_ok-phase_rooms.ensures) in
     record {
       many = ap length items ∙ length_push c.loop-phase.rooms.items one ∙ ap (λ k. k + 1) was.many;

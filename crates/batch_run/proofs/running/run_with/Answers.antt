@@ -12,7 +12,7 @@ use Rattle.batch_run.proofs.RoomLemmas.{wide-still}
 use Rattle.batch_run.proofs.ShownLemmas.{named-apart}
 use Rattle.batch_run.proofs.Standing.{stand-first}
 use Rattle.batch_script.specs.declared.steps.Phase.{Phase}
-use Rattle.model_store.specs.Store.{Formats}
+use Rattle.model_store.specs.Store.{Formats, formats_of}
 use Rattle.kdb_handle.specs.Views.{lock_of, plan_of}
 use Rattle.model_batch.specs.Scripts.{procs_of, sessions_of}
 use Rattle.batch_run.proofs.running.run_with.Given.{Over}
@@ -20,7 +20,7 @@ use Rattle.batch_run.proofs.running.run_with.Goals as goal
 
 pub all_phases-requires-clause-resting : goal.all_phases-requires-clause-resting
 all_phases-requires-clause-resting g c κs within =
-    let formats : Formats = record { text = g.F.Formats.text; IsStorable = g.F.Formats.is_storable; BreaksAt = g.F.Formats.breaks_at } in
+    let formats : Formats = formats_of g.F.Formats in
     let lock = lock_of c.args.store.now in
     let plan = plan_of c.args.store.now in
     let seats = c.seat_all-workers in
@@ -54,10 +54,10 @@ show_all-transcripts-requires-clause-wide g c =
     (subst (AreWide c.args.script.now.phases) (sym (c.as_mut_slice-3.ensures.value ∙ items)) wide)
 
 -- how the run ended
-ended : (g : Over) (c : goal.After-drop-numbers g) → Ended (record { text = g.F.Formats.text; IsStorable = g.F.Formats.is_storable; BreaksAt = g.F.Formats.breaks_at }) (lock_of c.args.store.now) (plan_of c.args.store.now) c.args.script.now
+ended : (g : Over) (c : goal.After-drop-numbers g) → Ended (formats_of g.F.Formats) (lock_of c.args.store.now) (plan_of c.args.store.now) c.args.script.now
     (over row_in c.all_phases.new.rooms) c.all_phases.new.workers c.from_vec.result c.show_all-transcripts.result
 ended g c =
-    let formats : Formats = record { text = g.F.Formats.text; IsStorable = g.F.Formats.is_storable; BreaksAt = g.F.Formats.breaks_at } in
+    let formats : Formats = formats_of g.F.Formats in
     let lock = lock_of c.args.store.now in
     let plan = plan_of c.args.store.now in
     let script = c.args.script.now in
@@ -89,15 +89,15 @@ ended g c =
 
 pub returns-clause-back : goal.returns-clause-back
 returns-clause-back g c =
-    ended-back (record { text = g.F.Formats.text; IsStorable = g.F.Formats.is_storable; BreaksAt = g.F.Formats.breaks_at }) (lock_of c.args.store.now) (plan_of c.args.store.now) c.args.script.now (over row_in c.all_phases.new.rooms)
+    ended-back (formats_of g.F.Formats) (lock_of c.args.store.now) (plan_of c.args.store.now) c.args.script.now (over row_in c.all_phases.new.rooms)
     c.all_phases.new.workers c.from_vec.result c.show_all-transcripts.result (length c.args.handles.items) c.requires.many (ended g c)
 
 pub returns-clause-fair : goal.returns-clause-fair
 returns-clause-fair g c =
-    ended-fair (record { text = g.F.Formats.text; IsStorable = g.F.Formats.is_storable; BreaksAt = g.F.Formats.breaks_at }) (lock_of c.args.store.now) (plan_of c.args.store.now) c.args.script.now (over row_in c.all_phases.new.rooms)
+    ended-fair (formats_of g.F.Formats) (lock_of c.args.store.now) (plan_of c.args.store.now) c.args.script.now (over row_in c.all_phases.new.rooms)
     c.all_phases.new.workers c.from_vec.result c.show_all-transcripts.result (length c.args.handles.items) c.requires.many (ended g c)
 
 pub returns-clause-counts : goal.returns-clause-counts
 returns-clause-counts g c =
-    ended-counts (record { text = g.F.Formats.text; IsStorable = g.F.Formats.is_storable; BreaksAt = g.F.Formats.breaks_at }) (lock_of c.args.store.now) (plan_of c.args.store.now) c.args.script.now (over row_in c.all_phases.new.rooms)
+    ended-counts (formats_of g.F.Formats) (lock_of c.args.store.now) (plan_of c.args.store.now) c.args.script.now (over row_in c.all_phases.new.rooms)
     c.all_phases.new.workers c.from_vec.result c.show_all-transcripts.result (ended g c)

@@ -2,7 +2,7 @@
 use Rattle.std.proofs.Common.{ℕ, [], ◌∷◌, refl, sym, subst}
 use Rattle.batch_script.specs.declared.steps.Step.TheVariants as step
 use Rattle.kdb_handle.specs.declared.replies.Reply.TheVariants as reply
-use Rattle.model_store.specs.Store.{Formats}
+use Rattle.model_store.specs.Store.{Formats, formats_of}
 use Rattle.batch_run.specs.Stepping.{GoesOn}
 use Rattle.batch_run.proofs.GetTurns.{get-goes, unget-goes}
 use Rattle.store_verdict.specs.RecordView.{proc_of}
@@ -10,7 +10,7 @@ use Rattle.batch_run.proofs.turns.get.Goals as goal
 
 pub returns-in-Ok : goal.returns-in-Ok
 returns-in-Ok g c =
-    let formats : Formats = record { text = g.F.Formats.text; IsStorable = g.F.Formats.is_storable; BreaksAt = g.F.Formats.breaks_at } in
+    let formats : Formats = formats_of g.F.Formats in
     let store = c.args.store.now in
     let old = c.args.handle.now in
     let new = c.kdb_get.new.self in
@@ -20,7 +20,7 @@ returns-in-Ok g c =
 
 pub returns-in-Err : goal.returns-in-Err
 returns-in-Err g c =
-    let formats : Formats = record { text = g.F.Formats.text; IsStorable = g.F.Formats.is_storable; BreaksAt = g.F.Formats.breaks_at } in
+    let formats : Formats = formats_of g.F.Formats in
     let store = c.args.store.now in
     let old = c.args.handle.now in
     let done = c.kdb_get.ensures in

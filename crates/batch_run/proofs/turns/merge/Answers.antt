@@ -1,13 +1,13 @@
 -- The tries of the handle are those of the session.
 use Rattle.std.proofs.Common.{ℕ, subst}
 use Rattle.kdb_handle.specs.Merging.{IsMergedSet, end_of, tried_in}
-use Rattle.model_store.specs.Store.{Formats}
+use Rattle.model_store.specs.Store.{Formats, formats_of}
 use Rattle.batch_run.proofs.MergeTurns.{merged-goes, unmerged-goes}
 use Rattle.batch_run.proofs.turns.merge.Goals as goal
 
 pub returns-in-Ok : goal.returns-in-Ok
 returns-in-Ok g c =
-    let formats : Formats = record { text = g.F.Formats.text; IsStorable = g.F.Formats.is_storable; BreaksAt = g.F.Formats.breaks_at } in
+    let formats : Formats = formats_of g.F.Formats in
     let store = c.args.store.now in
     let call = c.kdb_set_merged in
     let done = call.ensures in
@@ -16,7 +16,7 @@ returns-in-Ok g c =
 
 pub returns-in-Err : goal.returns-in-Err
 returns-in-Err g c =
-    let formats : Formats = record { text = g.F.Formats.text; IsStorable = g.F.Formats.is_storable; BreaksAt = g.F.Formats.breaks_at } in
+    let formats : Formats = formats_of g.F.Formats in
     let store = c.args.store.now in
     let call = c.kdb_set_merged in
     let done = call.ensures in

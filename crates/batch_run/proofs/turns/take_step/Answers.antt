@@ -5,14 +5,14 @@ use Rattle.batch_script.specs.declared.steps.Step.{Step}
 use Rattle.batch_script.specs.declared.steps.Step.TheVariants as step
 use Rattle.key_edits.specs.Edits.{put_meta, put_value}
 use Rattle.model_maps.specs.KeyMap.{not_below}
-use Rattle.model_store.specs.Store.{Formats}
+use Rattle.model_store.specs.Store.{Formats, formats_of}
 use Rattle.batch_run.specs.Stepping.{GoesOn}
 use Rattle.batch_run.proofs.EditLemmas.{edit-goes, look-goes}
 use Rattle.batch_run.proofs.turns.take_step.Goals as goal
 
 pub returns-in-Put : goal.returns-in-Put
 returns-in-Put g c =
-    let formats : Formats = record { text = g.F.Formats.text; IsStorable = g.F.Formats.is_storable; BreaksAt = g.F.Formats.breaks_at } in
+    let formats : Formats = formats_of g.F.Formats in
     let store = c.args.store.now in
     let old = c.args.handle.now in
     let before = c.args.working.now in
@@ -23,7 +23,7 @@ returns-in-Put g c =
 
 pub returns-in-MetaStep : goal.returns-in-MetaStep
 returns-in-MetaStep g c =
-    let formats : Formats = record { text = g.F.Formats.text; IsStorable = g.F.Formats.is_storable; BreaksAt = g.F.Formats.breaks_at } in
+    let formats : Formats = formats_of g.F.Formats in
     let store = c.args.store.now in
     let old = c.args.handle.now in
     let before = c.args.working.now in
@@ -34,7 +34,7 @@ returns-in-MetaStep g c =
 
 pub returns-in-Del : goal.returns-in-Del
 returns-in-Del g c =
-    let formats : Formats = record { text = g.F.Formats.text; IsStorable = g.F.Formats.is_storable; BreaksAt = g.F.Formats.breaks_at } in
+    let formats : Formats = formats_of g.F.Formats in
     let store = c.args.store.now in
     let old = c.args.handle.now in
     let before = c.args.working.now in
@@ -45,7 +45,7 @@ returns-in-Del g c =
 
 pub returns-in-Cut : goal.returns-in-Cut
 returns-in-Cut g c =
-    let formats : Formats = record { text = g.F.Formats.text; IsStorable = g.F.Formats.is_storable; BreaksAt = g.F.Formats.breaks_at } in
+    let formats : Formats = formats_of g.F.Formats in
     let store = c.args.store.now in
     let old = c.args.handle.now in
     let before = c.args.working.now in
@@ -56,7 +56,7 @@ returns-in-Cut g c =
 
 pub returns-in-Look : goal.returns-in-Look
 returns-in-Look g c =
-    let formats : Formats = record { text = g.F.Formats.text; IsStorable = g.F.Formats.is_storable; BreaksAt = g.F.Formats.breaks_at } in
+    let formats : Formats = formats_of g.F.Formats in
     let store = c.args.store.now in
     let old = c.args.handle.now in
     let working = c.args.working.now in

@@ -1,45 +1,68 @@
 -- The opening and what came of the open store make what is done to the disk.
-use Rattle.std.proofs.Common.{◌≡◌, Some, ap, refl, subst, sym}
+use Rattle.std.proofs.Common.{◌≡◌, Some, ap, arith, refl, subst, sym}
+use Rattle.std.proofs.lemmas.Result.{IfOk-weaker}
 use Rattle.batch_script.specs.declared.steps.Script.{Script}
 use Rattle.intent_journal.specs.BadJournals.{opened_files}
 use Rattle.journal_codec.specs.Entry.{journal_name}
-use Rattle.kdb_outside.specs.Frames.{OnlyReads}
+use Rattle.kdb_outside.specs.Faults.{HasRisen}
+use Rattle.kdb_outside.specs.Frames.{GoesOn, OnlyReads}
 use Rattle.model_maps.specs.KeyMap.{no_keys}
 use Rattle.kdb_tool.proofs.OpeningLemmas.{unopened-serve}
-use Rattle.kdb_tool.proofs.PlayLemmas.{reported-ended, works-ended}
+use Rattle.kdb_tool.proofs.PlayLemmas.{goes-ended, later-ended, reported-ended, stops-ended, stores-none-ended, works-ended}
+use Rattle.kdb_tool.proofs.WorkLemmas.{reads-none}
 use Rattle.kdb_tool.proofs.playing.play_script.Goals as goal
+use Rattle.kdb_tool.specs.Reported.{Own}
 use Rattle.kdb_tool.specs.Unplayed.{IsUnopened}
 use Rattle.kdb_tool.specs.Working.{NotPlayed}
-use Rattle.tool_single.proofs.BrokenLemmas.{bad-not_open}
+use Rattle.tool_single.proofs.BrokenLemmas.{bad-not_open, broken_told}
+use Rattle.tool_single.proofs.EndLemmas.{refused-answered}
 use Rattle.tool_single.proofs.OpeningLemmas.{has_begun, leaves_calm}
 use Rattle.tool_single.specs.Serving.{Serve}
+use Rattle.tool_single.specs.declared.answers.Stop.TheVariants.{DiskFault, ReadFault}
 
-pub returns-in-Ok-clause-worked : goal.returns-in-Ok-clause-worked
-returns-in-Ok-clause-worked g c = λ tells files doubt calm.
-    let disk = c.args.disk in
-    let refused = g.P.Patterns.refusals in
-    let core = c.in-Ok.opened.core in
-    let opening = c.in-Ok.ensures in
-    let begun = has_begun g.D.Disk disk files doubt core.journal calm (opening.files tells files doubt calm) (opening.stands tells files doubt calm (λ h. no_keys)).on_disk (λ others other again same. (opening.own tells others other again same (λ h. no_keys)).on_disk) in
-    works-ended g.D.Disk refused disk files doubt c.args.script.now c.in-Ok.opened.plan.mounted core c.play_store.result (refused c.args.patterns) tells (opening.opened tells files doubt calm)
-    (record { begun = begun; goes = opening.goes; meanwhile = opening.any_moment tells files doubt calm; alone = λ none. opening.left_alone tells none; wrote = opening.wrote tells; state = opening.doubt })
-    c.play_store.ensures (ap refused opening.patterns) (IsUnopened (opened_files (g.D.Disk.seen disk))) (λ (played : Script). played ≡ c.args.script.now) refl
+pub returns-in-Ok : goal.returns-in-Ok
+returns-in-Ok g c = record {
+  worked = λ tells files doubt calm.
+      let disk = c.args.disk in
+      let refused = g.P.Patterns.refusals in
+      let core = c.in-Ok.opened.core in
+      let opening = c.in-Ok.ensures in
+      let begun = has_begun g.D.Disk disk files doubt core.journal calm (opening.files tells files doubt calm) (opening.stands tells files doubt calm (λ h. no_keys)).on_disk (λ others other again same. (opening.own tells others other again same (λ h. no_keys)).on_disk) in
+      works-ended g.D.Disk refused disk files doubt c.args.script.now c.in-Ok.opened.plan.mounted core c.play_store.result (refused c.args.patterns) tells (opening.opened tells files doubt calm)
+      (record { begun = begun; goes = opening.goes; meanwhile = opening.any_moment tells files doubt calm; alone = λ none. opening.left_alone tells none; wrote = opening.wrote tells; state = opening.doubt })
+      c.play_store.ensures (ap refused opening.patterns) (IsUnopened (opened_files (g.D.Disk.seen disk))) (λ (played : Script). played ≡ c.args.script.now) refl;
+  reported = reported-ended g.D.Disk g.P.Patterns.refusals c.args.disk c.args.script.now c.in-Ok.opened.plan.mounted c.in-Ok.opened.core c.play_store.result c.in-Ok.ensures.goes c.play_store.ensures c.requires;
+  unstored = λ tells none. stores-none-ended g.D.Disk g.P.Patterns.refusals c.args.disk c.args.script.now c.in-Ok.opened.plan.mounted c.in-Ok.opened.core c.play_store.result c.in-Ok.ensures.goes c.play_store.ensures;
+  broken = λ tells at is. absurd (c.in-Ok.ensures.broken tells at is);
+  broken_stays = λ tells at is. absurd (c.in-Ok.ensures.broken tells at is);
+  cause = λ is. let memory = stops-ended g.D.Disk g.P.Patterns.refusals c.args.disk c.args.script.now c.in-Ok.opened.plan.mounted c.in-Ok.opened.core c.play_store.result c.in-Ok.ensures.goes c.play_store.ensures DiskFault is in absurd cc;
+  input = λ is. let memory = stops-ended g.D.Disk g.P.Patterns.refusals c.args.disk c.args.script.now c.in-Ok.opened.plan.mounted c.in-Ok.opened.core c.play_store.result c.in-Ok.ensures.goes c.play_store.ensures ReadFault is in absurd cc;
+  goes = goes-ended g.D.Disk g.P.Patterns.refusals c.args.disk c.args.script.now c.in-Ok.opened.plan.mounted c.in-Ok.opened.core c.play_store.result c.in-Ok.ensures.goes c.play_store.ensures;
+  later =
+      let first = ap g.P.Patterns.refusals c.in-Ok.ensures.patterns in
+      let later = later-ended g.D.Disk g.P.Patterns.refusals c.args.disk c.args.script.now c.in-Ok.opened.plan.mounted c.in-Ok.opened.core c.play_store.result c.in-Ok.ensures.goes c.play_store.ensures in
+      omega (arith, first, later);
+}
 
-pub returns-in-Ok-clause-reported : goal.returns-in-Ok-clause-reported
-returns-in-Ok-clause-reported g c =
-    reported-ended g.D.Disk g.P.Patterns.refusals c.args.disk c.args.script.now c.in-Ok.opened.plan.mounted c.in-Ok.opened.core c.play_store.result c.in-Ok.ensures.goes c.play_store.ensures c.requires
-
-pub returns-in-Err-clause-worked : goal.returns-in-Err-clause-worked
-returns-in-Err-clause-worked g c = λ tells files doubt calm.
-    let refusal = c.in-Err.field-0 in
-    let opening = c.in-Err.ensures in
-    let refusing = c.refuse_opening in
-    NotPlayed (subst (λ d. Serve g.D.Disk files doubt (IsUnopened (opened_files (g.D.Disk.seen c.args.disk))) refusing.result c.args.disk d) (sym c.given_back-disk.ensures)
-    (unopened-serve g.D.Disk c.args.disk refusal.disk files doubt refusal.fault refusing.result refusing.ensures.told refusing.ensures.answered refusing.ensures.input
-    (opening.any_moment tells files doubt calm) (opening.rests tells files doubt calm) (opening.shown tells files doubt calm) (opening.left_alone tells)
-    (opening.refused tells files doubt calm) (λ at is. opening.calm tells files doubt calm at (ap Some is))
-    (λ still. leaves_calm g.D.Disk c.args.disk refusal.disk files doubt tells opening.goes calm (opening.left_alone tells) (opening.left tells files doubt calm still))))
-
-pub returns-in-Err-clause-broken_stays : goal.returns-in-Err-clause-broken_stays
-returns-in-Err-clause-broken_stays g c = λ tells at is.
-    subst (OnlyReads g.D.Disk c.args.disk) (sym c.given_back-disk.ensures) (c.in-Err.ensures.left_alone tells (bad-not_open (g.D.Disk.seen c.args.disk journal_name) at is))
+pub returns-in-Err : goal.returns-in-Err
+returns-in-Err g c = record {
+  worked = λ tells files doubt calm.
+      let refusal = c.in-Err.field-0 in
+      let opening = c.in-Err.ensures in
+      let refusing = c.refuse_opening in
+      NotPlayed (subst (λ d. Serve g.D.Disk files doubt (IsUnopened (opened_files (g.D.Disk.seen c.args.disk))) refusing.result c.args.disk d) (sym c.given_back-disk.ensures)
+      (unopened-serve g.D.Disk c.args.disk refusal.disk files doubt refusal.fault refusing.result refusing.ensures.told refusing.ensures.answered refusing.ensures.input
+      (opening.any_moment tells files doubt calm) (opening.rests tells files doubt calm) (opening.shown tells files doubt calm) (opening.left_alone tells)
+      (opening.refused tells files doubt calm) (λ at is. opening.calm tells files doubt calm at (ap Some is))
+      (λ still. leaves_calm g.D.Disk c.args.disk refusal.disk files doubt tells opening.goes calm (opening.left_alone tells) (opening.left tells files doubt calm still))));
+  reported = IfOk-weaker c.refuse_opening.result _ _ (λ report is. Own (refused-answered 5 report.status (omega arith) is)) c.refuse_opening.ensures.status;
+  unstored = λ tells none. reads-none g.D.Disk c.refuse_opening.result c.args.disk _ (subst (OnlyReads g.D.Disk c.args.disk) (sym c.given_back-disk.ensures) (c.in-Err.ensures.left_alone tells none));
+  broken = λ tells at is.
+      broken_told at c.in-Err.field-0.fault c.refuse_opening.result c.refuse_opening.ensures.told c.refuse_opening.ensures.answered (c.in-Err.ensures.broken tells at is);
+  broken_stays = λ tells at is.
+      subst (OnlyReads g.D.Disk c.args.disk) (sym c.given_back-disk.ensures) (c.in-Err.ensures.left_alone tells (bad-not_open (g.D.Disk.seen c.args.disk journal_name) at is));
+  cause = λ is. subst (λ d. HasRisen (g.D.Disk.faults c.args.disk) (g.D.Disk.faults d)) (sym c.given_back-disk.ensures) (c.in-Err.ensures.cause (ap Some (c.refuse_opening.ensures.cause is)));
+  input = c.refuse_opening.ensures.input;
+  goes = subst (GoesOn g.D.Disk c.args.disk) (sym c.given_back-disk.ensures) c.in-Err.ensures.goes;
+  later = let same = ap g.P.Patterns.refusals c.in-Err.ensures.patterns in omega (arith, same);
+}

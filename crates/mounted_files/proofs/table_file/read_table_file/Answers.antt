@@ -6,11 +6,11 @@ use Rattle.model_maps.specs.KeyMap.{KeyMap}
 use Rattle.mount_table.specs.Points.{own_point}
 use Rattle.mount_table.specs.Table.{table_of}
 use Rattle.mounted_files.specs.Files.{Badness, Holds, IsCause, Reading}
-use Rattle.mounted_files.specs.Holding.{IsHolding, cause_of}
+use Rattle.mounted_files.specs.Holding.{IsAlone, IsHolding}
 use Rattle.mounted_files.specs.Opening.{IsOwnFault, RefusesOpening}
-use Rattle.mounted_files.specs.Refusing.{RefusesTable, refusal_of}
-use Rattle.mounted_files.specs.declared.causes.FileCause.{FileCause}
-use Rattle.mounted_files.specs.declared.causes.FileCause.TheVariants as cause
+use Rattle.mounted_files.specs.Refusing.{IsRefusalFor, RefusesTable}
+use Rattle.mounted_files.specs.declared.causes.Cause.{Cause}
+use Rattle.mounted_files.specs.declared.causes.Cause.TheVariants as cause
 use Rattle.mounted_files.specs.declared.holding.Holding.{Holding}
 use Rattle.mounted_files.specs.declared.refusals.OpenRefusal.{OpenRefusal}
 use Rattle.mounted_files.proofs.table_file.read_table_file.Goals as goal
@@ -21,9 +21,10 @@ module _ (Reads : Reading) (IsBad : Badness) (bytes : List ℕ) where
       let told = is other in
       subst (λ (r : OpenRefusal). IsOwnFault Reads IsBad bytes r) (sym told.is) (record { keys = keys; holds = holds; is = told.at_fault })
 
-  from_cause : (why : FileCause) → IsCause Reads IsBad own_point Dump bytes (cause_of why) → RefusesOpening Reads IsBad bytes (refusal_of why)
-  from_cause (cause.TooLong n) bad = λ _. bad
-  from_cause (cause.BadFile line) bad = λ _. bad
+  from_cause : (why : Cause) (refusal : OpenRefusal) → IsRefusalFor why refusal → IsCause Reads IsBad own_point Dump bytes why → RefusesOpening Reads IsBad bytes refusal
+  from_cause (cause.TooLong n) refusal is bad = λ _. subst (λ (r : OpenRefusal). IsOwnFault Reads IsBad bytes r) (sym is) bad
+  from_cause (cause.BadFile line) refusal is bad = λ _. subst (λ (r : OpenRefusal). IsOwnFault Reads IsBad bytes r) (sym is) bad
+  from_cause (cause.TooHeavy weight) refusal is bad = absurd is
 
   -- what the file holds at the mountpoint of the table's own keys
   held : (point : Name) (found holding : Holding) → point ≡ own_point → found ≡ holding → IsHolding Reads IsBad point Dump bytes found → IsHolding Reads IsBad own_point Dump bytes holding
@@ -45,6 +46,8 @@ pub returns-clause-read : goal.returns-clause-read
 returns-clause-read g c bytes is_whole =
     let Reads = g.F.Formats.reads in
     let IsBad = g.F.Formats.is_bad_at in
-    subst (λ (r : OpenRefusal). RefusesOpening Reads IsBad bytes r) (sym c.refusal_of.ensures)
-    (from_cause Reads IsBad bytes c.in-Bad.cause
-    (held Reads IsBad bytes c.in_ok-point.point c.in_ok-keys.field-0 _ c.in_ok-point.ensures c.in-Bad.is (c.in_ok-keys.ensures.is bytes is_whole)))
+    from_cause Reads IsBad bytes c.in-Bad.cause _ c.refusal_of.ensures
+    (held Reads IsBad bytes c.in_ok-point.point c.in_ok-keys.field-0 _ c.in_ok-point.ensures c.in-Bad.is (c.in_ok-keys.ensures.is bytes is_whole))
+
+pub refusal_of-requires : goal.refusal_of-requires
+refusal_of-requires g c = subst (λ (h : Holding). IsAlone h) c.in-Bad.is c.in_ok-keys.ensures.alone

@@ -1,11 +1,12 @@
 -- The opened journal shows the files that it leaves, and reading them changes nothing.
-use Rattle.std.proofs.Common.{◌≡◌, false, refl, sym, ap, subst, Some, MatchResult, ◌∙◌}
+use Rattle.std.proofs.Common.{◌≡◌, false, refl, sym, ap, subst, Some, MatchResult, ◌∙◌, rules}
 use Rattle.general_words.proofs.Lists.{none_is_no_some, some_is}
 use Rattle.kdb_outside.specs.Images.{Image}
 use Rattle.kdb_outside.proofs.Frames.{OnlyReads-then}
 use Rattle.intent_journal.specs.BadJournals.{opened_files, opened_doubt}
 use Rattle.intent_journal.specs.Outcomes.{SameFiles, HasOnly, IsEither}
 use Rattle.model_crashes.specs.Runs.{new_run}
+use Rattle.model_store.specs.Store.{formats_of}
 use Rattle.mount_table.specs.Table.{own_mount}
 use Rattle.mounted_files.specs.Opening.{IsOpened}
 use Rattle.store_core.specs.Faults.{RefusesBroken, RefusesStore}
@@ -15,94 +16,88 @@ use Rattle.store_core.specs.declared.faults.OpenFault.TheVariants.{BadJournal}
 use Rattle.store_core.proofs.OpeningLemmas.{calm_read, told_alike, in_doubt, journal_broken, journal_refuses, of_journal-bad, rests_read, stands_opened, still_only, whatever, unread_files}
 use Rattle.store_core.proofs.opening.open_store.Goals as goal
 
-pub returns-in-Ok-clause-opened : goal.returns-in-Ok-clause-opened
-returns-in-Ok-clause-opened g c tells files doubt calm =
-    let journal = c.in-Ok.journal in
-    (told_alike g.F.Formats.reads g.F.Formats.is_bad_at (g.D.Disk.seen journal.disk) (opened_files (g.D.Disk.seen c.args.disk)) (c.in-Ok.ensures.shown tells files doubt calm) c.open_files.result
-    (c.open_files.ensures.told (c.in-Ok.ensures.opened tells files doubt calm).rests.tells)).0
+pub returns-in-Ok : goal.returns-in-Ok
+returns-in-Ok g c = record {
+  patterns = search rules;
+  opened = λ tells files doubt calm.
+      let journal = c.in-Ok.journal in
+      (told_alike g.F.Formats.reads g.F.Formats.is_bad_at (g.D.Disk.seen journal.disk) (opened_files (g.D.Disk.seen c.args.disk)) (c.in-Ok.ensures.shown tells files doubt calm) c.open_files.result
+      (c.open_files.ensures.told (c.in-Ok.ensures.opened tells files doubt calm).rests.tells)).0;
+  stands = λ tells files doubt calm.
+      let store = c.in-Ok.ensures.opened tells files doubt calm in
+      stands_opened (formats_of g.F.Formats) g.D.Disk g.F.Formats.reads g.F.Formats.is_bad_at c.in-Ok.journal
+      (new_run (opened_files (g.D.Disk.seen c.args.disk)) (g.D.Disk.faults c.args.disk) (opened_doubt (g.D.Disk.seen c.args.disk))) c.open_files.result refl store
+      (c.open_files.ensures.told store.rests.tells) c.open_files.ensures.keys c.open_files.ensures.none c.open_files.ensures.journal;
+  own = λ tells files doubt calm same.
+      let store = c.in-Ok.ensures.own tells files doubt calm same in
+      stands_opened (formats_of g.F.Formats) g.D.Disk g.F.Formats.reads g.F.Formats.is_bad_at c.in-Ok.journal
+      (new_run files (g.D.Disk.faults c.args.disk) doubt) c.open_files.result refl store
+      (c.open_files.ensures.told store.rests.tells) c.open_files.ensures.keys c.open_files.ensures.none c.open_files.ensures.journal;
+  shown = λ tells files doubt calm of_files.
+      let store = c.in-Ok.ensures.opened tells files doubt calm in
+      subst (λ (seen : Image). SameFiles seen (opened_files (g.D.Disk.seen c.args.disk))) (sym (c.open_files.ensures.reads.same store.rests.tells)) (c.in-Ok.ensures.shown tells files doubt calm);
+  files = λ tells files doubt calm. whatever c.open_files.result (IsEither files doubt (opened_files (g.D.Disk.seen c.args.disk))) (c.in-Ok.ensures.files tells files doubt calm);
+  world = search rules;
+  keys = search rules;
+  none = search rules;
+  wrote = search rules;
+  doubt = in_doubt g.D.Disk c.in-Ok.journal c.open_files.result c.in-Ok.ensures.doubt c.open_files.ensures.journal;
+  as_seen = λ tells none.
+      let reads = c.in-Ok.ensures.reads tells none in
+      subst (λ (seen : Image). MatchResult c.open_files.result (λ o. IsOpened g.F.Formats.reads g.F.Formats.is_bad_at seen o.plan.mounted) (λ r. RefusesStore g.F.Formats.reads g.F.Formats.is_bad_at (seen own_mount.file) r.fault))
+      (reads.same tells) (c.open_files.ensures.told (reads.tells ∙ tells));
+  left_alone = λ tells none. OnlyReads-then g.D.Disk c.args.disk c.in-Ok.journal.disk (disk_of c.open_files.result) (c.in-Ok.ensures.reads tells none) c.open_files.ensures.reads;
+  refused = λ tells files doubt calm.
+      let journal = c.in-Ok.journal in
+      (told_alike g.F.Formats.reads g.F.Formats.is_bad_at (g.D.Disk.seen journal.disk) (opened_files (g.D.Disk.seen c.args.disk)) (c.in-Ok.ensures.shown tells files doubt calm) c.open_files.result
+      (c.open_files.ensures.told (c.in-Ok.ensures.opened tells files doubt calm).rests.tells)).1;
+  bad = search rules;
+  broken = λ tells at is. absurd (none_is_no_some at (sym (c.in-Ok.ensures.good tells) ∙ is));
+  calm = search rules;
+  cause = search rules;
+  calm_still = λ tells files doubt calm still.
+      calm_read g.D.Disk c.args.disk c.in-Ok.journal.disk (disk_of c.open_files.result) files doubt tells c.in-Ok.ensures.goes c.open_files.ensures.reads
+      (c.in-Ok.ensures.calm_still tells files doubt calm) still;
+  left = λ tells files doubt calm still.
+      let seen = g.D.Disk.seen c.args.disk in
+      let store = c.in-Ok.ensures.opened tells files doubt calm in
+      AsOpened (subst (λ (now : Image). SameFiles now (opened_files seen)) (sym (c.open_files.ensures.reads.same store.rests.tells)) (c.in-Ok.ensures.shown tells files doubt calm))
+      (calm_read g.D.Disk c.args.disk c.in-Ok.journal.disk (disk_of c.open_files.result) (opened_files seen) (opened_doubt seen) tells c.in-Ok.ensures.goes c.open_files.ensures.reads (store.calm c.in-Ok.ensures.doubt) still);
+  any_moment = λ tells files doubt calm.
+      still_only g.D.Disk c.args.disk c.in-Ok.journal.disk (disk_of c.open_files.result) (HasOnly (IsEither files doubt)) tells c.in-Ok.ensures.goes (c.in-Ok.ensures.any_moment tells files doubt calm)
+      c.open_files.ensures.reads;
+  rests = λ tells files doubt calm.
+      rests_read g.D.Disk c.in-Ok.journal.disk (disk_of c.open_files.result) (HasOnly (IsEither files doubt)) (c.in-Ok.ensures.goes.tells ∙ tells) c.open_files.ensures.reads (c.in-Ok.ensures.rests tells files doubt calm);
+  goes = search rules;
+}
 
-pub returns-in-Ok-clause-refused : goal.returns-in-Ok-clause-refused
-returns-in-Ok-clause-refused g c tells files doubt calm =
-    let journal = c.in-Ok.journal in
-    (told_alike g.F.Formats.reads g.F.Formats.is_bad_at (g.D.Disk.seen journal.disk) (opened_files (g.D.Disk.seen c.args.disk)) (c.in-Ok.ensures.shown tells files doubt calm) c.open_files.result
-    (c.open_files.ensures.told (c.in-Ok.ensures.opened tells files doubt calm).rests.tells)).1
-
-pub returns-in-Ok-clause-stands : goal.returns-in-Ok-clause-stands
-returns-in-Ok-clause-stands g c tells files doubt calm =
-    let store = c.in-Ok.ensures.opened tells files doubt calm in
-    stands_opened (record { text = g.F.Formats.text; IsStorable = g.F.Formats.is_storable; BreaksAt = g.F.Formats.breaks_at }) g.D.Disk g.F.Formats.reads g.F.Formats.is_bad_at c.in-Ok.journal
-    (new_run (opened_files (g.D.Disk.seen c.args.disk)) (g.D.Disk.faults c.args.disk) (opened_doubt (g.D.Disk.seen c.args.disk))) c.open_files.result refl store
-    (c.open_files.ensures.told store.rests.tells) c.open_files.ensures.keys c.open_files.ensures.none c.open_files.ensures.journal
-
-pub returns-in-Ok-clause-files : goal.returns-in-Ok-clause-files
-returns-in-Ok-clause-files g c tells files doubt calm =
-    whatever c.open_files.result (IsEither files doubt (opened_files (g.D.Disk.seen c.args.disk))) (c.in-Ok.ensures.files tells files doubt calm)
-
-pub returns-in-Ok-clause-any_moment : goal.returns-in-Ok-clause-any_moment
-returns-in-Ok-clause-any_moment g c tells files doubt calm =
-    still_only g.D.Disk c.args.disk c.in-Ok.journal.disk (disk_of c.open_files.result) (HasOnly (IsEither files doubt)) tells c.in-Ok.ensures.goes (c.in-Ok.ensures.any_moment tells files doubt calm)
-    c.open_files.ensures.reads
-
-pub returns-in-Ok-clause-own : goal.returns-in-Ok-clause-own
-returns-in-Ok-clause-own g c tells files doubt calm same =
-    let store = c.in-Ok.ensures.own tells files doubt calm same in
-    stands_opened (record { text = g.F.Formats.text; IsStorable = g.F.Formats.is_storable; BreaksAt = g.F.Formats.breaks_at }) g.D.Disk g.F.Formats.reads g.F.Formats.is_bad_at c.in-Ok.journal
-    (new_run files (g.D.Disk.faults c.args.disk) doubt) c.open_files.result refl store
-    (c.open_files.ensures.told store.rests.tells) c.open_files.ensures.keys c.open_files.ensures.none c.open_files.ensures.journal
-
-pub returns-in-Ok-clause-shown : goal.returns-in-Ok-clause-shown
-returns-in-Ok-clause-shown g c tells files doubt calm of_files =
-    let store = c.in-Ok.ensures.opened tells files doubt calm in
-    subst (λ (seen : Image). SameFiles seen (opened_files (g.D.Disk.seen c.args.disk))) (sym (c.open_files.ensures.reads.same store.rests.tells)) (c.in-Ok.ensures.shown tells files doubt calm)
-
-pub returns-in-Err-clause-shown : goal.returns-in-Err-clause-shown
-returns-in-Err-clause-shown g c tells files doubt calm of_files = absurd (unread_files c.in-Err.field-0.fault (subst (λ (f : OpenFault). may_be_of_journal (Some f) ≡ false) c.into.ensures of_files))
-
-pub returns-in-Ok-clause-doubt : goal.returns-in-Ok-clause-doubt
-returns-in-Ok-clause-doubt g c = in_doubt g.D.Disk c.in-Ok.journal c.open_files.result c.in-Ok.ensures.doubt c.open_files.ensures.journal
-
-pub returns-in-Ok-clause-as_seen : goal.returns-in-Ok-clause-as_seen
-returns-in-Ok-clause-as_seen g c tells none =
-    let reads = c.in-Ok.ensures.reads tells none in
-    subst (λ (seen : Image). MatchResult c.open_files.result (λ o. IsOpened g.F.Formats.reads g.F.Formats.is_bad_at seen o.plan.mounted) (λ r. RefusesStore g.F.Formats.reads g.F.Formats.is_bad_at (seen own_mount.file) r.fault))
-    (reads.same tells) (c.open_files.ensures.told (reads.tells ∙ tells))
-
-pub returns-in-Err-clause-as_seen : goal.returns-in-Err-clause-as_seen
-returns-in-Err-clause-as_seen g c tells none =
-    subst (RefusesStore g.F.Formats.reads g.F.Formats.is_bad_at (g.D.Disk.seen c.args.disk own_mount.file)) (sym c.into.ensures)
-    (journal_refuses g.F.Formats.reads g.F.Formats.is_bad_at (g.D.Disk.seen c.args.disk own_mount.file) c.in-Err.field-0.fault)
-
-pub returns-in-Ok-clause-left_alone : goal.returns-in-Ok-clause-left_alone
-returns-in-Ok-clause-left_alone g c tells none =
-    OnlyReads-then g.D.Disk c.args.disk c.in-Ok.journal.disk (disk_of c.open_files.result) (c.in-Ok.ensures.reads tells none) c.open_files.ensures.reads
-
-pub returns-in-Ok-clause-broken : goal.returns-in-Ok-clause-broken
-returns-in-Ok-clause-broken g c tells at is = absurd (none_is_no_some at (sym (c.in-Ok.ensures.good tells) ∙ is))
-
-pub returns-in-Err-clause-broken : goal.returns-in-Err-clause-broken
-returns-in-Err-clause-broken g c tells at is =
-    subst (RefusesBroken at) (sym c.into.ensures)
-    (journal_broken at c.in-Err.field-0.fault (λ place told. some_is place at (sym (c.in-Err.ensures.bad tells place (ap Some told)) ∙ is)))
-
-pub returns-in-Ok-clause-rests : goal.returns-in-Ok-clause-rests
-returns-in-Ok-clause-rests g c tells files doubt calm =
-    rests_read g.D.Disk c.in-Ok.journal.disk (disk_of c.open_files.result) (HasOnly (IsEither files doubt)) (c.in-Ok.ensures.goes.tells ∙ tells) c.open_files.ensures.reads (c.in-Ok.ensures.rests tells files doubt calm)
-
-pub returns-in-Err-clause-calm : goal.returns-in-Err-clause-calm
-returns-in-Err-clause-calm g c tells files doubt calm at is =
-    c.in-Err.ensures.calm tells files doubt calm at (ap Some (of_journal-bad c.in-Err.field-0.fault at (sym c.into.ensures ∙ some_is c.into.result (BadJournal at) is)))
-
-pub returns-in-Ok-clause-calm_still : goal.returns-in-Ok-clause-calm_still
-returns-in-Ok-clause-calm_still g c tells files doubt calm still =
-    calm_read g.D.Disk c.args.disk c.in-Ok.journal.disk (disk_of c.open_files.result) files doubt tells c.in-Ok.ensures.goes c.open_files.ensures.reads
-    (c.in-Ok.ensures.calm_still tells files doubt calm) still
-
-pub returns-in-Ok-clause-left : goal.returns-in-Ok-clause-left
-returns-in-Ok-clause-left g c tells files doubt calm still =
-    let seen = g.D.Disk.seen c.args.disk in
-    let store = c.in-Ok.ensures.opened tells files doubt calm in
-    AsOpened (subst (λ (now : Image). SameFiles now (opened_files seen)) (sym (c.open_files.ensures.reads.same store.rests.tells)) (c.in-Ok.ensures.shown tells files doubt calm))
-    (calm_read g.D.Disk c.args.disk c.in-Ok.journal.disk (disk_of c.open_files.result) (opened_files seen) (opened_doubt seen) tells c.in-Ok.ensures.goes c.open_files.ensures.reads (store.calm c.in-Ok.ensures.doubt) still)
-
-pub returns-in-Err-clause-left : goal.returns-in-Err-clause-left
-returns-in-Err-clause-left g c tells files doubt calm still = StillRead (c.in-Err.ensures.kept (λ is. still (c.in-Err.ensures.cause (ap Some is))))
+pub returns-in-Err : goal.returns-in-Err
+returns-in-Err g c = record {
+  patterns = search rules;
+  opened = search rules;
+  stands = search rules;
+  own = search rules;
+  shown = λ tells files doubt calm of_files. absurd (unread_files c.in-Err.field-0.fault (subst (λ (f : OpenFault). may_be_of_journal (Some f) ≡ false) c.into.ensures of_files));
+  files = search rules;
+  world = search rules;
+  keys = search rules;
+  none = search rules;
+  wrote = search rules;
+  doubt = search rules;
+  as_seen = λ tells none.
+      subst (RefusesStore g.F.Formats.reads g.F.Formats.is_bad_at (g.D.Disk.seen c.args.disk own_mount.file)) (sym c.into.ensures)
+      (journal_refuses g.F.Formats.reads g.F.Formats.is_bad_at (g.D.Disk.seen c.args.disk own_mount.file) c.in-Err.field-0.fault);
+  left_alone = search rules;
+  refused = search rules;
+  bad = search rules;
+  broken = λ tells at is.
+      subst (RefusesBroken at) (sym c.into.ensures)
+      (journal_broken at c.in-Err.field-0.fault (λ place told. some_is place at (sym (c.in-Err.ensures.bad tells place (ap Some told)) ∙ is)));
+  calm = λ tells files doubt calm at is. c.in-Err.ensures.calm tells files doubt calm at (ap Some (of_journal-bad c.in-Err.field-0.fault at (sym c.into.ensures ∙ some_is c.into.result (BadJournal at) is)));
+  cause = search rules;
+  calm_still = c.in-Err.ensures.calm_still;
+  left = λ tells files doubt calm still. StillRead (c.in-Err.ensures.kept (λ is. still (c.in-Err.ensures.cause (ap Some is))));
+  any_moment = c.in-Err.ensures.any_moment;
+  rests = c.in-Err.ensures.rests;
+  goes = search rules;
+}

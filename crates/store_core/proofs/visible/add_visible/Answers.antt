@@ -1,7 +1,7 @@
 -- A bad file adds nothing.
 use Rattle.std.proofs.Common.{sym, ap, ◌∙◌}
 use Rattle.key_set.specs.WithAll.{with_all}
-use Rattle.mounted_files.specs.Getting.{visible_of}
+use Rattle.mounted_files.specs.Visible.{visible_of}
 use Rattle.mounted_files.specs.declared.files.FileState.{FileState}
 use Rattle.store_core.proofs.VisibleLemmas.{with_none}
 use Rattle.store_core.proofs.visible.add_visible.Goals as goal

@@ -1,6 +1,6 @@
 -- The visible keys of the first files.
 use Rattle.std.proofs.Common.{◌≡◌, take}
-use Rattle.mounted_files.specs.Getting.{visible_keys}
+use Rattle.mounted_files.specs.Visible.{visible_keys}
 use Rattle.store_core.proofs.visible.visible_keys.Given as goal
 
 abbrev pub invariant-loop-file : goal.invariant-loop-file

@@ -1,13 +1,12 @@
 -- A get before any commit gives what the files give.
 use Rattle.std.proofs.Common.{None, sym}
-use Rattle.all_formats.specs.Meanings.{Reads, IsBadAt}
 use Rattle.model_maps.specs.KeyMap.{no_keys}
 use Rattle.tool_single.proofs.GetLemmas.{fault_shown, fetched, keys_shown}
 use Rattle.tool_single.proofs.answering.fetch.Goals as goal
 
 pub returns-in-Ok-clause-keys : goal.returns-in-Ok-clause-keys
-returns-in-Ok-clause-keys g c = λ bytes_of opened.
-    keys_shown c.args.plan.now.mounted c.args.core.now c.args.parent.now c.args.rec.now c.get.new.rec (c.requires.open.world (λ h. no_keys)) c.requires.new c.in-Ok.ensures.handle c.in-Ok.ensures.places Reads IsBadAt bytes_of c.in-Ok.got opened
+returns-in-Ok-clause-keys g c =
+    keys_shown c.args.plan.now.mounted c.args.core.now c.args.parent.now c.args.rec.now c.get.new.rec (c.requires.open.world (λ h. no_keys)) c.requires.new c.in-Ok.ensures.handle c.in-Ok.ensures.places c.in-Ok.got
     (c.in-Ok.ensures.got (λ h. no_keys) (λ r m. None) (λ p. None) (sym c.requires.new.proc) (λ i m. sym (c.requires.new.none m) i))
 
 pub returns-in-Ok-clause-fetched : goal.returns-in-Ok-clause-fetched

@@ -4,11 +4,12 @@ use Rattle.model_maps.specs.KeyMap.{no_keys}
 use Rattle.tool_commands.specs.Report.{Report}
 use Rattle.kdb_outside.specs.Faults.{HasRisen}
 use Rattle.tool_single.specs.Serving.{MayRefuse, Serves}
-use Rattle.tool_single.specs.Sets.{AnswersSet, store_alone}
+use Rattle.tool_single.specs.Alone.{store_alone}
+use Rattle.tool_single.specs.Sets.{AnswersSet}
 use Rattle.std.specs.Prelude.{string_bytes}
 use Rattle.model_store.specs.Rules.{has_risen}
 use Rattle.tool_single.proofs.RiseLemmas.{rose_may}
-use Rattle.tool_single.proofs.CommitLemmas.{done_serves, joined, blocks_not, made, ready, records, refused_disk, refused_memory, refused_serving, world}
+use Rattle.tool_single.proofs.CommitLemmas.{done_serves, joined, blocks_not, made, ready, records, refused_disk, refused_serving, world}
 use Rattle.tool_single.proofs.setting.commit_set.Goals as goal
 
 pub commit-requires : goal.commit-requires
@@ -54,9 +55,6 @@ returns-in-Err-clause-serving g c = λ parent keys fetched is_made.
     (λ opened run on_disk. c.in-Err.ensures.committed (store_alone files) opened (records g.D.Disk files core c.args.rec.now c.args.prepared here parent keys fetched is_made) (made g.D.Disk files core c.args.rec.now c.args.prepared here parent keys fetched is_made)
     (world g.D.Disk files core c.args.rec.now c.args.prepared here parent keys fetched is_made) run 0 (joined g.D.Disk files core c.args.rec.now c.args.prepared here parent keys fetched is_made opened run on_disk))
     c.in-Err.ensures.unwritten c.in-Err.ensures.wrote
-
-pub returns-in-Err-clause-memory : goal.returns-in-Err-clause-memory
-returns-in-Err-clause-memory g c = refused_memory c.in-Err.fault c.refuse_commit.result c.args.core.now c.commit.new.self c.refuse_commit.ensures.refused c.in-Err.ensures.unwritten
 
 pub returns-in-Err-clause-cause : goal.returns-in-Err-clause-cause
 returns-in-Err-clause-cause g c = λ is.

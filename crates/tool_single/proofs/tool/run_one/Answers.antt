@@ -1,10 +1,12 @@
+-- How a single command ends, from what was done for it and what became of its answer on out and err.
+use Rattle.std.proofs.Common.{inl}
 use Rattle.kdb_outside.specs.Faults.{HasRisen}
+use Rattle.kdb_outside.specs.SinkChange.{change_of}
 use Rattle.tool_single.specs.Input.{FailsToRead, LosesInput}
 use Rattle.tool_single.specs.Serving.{MayRefuse}
 use Rattle.tool_single.specs.Untold.{HasAsked}
 use Rattle.tool_words.specs.Rows.{request}
 use Rattle.tool_commands.specs.Report.{IsAnswered}
-use Rattle.std.proofs.Common.{inl}
 use Rattle.tool_single.proofs.AnswersMore.{stores_nothing}
 use Rattle.tool_single.proofs.EndLemmas.{by_words, without_memory, in_fault, complete, made_of, not_stored, of_memory}
 use Rattle.tool_single.proofs.BrokenLemmas.{ends_broken}
@@ -12,53 +14,42 @@ use Rattle.tool_single.proofs.InputLemmas.{leaves_input}
 use Rattle.tool_single.proofs.RunLemmas.{ran}
 use Rattle.tool_single.proofs.tool.run_one.Goals as goal
 
-pub returns-clause-ran : goal.returns-clause-ran
-returns-clause-ran g c = λ tells files doubt calm given fed.
-    let ended = c.carry_out-answer.result in
-    let Unread = FailsToRead (request c.args.words.now) (g.S.Source.faults c.args.input.now) (g.S.Source.faults c.carry_out-answer.new.input) in
-    ran g.D.Disk c.args.disk ended.disk files doubt c.args.words.now given (g.P.Patterns.refusals c.args.patterns) (g.P.Patterns.refusals ended.patterns)
-    (LosesInput Unread c.args.disk ended.disk c.args.patterns ended.patterns) c.finish-status.result _ _
-    c.carry_out-answer.result.answer (c.carry_out-answer.ensures.served tells files doubt calm given fed) c.carry_out-answer.ensures.read c.carry_out-answer.ensures.cause c.finish-status.ensures.finished
-
-pub returns-clause-words : goal.returns-clause-words
-returns-clause-words g c =
-    by_words g.S.Source c.args.input.now c.carry_out-answer.new.input c.carry_out-answer.result.answer (request c.args.words.now) c.finish-status.result _ _ c.carry_out-answer.ensures.untold c.carry_out-answer.ensures.asked (λ is. (c.carry_out-answer.ensures.read is).risen) c.finish-status.ensures.finished
-
-pub returns-clause-memory : goal.returns-clause-memory
-returns-clause-memory g c =
-    without_memory c.carry_out-answer.result.answer c.finish-status.result _ _ c.carry_out-answer.ensures.own c.finish-status.ensures.finished
-
-pub returns-clause-fault : goal.returns-clause-fault
-returns-clause-fault g c =
-    in_fault (HasRisen (g.D.Disk.faults c.args.disk) (g.D.Disk.faults c.carry_out-answer.result.disk) × HasAsked g.S.Source (request c.args.words.now) c.args.input.now c.carry_out-answer.new.input)
-    (LosesInput (FailsToRead (request c.args.words.now) (g.S.Source.faults c.args.input.now) (g.S.Source.faults c.carry_out-answer.new.input)) c.args.disk c.carry_out-answer.result.disk c.args.patterns c.carry_out-answer.result.patterns)
-    c.carry_out-answer.result.answer c.finish-status.result _ _ c.carry_out-answer.ensures.own (λ is. (c.carry_out-answer.ensures.cause is, c.carry_out-answer.ensures.asked is)) c.carry_out-answer.ensures.read c.finish-status.ensures.finished
-
-pub returns-clause-complete : goal.returns-clause-complete
-returns-clause-complete g c = λ no_disk no_input.
-    complete (HasRisen (g.D.Disk.faults c.args.disk) (g.D.Disk.faults c.carry_out-answer.result.disk) × HasAsked g.S.Source (request c.args.words.now) c.args.input.now c.carry_out-answer.new.input)
-    (LosesInput (FailsToRead (request c.args.words.now) (g.S.Source.faults c.args.input.now) (g.S.Source.faults c.carry_out-answer.new.input)) c.args.disk c.carry_out-answer.result.disk c.args.patterns c.carry_out-answer.result.patterns)
-    c.finish-status.result _ _ (returns-clause-fault g c) (λ failed. no_disk failed.0) (λ failed. no_input failed.risen)
-
-pub returns-clause-unwritten : goal.returns-clause-unwritten
-returns-clause-unwritten g c = λ tells files doubt calm is.
-    c.carry_out-answer.ensures.unserved tells files doubt calm (inl (of_memory c.carry_out-answer.result.answer c.finish-status.result _ _ c.carry_out-answer.ensures.own c.finish-status.ensures.finished is))
-
-pub returns-clause-untouched : goal.returns-clause-untouched
-returns-clause-untouched g c = λ tells none given fed nothing.
+pub returns : goal.returns
+returns g c =
+    let words = c.args.words.now in
+    let disk = c.args.disk in
+    let done = c.carry_out-answer in
+    let ended = done.result in
+    let answer = ended.answer in
+    let input = c.args.input.now in
+    let input_now = done.new.input in
     let before = g.P.Patterns.refusals c.args.patterns in
-    let now = g.P.Patterns.refusals c.carry_out-answer.result.patterns in
-    c.carry_out-answer.ensures.untouched tells none given fed
-    (stores_nothing (MayRefuse c.carry_out-answer.result.answer before now) (λ _. HasRisen before now) c.args.words.now given (g.D.Disk.seen c.args.disk) nothing)
-
-pub returns-clause-unstored : goal.returns-clause-unstored
-returns-clause-unstored g c = λ tells none not_done no_fault.
-    c.carry_out-answer.ensures.unstored tells none (not_stored c.carry_out-answer.result.answer c.finish-status.result _ _ c.finish-status.ensures.finished not_done no_fault)
-
-pub returns-clause-input : goal.returns-clause-input
-returns-clause-input g c =
-    leaves_input g.S.Source (request c.args.words.now) (IsAnswered c.finish-status.result) _ c.args.input.now c.carry_out-answer.new.input (made_of c.carry_out-answer.result.answer c.finish-status.result _ _ c.finish-status.ensures.finished) c.carry_out-answer.ensures.input
-
-pub returns-clause-broken : goal.returns-clause-broken
-returns-clause-broken g c = λ tells at broken given fed.
-    ends_broken c.carry_out-answer.result.answer (request c.args.words.now) given at c.finish-status.result _ _ (c.carry_out-answer.ensures.broken tells at broken given fed) c.finish-status.ensures.finished
+    let now = g.P.Patterns.refusals ended.patterns in
+    let status = c.finish-status.result in
+    let finished = c.finish-status.ensures.finished in
+    let out = change_of g.K.Sink c.args.out.now c.finish-status.new.out in
+    let err = change_of g.E.Sink c.args.err.now c.finish-status.new.err in
+    let Unread = LosesInput (FailsToRead (request words) (g.S.Source.faults input) (g.S.Source.faults input_now)) disk ended.disk c.args.patterns ended.patterns in
+    let Failed = HasRisen (g.D.Disk.faults disk) (g.D.Disk.faults ended.disk) × HasAsked g.S.Source (request words) input input_now in
+    let fault = in_fault Failed Unread answer status out err done.ensures.own (λ is. (done.ensures.cause is, done.ensures.asked is)) done.ensures.read finished in
+    record {
+      ran = λ tells files doubt calm given fed. ran g.D.Disk disk ended.disk files doubt words given before now Unread status out err answer (done.ensures.served tells files doubt calm given fed) done.ensures.read done.ensures.cause finished;
+      calm = done.ensures.calm;
+      words = by_words g.S.Source input input_now answer (request words) status out err done.ensures.untold done.ensures.asked (λ is. (done.ensures.read is).risen) finished;
+      unasked = done.ensures.unasked;
+      broken = λ tells at is given fed. ends_broken answer (request words) given at status out err (done.ensures.broken tells at is given fed) finished;
+      broken_stays = done.ensures.broken_stays;
+      memory = without_memory answer status out err done.ensures.own finished;
+      fault = fault;
+      complete = λ no_disk no_input. complete Failed Unread status out err fault (λ failed. no_disk failed.0) (λ lost. no_input lost.risen);
+      unwritten = λ tells files doubt calm is. done.ensures.unserved tells files doubt calm (inl (of_memory answer status out err done.ensures.own finished is));
+      untouched = λ tells none given fed nothing.
+          done.ensures.untouched tells none given fed (stores_nothing (MayRefuse answer before now) (λ _. HasRisen before now) words given (g.D.Disk.seen disk) nothing);
+      unstored = λ tells none not_done no_fault. done.ensures.unstored tells none (not_stored answer status out err finished not_done no_fault);
+      input = leaves_input g.S.Source (request words) (IsAnswered status) _ input input_now (made_of answer status out err finished) done.ensures.input;
+      goes = done.ensures.goes;
+      later_input = done.ensures.later;
+      later_out = c.finish-status.ensures.later_out;
+      later_err = c.finish-status.ensures.later_err;
+      later_patterns = done.ensures.later_patterns;
+    }

@@ -4,14 +4,14 @@ use Rattle.std.proofs.lemmas.List.{take_all}
 use Rattle.batch_script.specs.declared.steps.Step.{Step}
 use Rattle.general_words.proofs.Lists.{at_place}
 use Rattle.kdb_handle.specs.declared.replies.Reply.{Reply}
-use Rattle.model_store.specs.Store.{Formats}
+use Rattle.model_store.specs.Store.{Formats, formats_of}
 use Rattle.batch_run.specs.Stepping.{GoesOn}
 use Rattle.batch_run.proofs.Joining.{goes-more, goes-nowhere}
 use Rattle.batch_run.proofs.sessions.Session.take_steps.Goals as goal
 
 pub loop-step-init : goal.loop-step-init
 loop-step-init g c =
-    let formats : Formats = record { text = g.F.Formats.text; IsStorable = g.F.Formats.is_storable; BreaksAt = g.F.Formats.breaks_at } in
+    let formats : Formats = formats_of g.F.Formats in
     let store = c.args.store.now in
     let handle = c.args.self.now.handle in
     let working = c.args.self.now.working in
@@ -32,7 +32,7 @@ push_reserved-requires g c = omega (arith, c.loop-step.replies.ok.0, c.loop-step
 
 pub loop-step-preserved : goal.loop-step-preserved
 loop-step-preserved g c =
-    let formats : Formats = record { text = g.F.Formats.text; IsStorable = g.F.Formats.is_storable; BreaksAt = g.F.Formats.breaks_at } in
+    let formats : Formats = formats_of g.F.Formats in
     let store = c.args.store.now in
     let first = c.args.self.now in
     let so_far = c.loop-step in
@@ -52,7 +52,7 @@ loop-step-preserved g c =
 
 pub returns-clause-goes : goal.returns-clause-goes
 returns-clause-goes g c =
-    let formats : Formats = record { text = g.F.Formats.text; IsStorable = g.F.Formats.is_storable; BreaksAt = g.F.Formats.breaks_at } in
+    let formats : Formats = formats_of g.F.Formats in
     let store = c.args.store.now in
     let first = c.args.self.now in
     let last = c.loop-step in

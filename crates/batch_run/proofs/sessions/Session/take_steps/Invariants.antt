@@ -2,6 +2,7 @@
 use Rattle.std.proofs.Common.{◌≡◌, ◌+◌, ◌^◌, ◌<◌, length, take, vec_capacity}
 use Rattle.batch_run.specs.Stepping.{GoesOn}
 use Rattle.batch_run.proofs.sessions.Session.take_steps.Given as goal
+use Rattle.model_store.specs.Store.{formats_of}
 
 abbrev pub invariant-loop-step : goal.invariant-loop-step
 invariant-loop-step g l = record {
@@ -9,6 +10,6 @@ invariant-loop-step g l = record {
   count : length l.replies.items ≡ l.step-index;
   number : l.self.number ≡ l.initial.self.number;
   passed : l.initial.self.passed + length l.steps < 2 ^ 32 → l.self.passed ≡ l.initial.self.passed + l.step-index;
-  goes : GoesOn (record { text = g.F.Formats.text; IsStorable = g.F.Formats.is_storable; BreaksAt = g.F.Formats.breaks_at }) l.store.lock l.store.plan (take l.step-index l.steps) l.replies.items
+  goes : GoesOn (formats_of g.F.Formats) l.store.lock l.store.plan (take l.step-index l.steps) l.replies.items
       l.initial.self.handle l.initial.self.working l.self.handle l.self.working;
 }

@@ -1,6 +1,6 @@
 -- The story gains what the commit told, and so does the handle.
 use Rattle.std.proofs.Common.{◌++◌, List, Option, Some, sym, ap, subst, ◌∙◌}
-use Rattle.model_store.specs.Store.{Formats}
+use Rattle.model_store.specs.Store.{Formats, formats_of}
 use Rattle.kdb_handle.specs.Handles.{handle_with}
 use Rattle.kdb_handle.specs.Shares.{IsShared, told_now}
 use Rattle.kdb_handle.specs.Story.{Told, maker_of}
@@ -12,7 +12,7 @@ use Rattle.kdb_handle.proofs.handles.Handle.commit.Goals as goal
 
 pub commit-done-requires : goal.commit-done-requires
 commit-done-requires g c =
-    let formats : Formats = record { text = g.F.Formats.text; IsStorable = g.F.Formats.is_storable; BreaksAt = g.F.Formats.breaks_at } in
+    let formats : Formats = formats_of g.F.Formats in
     let before = ap (λ (s : Option (Known Told)). handle_with s c.self.inside.rec) (sym c.in-Some.is ∙ c.take.ensures.value) ∙ c.self.view_is in
     let store = c.args.store.now in
     let turn = c.enter-turn in
@@ -26,7 +26,7 @@ commit-done-requires g c =
 
 pub leave-requires-clause-story : goal.leave-requires-clause-story
 leave-requires-clause-story g c =
-    let formats : Formats = record { text = g.F.Formats.text; IsStorable = g.F.Formats.is_storable; BreaksAt = g.F.Formats.breaks_at } in
+    let formats : Formats = formats_of g.F.Formats in
     let before = ap (λ (s : Option (Known Told)). handle_with s c.self.inside.rec) (sym c.in-Some.is ∙ c.take.ensures.value) ∙ c.self.view_is in
     let store = c.args.store.now in
     let turn = c.enter-turn in
@@ -40,7 +40,7 @@ leave-requires-clause-story g c =
 
 pub leave-requires-clause-one : goal.leave-requires-clause-one
 leave-requires-clause-one g c =
-    let formats : Formats = record { text = g.F.Formats.text; IsStorable = g.F.Formats.is_storable; BreaksAt = g.F.Formats.breaks_at } in
+    let formats : Formats = formats_of g.F.Formats in
     let before = ap (λ (s : Option (Known Told)). handle_with s c.self.inside.rec) (sym c.in-Some.is ∙ c.take.ensures.value) ∙ c.self.view_is in
     let store = c.args.store.now in
     let turn = c.enter-turn in
@@ -55,7 +55,7 @@ leave-requires-clause-one g c =
 
 pub invariant_of-self : goal.invariant_of-self
 invariant_of-self g c =
-    let formats : Formats = record { text = g.F.Formats.text; IsStorable = g.F.Formats.is_storable; BreaksAt = g.F.Formats.breaks_at } in
+    let formats : Formats = formats_of g.F.Formats in
     let before = ap (λ (s : Option (Known Told)). handle_with s c.self.inside.rec) (sym c.in-Some.is ∙ c.take.ensures.value) ∙ c.self.view_is in
     let store = c.args.store.now in
     let turn = c.enter-turn in
@@ -71,7 +71,7 @@ invariant_of-self g c =
 
 pub returns-clause-handle : goal.returns-clause-handle
 returns-clause-handle g c =
-    let formats : Formats = record { text = g.F.Formats.text; IsStorable = g.F.Formats.is_storable; BreaksAt = g.F.Formats.breaks_at } in
+    let formats : Formats = formats_of g.F.Formats in
     let before = ap (λ (s : Option (Known Told)). handle_with s c.self.inside.rec) (sym c.in-Some.is ∙ c.take.ensures.value) ∙ c.self.view_is in
     let store = c.args.store.now in
     let turn = c.enter-turn in
@@ -94,7 +94,7 @@ returns-clause-handle g c =
 
 pub returns-clause-done : goal.returns-clause-done
 returns-clause-done g c =
-    let formats : Formats = record { text = g.F.Formats.text; IsStorable = g.F.Formats.is_storable; BreaksAt = g.F.Formats.breaks_at } in
+    let formats : Formats = formats_of g.F.Formats in
     let before = ap (λ (s : Option (Known Told)). handle_with s c.self.inside.rec) (sym c.in-Some.is ∙ c.take.ensures.value) ∙ c.self.view_is in
     let store = c.args.store.now in
     let turn = c.enter-turn in

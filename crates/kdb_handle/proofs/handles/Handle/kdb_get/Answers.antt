@@ -10,13 +10,13 @@ use Rattle.kdb_handle.proofs.HandleLemmas.{ended, got_covers, got_keeps, got_so}
 use Rattle.kdb_handle.proofs.SharedLemmas.{shared_same}
 use Rattle.model_store.specs.Records.{IsRecord}
 use Rattle.model_store.specs.Sets.{front_in}
-use Rattle.model_store.specs.Store.{Formats}
+use Rattle.model_store.specs.Store.{Formats, formats_of}
 use Rattle.store_verdict.specs.RecordView.{record_of}
 use Rattle.kdb_handle.proofs.handles.Handle.kdb_get.Goals as goal
 
 pub leave-requires-clause-story : goal.leave-requires-clause-story
 leave-requires-clause-story g c =
-    let formats : Formats = record { text = g.F.Formats.text; IsStorable = g.F.Formats.is_storable; BreaksAt = g.F.Formats.breaks_at } in
+    let formats : Formats = formats_of g.F.Formats in
     let turn = c.enter-turn in
     let found = c.value-core.result.now in
     let stands_for = λ (v : Shared g.row.D.Denot g.row.F.Denot g.row.P.Denot). IsShared formats g.D.Disk g.row.D.coded g.P.Patterns.refusals v.core v.entries turn.result.seen in
@@ -27,7 +27,7 @@ leave-requires-clause-story g c =
 
 pub returns-clause-handle : goal.returns-clause-handle
 returns-clause-handle g c =
-    let formats : Formats = record { text = g.F.Formats.text; IsStorable = g.F.Formats.is_storable; BreaksAt = g.F.Formats.breaks_at } in
+    let formats : Formats = formats_of g.F.Formats in
     let turn = c.enter-turn in
     let found = c.value-core.result.now in
     let stands_for = λ (v : Shared g.row.D.Denot g.row.F.Denot g.row.P.Denot). IsShared formats g.D.Disk g.row.D.coded g.P.Patterns.refusals v.core v.entries turn.result.seen in
@@ -48,7 +48,7 @@ returns-clause-handle g c =
 
 pub returns-clause-got : goal.returns-clause-got
 returns-clause-got g c procs own =
-    let formats : Formats = record { text = g.F.Formats.text; IsStorable = g.F.Formats.is_storable; BreaksAt = g.F.Formats.breaks_at } in
+    let formats : Formats = formats_of g.F.Formats in
     let turn = c.enter-turn in
     let found = c.value-core.result.now in
     let stands_for = λ (v : Shared g.row.D.Denot g.row.F.Denot g.row.P.Denot). IsShared formats g.D.Disk g.row.D.coded g.P.Patterns.refusals v.core v.entries turn.result.seen in

@@ -11,29 +11,39 @@ use Rattle.model_crashes.specs.Runs.{files_of}
 use Rattle.store_phases.proofs.Resting.{resting_only}
 use Rattle.store_core.proofs.cores.Core.close.Goals as goal
 
-pub returns-then-eq-clause-now : goal.returns-then-eq-clause-now
-returns-then-eq-clause-now g c opened run store =
-    subst (λ d. (image : Image) → IsImage (g.D.Disk.may_leave d) image → HasOnly (IsEither (files_of run) run.doubt) image) (sym c.into_disk.ensures)
-    (resting_only g.D.Disk c.args.self.journal (files_of run) run.doubt store.rests)
+pub returns-then-eq : goal.returns-then-eq
+returns-then-eq g c = record {
+  history = search rules;
+  patterns = search rules;
+  left_alone = search rules;
+  shown = search rules;
+  settled = search rules;
+  calm = λ opened run store still.
+      let doubtful : c.args.self.journal.state ≡ Doubt = search rules in
+      subst (λ d. ¬ HasRisen run.faults (g.D.Disk.faults d) → IsCalm (g.D.Disk.seen d) (g.D.Disk.may_leave d) (files_of run) run.doubt) (sym c.into_disk.ensures) (store.calm doubtful) still;
+  always = search rules;
+  now = λ opened run store.
+      subst (λ d. (image : Image) → IsImage (g.D.Disk.may_leave d) image → HasOnly (IsEither (files_of run) run.doubt) image) (sym c.into_disk.ensures)
+      (resting_only g.D.Disk c.args.self.journal (files_of run) run.doubt store.rests);
+  rests = λ opened run store. record { journal = c.args.self.journal; over = sym c.into_disk.ensures; rests = store.rests };
+  goes = search rules;
+}
 
-pub returns-then-eq-clause-rests : goal.returns-then-eq-clause-rests
-returns-then-eq-clause-rests g c opened run store = record { journal = c.args.self.journal; over = sym c.into_disk.ensures; rests = store.rests }
-
-pub returns-clause-shown : goal.returns-clause-shown
-returns-clause-shown g c opened run store still file own =
-    (c.close.ensures.settled opened run store still).same file own (g.D.Disk.seen c.close.result file) (g.D.Disk.read_is_image c.close.result (c.close.ensures.goes.tells ∙ store.rests.tells) file)
-
-pub returns-clause-settled : goal.returns-clause-settled
-returns-clause-settled g c opened run store still wrote = c.close.ensures.settled opened run store still
-
-pub returns-then-eq-clause-calm : goal.returns-then-eq-clause-calm
-returns-then-eq-clause-calm g c opened run store still =
-    let doubtful : c.args.self.journal.state ≡ Doubt = search rules in
-    subst (λ d. ¬ HasRisen run.faults (g.D.Disk.faults d) → IsCalm (g.D.Disk.seen d) (g.D.Disk.may_leave d) (files_of run) run.doubt) (sym c.into_disk.ensures) (store.calm doubtful) still
-
-pub returns-clause-calm : goal.returns-clause-calm
-returns-clause-calm g c opened run store still =
-    let disk = c.close.result in
-    let settled = c.close.ensures.settled opened run store (λ risen. still (risen_since run.faults (g.D.Disk.faults c.args.self.journal.disk) (g.D.Disk.faults disk) store.risen risen)) in
-    settled_calm (g.D.Disk.seen disk) (g.D.Disk.may_leave disk) (files_of run) (files_of run) run.doubt settled
-    (g.D.Disk.read_is_image disk (c.close.ensures.goes.tells ∙ store.rests.tells)) (inl (λ file own. refl))
+pub returns : goal.returns
+returns g c = record {
+  history = search rules;
+  patterns = search rules;
+  left_alone = search rules;
+  shown = λ opened run store still file own.
+      (c.close.ensures.settled opened run store still).same file own (g.D.Disk.seen c.close.result file) (g.D.Disk.read_is_image c.close.result (c.close.ensures.goes.tells ∙ store.rests.tells) file);
+  settled = λ opened run store still wrote. c.close.ensures.settled opened run store still;
+  calm = λ opened run store still.
+      let disk = c.close.result in
+      let settled = c.close.ensures.settled opened run store (λ risen. still (risen_since run.faults (g.D.Disk.faults c.args.self.journal.disk) (g.D.Disk.faults disk) store.risen risen)) in
+      settled_calm (g.D.Disk.seen disk) (g.D.Disk.may_leave disk) (files_of run) (files_of run) run.doubt settled
+      (g.D.Disk.read_is_image disk (c.close.ensures.goes.tells ∙ store.rests.tells)) (inl (λ file own. refl));
+  always = search rules;
+  now = search rules;
+  rests = search rules;
+  goes = search rules;
+}

@@ -1,0 +1,161 @@
+-- The two ways in which a commit of a set ends: nothing is written, or the set enters the history.
+use Rattle.std.proofs.Common.{◌≡◌, ℕ, ◌≤◌, Bool, true, false, true≢false, List, length, Result, Ok, Err, refl, sym, ap, subst, ◌∙◌}
+use Rattle.kdb_outside.specs.declared.disks.Disk.{Ghosts}
+use Rattle.kdb_outside.specs.Faults.{HasRisen}
+use Rattle.kdb_outside.specs.Frames.{GoesOn}
+use Rattle.kdb_outside.proofs.Frames.{OnlyReads-none, OnlyReads-goes_on}
+use Rattle.intent_journal.specs.Journal.{JournalValue}
+use Rattle.intent_journal.specs.Moments.{LeavesOnly}
+use Rattle.journal_codec.specs.declared.files.FileText.{FileText}
+use Rattle.model_crashes.specs.Runs.{IsAmid, files_of}
+use Rattle.model_files.specs.Texts.{entry_of}
+use Rattle.model_history.specs.Changes.{after}
+use Rattle.model_history.specs.History as past
+use Rattle.model_maps.specs.KeyMap.{KeyMap}
+use Rattle.model_specified.specs.declared.violations.Violation.{Violation}
+use Rattle.model_store.specs.Rules.{has_risen}
+use Rattle.model_store.specs.Sets as sets
+use Rattle.model_store.specs.Store.{Formats, points_at}
+use Rattle.model_store.specs.Verdicts as verdict
+use Rattle.model_store.specs.Verdicts.{IsLate, commit_of}
+use Rattle.model_store.proofs.Judged.{is_committed}
+use Rattle.model_store.proofs.OneVerdict.{breach-caused}
+use Rattle.model_store.proofs.Risen.{has_risen-Decides}
+use Rattle.mount_table.specs.declared.mounts.Mount.{Mount}
+use Rattle.store_core.specs.Answers.{IsConflict, IsJudged, has_written}
+use Rattle.store_core.specs.Commits.{CommitsSet}
+use Rattle.store_core.specs.Entering.{EntersHistory, IsEntered}
+use Rattle.store_core.specs.Frames.{IsUnwritten}
+use Rattle.store_core.specs.declared.committing.CommitFault.{CommitFault}
+use Rattle.store_core.specs.declared.committing.CommitFault.TheVariants as fault
+use Rattle.store_core.specs.declared.committing.Done.{Done}
+use Rattle.store_core.specs.declared.cores.Core.{Core}
+use Rattle.store_core.proofs.AnswerLemmas.{matched, made_unwritten, made_entered, answered_unwritten, answered_entered, texts_are}
+use Rattle.store_core.proofs.CommitLemmas.{nothing_stored}
+use Rattle.store_verdict.specs.PreparedView.{prepared_of}
+use Rattle.store_verdict.specs.declared.prepared.Prepared.{Prepared}
+use Rattle.store_verdict.specs.declared.records.Record.{Record}
+
+-- where memory is wanting before the disk is touched, nothing enters
+pub enters_nothing : {D P : Type 0} (g : Ghosts D) (commit : past.Commit) (aside : ℕ) (keys : KeyMap) (set : Prepared) (old new : Core D P) (rec : Record) (result : Result Done CommitFault) → result ≡ Err fault.Memory → IsUnwritten old new → new.patterns ≡ old.patterns
+    → EntersHistory g commit aside keys set old new rec rec result
+enters_nothing {D} g commit aside keys set old new rec result memory still patterns = record {
+  entered = subst (IsEntered g commit aside keys set old new rec rec) (sym memory) (refl, still);
+  any_moment = λ opened run store.
+      subst (λ (j : JournalValue D). LeavesOnly g old.journal.disk j.disk (IsAmid (files_of run) run.doubt set.texts)) (sym still.journal) (nothing_stored g opened old.journal run set.texts store);
+  patterns = patterns;
+  goes = subst (λ (j : JournalValue D). GoesOn g old.journal.disk j.disk) (sym still.journal) (OnlyReads-goes_on g old.journal.disk old.journal.disk (OnlyReads-none g old.journal.disk));
+  handle = refl;
+  places = refl;
+  proc = refl;
+}
+
+module _ (formats : Formats) {D P : Type 0} (g : Ghosts D) (refusals : P → ℕ) (mounts : List Mount) (core : Core D P) (patterns : P) (rec : Record) (prepared : Prepared) (later : refusals core.patterns ≤ refusals patterns) where
+  abbrev set : sets.Prepared
+  set = prepared_of prepared
+
+  abbrev risen : Bool
+  risen = has_risen (refusals core.patterns) (refusals patterns)
+
+  -- the matcher alone moved
+  abbrev moved : Core D P
+  moved = record core { patterns = patterns }
+
+  pub commits_nothing : (result : Result Done CommitFault) → has_written result ≡ false → IsJudged mounts risen core.history.commits core.keys set result → CommitsSet formats g refusals mounts core moved rec rec prepared result
+  commits_nothing result none judged =
+      let still : IsUnwritten core moved = matched core patterns in
+      record {
+        judged = judged;
+        made = λ store records made world p b. made_unwritten formats mounts store core records made world p rec prepared b moved still risen result none judged;
+        committed = λ store opened records made world run p b.
+            answered_unwritten formats mounts store core records made world p rec prepared b.here g opened run b.on_disk moved rec risen still result none
+            (made_unwritten formats mounts store core records made world p rec prepared b.here moved still risen result none judged);
+        any_moment = λ store opened records made world run p b. nothing_stored g opened core.journal run (entry_of formats store core.keys (commit_of set)) b.on_disk;
+        goes = OnlyReads-goes_on g core.journal.disk core.journal.disk (OnlyReads-none g core.journal.disk);
+        cause = λ front is. absurd (true≢false (sym (ap has_written is) ∙ none));
+        refused = λ violation front is six short.
+            (has_risen-Decides (refusals core.patterns) (refusals patterns)).0
+            (breach-caused (points_at mounts) core.history.commits core.keys set violation risen (subst (IsJudged mounts risen core.history.commits core.keys set) is judged).1 six short);
+        later = later;
+        unwritten = λ is. still;
+        wrote = λ yes. absurd (true≢false (sym yes ∙ none));
+        handle = refl;
+        places = refl;
+        proc = refl;
+      }
+
+  -- a conflict, or want of memory for its name
+  pub commits_conflict : (m by front : ℕ) (why : CommitFault) → front ≡ length core.history.commits → IsLate (points_at mounts) core.history.commits core.keys set (verdict.Conflict m by) → IsConflict mounts m by front why
+      → CommitsSet formats g refusals mounts core moved rec rec prepared (Err why)
+  commits_conflict m by front fault.Memory same is conflict = commits_nothing (Err fault.Memory) refl tt
+  commits_conflict m by front (fault.Conflict mount number found) same is conflict =
+      commits_nothing (Err (fault.Conflict mount number found)) refl
+      (m, conflict.0, conflict.2 ∙ same, subst (λ n. IsLate (points_at mounts) core.history.commits core.keys set (verdict.Conflict m n)) (sym conflict.1) is)
+  commits_conflict m by front (fault.Invalid violation found) same is conflict = absurd conflict
+  commits_conflict m by front (fault.DatabaseFull weight found) same is conflict = absurd conflict
+  commits_conflict m by front (fault.HistoryFull weight found) same is conflict = absurd conflict
+  commits_conflict m by front (fault.DiskFault found) same is conflict = absurd conflict
+
+  module _ (commit : past.Commit) (aside : ℕ) (is : IsLate (points_at mounts) core.history.commits core.keys set (verdict.Commits commit aside)) (keys : KeyMap) (keys_are : keys ≡ after core.keys set.changes) (next : Core D P) (new : Record) where
+    own : IsLate (points_at mounts) core.history.commits core.keys set (verdict.Commits (commit_of set) aside)
+    own = subst (λ (c : past.Commit). IsLate (points_at mounts) core.history.commits core.keys set (verdict.Commits c aside)) (is_committed (points_at mounts) core.history.commits core.keys set commit aside is).is is
+
+    -- what the core and the record are by the answer
+    record Ends (result : Result Done CommitFault) : Type 0 where
+      judged : (rose : Bool) → IsJudged mounts rose core.history.commits core.keys set result
+      cause : (front : ℕ) → result ≡ Err (fault.DiskFault front) → HasRisen (g.faults core.journal.disk) (g.faults next.journal.disk)
+      valid : (violation : Violation) (front : ℕ) → result ≡ Err (fault.Invalid violation front) → ⊥
+      unwritten : has_written result ≡ false → IsUnwritten core next
+      wrote : has_written result ≡ true → next.wrote ≡ true
+
+    ends : (result : Result Done CommitFault) → IsEntered g commit aside keys prepared moved next rec new result → Ends result
+    ends (Ok m) has = record {
+      judged = λ rose. subst (λ (d : Done). IsJudged mounts rose core.history.commits core.keys set (Ok d)) (sym has.0) (refl, own);
+      cause = λ front e. absurd cc;
+      valid = λ rule front e. cc;
+      unwritten = λ none. absurd (true≢false (sym (ap (λ (d : Done). has_written (Ok d)) has.0) ∙ none));
+      wrote = λ yes. has.1.wrote;
+    }
+    ends (Err fault.Memory) has = record {
+      judged = λ rose. tt;
+      cause = λ front e. absurd cc;
+      valid = λ rule front e. cc;
+      unwritten = λ none. record { journal = has.1.journal; history = has.1.history; keys = has.1.keys; wrote = has.1.wrote };
+      wrote = λ yes. absurd cc;
+    }
+    ends (Err (fault.DiskFault front)) has = record {
+      judged = λ rose. (aside, has.0, own);
+      cause = λ other e. has.1.cause;
+      valid = λ rule other e. cc;
+      unwritten = λ none. absurd cc;
+      wrote = λ yes. has.1.wrote;
+    }
+    ends (Err (fault.Conflict mount by front)) has = absurd has
+    ends (Err (fault.Invalid violation front)) has = absurd has
+    ends (Err (fault.DatabaseFull weight front)) has = absurd has
+    ends (Err (fault.HistoryFull weight front)) has = absurd has
+
+    pub commits_entry : (result : Result Done CommitFault) → EntersHistory g commit aside keys prepared moved next rec new result → CommitsSet formats g refusals mounts core next rec new prepared result
+    commits_entry result enters =
+        let end : Ends result = ends result enters.entered in
+        let rose : Bool = has_risen (refusals core.patterns) (refusals next.patterns) in
+        record {
+          judged = end.judged rose;
+          made = λ store records made world p b.
+              made_entered formats mounts store core records made world p rec prepared b commit aside is g keys keys_are patterns next new rose result enters.entered;
+          committed = λ store opened records made world run p b.
+              answered_entered formats mounts store core records made world p rec prepared b.here g opened run b.on_disk next new rose commit aside is keys patterns result enters.entered
+              (made_entered formats mounts store core records made world p rec prepared b.here commit aside is g keys keys_are patterns next new rose result enters.entered);
+          any_moment = λ store opened records made world run p b.
+              subst (λ (entry : List FileText). LeavesOnly g core.journal.disk next.journal.disk (IsAmid (files_of run) run.doubt entry))
+              (texts_are formats mounts store core records made world p rec prepared b.here commit aside is) (enters.any_moment opened run b.on_disk);
+          goes = enters.goes;
+          cause = end.cause;
+          refused = λ violation front e six short. absurd (end.valid violation front e);
+          later = subst (λ (ps : P). refusals core.patterns ≤ refusals ps) (sym enters.patterns) later;
+          unwritten = end.unwritten;
+          wrote = end.wrote;
+          handle = enters.handle;
+          places = enters.places;
+          proc = enters.proc;
+        }
