@@ -6,3 +6,4 @@ pub mod HistoryWords
 pub mod BatchWords
 pub mod TextLemmas
 pub mod WholeLemmas
+pub mod ExactLemmas

@@ -18,7 +18,7 @@ use Rattle.kdb_print.specs.Reading.{AreOfPhases, AreOfSessions, AreOfSteps, IsRe
 use Rattle.store_core.specs.declared.committing.Done.{Done}
 
 -- a want of memory, among what is told
-abbrev wants_memory : List Tried × Reply → Bool
+abbrev pub wants_memory : List Tried × Reply → Bool
 wants_memory said = is_memory said.1
 
 memory-end : (end : MergeEnd) → is_memory (last_of_end end) ≡ end_wants_memory end
@@ -31,7 +31,7 @@ memory-last : (reply : Reply) → is_memory (last_of reply) ≡ is_memory reply
 memory-last (MergeRefused fault) = memory-end fault.end
 memory-last reply = refl
 
-memory-told_of : (reply : Reply) → wants_memory (told_of reply) ≡ is_memory reply
+pub memory-told_of : (reply : Reply) → wants_memory (told_of reply) ≡ is_memory reply
 memory-told_of reply =
     elim (cases_Bool (is_memory reply)) [
       | inl yes_memory ↦ ap is_memory (cond-true (is_memory reply) Memory (last_of reply) yes_memory) ∙ sym yes_memory
@@ -58,7 +58,7 @@ neither : (a b : Bool) → (a || b) ≡ false → (a ≡ false) × (b ≡ false)
 neither true b e = absurd cc
 neither false b e = (refl, e)
 
-quiet_is : (reply : Reply) → is_quiet reply ≡ true → reply ≡ Quiet
+pub quiet_is : (reply : Reply) → is_quiet reply ≡ true → reply ≡ Quiet
 quiet_is Quiet e = refl
 quiet_is reply e = absurd cc
 
@@ -69,7 +69,7 @@ quiet_where step reply of none =
       | inr is ↦ let wants : is_memory reply ≡ true = ap is_memory is in absurd cc
     ]
 
-merge_where : (step : Step) (reply : Reply) → IsReplyTo step reply → is_memory reply ≡ false → is_merge reply ≡ merges step
+pub merge_where : (step : Step) (reply : Reply) → IsReplyTo step reply → is_memory reply ≡ false → is_merge reply ≡ merges step
 merge_where step reply of none =
     elim of.merge [
       | inl same ↦ same
@@ -108,16 +108,18 @@ plain-last (Merged merging) none = absurd cc
 plain-last (MergeRefused fault) none = absurd cc
 plain-last reply none = refl
 
-reply-same : (a b : Reply) (merge : Bool) → is_merge a ≡ merge → is_merge b ≡ merge → tries_of a ≡ tries_of b → last_of a ≡ last_of b → a ≡ b
+pub reply-same : (a b : Reply) (merge : Bool) → is_merge a ≡ merge → is_merge b ≡ merge → tries_of a ≡ tries_of b → last_of a ≡ last_of b → a ≡ b
 reply-same a b true is too tried last = merge-same a b is too tried last
 reply-same a b false is too tried last = sym (plain-last a is) ∙ (last ∙ plain-last b too)
 
-told-quiet : (reply : Reply) (replies : List Reply) → is_quiet reply ≡ true → told (reply ∷ replies) ≡ told replies
+pub told-quiet : (reply : Reply) (replies : List Reply) → is_quiet reply ≡ true → told (reply ∷ replies) ≡ told replies
 told-quiet reply replies quiet = ap (λ r. told (r ∷ replies)) (quiet_is reply quiet)
 
+pub told-line : (reply : Reply) (replies : List Reply) → is_quiet reply ≡ false → told (reply ∷ replies) ≡ told_of reply ∷ told replies
+told-line reply replies quiet = ap (λ b. over told_of (if not b then reply ∷ loud replies else loud replies)) quiet
+
 told-loud : (reply : Reply) (replies : List Reply) → is_quiet reply ≡ false → is_memory reply ≡ false → told (reply ∷ replies) ≡ (tries_of reply, last_of reply) ∷ told replies
-told-loud reply replies quiet none =
-    ap (λ b. over told_of (if not b then reply ∷ loud replies else loud replies)) quiet ∙ ap (λ b. (tries_of reply, if b then Memory else last_of reply) ∷ told replies) none
+told-loud reply replies quiet none = told-line reply replies quiet ∙ ap (λ b. (tries_of reply, if b then Memory else last_of reply) ∷ told replies) none
 
 steps-whole : (steps : List Step) (xs ys : List Reply) → AreOfSteps steps xs → AreOfSteps steps ys → list_any is_memory xs ≡ false → list_any is_memory ys ≡ false → told xs ≡ told ys → xs ≡ ys
 steps-whole [] [] [] hs ks p q e = refl

@@ -201,3 +201,24 @@ AreOfPhases (phase ∷ phases) (replies ∷ rest) = AreOfSessions phase.sessions
 pub record IsBatch (mounts : List Mount) (sessions : List ℕ) (script : Script) (replies : List (List (List Reply))) (commits : List history.Commit) : Type 0 where
   pub shape : AreOfPhases script.phases replies
   pub made : AllByRecursion (IsCommitOf mounts sessions) commits
+
+-- what is known of a reply by its lines and its step: its tries, and itself, but for the place of a want of memory
+abbrev pub said_of : Reply → List Tried × Reply
+said_of reply = (tries_of reply, if is_memory reply then Memory else reply)
+
+-- no edit of the working set wanted memory
+abbrev pub EditAll : List Step → List Reply → Type 0
+EditAll [] replies = Unit {0}
+EditAll (step ∷ steps) [] = Unit {0}
+EditAll (step ∷ steps) (reply ∷ replies) = (edits step ≡ true → reply ≡ Quiet) × EditAll steps replies
+
+-- the steps of a session in a phase, and its replies to them
+pub record StandAt (script : Script) (replies : List (List (List Reply))) (p i : ℕ) (steps : List Step) (mine : List Reply) : Type 0 where
+  pub phase : Phase
+  pub phase_is : slice_get script.phases p ≡ Some phase
+  pub session : Steps
+  pub session_is : slice_get phase.sessions i ≡ Some session
+  pub steps_are : steps ≡ session.steps
+  pub row : List (List Reply)
+  pub row_is : slice_get replies p ≡ Some row
+  pub mine_is : slice_get row i ≡ Some mine
