@@ -1,8 +1,6 @@
 -- The body of an entry behind the gate.
-use Rattle.std.proofs.Common.{◌≡◌, ℕ, suc, ◌+◌, ◌*◌, ◌^◌, ◌<◌, ◌≤◌, List, [], ◌∷◌, ◌++◌, length, take, drop, Bool, true, ◌&&◌, cond, Option, Some, None, slice_index_or, refl, sym, ap, ◌∙◌, subst, arith, length-append}
-use Rattle.std.specs.Prelude.{nat_le}
+use Rattle.std.proofs.Common.{◌≡◌, ℕ, suc, ◌+◌, ◌*◌, ◌<◌, ◌≤◌, List, [], ◌∷◌, ◌++◌, length, take, drop, Ok, slice_index_or, refl, sym, ap, ◌∙◌, subst, arith, length-append}
 use Rattle.std.specs.List.{flat_map}
-use Rattle.std.proofs.lemmas.Bool.{le-leb}
 use Rattle.std.proofs.lemmas.Nat.{from_le_bytes-to_le_bytes_4}
 use Rattle.std.proofs.Math.Seq.{take-append_seam}
 use Rattle.kdb_outside.specs.Files.{written}
@@ -11,11 +9,9 @@ use Rattle.journal_codec.specs.declared.files.FileText.{FileText}
 use Rattle.journal_codec.specs.Entry.{number_of, length_bytes, spelled, spelled_file, longest_file, IsEntry, IsEntryFile, journal_name}
 use Rattle.journal_codec.specs.Reading.{Reads, read_body}
 use Rattle.journal_codec.proofs.BodyLemmas.{is_read_again}
-use Rattle.intent_journal.specs.JournalBytes.{entry_at, files_read, IsClosed, HoldsBody}
+use Rattle.intent_journal.specs.JournalBytes.{longest_body, entry_or_place, one_entry, entries_behind, first_entry, IsClosed, HoldsBody}
 use Rattle.intent_journal.specs.States.{HasBody}
-
-pub cond_both : (b c : Bool) (o : Option (List FileText)) (entry : List FileText) → b ≡ true → c ≡ true → o ≡ Some entry → cond (b && c) o None ≡ Some entry
-cond_both b c o entry first second is = (λ i. cond (first i && second i) o None) ∙ is
+use Rattle.intent_journal.proofs.Behind.{behind-long, entry_or_place-whole}
 
 length-spelled_file : (f : FileText) → length (spelled_file f) ≡ 5 + length f.file + length f.bytes
 length-spelled_file f = omega (arith, length-append f.file (length_bytes (length f.bytes) ++ f.bytes))
@@ -39,16 +35,14 @@ length-spelled entry is =
     omega arith
 
 -- what stands behind the gate once a body was written there
-entry_at-body : (n : ℕ) (body more : List ℕ) (entry : List FileText) → n ≡ length body → n < 2 ^ 32 → read_body body ≡ Reads entry → entry_at (length_bytes n ++ (body ++ more)) ≡ Some entry
-unfolding entry_at
-entry_at-body n body more entry sized small reads =
+behind-body : (n : ℕ) (body more : List ℕ) (entry : List FileText) → n ≡ length body → n ≤ longest_body → read_body body ≡ Reads entry
+    → entries_behind (length_bytes n ++ (body ++ more)) ≡ Ok (entry ∷ [])
+behind-body n body more entry sized small reads =
     let bytes = length_bytes n ++ (body ++ more) in
-    let number : number_of (take 4 bytes) ≡ n = from_le_bytes-to_le_bytes_4 n small in
-    let room : length body ≤ length (body ++ more) = omega (arith, length-append body more) in
-    let cut : take (number_of (take 4 bytes)) (body ++ more) ≡ body = ap (λ (k : ℕ). take k (body ++ more)) (number ∙ sized) ∙ take-append_seam body more in
-    cond_both (nat_le 4 (length bytes)) (nat_le (number_of (take 4 bytes)) (length (drop 4 bytes))) (files_read (read_body (take (number_of (take 4 bytes)) (drop 4 bytes)))) entry
-    (le-leb 4 (length bytes) (omega arith)) (le-leb (number_of (take 4 bytes)) (length (drop 4 bytes)) (omega arith))
-    (ap (λ (b : List ℕ). files_read (read_body b)) cut ∙ ap files_read reads)
+    let number : number_of (take 4 bytes) ≡ n = from_le_bytes-to_le_bytes_4 n (omega arith) in
+    let cut : take n (body ++ more) ≡ body = ap (λ (k : ℕ). take k (body ++ more)) sized ∙ take-append_seam body more in
+    behind-long bytes (omega arith) ∙ ap (λ (k : ℕ). one_entry (entry_or_place k (take k (body ++ more)))) number
+    ∙ ap (λ (b : List ℕ). one_entry (entry_or_place n b)) cut ∙ ap one_entry (entry_or_place-whole n body entry small reads (sym sized))
 
 pub HoldsBody-written : (seen bytes : List ℕ) (entry : List FileText) → IsClosed seen → IsEntry entry → bytes ≡ length_bytes (length (spelled entry)) ++ spelled entry → HoldsBody entry (written seen 1 bytes)
 HoldsBody-written [] bytes entry closed is encoded = absurd (omega (arith, closed.there))
@@ -57,8 +51,8 @@ HoldsBody-written (x ∷ rest) bytes entry closed is encoded = record {
   body =
       let more = drop (1 + length bytes) (x ∷ rest) in
       let short = length-spelled entry is in
-      ap (λ (b : List ℕ). entry_at (b ++ more)) encoded
-      ∙ entry_at-body (length (spelled entry)) (spelled entry) more entry refl (omega arith) (is_read_again entry is);
+      ap (λ (b : List ℕ). first_entry (entries_behind (b ++ more))) encoded
+      ∙ ap first_entry (behind-body (length (spelled entry)) (spelled entry) more entry refl short (is_read_again entry is));
 }
 
 -- a body that was written behind a closed gate

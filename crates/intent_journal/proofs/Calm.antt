@@ -1,53 +1,45 @@
 -- What the opening of a calm disk finds and leaves.
-use Rattle.std.proofs.Common.{◌≡◌, ℕ, ◌≤◌, List, [], ◌∷◌, Bool, true, false, cond, inl, inr, Option, Some, None, bytes_eq, refl, sym, ap, ◌∙◌, subst, arith}
-use Rattle.std.specs.Prelude.{◌==◌}
-use Rattle.std.proofs.lemmas.Bool.{eqb-true, eq-eqb}
+use Rattle.std.proofs.Common.{◌≡◌, ℕ, ◌≤◌, List, Bool, true, false, cond, inl, inr, Option, Some, None, bytes_eq, refl, sym, ap, ◌∙◌, subst}
+use Rattle.std.proofs.lemmas.Option.{none-some}
 use Rattle.std.proofs.lemmas.Slice.Eq.{bytes_eq-Decides}
-use Rattle.general_words.proofs.Tests.{cond_some}
+use Rattle.general_words.proofs.Lists.{some_is}
 use Rattle.kdb_outside.specs.Images.{Image, IsImage, KeepsImages}
 use Rattle.journal_codec.specs.declared.files.FileText.{FileText}
 use Rattle.journal_codec.specs.Entry.{journal_name}
-use Rattle.intent_journal.specs.JournalBytes.{gate, entry_at, entry_in, IsOwnFile, IsOpen}
-use Rattle.intent_journal.specs.Outcomes.{content_in, with_entry, with_entries, SameFiles, StandsAlone, HasOnly, IsOutcome, IsEither}
+use Rattle.intent_journal.specs.JournalBytes.{entries_behind, entry_in, first_entry, IsOwnFile}
+use Rattle.intent_journal.specs.Outcomes.{content_in, with_entry, with_entries, SameFiles, HasOnly, IsOutcome, IsEither}
 use Rattle.intent_journal.specs.States.{IsSettled, IsDoubtful, IsFound, IsCalm}
 use Rattle.intent_journal.specs.Moments.{LeavesElseOnly, LeavesMeanwhile, IsImageOr}
-use Rattle.intent_journal.specs.BadJournals.{open_entry, files_with, doubt_with, opened_files, opened_doubt}
+use Rattle.intent_journal.specs.BadJournals.{entries_read, open_entry, opened_reading, held_entry, doubt_with, opened_files, opened_doubt}
 use Rattle.intent_journal.proofs.Meanwhile.{else_weaker, else_both, meanwhile}
-use Rattle.intent_journal.proofs.Passages.{GivesEither, shut_or_holds, with_entries-same, either_same, IsDoubtful-from, IsDoubtful-only, IsSettled-doubt, IsSettled-only}
+use Rattle.intent_journal.proofs.Passages.{GivesEither, own_image, with_entries-same, either_same, IsDoubtful-from, IsDoubtful-only, IsSettled-doubt, IsSettled-only}
 use Rattle.intent_journal.proofs.ReadLemmas.{IsImage-kept}
-
--- the open entry is open, and the only one
-pub IsOpen-open_entry : (journal : List ℕ) (entry : List FileText) → open_entry journal ≡ Some entry → IsOpen entry journal
-IsOpen-open_entry journal entry is =
-    let parts = cond_some (gate journal == 1) (entry_in journal) entry is in
-    record { gate_is = eqb-true (gate journal) 1 parts.0; body = parts.1 }
-
-pub open_entry-IsOpen : (journal : List ℕ) (entry : List FileText) → IsOpen entry journal → open_entry journal ≡ Some entry
-open_entry-IsOpen journal entry opened = ap (λ (b : Bool). cond b (entry_in journal) None) (eq-eqb (gate journal) 1 opened.gate_is) ∙ opened.body
+use Rattle.intent_journal.proofs.Readings.{opened_with, opened_without, opening_reads, reads_same, shut_not_broken, shut_or_holds}
 
 -- each image of a calm disk stands for the files, or for those with the entry
 pub calm_only : (seen : Image) (leaves : List ℕ → List ℕ → Type 0) (files : Image) (doubt : Option (List FileText)) → IsCalm seen leaves files doubt
     → (image : Image) → IsImage leaves image → HasOnly (IsEither files doubt) image
 calm_only seen leaves files doubt calm image is = record {
-  not_broken = calm.not_broken (image journal_name) (is journal_name);
+  not_broken = calm.not_broken image (λ file own. is file);
   each = λ outcome has. calm.outcomes image outcome is has;
 }
 
+-- the files that the opening leaves are those of the calm disk, or those with its entry
+pub calm_files : (seen : Image) (leaves : List ℕ → List ℕ → Type 0) (files : Image) (doubt : Option (List FileText)) → IsCalm seen leaves files doubt → IsImage leaves seen → IsEither files doubt (opened_files seen)
+calm_files seen leaves files doubt calm seen_is =
+    calm.outcomes seen (opened_files seen) seen_is (entries_read (opened_reading seen), opening_reads seen (calm.not_broken seen (λ file own. seen_is file)), λ file own. refl)
+
 -- an open entry may be recovered
 pub calm_found : (seen : Image) (leaves : List ℕ → List ℕ → Type 0) (files : Image) (doubt : Option (List FileText)) (entry : List FileText) → IsCalm seen leaves files doubt
-    → open_entry (seen journal_name) ≡ Some entry → IsFound leaves seen entry
+    → open_entry seen ≡ Some entry → IsFound leaves seen entry
 calm_found seen leaves files doubt entry calm is file ne none =
-    calm.same file ne (λ other opened.
-    let some = open_entry-IsOpen (seen journal_name) other opened in
-    let same : entry ≡ other = cc in
-    subst (λ (e : List FileText). content_in e file ≡ None) same none)
+    calm.same file ne (λ other some. subst (λ (e : List FileText). content_in e file ≡ None) (some_is entry other (sym is ∙ some)) none)
 
 -- and what it leaves then is one of the outcomes
 pub calm_recovered : (seen : Image) (leaves : List ℕ → List ℕ → Type 0) (files : Image) (doubt : Option (List FileText)) (entry : List FileText) → IsCalm seen leaves files doubt
-    → open_entry (seen journal_name) ≡ Some entry → IsImage leaves seen → (image : Image) → HasOnly (IsOutcome (with_entry seen entry)) image → HasOnly (IsEither files doubt) image
+    → open_entry seen ≡ Some entry → IsImage leaves seen → (image : Image) → HasOnly (IsOutcome (with_entry seen entry)) image → HasOnly (IsEither files doubt) image
 calm_recovered seen leaves files doubt entry calm is seen_is image only =
-    let opened = IsOpen-open_entry (seen journal_name) entry is in
-    let brought = calm.outcomes seen (with_entry seen entry) seen_is (entry ∷ [], record { not_closed = λ closed. let open_too = opened.gate_is in omega arith; body = opened.body }, λ file ne. refl) in
+    let brought = subst (λ (opened : Image). IsEither files doubt opened) (opened_with seen entry is) (calm_files seen leaves files doubt calm seen_is) in
     record { not_broken = only.not_broken; each = λ outcome has. either_same files (with_entry seen entry) outcome doubt (only.each outcome has) brought }
 
 -- a disk that was only read is as calm as before
@@ -61,7 +53,7 @@ calm_kept seen now old new files doubt same kept calm =
         | inr (inl closed) ↦ inr (inl (λ c is. closed c ((kept journal_name).no_more c is)))
         | inr (inr short) ↦ inr (inr (λ c is. short c ((kept journal_name).no_more c is)))
       ];
-      not_broken = λ c is. calm.not_broken c ((kept journal_name).no_more c is);
+      not_broken = λ image own. calm.not_broken image (λ file is. (kept file).no_more (image file) (own file is));
       outcomes = λ image outcome is has. calm.outcomes image outcome (IsImage-kept old new kept image is) has;
     })
 
@@ -77,67 +69,52 @@ put_same : (seen : Image) (c file : List ℕ) (b : Bool) → bytes_eq file journ
 put_same seen c file true here own = absurd (own ((bytes_eq-Decides file journal_name).0 here))
 put_same seen c file false other own = refl
 
-none_open : (seen : Image) (file : List ℕ) → open_entry (seen journal_name) ≡ None → (entry : List FileText) → IsOpen entry (seen journal_name) → content_in entry file ≡ None
-none_open seen file none entry opened = let some = open_entry-IsOpen (seen journal_name) entry opened in absurd (cc)
+none_open : (seen : Image) (file : List ℕ) → open_entry seen ≡ None → (entry : List FileText) → open_entry seen ≡ Some entry → content_in entry file ≡ None
+none_open seen file none entry some = absurd (none-some entry (sym none ∙ some))
 
 -- with no open entry, what a calm disk has in doubt is in doubt over its files
 calm_own : (seen : Image) (leaves : List ℕ → List ℕ → Type 0) (files : Image) (doubt : Option (List FileText)) → IsCalm seen leaves files doubt
-    → open_entry (seen journal_name) ≡ None → IsImage leaves seen → SameFiles files seen → IsDoubtful leaves files doubt
+    → open_entry seen ≡ None → IsImage leaves seen → SameFiles files seen → IsDoubtful leaves files doubt
 calm_own seen leaves files doubt calm none seen_is same = record {
   same = λ file own c is. calm.same file own (none_open seen file none) c is ∙ sym (same file own);
   not_broken = calm.not_broken;
-  outcomes = λ c entries is reads.
+  outcomes = λ own entries is reads.
+      let c = own journal_name in
       let image = put_journal seen c in
       let outcome = with_entries image entries in
       either_same files outcome (with_entries files entries) doubt
-      (λ file own. with_entries-same entries files image file (same file own ∙ sym (put_same seen c file (bytes_eq file journal_name) refl own)))
-      (calm.outcomes image outcome (λ file. put_leaves leaves seen c file (bytes_eq file journal_name) refl seen_is is) (entries, reads, λ file own. refl));
+      (λ file not_own. with_entries-same entries files image file (same file not_own ∙ sym (put_same seen c file (bytes_eq file journal_name) refl not_own)))
+      (calm.outcomes image outcome (λ file. put_leaves leaves seen c file (bytes_eq file journal_name) refl seen_is (is journal_name refl))
+      (entries, reads_same own image entries refl reads, λ file not_own. refl));
 }
 
 gives_read : (seen : Image) (leaves : List ℕ → List ℕ → Type 0) (files : Image) (doubt : Option (List FileText)) (c : List ℕ) (entry : List FileText) → IsCalm seen leaves files doubt → leaves journal_name c
-    → entry_in c ≡ Some entry → GivesEither seen (entry_in (seen journal_name)) c
+    → entry_in c ≡ Some entry → GivesEither seen (held_entry seen) c
 gives_read seen leaves files doubt c entry calm is some = elim calm.journal [
-  | inl rest ↦ inr (entry, some, inr (entry, sym (ap entry_at ((rest c is).1)) ∙ some, λ file own. refl))
+  | inl rest ↦ inr (entry, some, inr (entry, sym (ap (λ (tail : List ℕ). first_entry (entries_behind tail)) ((rest c is).1)) ∙ some, λ file own. refl))
   | inr (inl closed) ↦ inl (inr (closed c is))
   | inr (inr short) ↦ inl (inl (short c is))
 ]
 
 -- and so is the entry that stands in its journal
 calm_read : (seen : Image) (leaves : List ℕ → List ℕ → Type 0) (files : Image) (doubt : Option (List FileText)) → IsCalm seen leaves files doubt
-    → open_entry (seen journal_name) ≡ None → IsDoubtful leaves seen (entry_in (seen journal_name))
+    → open_entry seen ≡ None → IsDoubtful leaves seen (held_entry seen)
 calm_read seen leaves files doubt calm none =
-    IsDoubtful-from leaves seen (entry_in (seen journal_name)) (λ file own. calm.same file own (none_open seen file none)) (λ c is. elim (shut_or_holds c (calm.not_broken c is)) [
+    IsDoubtful-from leaves seen (held_entry seen) (λ file own. calm.same file own (none_open seen file none)) (λ c is. elim (shut_or_holds (λ file. c) (calm.not_broken (λ file. c) (own_image leaves c is))) [
       | inl shut ↦ inl shut
       | inr holds ↦ gives_read seen leaves files doubt c holds.0 calm is holds.1
     ])
 
 pub calm_read_doubt : (seen : Image) (leaves : List ℕ → List ℕ → Type 0) (files : Image) (doubt : Option (List FileText)) → IsCalm seen leaves files doubt
-    → open_entry (seen journal_name) ≡ None → IsDoubtful leaves (opened_files seen) (opened_doubt seen)
+    → open_entry seen ≡ None → IsDoubtful leaves (opened_files seen) (opened_doubt seen)
 calm_read_doubt seen leaves files doubt calm none =
-    subst (λ (o : Option (List FileText)). IsDoubtful leaves (files_with o seen) (doubt_with o (seen journal_name))) (sym none) (calm_read seen leaves files doubt calm none)
+    subst (λ (opened : Image). IsDoubtful leaves opened (opened_doubt seen)) (sym (opened_without seen none))
+    (subst (λ (o : Option (List FileText)). IsDoubtful leaves seen (doubt_with o seen)) (sym none) (calm_read seen leaves files doubt calm none))
 
 pub calm_own_doubt : (seen : Image) (leaves : List ℕ → List ℕ → Type 0) (files : Image) (doubt : Option (List FileText)) → IsCalm seen leaves files doubt
-    → open_entry (seen journal_name) ≡ None → IsImage leaves seen → SameFiles files (opened_files seen) → IsDoubtful leaves files doubt
+    → open_entry seen ≡ None → IsImage leaves seen → SameFiles files (opened_files seen) → IsDoubtful leaves files doubt
 calm_own_doubt seen leaves files doubt calm none seen_is same =
-    calm_own seen leaves files doubt calm none seen_is (subst (λ (o : Option (List FileText)). SameFiles files (files_with o seen)) none same)
-
--- the files that the opening leaves are those of the calm disk, or those with its entry
-stands_read : (seen : Image) (leaves : List ℕ → List ℕ → Type 0) (files : Image) (doubt : Option (List FileText)) → IsCalm seen leaves files doubt
-    → open_entry (seen journal_name) ≡ None → IsImage leaves seen → StandsAlone (seen journal_name)
-stands_read seen leaves files doubt calm none seen_is = elim (shut_or_holds (seen journal_name) (calm.not_broken (seen journal_name) (seen_is journal_name))) [
-  | inl shut ↦ inl shut
-  | inr holds ↦ inr (λ opened. let some = open_entry-IsOpen (seen journal_name) holds.0 (record { gate_is = opened; body = holds.1 }) in absurd (cc), holds)
-]
-
-either_read : (seen : Image) (leaves : List ℕ → List ℕ → Type 0) (files : Image) (doubt found : Option (List FileText)) → open_entry (seen journal_name) ≡ found → IsCalm seen leaves files doubt → IsImage leaves seen
-    → IsEither files doubt (files_with found seen)
-either_read seen leaves files doubt None is calm seen_is = calm.outcomes seen seen seen_is ([], stands_read seen leaves files doubt calm is seen_is, λ file own. refl)
-either_read seen leaves files doubt (Some entry) is calm seen_is =
-    let opened = IsOpen-open_entry (seen journal_name) entry is in
-    calm.outcomes seen (with_entry seen entry) seen_is (entry ∷ [], record { not_closed = λ closed. let open_too = opened.gate_is in omega arith; body = opened.body }, λ file own. refl)
-
-pub calm_files : (seen : Image) (leaves : List ℕ → List ℕ → Type 0) (files : Image) (doubt : Option (List FileText)) → IsCalm seen leaves files doubt → IsImage leaves seen → IsEither files doubt (opened_files seen)
-calm_files seen leaves files doubt calm seen_is = either_read seen leaves files doubt (open_entry (seen journal_name)) refl calm seen_is
+    calm_own seen leaves files doubt calm none seen_is (subst (λ (opened : Image). SameFiles files opened) (opened_without seen none) same)
 
 -- a settled disk is calm
 pub settled_calm : (seen : Image) (leaves : List ℕ → List ℕ → Type 0) (settled files : Image) (doubt : Option (List FileText)) → IsSettled leaves settled → IsImage leaves seen → IsEither files doubt settled
@@ -145,19 +122,19 @@ pub settled_calm : (seen : Image) (leaves : List ℕ → List ℕ → Type 0) (s
 settled_calm seen leaves settled files doubt state seen_is either = record {
   same = λ file own unnamed c is. state.same file own c is ∙ sym (state.same file own (seen file) (seen_is file));
   journal = inr (inl (λ c is. (state.closed c is).gate_is));
-  not_broken = λ c is broken. broken.not_closed (state.closed c is).gate_is;
+  not_broken = λ image own. shut_not_broken image (inr (state.closed (image journal_name) (own journal_name refl)).gate_is);
   outcomes = λ image outcome is has. either_same files settled outcome doubt ((IsSettled-only leaves settled state image is).each outcome has) either;
 }
 
 -- what a recovered journal is
-pub recovered_files : (seen : Image) (leaves : List ℕ → List ℕ → Type 0) (entry : List FileText) → open_entry (seen journal_name) ≡ Some entry → IsSettled leaves (with_entry seen entry)
+pub recovered_files : (seen : Image) (leaves : List ℕ → List ℕ → Type 0) (entry : List FileText) → open_entry seen ≡ Some entry → IsSettled leaves (with_entry seen entry)
     → IsSettled leaves (opened_files seen)
-recovered_files seen leaves entry is state = subst (λ (o : Option (List FileText)). IsSettled leaves (files_with o seen)) (sym is) state
+recovered_files seen leaves entry is state = subst (λ (opened : Image). IsSettled leaves opened) (sym (opened_with seen entry is)) state
 
-pub recovered_doubt : (seen : Image) (leaves : List ℕ → List ℕ → Type 0) (entry : List FileText) → open_entry (seen journal_name) ≡ Some entry → IsSettled leaves (with_entry seen entry)
+pub recovered_doubt : (seen : Image) (leaves : List ℕ → List ℕ → Type 0) (entry : List FileText) → open_entry seen ≡ Some entry → IsSettled leaves (with_entry seen entry)
     → IsDoubtful leaves (opened_files seen) (opened_doubt seen)
 recovered_doubt seen leaves entry is state =
-    subst (λ (o : Option (List FileText)). IsDoubtful leaves (files_with o seen) (doubt_with o (seen journal_name))) (sym is) (IsSettled-doubt leaves (with_entry seen entry) None state)
+    IsSettled-doubt leaves (opened_files seen) (opened_doubt seen) (recovered_files seen leaves entry is state)
 
 pub settled_own : (leaves : List ℕ → List ℕ → Type 0) (settled files : Image) (doubt : Option (List FileText)) → IsSettled leaves settled → SameFiles files settled → IsDoubtful leaves files doubt
 settled_own leaves settled files doubt state same =
@@ -165,7 +142,7 @@ settled_own leaves settled files doubt state same =
 
 -- while an open entry of a calm disk is recovered
 pub calm_recovering : (seen : Image) (leaves : List ℕ → List ℕ → Type 0) (files : Image) (doubt : Option (List FileText)) (entry : List FileText) (before : ℕ) (past since : ℕ → Image → Type 0)
-    → IsCalm seen leaves files doubt → open_entry (seen journal_name) ≡ Some entry → IsImage leaves seen
+    → IsCalm seen leaves files doubt → open_entry seen ≡ Some entry → IsImage leaves seen
     → LeavesElseOnly before past since (IsImageOr leaves (HasOnly (IsOutcome (with_entry seen entry)))) → ((image : Image) → past before image → IsImage leaves image)
     → LeavesMeanwhile before past since (HasOnly (IsEither files doubt))
 calm_recovering seen leaves files doubt entry before past since calm is seen_is time now =
@@ -194,7 +171,7 @@ calm_then seen leaves files doubt before between past mid since calm time later 
     (λ image was. calm_only seen leaves files doubt calm image (now image was))
 
 -- a calm disk without an open entry is calm with the files that are read and the entry that stands in its journal, and stays so while it is read
-pub calm_at_read : (seen now : Image) (old new : List ℕ → List ℕ → Type 0) (files : Image) (doubt : Option (List FileText)) → IsCalm seen old files doubt → open_entry (seen journal_name) ≡ None
+pub calm_at_read : (seen now : Image) (old new : List ℕ → List ℕ → Type 0) (files : Image) (doubt : Option (List FileText)) → IsCalm seen old files doubt → open_entry seen ≡ None
     → now ≡ seen → KeepsImages old new → IsCalm now new (opened_files seen) (opened_doubt seen)
 calm_at_read seen now old new files doubt calm none same kept =
     calm_kept seen now old new (opened_files seen) (opened_doubt seen) same kept (record {

@@ -1,18 +1,18 @@
 -- What the first bytes of a journal tell, and what the bytes of its body do.
-use Rattle.std.proofs.Common.{◌≡◌, ◌≢◌, ℕ, ◌<◌, ◌≤◌, min, List, [], ◌∷◌, length, take, drop, Bool, true, false, ◌&&◌, cond, ◌⊎◌, inl, inr, Option, Some, None, Ok, Err, slice_index, refl, sym, ap, ◌∙◌, arith, length-drop}
-use Rattle.std.specs.Prelude.{nat_le, nat_lt, ◌==◌}
-use Rattle.std.proofs.lemmas.Bool.{leb-true, le-leb, false_from_ne_true, eqb-true, eq-eqb, cases_eq, cases_lt, ltb-true, lt-ltb}
-use Rattle.std.proofs.lemmas.List.{take_all, length-take}
-use Rattle.general_words.proofs.Tests.{cond_nothing}
+use Rattle.std.proofs.Common.{◌≡◌, ◌≢◌, ℕ, ◌<◌, ◌≤◌, min, List, [], ◌∷◌, length, take, drop, Bool, true, false, ◌&&◌, cond, ◌⊎◌, inl, inr, Option, Some, None, Result, Ok, Err, slice_index, refl, sym, ap, ◌∙◌, subst, arith, length-drop}
+use Rattle.std.specs.Prelude.{nat_le, ◌==◌}
+use Rattle.std.specs.Result.{IsErrAnd}
+use Rattle.std.proofs.lemmas.Bool.{leb-true, le-leb, false_from_ne_true, eqb-true, eq-eqb, cases_eq, cases_lt}
+use Rattle.std.proofs.lemmas.List.{take_all}
+use Rattle.std.proofs.lemmas.Option.{none-some}
 use Rattle.journal_codec.specs.declared.files.FileText.{FileText}
 use Rattle.journal_codec.specs.Entry.{number_of}
-use Rattle.journal_codec.specs.Reading.{Reading, Reads, Fails, read_body}
-use Rattle.intent_journal.specs.declared.faults.JournalFault.TheVariants.{BadJournal}
-use Rattle.intent_journal.specs.JournalBytes.{gate, entry_at, entry_in, files_read}
-use Rattle.intent_journal.specs.BadJournals.{longest_body, open_length, place_in, bad_place_in, bad_place_of, open_entry}
+use Rattle.intent_journal.specs.declared.faults.JournalFault.{JournalFault}
+use Rattle.intent_journal.specs.declared.faults.JournalFault.TheVariants.{DiskFault, BadJournal, Memory}
+use Rattle.intent_journal.specs.BadJournals.{place_read}
+use Rattle.intent_journal.specs.JournalBytes.{gate, entry_or_place, first_entry, one_entry, open_length, reading_of}
 use Rattle.intent_journal.specs.Opening.{TellsBody, TellsEntry}
-use Rattle.intent_journal.proofs.GateBytes.{entry_in-long}
-use Rattle.intent_journal.proofs.Bodies.{cond_both}
+use Rattle.intent_journal.proofs.Behind.{behind-short, behind-long}
 
 when_false : (b c : Bool) (o : Option ℕ) → (b ≡ false) ⊎ (c ≡ false) → cond (b && c) o None ≡ None
 when_false b c o (inl shut) = ap (λ (x : Bool). cond (x && c) o None) shut
@@ -69,54 +69,6 @@ open_length-front journal n is = elim (cases_lt (length journal) 5) [
   | inr long ↦ let five : n ≡ 5 = omega arith in ap (λ (k : ℕ). open_length (take k journal)) five ∙ front_of journal long
 ]
 
-pub none_unless : (o : Option (List FileText)) → ((entry : List FileText) → o ≡ Some entry → ⊥) → o ≡ None
-none_unless None never = refl
-none_unless (Some entry) never = absurd (never entry refl)
-
--- no length, no open entry
-pub open_entry-none : (journal : List ℕ) → open_length journal ≡ None → open_entry journal ≡ None
-open_entry-none journal none = elim (cases_eq (gate journal) 1) [
-  | inl is ↦
-      let nothing : entry_in journal ≡ None = none_unless (entry_in journal) (λ entry some.
-      let opened = open_length-bytes journal (entry_in-long journal entry some) is in
-      cc) in
-      cond_nothing (gate journal == 1) (entry_in journal) nothing
-  | inr differs ↦ ap (λ (b : Bool). cond b (entry_in journal) None) (false_from_ne_true (gate journal == 1) (λ is. differs (eqb-true (gate journal) 1 is)))
-]
-
--- a body that isn't too long is judged by its bytes
-bad_place_in-few : (size : ℕ) (there : List ℕ) → size ≤ longest_body → bad_place_in size there ≡ place_in (read_body there) size (length there)
-unfolding bad_place_in
-bad_place_in-few size there few =
-    ap (λ (b : Bool). cond b (Some 0) (place_in (read_body there) size (length there)))
-    (false_from_ne_true (nat_lt longest_body size) (λ long. let lt = ltb-true longest_body size long in omega arith))
-
-pub bad_place_in-many : (size : ℕ) (there : List ℕ) → longest_body < size → bad_place_in size there ≡ Some 0
-unfolding bad_place_in
-bad_place_in-many size there long = ap (λ (b : Bool). cond b (Some 0) (place_in (read_body there) size (length there))) (lt-ltb longest_body size long)
-
--- what a read body tells
-pub TellsBody-whole : (size : ℕ) (there : List ℕ) (files : List FileText) → size ≤ longest_body → read_body there ≡ Reads files → length there ≡ size → TellsBody size there (Ok files)
-TellsBody-whole size there files few reads whole = (
-  bad_place_in-few size there few ∙ ap (λ (r : Reading). place_in r size (length there)) reads
-      ∙ ap (λ (b : Bool). cond b None (Some (length there))) (eq-eqb (length there) size whole),
-  whole,
-  reads,
-)
-
-pub TellsBody-short : (size at : ℕ) (there : List ℕ) (files : List FileText) → size ≤ longest_body → read_body there ≡ Reads files → length there ≢ size → at ≡ length there
-    → TellsBody size there (Err (BadJournal at))
-TellsBody-short size at there files few reads short is =
-    bad_place_in-few size there few ∙ ap (λ (r : Reading). place_in r size (length there)) reads
-    ∙ ap (λ (b : Bool). cond b None (Some (length there))) (false_from_ne_true (length there == size) (λ same. short (eqb-true (length there) size same))) ∙ ap Some (sym is)
-
-pub TellsBody-fails : (size at : ℕ) (there : List ℕ) → size ≤ longest_body → read_body there ≡ Fails at → TellsBody size there (Err (BadJournal at))
-TellsBody-fails size at there few fails = bad_place_in-few size there few ∙ ap (λ (r : Reading). place_in r size (length there)) fails
-
--- what the whole journal tells
-pub TellsEntry-none : (journal : List ℕ) → open_length journal ≡ None → TellsEntry journal (Ok None)
-TellsEntry-none journal none = (ap (λ (o : Option ℕ). bad_place_of o journal) none, sym (open_entry-none journal none))
-
 -- an open gate with a length behind it
 pub record IsOpenHead (journal : List ℕ) (size : ℕ) : Type 0 where
   pub not_short : 5 ≤ length journal
@@ -138,22 +90,44 @@ pub drop_five : (journal : List ℕ) → drop 4 (drop 1 journal) ≡ drop 5 jour
 drop_five [] = refl
 drop_five (x ∷ journal) = refl
 
--- a body whose bytes are all there, and have a reading
-entry_at-whole : (bytes there : List ℕ) (size : ℕ) (files : List FileText) → 4 ≤ length bytes → number_of (take 4 bytes) ≡ size → there ≡ take size (drop 4 bytes) → length there ≡ size
-    → read_body there ≡ Reads files → entry_at bytes ≡ Some files
-unfolding entry_at
-entry_at-whole bytes there size files long number is whole reads =
-    let room : size ≤ length (drop 4 bytes) = omega (arith, ap length is, length-take size (drop 4 bytes)) in
-    cond_both (nat_le 4 (length bytes)) (nat_le (number_of (take 4 bytes)) (length (drop 4 bytes))) (files_read (read_body (take (number_of (take 4 bytes)) (drop 4 bytes)))) files
-    (le-leb 4 (length bytes) long) (le-leb (number_of (take 4 bytes)) (length (drop 4 bytes)) (omega arith))
-    (ap (λ (k : ℕ). files_read (read_body (take k (drop 4 bytes)))) number ∙ ap (λ (b : List ℕ). files_read (read_body b)) (sym is) ∙ ap files_read reads)
+-- an open gate without a length reads as none
+reads_none : (journal : List ℕ) → open_length journal ≡ None → reading_of (gate journal == 1) journal ≡ Ok []
+reads_none journal none = elim (cases_eq (gate journal) 1) [
+  | inl is ↦ elim (cases_lt (length journal) 5) [
+    | inl short ↦ ap (λ (b : Bool). reading_of b journal) (eq-eqb (gate journal) 1 is) ∙ behind-short (drop 1 journal) (length-drop-short journal short)
+    | inr long ↦ absurd (none-some _ (sym none ∙ open_length-bytes journal long is))
+  ]
+  | inr differs ↦ ap (λ (b : Bool). reading_of b journal) (false_from_ne_true (gate journal == 1) (λ is. differs (eqb-true (gate journal) 1 is)))
+]
+  where
+    length-drop-short : (bytes : List ℕ) → length bytes < 5 → length (drop 1 bytes) < 4
+    length-drop-short [] short = omega arith
+    length-drop-short (x ∷ bytes) short = omega arith
+
+-- and one with a length as its body
+pub reads_open : (journal : List ℕ) (size : ℕ) → open_length journal ≡ Some size → reading_of (gate journal == 1) journal ≡ one_entry (entry_or_place size (take size (drop 5 journal)))
+reads_open journal size is =
+    let head = IsOpenHead-length journal size is in
+    ap (λ (b : Bool). reading_of b journal) (eq-eqb (gate journal) 1 head.gate_is)
+    ∙ behind-long (drop 1 journal) (omega (arith, length-drop 1 journal, head.not_short))
+    ∙ ap (λ (n : ℕ). one_entry (entry_or_place n (take n (drop 4 (drop 1 journal))))) head.size_is
+    ∙ ap (λ (there : List ℕ). one_entry (entry_or_place size (take size there))) (drop_five journal)
+
+-- what the whole journal tells
+pub TellsEntry-none : (journal : List ℕ) → open_length journal ≡ None → TellsEntry journal (Ok None)
+TellsEntry-none journal none = (ap place_read (reads_none journal none), sym (ap first_entry (reads_none journal none)))
 
 pub TellsEntry-whole : (journal : List ℕ) (size : ℕ) (files : List FileText) → open_length journal ≡ Some size → TellsBody size (take size (drop 5 journal)) (Ok files) → TellsEntry journal (Ok (Some files))
 TellsEntry-whole journal size files is told =
-    let there = take size (drop 5 journal) in
-    let head = IsOpenHead-length journal size is in
-    let entry = entry_at-whole (drop 1 journal) there size files (omega (arith, length-drop 1 journal, head.not_short)) head.size_is (ap (take size) (sym (drop_five journal))) told.1 told.2 in
-    let opens : (gate journal == 1) ≡ true = ap (λ (n : ℕ). n == 1) head.gate_is in (
-      ap (λ (o : Option ℕ). bad_place_of o journal) is ∙ told.0,
-      sym (ap (λ (b : Bool). cond b (entry_in journal) None) opens ∙ entry),
-    )
+    let reads = reads_open journal size is ∙ ap one_entry told in
+    (ap place_read reads, sym (ap first_entry reads))
+
+bad_entry : (journal : List ℕ) (size : ℕ) (fault : JournalFault) → open_length journal ≡ Some size → TellsBody size (take size (drop 5 journal)) (Err fault) → TellsEntry journal (Err fault)
+bad_entry journal size DiskFault is told = tt
+bad_entry journal size (BadJournal at) is told = ap place_read (reads_open journal size is ∙ ap one_entry told)
+bad_entry journal size Memory is told = tt
+
+pub TellsEntry-bad : (journal : List ℕ) (size : ℕ) (fault : JournalFault) (result : Result (Option (List FileText)) JournalFault) → open_length journal ≡ Some size
+    → TellsBody size (take size (drop 5 journal)) (Err fault) → IsErrAnd result (λ e. e ≡ fault) → TellsEntry journal result
+TellsEntry-bad journal size fault (Ok found) is told err = absurd err
+TellsEntry-bad journal size fault (Err e) is told err = subst (λ (f : JournalFault). TellsEntry journal (Err f)) (sym err) (bad_entry journal size fault is told)

@@ -1,7 +1,9 @@
 pub mod Meanwhile
 pub mod Contents
 pub mod Putting
+pub mod Behind
 pub mod GateBytes
+pub mod Readings
 pub mod Passages
 pub mod Steps
 pub mod Bodies
@@ -9,9 +11,6 @@ pub mod Sound
 pub mod ReadLemmas
 pub mod Heads
 pub mod Recovering
-pub mod Readings
 pub mod Calm
 pub mod Openings
-pub mod ReadSizes
-pub mod Breaking
 pub mod OneImage

@@ -1,16 +1,19 @@
 -- How the states pass into each other, and what the images of each stand for.
-use Rattle.std.proofs.Common.{◌≡◌, ◌≢◌, ℕ, List, [], ◌∷◌, inl, inr, ◌⊎◌, ◌≤◌, length, Option, Some, None, refl, sym, ap, ◌∙◌, subst, arith}
-use Rattle.std.proofs.lemmas.Bool.{cases_lt, cases_eq}
+use Rattle.std.proofs.Common.{◌≡◌, ℕ, List, [], ◌∷◌, true, inl, inr, ◌⊎◌, Option, Some, None, refl, sym, ap, ◌∙◌, subst}
+use Rattle.std.proofs.lemmas.Bool.{cases_eq}
 use Rattle.std.specs.Option.{unwrap_or}
 use Rattle.kdb_outside.specs.Files.{written}
 use Rattle.kdb_outside.specs.Images.{Image, IsImage, Only, IsTornWrite}
 use Rattle.journal_codec.specs.declared.files.FileText.{FileText}
 use Rattle.journal_codec.specs.Entry.{journal_name}
-use Rattle.intent_journal.specs.JournalBytes.{gate, entry_in, IsOwnFile, IsShut, IsClosed, IsOpen, IsBroken}
-use Rattle.intent_journal.specs.Outcomes.{content_in, with_entry, with_entries, SameFiles, StandsAlone, BringsIn, ReadsAs, HasOnly, IsOutcome, IsEither}
-use Rattle.intent_journal.specs.States.{IsSettled, IsDoubtful, IsLagging, HasBody, HasAppliedAll}
+use Rattle.intent_journal.specs.JournalBytes.{gate, entry_in, IsOwnFile, IsShut, IsClosed, IsOpen}
+use Rattle.intent_journal.specs.Outcomes.{content_in, with_entry, with_entries, SameFiles, HasOnly, IsOutcome, IsEither}
+use Rattle.intent_journal.specs.Readings.{ReadsAs, IsBroken}
+use Rattle.intent_journal.specs.States.{IsOwnImage, IsSettled, IsDoubtful, IsLagging, HasBody, HasAppliedAll}
+use Rattle.intent_journal.proofs.Behind.{behind-entry}
 use Rattle.intent_journal.proofs.GateBytes.{gate_of_shut, entry_in-kept, IsShut-kept, IsClosed-behind, IsClosed-written, IsOpen-written}
 use Rattle.intent_journal.proofs.Contents.{HasAppliedAll-content}
+use Rattle.intent_journal.proofs.Readings.{IsReadIn, only_open, reads_cases, shut_not_broken, shut_or_holds, whole_not_broken}
 
 unwrap_same : (o : Option (List ℕ)) (x y : List ℕ) → (o ≡ None → x ≡ y) → unwrap_or o x ≡ unwrap_or o y
 unwrap_same None x y same = same refl
@@ -34,72 +37,65 @@ pub either_same : (files outcome other : Image) (doubt : Option (List FileText))
 either_same files outcome other doubt same (inl is) = inl (λ file ne. same file ne ∙ is file ne)
 either_same files outcome other doubt same (inr brings) = inr (brings.0, brings.1, λ file ne. same file ne ∙ brings.2 file ne)
 
-holds_or_shut : (c : List ℕ) → ¬ IsBroken c → 5 ≤ length c → gate c ≢ 0 → (o : Option (List FileText)) → entry_in c ≡ o → IsShut c ⊎ ((entry : List FileText) × (entry_in c ≡ Some entry))
-holds_or_shut c whole long opened None none = absurd (whole (record { not_short = long; not_closed = opened; no_body = none }))
-holds_or_shut c whole long opened (Some entry) some = inr (entry, some)
-
--- a journal that isn't broken is shut, or an entry stands in it
-pub shut_or_holds : (c : List ℕ) → ¬ IsBroken c → IsShut c ⊎ ((entry : List FileText) × (entry_in c ≡ Some entry))
-shut_or_holds c whole = elim (cases_lt (length c) 5) [
-  | inl short ↦ inl (inl short)
-  | inr long ↦ elim (cases_eq (gate c) 0) [
-    | inl closed ↦ inl (inr closed)
-    | inr opened ↦ holds_or_shut c whole long opened (entry_in c) refl
-  ]
-]
-
 -- the journal is shut, or its entry gives the files or these with the doubt
 abbrev pub GivesEither : Image → Option (List FileText) → List ℕ → Type 0
 GivesEither files doubt c = IsShut c ⊎ ((entry : List FileText) × (entry_in c ≡ Some entry) × (IsEither files doubt (with_entry files entry)))
 
-gives_of : (files : Image) (doubt : Option (List FileText)) (c : List ℕ) (entry : List FileText) → entry_in c ≡ Some entry
-    → ((entries : List (List FileText)) → ReadsAs c entries → IsEither files doubt (with_entries files entries)) → GivesEither files doubt c
-gives_of files doubt c entry some outcomes = elim (cases_eq (gate c) 0) [
+-- a journal that a crash may leave, alone
+pub own_image : (leaves : List ℕ → List ℕ → Type 0) (c : List ℕ) → leaves journal_name c → IsOwnImage leaves (λ file. c)
+own_image leaves c is file own = subst (λ (n : List ℕ). leaves n c) (sym own) is
+
+gives_of : (files : Image) (doubt : Option (List FileText)) (image : Image) (entry : List FileText) → entry_in (image journal_name) ≡ Some entry
+    → ((entries : List (List FileText)) → ReadsAs image entries → IsEither files doubt (with_entries files entries)) → GivesEither files doubt (image journal_name)
+gives_of files doubt image entry some outcomes = elim (cases_eq (gate (image journal_name)) 0) [
   | inl closed ↦ inl (inr closed)
-  | inr opened ↦ inr (entry, some, outcomes (entry ∷ []) (record { not_closed = opened; body = some }))
+  | inr opened ↦ inr (entry, some, outcomes (entry ∷ []) (record { taken = true; admitted = opened; reads = behind-entry (image journal_name) entry some }))
 ]
 
 -- what a journal in doubt is
 pub IsDoubtful-gives : (leaves : List ℕ → List ℕ → Type 0) (files : Image) (doubt : Option (List FileText)) → IsDoubtful leaves files doubt
     → (c : List ℕ) → leaves journal_name c → GivesEither files doubt c
-IsDoubtful-gives leaves files doubt state c is = elim (shut_or_holds c (state.not_broken c is)) [
-  | inl shut ↦ inl shut
-  | inr holds ↦ gives_of files doubt c holds.0 holds.1 (λ entries reads. state.outcomes c entries is reads)
+IsDoubtful-gives leaves files doubt state c is =
+    let own = own_image leaves c is in
+    elim (shut_or_holds (λ file. c) (state.not_broken (λ file. c) own)) [
+      | inl shut ↦ inl shut
+      | inr holds ↦ gives_of files doubt (λ file. c) holds.0 holds.1 (λ entries reads. state.outcomes (λ file. c) entries own reads)
+    ]
+
+not_broken_of : (files : Image) (doubt : Option (List FileText)) (image : Image) → GivesEither files doubt (image journal_name) → ¬ IsBroken image
+not_broken_of files doubt image (inl shut) = shut_not_broken image shut
+not_broken_of files doubt image (inr holds) = whole_not_broken image holds.0 holds.1
+
+brought_in : (files : Image) (doubt : Option (List FileText)) (c : List ℕ) (entries : List (List FileText)) → GivesEither files doubt c → (read : IsReadIn c entries) → IsEither files doubt (with_entry files read.entry)
+brought_in files doubt c entries (inl shut) read = absurd (read.opened (gate_of_shut c read.entry read.body shut))
+brought_in files doubt c entries (inr holds) read =
+    subst (λ (e : List FileText). IsEither files doubt (with_entry files e)) (same_entry c holds.0 read.entry holds.1 read.body) holds.2
+
+read_gives : (files : Image) (doubt : Option (List FileText)) (image : Image) (entries : List (List FileText)) → GivesEither files doubt (image journal_name) → ReadsAs image entries
+    → IsEither files doubt (with_entries files entries)
+read_gives files doubt image entries gives reads = elim (reads_cases image entries reads) [
+  | inl none ↦ subst (λ (es : List (List FileText)). IsEither files doubt (with_entries files es)) (sym none) (inl (λ file ne. refl))
+  | inr read ↦ subst (λ (es : List (List FileText)). IsEither files doubt (with_entries files es)) (sym read.alone) (brought_in files doubt (image journal_name) entries gives read)
 ]
-
-not_broken_of : (files : Image) (doubt : Option (List FileText)) (c : List ℕ) → GivesEither files doubt c → ¬ IsBroken c
-not_broken_of files doubt c (inl (inl short)) broken = let long = broken.not_short in omega arith
-not_broken_of files doubt c (inl (inr closed)) broken = broken.not_closed closed
-not_broken_of files doubt c (inr holds) broken = let none = broken.no_body in let some = holds.1 in cc
-
-brought_in : (files : Image) (doubt : Option (List FileText)) (c : List ℕ) (entry : List FileText) → GivesEither files doubt c → BringsIn entry c → IsEither files doubt (with_entry files entry)
-brought_in files doubt c entry (inl shut) brings = absurd (brings.not_closed (gate_of_shut c entry brings.body shut))
-brought_in files doubt c entry (inr holds) brings =
-    subst (λ (e : List FileText). IsEither files doubt (with_entry files e)) (same_entry c holds.0 entry holds.1 brings.body) holds.2
-
-read_gives : (files : Image) (doubt : Option (List FileText)) (c : List ℕ) (entries : List (List FileText)) → GivesEither files doubt c → ReadsAs c entries → IsEither files doubt (with_entries files entries)
-read_gives files doubt c [] gives reads = inl (λ file ne. refl)
-read_gives files doubt c (entry ∷ []) gives reads = brought_in files doubt c entry gives reads
-read_gives files doubt c (entry ∷ (next ∷ entries)) gives reads = absurd reads
 
 -- and what is a journal in doubt
 pub IsDoubtful-from : (leaves : List ℕ → List ℕ → Type 0) (files : Image) (doubt : Option (List FileText)) → ((file : List ℕ) → ¬ IsOwnFile file → Only (files file) (leaves file))
     → ((c : List ℕ) → leaves journal_name c → GivesEither files doubt c) → IsDoubtful leaves files doubt
 IsDoubtful-from leaves files doubt same gives = record {
   same = same;
-  not_broken = λ c is. not_broken_of files doubt c (gives c is);
-  outcomes = λ c entries is reads. read_gives files doubt c entries (gives c is) reads;
+  not_broken = λ image own. not_broken_of files doubt image (gives (image journal_name) (own journal_name refl));
+  outcomes = λ image entries own reads. read_gives files doubt image entries (gives (image journal_name) (own journal_name refl)) reads;
 }
 
 -- what a crash leaves of a journal in doubt stands for the files, or for those with the entry
 pub IsDoubtful-only : (leaves : List ℕ → List ℕ → Type 0) (files : Image) (doubt : Option (List FileText)) → IsDoubtful leaves files doubt
     → (image : Image) → IsImage leaves image → HasOnly (IsEither files doubt) image
 IsDoubtful-only leaves files doubt state image is = record {
-  not_broken = state.not_broken (image journal_name) (is journal_name);
+  not_broken = state.not_broken image (λ file own. is file);
   each = λ outcome has.
       either_same files (with_entries files has.0) outcome doubt
       (λ file ne. has.2 file ne ∙ with_entries-same has.0 image files file (state.same file ne (image file) (is file)))
-      (state.outcomes (image journal_name) has.0 (is journal_name) has.1);
+      (state.outcomes image has.0 (λ file own. is file) has.1);
 }
 
 -- what a crash leaves of a settled journal stands for the files
@@ -110,6 +106,14 @@ either_none : (files outcome : Image) → IsEither files None outcome → IsOutc
 either_none files outcome (inl same) = same
 either_none files outcome (inr brings) = let none = brings.1 in absurd (cc)
 
+-- without a doubt there is any
+pub IsDoubtful-any : (leaves : List ℕ → List ℕ → Type 0) (files : Image) (doubt : Option (List FileText)) → IsDoubtful leaves files None → IsDoubtful leaves files doubt
+IsDoubtful-any leaves files doubt state = record {
+  same = state.same;
+  not_broken = state.not_broken;
+  outcomes = λ image entries own reads. inl (either_none files (with_entries files entries) (state.outcomes image entries own reads));
+}
+
 -- with no doubt there are only the files
 pub HasOnly-none : (files image : Image) → HasOnly (IsEither files None) image → HasOnly (IsOutcome files) image
 HasOnly-none files image only = record { not_broken = only.not_broken; each = λ outcome has. either_none files outcome (only.each outcome has) }
@@ -117,19 +121,11 @@ HasOnly-none files image only = record { not_broken = only.not_broken; each = λ
 pub IsSettled-only : (leaves : List ℕ → List ℕ → Type 0) (files : Image) → IsSettled leaves files → (image : Image) → IsImage leaves image → HasOnly (IsOutcome files) image
 IsSettled-only leaves files state image is = HasOnly-none files image (IsDoubtful-only leaves files None (IsSettled-doubt leaves files None state) image is)
 
--- behind an open gate nothing stands alone
-open_alone : (c : List ℕ) (entry : List FileText) → IsOpen entry c → StandsAlone c → ⊥
-open_alone c entry opened (inl shut) = let closed = gate_of_shut c entry opened.body shut in let is_open = opened.gate_is in omega arith
-open_alone c entry opened (inr torn) = torn.0 opened.gate_is
-
 open_outcome : (leaves : List ℕ → List ℕ → Type 0) (files : Image) (entry : List FileText) (image outcome : Image) (entries : List (List FileText)) → IsLagging leaves files entry → IsImage leaves image
-    → IsOpen entry (image journal_name) → ReadsAs (image journal_name) entries → SameFiles outcome (with_entries image entries) → SameFiles outcome (with_entry files entry)
-open_outcome leaves files entry image outcome [] state is opened reads same = absurd (open_alone (image journal_name) entry opened reads)
-open_outcome leaves files entry image outcome (other ∷ []) state is opened reads same = λ file ne.
-    let e : other ≡ entry = same_entry (image journal_name) other entry reads.body opened.body in
-    same file ne ∙ ap (λ (texts : List FileText). with_entry image texts file) e
+    → IsOpen entry (image journal_name) → ReadsAs image entries → SameFiles outcome (with_entries image entries) → SameFiles outcome (with_entry files entry)
+open_outcome leaves files entry image outcome entries state is opened reads same file ne =
+    same file ne ∙ ap (λ (es : List (List FileText)). with_entries image es file) (only_open image entry entries opened reads)
     ∙ with_entry-same entry image files file (λ none. state.same file ne none (image file) (is file))
-open_outcome leaves files entry image outcome (other ∷ (next ∷ entries)) state is opened reads same = absurd reads
 
 -- what a crash leaves while the gate is open on an entry stands for the files with it
 pub IsLagging-only : (leaves : List ℕ → List ℕ → Type 0) (files : Image) (entry : List FileText) → IsLagging leaves files entry
@@ -137,7 +133,7 @@ pub IsLagging-only : (leaves : List ℕ → List ℕ → Type 0) (files : Image)
 IsLagging-only leaves files entry state image is =
     let opened = state.opened (image journal_name) (is journal_name) in
     record {
-      not_broken = λ broken. let none = broken.no_body in let some = opened.body in cc;
+      not_broken = whole_not_broken image entry opened.body;
       each = λ outcome has. open_outcome leaves files entry image outcome has.0 state is opened has.1 has.2;
     }
 

@@ -1,4 +1,5 @@
 pub mod JournalBytes
+pub mod Readings
 pub mod Outcomes
 pub mod States
 pub mod Moments
@@ -6,3 +7,5 @@ pub mod Journal
 pub mod BadJournals
 pub mod Opening
 pub mod Opened
+pub mod Opens
+pub mod Steps

@@ -1,15 +1,15 @@
 //! The journal, and the steps of an entry through it.
-ghost use Rattle.std.specs.Prelude.{◌≡◌, ◌≢◌, ◌⊎◌, ◌∷◌, ◌<◌, ◌+◌, ◌++◌, length, slice_get, List, [], Option, Some, None, true, false, Err, IfOk, IsOk, OnOk, OnErr};
+ghost use Rattle.std.specs.Prelude.{◌≡◌, ◌≢◌, ℕ, ◌⊎◌, ◌∷◌, ◌<◌, ◌+◌, ◌++◌, length, slice_get, List, [], Option, Some, None, true, false, Err, IfOk, IsOk, OnOk, OnErr};
 ghost use Rattle.backend_files.specs.WholeFile.{IsWhole, IsShort, IsGiven};
-ghost use Rattle.kdb_outside.specs.Faults.{HasCause, HasRisen};
-ghost use Rattle.kdb_outside.specs.Files.{written};
-ghost use Rattle.kdb_outside.specs.Frames.{GoesOn, OnlyReads};
-ghost use Rattle.kdb_outside.specs.Images.{Image, Only, IsTornWrite, KeepsOtherImages, Touches};
+ghost use Rattle.kdb_outside.specs.Faults.{HasRisen};
+ghost use Rattle.kdb_outside.specs.Frames.{OnlyReads};
+ghost use Rattle.kdb_outside.specs.Images.{Image};
 ghost use Rattle.journal_codec.specs.declared.files.FileText.{FileText as Item};
 ghost use Rattle.journal_codec.specs.Entry.{IsEntry, journal_name, length_bytes, spelled};
 ghost use Rattle.intent_journal.specs.Outcomes.{with_entry, HasOnly, IsOutcome, IsEither};
 ghost use Rattle.intent_journal.specs.States.{IsSettled, IsDoubtful, IsLagging, HasBody, IsFound, HasApplied, HasAppliedAll};
-ghost use Rattle.intent_journal.specs.Moments.{AddsOnly, LeavesOnly, IsImageOr, IsStepOf};
+ghost use Rattle.intent_journal.specs.Moments.{AddsOnly, IsImageOr};
+ghost use Rattle.intent_journal.specs.Steps.{IsStep, IsUnfinished, Passes, PutsFile, WritesThrough};
 
 mod opening;
 
@@ -93,14 +93,11 @@ impl<D: Disk> Journal<D> {
         ensures handed_out { self.old.found ≡ false → (self.new ≡ self.old) × IsOk result }
         ensures ok { self.old.found ≡ true → OnOk result (self.new.state ≡ State.Clean) }
         ensures err { OnErr result (self.new.state ≡ State.Doubt) }
-        ensures found { self.new.found ≡ false }
-        ensures recovered { self.new.recovered ≡ self.old.recovered }
+        ensures step { IsStep D.Disk self.old self.new result }
         ensures settled { D.tells self.old.disk ≡ true → self.old.found ≡ true → (files : Image) → IsFound (D.may_leave self.old.disk) files self.old.entry
             → OnOk result (IsSettled (D.may_leave self.new.disk) (with_entry files self.old.entry)) }
         ensures any_moment { D.tells self.old.disk ≡ true → self.old.found ≡ true → (files : Image) → IsFound (D.may_leave self.old.disk) files self.old.entry
             → AddsOnly D.Disk self.old.disk self.new.disk (IsImageOr (D.may_leave self.old.disk) (HasOnly (IsOutcome (with_entry files self.old.entry)))) }
-        ensures goes { GoesOn D.Disk self.old.disk self.new.disk }
-        ensures cause { HasCause (D.faults self.old.disk) (D.faults self.new.disk) result }
     {
         if !self.found {
             return Ok(());
@@ -116,18 +113,11 @@ impl<D: Disk> Journal<D> {
     pub fn settle(&mut self) -> Result<(), Failed>
         requires { self.old.state ≢ State.Lag }
         ensures clean { self.old.state ≡ State.Clean → self.new ≡ self.old }
-        ensures found { self.new.found ≡ false }
-        ensures recovered { self.new.recovered ≡ self.old.recovered }
         ensures ok { OnOk result (self.new.state ≡ State.Clean) }
         ensures err { OnErr result (self.new.state ≡ State.Doubt) }
-        ensures settled { D.tells self.old.disk ≡ true → (files : Image) (doubt : Option (List Item)) → IsDoubtful (D.may_leave self.old.disk) files doubt
-            → OnOk result (IsSettled (D.may_leave self.new.disk) files) }
-        ensures doubtful { D.tells self.old.disk ≡ true → (files : Image) (doubt : Option (List Item)) → IsDoubtful (D.may_leave self.old.disk) files doubt
-            → OnErr result (IsDoubtful (D.may_leave self.new.disk) files doubt) }
-        ensures any_moment { D.tells self.old.disk ≡ true → (files : Image) (doubt : Option (List Item)) → IsDoubtful (D.may_leave self.old.disk) files doubt
-            → LeavesOnly D.Disk self.old.disk self.new.disk (HasOnly (IsEither files doubt)) }
-        ensures goes { GoesOn D.Disk self.old.disk self.new.disk }
-        ensures cause { HasCause (D.faults self.old.disk) (D.faults self.new.disk) result }
+        ensures step { IsStep D.Disk self.old self.new result }
+        ensures passes { D.tells self.old.disk ≡ true → (files : Image) (doubt : Option (List Item)) → IsDoubtful (D.may_leave self.old.disk) files doubt
+            → Passes D.Disk self.old.disk self.new.disk result (λ leaves. IsSettled leaves files) (λ leaves. IsDoubtful leaves files doubt) (IsEither files doubt) }
     {
         if self.state == State::Clean {
             return Ok(());
@@ -139,15 +129,11 @@ impl<D: Disk> Journal<D> {
     pub fn put_body(&mut self, encoded: &[u8]) -> Result<(), Failed>
         requires { self.old.state ≡ State.Clean }
         ensures state { self.new.state ≡ State.Clean }
-        ensures found { self.new.found ≡ false }
-        ensures recovered { self.new.recovered ≡ self.old.recovered }
+        ensures step { IsStep D.Disk self.old self.new result }
         ensures body { D.tells self.old.disk ≡ true → (entry : List Item) → IsEntry entry → encoded.now ≡ length_bytes (length (spelled entry)) ++ spelled entry
             → OnOk result (HasBody (D.may_leave self.new.disk) entry) }
-        ensures settled { D.tells self.old.disk ≡ true → (files : Image) → IsSettled (D.may_leave self.old.disk) files → IsSettled (D.may_leave self.new.disk) files }
-        ensures any_moment { D.tells self.old.disk ≡ true → (files : Image) → IsSettled (D.may_leave self.old.disk) files
-            → LeavesOnly D.Disk self.old.disk self.new.disk (HasOnly (IsOutcome files)) }
-        ensures goes { GoesOn D.Disk self.old.disk self.new.disk }
-        ensures cause { HasCause (D.faults self.old.disk) (D.faults self.new.disk) result }
+        ensures passes { D.tells self.old.disk ≡ true → (files : Image) → IsSettled (D.may_leave self.old.disk) files
+            → Passes D.Disk self.old.disk self.new.disk result (λ leaves. IsSettled leaves files) (λ leaves. IsSettled leaves files) (IsOutcome files) }
     {
         write_through(&mut self.disk, &self.name, 1, encoded)
     }
@@ -159,16 +145,9 @@ impl<D: Disk> Journal<D> {
         requires body { D.tells self.old.disk ≡ true → HasBody (D.may_leave self.old.disk) files }
         ensures ok { OnOk result ((self.new.state ≡ State.Lag) × (self.new.entry ≡ files)) }
         ensures err { OnErr result (self.new.state ≡ State.Doubt) }
-        ensures found { self.new.found ≡ false }
-        ensures recovered { self.new.recovered ≡ self.old.recovered }
-        ensures lagging { D.tells self.old.disk ≡ true → (before : Image) → IsSettled (D.may_leave self.old.disk) before
-            → OnOk result (IsLagging (D.may_leave self.new.disk) before files) }
-        ensures doubtful { D.tells self.old.disk ≡ true → (before : Image) → IsSettled (D.may_leave self.old.disk) before
-            → OnErr result (IsDoubtful (D.may_leave self.new.disk) before (Some files)) }
-        ensures any_moment { D.tells self.old.disk ≡ true → (before : Image) → IsSettled (D.may_leave self.old.disk) before
-            → LeavesOnly D.Disk self.old.disk self.new.disk (HasOnly (IsEither before (Some files))) }
-        ensures goes { GoesOn D.Disk self.old.disk self.new.disk }
-        ensures cause { HasCause (D.faults self.old.disk) (D.faults self.new.disk) result }
+        ensures step { IsStep D.Disk self.old self.new result }
+        ensures passes { D.tells self.old.disk ≡ true → (before : Image) → IsSettled (D.may_leave self.old.disk) before
+            → Passes D.Disk self.old.disk self.new.disk result (λ leaves. IsLagging leaves before files) (λ leaves. IsDoubtful leaves before (Some files)) (IsEither before (Some files)) }
     {
         self.state = State::Doubt;
         write_through(&mut self.disk, &self.name, 0, &[OPEN])?;
@@ -181,18 +160,12 @@ impl<D: Disk> Journal<D> {
     pub fn apply(&mut self, i: usize) -> Result<(), Failed>
         requires lag { self.old.state ≡ State.Lag }
         requires within { i < length self.old.entry }
-        ensures state { self.new.state ≡ State.Lag }
-        ensures entry { self.new.entry ≡ self.old.entry }
-        ensures found { self.new.found ≡ false }
-        ensures recovered { self.new.recovered ≡ self.old.recovered }
-        ensures durable { D.tells self.old.disk ≡ true → (text : Item) → slice_get self.old.entry i ≡ Some text → OnOk result (Only text.bytes (D.may_leave self.new.disk text.file)) }
-        ensures others { D.tells self.old.disk ≡ true → (text : Item) → slice_get self.old.entry i ≡ Some text → KeepsOtherImages text.file (D.may_leave self.old.disk) (D.may_leave self.new.disk) }
+        ensures state { (self.new.state ≡ State.Lag) × (self.new.entry ≡ self.old.entry) }
+        ensures step { IsStep D.Disk self.old self.new result }
+        ensures puts { D.tells self.old.disk ≡ true → (text : Item) → slice_get self.old.entry i ≡ Some text → PutsFile D.Disk self.old.disk self.new.disk result text }
         ensures applied { D.tells self.old.disk ≡ true → HasApplied (D.may_leave self.old.disk) self.old.entry i → OnOk result (HasApplied (D.may_leave self.new.disk) self.old.entry (i + 1)) }
-        ensures lagging { D.tells self.old.disk ≡ true → (files : Image) → IsLagging (D.may_leave self.old.disk) files self.old.entry → IsLagging (D.may_leave self.new.disk) files self.old.entry }
-        ensures any_moment { D.tells self.old.disk ≡ true → (files : Image) → IsLagging (D.may_leave self.old.disk) files self.old.entry
-            → LeavesOnly D.Disk self.old.disk self.new.disk (HasOnly (IsOutcome (with_entry files self.old.entry))) }
-        ensures goes { GoesOn D.Disk self.old.disk self.new.disk }
-        ensures cause { HasCause (D.faults self.old.disk) (D.faults self.new.disk) result }
+        ensures passes { D.tells self.old.disk ≡ true → (files : Image) → IsLagging (D.may_leave self.old.disk) files self.old.entry
+            → Passes D.Disk self.old.disk self.new.disk result (λ leaves. IsLagging leaves files self.old.entry) (λ leaves. IsLagging leaves files self.old.entry) (IsOutcome (with_entry files self.old.entry)) }
     {
         let entry = self.entry.as_slice();
         put_file(&mut self.disk, &entry[i])
@@ -205,16 +178,10 @@ impl<D: Disk> Journal<D> {
         ensures ok { OnOk result (self.new.state ≡ State.Clean) }
         ensures err { OnErr result (self.new.state ≡ State.Doubt) }
         ensures entry { self.new.entry ≡ [] }
-        ensures found { self.new.found ≡ false }
-        ensures recovered { self.new.recovered ≡ self.old.recovered }
-        ensures settled { D.tells self.old.disk ≡ true → (files : Image) → IsLagging (D.may_leave self.old.disk) files self.old.entry
-            → OnOk result (IsSettled (D.may_leave self.new.disk) (with_entry files self.old.entry)) }
-        ensures doubtful { D.tells self.old.disk ≡ true → (files : Image) → IsLagging (D.may_leave self.old.disk) files self.old.entry
-            → OnErr result (IsDoubtful (D.may_leave self.new.disk) (with_entry files self.old.entry) None) }
-        ensures any_moment { D.tells self.old.disk ≡ true → (files : Image) → IsLagging (D.may_leave self.old.disk) files self.old.entry
-            → LeavesOnly D.Disk self.old.disk self.new.disk (HasOnly (IsOutcome (with_entry files self.old.entry))) }
-        ensures goes { GoesOn D.Disk self.old.disk self.new.disk }
-        ensures cause { HasCause (D.faults self.old.disk) (D.faults self.new.disk) result }
+        ensures step { IsStep D.Disk self.old self.new result }
+        ensures passes { D.tells self.old.disk ≡ true → (files : Image) → IsLagging (D.may_leave self.old.disk) files self.old.entry
+            → Passes D.Disk self.old.disk self.new.disk result (λ leaves. IsSettled leaves (with_entry files self.old.entry)) (λ leaves. IsDoubtful leaves (with_entry files self.old.entry) None)
+            (IsOutcome (with_entry files self.old.entry)) }
     {
         self.shut()
     }
@@ -225,18 +192,10 @@ impl<D: Disk> Journal<D> {
         requires { self.old.state ≡ State.Lag }
         ensures ok { OnOk result (self.new.state ≡ State.Clean) }
         ensures err { OnErr result (((self.new.state ≡ State.Lag) × (self.new.entry ≡ self.old.entry)) ⊎ (self.new.state ≡ State.Doubt)) }
-        ensures found { self.new.found ≡ false }
-        ensures recovered { self.new.recovered ≡ self.old.recovered }
-        ensures settled { D.tells self.old.disk ≡ true → (files : Image) → IsLagging (D.may_leave self.old.disk) files self.old.entry
-            → OnOk result (IsSettled (D.may_leave self.new.disk) (with_entry files self.old.entry)) }
-        ensures lagging { D.tells self.old.disk ≡ true → (files : Image) → IsLagging (D.may_leave self.old.disk) files self.old.entry → self.new.state ≡ State.Lag
-            → OnErr result (IsLagging (D.may_leave self.new.disk) files self.old.entry) }
-        ensures doubtful { D.tells self.old.disk ≡ true → (files : Image) → IsLagging (D.may_leave self.old.disk) files self.old.entry → self.new.state ≡ State.Doubt
-            → OnErr result (IsDoubtful (D.may_leave self.new.disk) (with_entry files self.old.entry) None) }
-        ensures any_moment { D.tells self.old.disk ≡ true → (files : Image) → IsLagging (D.may_leave self.old.disk) files self.old.entry
-            → LeavesOnly D.Disk self.old.disk self.new.disk (HasOnly (IsOutcome (with_entry files self.old.entry))) }
-        ensures goes { GoesOn D.Disk self.old.disk self.new.disk }
-        ensures cause { HasCause (D.faults self.old.disk) (D.faults self.new.disk) result }
+        ensures step { IsStep D.Disk self.old self.new result }
+        ensures passes { D.tells self.old.disk ≡ true → (files : Image) → IsLagging (D.may_leave self.old.disk) files self.old.entry
+            → Passes D.Disk self.old.disk self.new.disk result (λ leaves. IsSettled leaves (with_entry files self.old.entry)) (λ leaves. IsUnfinished self.new.state files self.old.entry leaves)
+            (IsOutcome (with_entry files self.old.entry)) }
     {
         put_files(&mut self.disk, self.entry.as_slice())?;
         self.shut()
@@ -247,13 +206,8 @@ impl<D: Disk> Journal<D> {
         ensures ok { OnOk result (self.new.state ≡ State.Clean) }
         ensures err { OnErr result (self.new.state ≡ State.Doubt) }
         ensures entry { self.new.entry ≡ [] }
-        ensures found { self.new.found ≡ false }
-        ensures recovered { self.new.recovered ≡ self.old.recovered }
-        ensures durable { D.tells self.old.disk ≡ true → OnOk result (Only (written (D.seen self.old.disk journal_name) 0 (0 ∷ [])) (D.may_leave self.new.disk journal_name)) }
-        ensures images { D.tells self.old.disk ≡ true → Touches journal_name (IsTornWrite 0 (0 ∷ [])) (D.may_leave self.old.disk) (D.may_leave self.new.disk) }
-        ensures time { D.tells self.old.disk ≡ true → AddsOnly D.Disk self.old.disk self.new.disk (IsStepOf journal_name (IsTornWrite 0 (0 ∷ [])) (D.may_leave self.old.disk)) }
-        ensures goes { GoesOn D.Disk self.old.disk self.new.disk }
-        ensures cause { HasCause (D.faults self.old.disk) (D.faults self.new.disk) result }
+        ensures step { IsStep D.Disk self.old self.new result }
+        ensures writes { D.tells self.old.disk ≡ true → WritesThrough D.Disk self.old.disk self.new.disk result journal_name 0 (0 ∷ []) }
     {
         self.state = State::Doubt;
         self.found = false;

@@ -3,7 +3,7 @@ ghost use Rattle.std.specs.Prelude.{◌≡◌, ◌≤◌, ℕ, length, take, dro
 ghost use Rattle.kdb_outside.specs.Faults.{HasCause, HasRisen};
 ghost use Rattle.kdb_outside.specs.Frames.{OnlyReads};
 ghost use Rattle.journal_codec.specs.Entry.{IsEntry};
-ghost use Rattle.intent_journal.specs.BadJournals.{longest_body, open_length};
+ghost use Rattle.intent_journal.specs.JournalBytes.{longest_body, open_length};
 ghost use Rattle.intent_journal.specs.Opening.{TellsBody, TellsEntry};
 
 use crate::JournalFault;

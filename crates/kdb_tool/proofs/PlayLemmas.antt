@@ -8,7 +8,6 @@ use Rattle.intent_journal.specs.BadJournals.{open_entry, opened_files}
 use Rattle.intent_journal.specs.Moments.{LeavesOnly}
 use Rattle.intent_journal.specs.Outcomes.{SameFiles, HasOnly, IsEither}
 use Rattle.intent_journal.specs.States.{IsCalm}
-use Rattle.journal_codec.specs.Entry.{journal_name}
 use Rattle.journal_codec.specs.declared.files.FileText.{FileText}
 use Rattle.kdb_handle.specs.Closing.{IsHandedOn}
 use Rattle.kdb_handle.specs.Opened.{store_at}
@@ -98,7 +97,7 @@ module _ {D P : Type 0} (g : Ghosts D) (refused : P → ℕ) (disk : D) (files :
   handed = is.disk mid first has_opened.begun.store
 
   -- nothing was written where no entry was open and no set was begun
-  untouched : BeginsNone is.story → open_entry (g.seen disk journal_name) ≡ None → OnlyReads g disk end
+  untouched : BeginsNone is.story → open_entry (g.seen disk) ≡ None → OnlyReads g disk end
   untouched begins_none none = subst (OnlyReads g disk) (sym (is.left_alone begins_none (has_opened.wrote ∙ ap is_some none) has_opened.state)) (has_opened.alone none)
 
   quiet_since : ¬ HasRisen (g.faults disk) (g.faults end) → ¬ HasRisen (g.faults mid) (g.faults end)
@@ -143,9 +142,9 @@ module _ {D P : Type 0} (g : Ghosts D) (refused : P → ℕ) (disk : D) (files :
   begins_none none = record { commits = ap commits_of none; failures = ap failures_in none }
 
   found_again : is.story ≡ [] → IsCalm (g.seen end) (g.may_leave end) opened has_opened.begun.first → SameFiles (opened_files (g.seen end)) opened
-  found_again none calm = by (open_entry (g.seen disk journal_name)) refl
+  found_again none calm = by (open_entry (g.seen disk)) refl
     where
-      by : (o : Option (List FileText)) → open_entry (g.seen disk journal_name) ≡ o → SameFiles (opened_files (g.seen end)) opened
+      by : (o : Option (List FileText)) → open_entry (g.seen disk) ≡ o → SameFiles (opened_files (g.seen end)) opened
       by None there = let reads = untouched (begins_none none) there in λ file not_own. ap (λ (seen : Image). opened_files seen file) (reads.same telling)
       by (Some entry) there = found_whole g end opened told_end (subst (λ (d : Option (List FileText)). IsCalm (g.seen end) (g.may_leave end) opened d) (has_opened.begun.settled entry there) calm)
 

@@ -3,7 +3,6 @@ use Rattle.std.specs.Prelude.{◌≡◌, ◌≢◌, ◌⊎◌, ◌≤◌, ℕ, t
 use Rattle.batch_script.specs.declared.steps.Script.{Script}
 use Rattle.intent_journal.specs.BadJournals.{bad_place, open_entry, opened_files}
 use Rattle.intent_journal.specs.States.{IsCalm}
-use Rattle.journal_codec.specs.Entry.{journal_name}
 use Rattle.journal_codec.specs.declared.files.FileText.{FileText}
 use Rattle.kdb_handle.specs.Story.{commits_of}
 use Rattle.kdb_handle.specs.declared.replies.Transcripts.{Transcripts}
@@ -58,15 +57,15 @@ pub record RunsBatch {S K E D P : Type 0} (s : sources.Ghosts S) (k : sinks.Ghos
   pub by_words : EndsByWords words status (change_of k out out_now) (change_of e err err_now)
   pub unasked : (given : List ℕ) → IsGiven (takes_words words) (s.left input) given → (AsksStore words given → ⊥) → (end ≡ disk) × (patterns_now ≡ patterns)
   -- a broken journal is told by its place, and the disk is only read
-  pub broken : d.tells disk ≡ true → (at : ℕ) → bad_place (d.seen disk journal_name) ≡ Some at → (given : List ℕ) → IsGiven (takes_words words) (s.left input) given → EndsBroken words given at status (change_of k out out_now) (change_of e err err_now)
-  pub broken_stays : d.tells disk ≡ true → (at : ℕ) → bad_place (d.seen disk journal_name) ≡ Some at → OnlyReads d disk end
+  pub broken : d.tells disk ≡ true → (at : ℕ) → bad_place (d.seen disk) ≡ Some at → (given : List ℕ) → IsGiven (takes_words words) (s.left input) given → EndsBroken words given at status (change_of k out out_now) (change_of e err err_now)
+  pub broken_stays : d.tells disk ≡ true → (at : ℕ) → bad_place (d.seen disk) ≡ Some at → OnlyReads d disk end
   -- what 70 and 74 tell; the disk fails only where the store was asked
   pub memory : EndsWithoutMemory status (change_of k out out_now) (change_of e err err_now)
   pub fault : EndsInFault (HasRisen (d.faults disk) (d.faults end) × HasAsked s words input input_now) (LosesInput (FailsToRead (takes_words words) (s.faults input) (s.faults input_now)) disk end patterns patterns_now) status (change_of k out out_now) (change_of e err err_now)
   -- so without a fault the status isn't that of one
   pub complete : (HasRisen (d.faults disk) (d.faults end) → ⊥) → (FailsToRead (takes_words words) (s.faults input) (s.faults input_now) → ⊥) → (HasRisen (k.faults out) (k.faults out_now) → ⊥) → (HasRisen (e.faults err) (e.faults err_now) → ⊥) → status ≢ 74
   -- a batch that is refused writes nothing where no entry is open
-  pub unstored : d.tells disk ≡ true → open_entry (d.seen disk journal_name) ≡ None → status ≢ 0 → IsAnswered status → OnlyReads d disk end
+  pub unstored : d.tells disk ≡ true → open_entry (d.seen disk) ≡ None → status ≢ 0 → IsAnswered status → OnlyReads d disk end
   -- what it takes of the input
   pub takes : LeavesInput s (takes_words words) (IsAnswered status) input input_now
   -- the disk tells as much as before, and no count falls

@@ -1,8 +1,7 @@
 -- Which disks in memory a store may be opened on. (This project's own.)
 use Rattle.std.specs.Prelude.{ℕ, List}
 use Rattle.disk_memory.specs.DiskState.{DiskState, seen_of, left_of}
-use Rattle.intent_journal.specs.JournalBytes.{IsBroken}
-use Rattle.journal_codec.specs.Entry.{journal_name}
+use Rattle.intent_journal.specs.Readings.{IsBroken}
 use Rattle.kdb_outside.specs.Images.{Image, IsImage, Only}
 
 -- a crash leaves just what is read
@@ -11,4 +10,4 @@ IsAlone disk = (file : List ℕ) → Only (seen_of disk file) (left_of disk file
 
 -- no crash leaves a broken journal
 abbrev pub IsNeverBroken : DiskState → Type 0
-IsNeverBroken disk = (image : Image) → IsImage (left_of disk) image → ¬ IsBroken (image journal_name)
+IsNeverBroken disk = (image : Image) → IsImage (left_of disk) image → ¬ IsBroken image

@@ -2,8 +2,7 @@
 ghost use Rattle.std.specs.Prelude.{◌≡◌, IfOk, length};
 ghost use Rattle.std.specs.List.{AllByRecursion};
 ghost use Rattle.disk_memory.specs.DiskState.{seen_of};
-ghost use Rattle.intent_journal.specs.JournalBytes.{IsBroken};
-ghost use Rattle.journal_codec.specs.Entry.{journal_name};
+ghost use Rattle.intent_journal.specs.Readings.{IsBroken};
 ghost use Rattle.store_cases.specs.Disks.{IsAlone, IsNeverBroken};
 ghost use Rattle.store_play.specs.Ran.{disk_of};
 ghost use Rattle.store_verdict.specs.ProcKeys.{AreProc};
@@ -29,7 +28,7 @@ const PLACES: usize = 8;
 pub struct Quiet {
     disk: MemDisk,
     ghost alone: { IsAlone disk },
-    ghost sound: { ¬ IsBroken (seen_of disk journal_name) },
+    ghost sound: { ¬ IsBroken (seen_of disk) },
 }
 
 /// A disk behind a run, of which no crash leaves a broken journal.

@@ -1,16 +1,14 @@
 -- What `open_store` promises, by the disk and the matcher that it was handed, and by its answer. (This project's own.)
-use Rattle.std.specs.Prelude.{◌≡◌, ℕ, [], true, false, is_some, Option, Some, None, List, Result, IfOk, IfErr, MatchResult}
+use Rattle.std.specs.Prelude.{◌≡◌, ℕ, [], true, false, is_some, Some, None, Result, IfOk, IfErr, MatchResult}
 use Rattle.kdb_outside.specs.Crashes.{EveryImage}
 use Rattle.kdb_outside.specs.declared.disks.Disk.{Ghosts}
 use Rattle.kdb_outside.specs.Faults.{HasRisen}
 use Rattle.kdb_outside.specs.Frames.{GoesOn, OnlyReads}
-use Rattle.kdb_outside.specs.Images.{Image}
-use Rattle.journal_codec.specs.declared.files.FileText.{FileText}
-use Rattle.journal_codec.specs.Entry.{journal_name}
 use Rattle.intent_journal.specs.declared.states.State.TheVariants.{Doubt}
 use Rattle.intent_journal.specs.Journal.{JournalValue}
 use Rattle.intent_journal.specs.BadJournals.{bad_place, open_entry, opened_files, opened_doubt}
 use Rattle.intent_journal.specs.Moments.{LeavesOnly}
+use Rattle.intent_journal.specs.Opens.{WhereCalm}
 use Rattle.intent_journal.specs.Outcomes.{SameFiles, HasOnly, IsEither}
 use Rattle.intent_journal.specs.States.{IsCalm}
 use Rattle.model_crashes.specs.Runs.{new_run}
@@ -29,10 +27,6 @@ use Rattle.store_core.specs.declared.faults.OpenFault.TheVariants.{BadJournal, D
 use Rattle.store_core.specs.declared.faults.OpenRefused.{OpenRefused}
 use Rattle.store_core.specs.declared.opening.Opened.{Opened}
 
--- whatever files a calm disk that tells has, and whatever is in doubt on it
-abbrev pub WhereCalm : {D : Type 0} → Ghosts D → D → (Image → Option (List FileText) → Type 0) → Type 0
-WhereCalm g disk P = g.tells disk ≡ true → (files : Image) (doubt : Option (List FileText)) → IsCalm (g.seen disk) (g.may_leave disk) files doubt → P files doubt
-
 -- by the formats: what they are to a store, which bytes they read as which keys, and which are bad
 pub record OpensStore (formats : Formats) (Reads : Reading) (IsBad : Badness) {D F P : Type 0} (g : Ghosts D) (disk : D) (matcher : P) (result : Result (Opened D F P) (OpenRefused D P)) : Type 0 where
   pub patterns : patterns_of result ≡ matcher
@@ -49,16 +43,16 @@ pub record OpensStore (formats : Formats) (Reads : Reading) (IsBad : Badness) {D
   pub world : IfOk result (λ opened. (procs : ℕ → KeyMap) → StandsIn formats (store_of opened.plan.mounted procs) opened.core (λ r m. None) (λ p. None) first_world)
   pub keys : IfOk result (λ opened. opened.core.keys ≡ visible_keys opened.plan.mounted)
   pub none : IfOk result (λ opened. opened.core.history.commits ≡ [])
-  pub wrote : g.tells disk ≡ true → IfOk result (λ opened. opened.core.wrote ≡ is_some (open_entry (g.seen disk journal_name)))
+  pub wrote : g.tells disk ≡ true → IfOk result (λ opened. opened.core.wrote ≡ is_some (open_entry (g.seen disk)))
   pub doubt : IfOk result (λ opened. opened.core.journal.state ≡ Doubt)
   -- a disk without an open entry is only read
-  pub as_seen : g.tells disk ≡ true → open_entry (g.seen disk journal_name) ≡ None
+  pub as_seen : g.tells disk ≡ true → open_entry (g.seen disk) ≡ None
       → MatchResult result (λ opened. IsOpened Reads IsBad (g.seen disk) opened.plan.mounted) (λ refused. RefusesStore Reads IsBad (g.seen disk own_mount.file) refused.fault)
-  pub left_alone : g.tells disk ≡ true → open_entry (g.seen disk journal_name) ≡ None → OnlyReads g disk (disk_of result)
+  pub left_alone : g.tells disk ≡ true → open_entry (g.seen disk) ≡ None → OnlyReads g disk (disk_of result)
   -- why it is refused
   pub refused : WhereCalm g disk (λ files doubt. IfErr result (λ refused. RefusesStore Reads IsBad (opened_files (g.seen disk) own_mount.file) refused.fault))
-  pub bad : g.tells disk ≡ true → (at : ℕ) → fault_of result ≡ Some (BadJournal at) → bad_place (g.seen disk journal_name) ≡ Some at
-  pub broken : g.tells disk ≡ true → (at : ℕ) → bad_place (g.seen disk journal_name) ≡ Some at → MatchResult result (λ _. ⊥) (λ refused. RefusesBroken at refused.fault)
+  pub bad : g.tells disk ≡ true → (at : ℕ) → fault_of result ≡ Some (BadJournal at) → bad_place (g.seen disk) ≡ Some at
+  pub broken : g.tells disk ≡ true → (at : ℕ) → bad_place (g.seen disk) ≡ Some at → MatchResult result (λ _. ⊥) (λ refused. RefusesBroken at refused.fault)
   pub calm : WhereCalm g disk (λ files doubt. (at : ℕ) → fault_of result ≡ Some (BadJournal at) → ⊥)
   pub cause : fault_of result ≡ Some DiskFault → HasRisen (g.faults disk) (g.faults (disk_of result))
   -- what it leaves, and what a crash amid it leaves

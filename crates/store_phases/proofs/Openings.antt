@@ -8,7 +8,6 @@ use Rattle.kdb_outside.specs.Faults.{HasRisen}
 use Rattle.kdb_outside.specs.Frames.{GoesOn, OnlyReads}
 use Rattle.kdb_outside.specs.Images.{Image}
 use Rattle.journal_codec.specs.declared.files.FileText.{FileText}
-use Rattle.journal_codec.specs.Entry.{journal_name}
 use Rattle.intent_journal.specs.declared.faults.JournalFault.TheVariants.{DiskFault}
 use Rattle.intent_journal.specs.declared.faults.JournalRefused.{JournalRefused}
 use Rattle.intent_journal.specs.declared.states.State.TheVariants.{Doubt}
@@ -34,7 +33,7 @@ opened_own g disk (Err refused) files doubt tells goes state doubtful calm = tt
 
 -- the opened disk is calm with the files that the opening leaves
 opened_calm : {D : Type 0} (g : Ghosts D) (disk : D) (j : JournalValue D) (files : Image) (doubt : Option (List FileText)) (b : Bool) → g.tells disk ≡ true → GoesOn g disk j.disk
-    → IsCalm (g.seen disk) (g.may_leave disk) files doubt → j.recovered ≡ b → j.recovered ≡ is_some (open_entry (g.seen disk journal_name))
+    → IsCalm (g.seen disk) (g.may_leave disk) files doubt → j.recovered ≡ b → j.recovered ≡ is_some (open_entry (g.seen disk))
     → (j.recovered ≡ false → OnlyReads g disk j.disk) → (j.recovered ≡ true → IsSettled (g.may_leave j.disk) (opened_files (g.seen disk)))
     → IsCalm (g.seen j.disk) (g.may_leave j.disk) (opened_files (g.seen disk)) (opened_doubt (g.seen disk))
 opened_calm g disk j files doubt true tells goes calm is told left settled =
@@ -42,12 +41,12 @@ opened_calm g disk j files doubt true tells goes calm is told left settled =
     (g.read_is_image j.disk (goes.tells ∙ tells)) (inl (λ file own. refl))
 opened_calm g disk j files doubt false tells goes calm is told left settled =
     let reads = left is in
-    calm_at_read (g.seen disk) (g.seen j.disk) (g.may_leave disk) (g.may_leave j.disk) files doubt calm (none_by_test (open_entry (g.seen disk journal_name)) (sym told ∙ is)) (reads.same tells) (reads.images tells)
+    calm_at_read (g.seen disk) (g.seen j.disk) (g.may_leave disk) (g.may_leave j.disk) files doubt calm (none_by_test (open_entry (g.seen disk)) (sym told ∙ is)) (reads.same tells) (reads.images tells)
 
 pub opened_run : {D : Type 0} (g : Ghosts D) (disk : D) (result : Result (JournalValue D) (JournalRefused D)) (files : Image) (doubt : Option (List FileText)) → g.tells disk ≡ true → GoesOn g disk (disk_of result)
     → IsCalm (g.seen disk) (g.may_leave disk) files doubt
     → IfOk result (λ j. (j.state ≡ Doubt) × (j.found ≡ false)) → IfOk result (λ j. IsDoubtful (g.may_leave j.disk) (opened_files (g.seen disk)) (opened_doubt (g.seen disk)))
-    → IfOk result (λ j. j.recovered ≡ is_some (open_entry (g.seen disk journal_name))) → IfOk result (λ j. j.recovered ≡ false → OnlyReads g disk j.disk)
+    → IfOk result (λ j. j.recovered ≡ is_some (open_entry (g.seen disk))) → IfOk result (λ j. j.recovered ≡ false → OnlyReads g disk j.disk)
     → IfOk result (λ j. j.recovered ≡ true → IsSettled (g.may_leave j.disk) (opened_files (g.seen disk)))
     → IfOk result (λ j. IsStore g j.disk j (new_run (opened_files (g.seen disk)) (g.faults disk) (opened_doubt (g.seen disk))))
 opened_run g disk (Ok j) files doubt tells goes calm state doubtful told left settled =

@@ -1,5 +1,5 @@
 -- A journal at rest between the phases.
-use Rattle.std.proofs.Common.{◌≡◌, ◌≢◌, ◌⊎◌, ℕ, List, true, inl, inr, Option, Some, Result, Ok, Err, OnOk, OnErr, refl, sym, subst, ◌∙◌}
+use Rattle.std.proofs.Common.{◌≡◌, ◌≢◌, ◌⊎◌, ℕ, List, true, inl, inr, Option, Some, None, Result, Ok, Err, OnOk, OnErr, refl, sym, subst, ◌∙◌}
 use Rattle.kdb_outside.specs.declared.disks.Disk.{Ghosts}
 use Rattle.kdb_outside.specs.declared.faults.Failed.{Failed}
 use Rattle.kdb_outside.specs.Frames.{OnlyReads}
@@ -12,7 +12,8 @@ use Rattle.intent_journal.specs.Journal.{JournalValue}
 use Rattle.intent_journal.specs.Moments.{LeavesOnly}
 use Rattle.intent_journal.specs.Outcomes.{with_entry, HasOnly, IsOutcome, IsEither}
 use Rattle.intent_journal.specs.States.{IsSettled, IsDoubtful}
-use Rattle.intent_journal.proofs.Passages.{IsSettled-doubt, IsSettled-only, IsDoubtful-only, IsLagging-only}
+use Rattle.intent_journal.specs.Steps.{IsUnfinished}
+use Rattle.intent_journal.proofs.Passages.{IsDoubtful-any, IsSettled-doubt, IsSettled-only, IsDoubtful-only, IsLagging-only}
 use Rattle.model_crashes.proofs.Moments.{only_follows}
 use Rattle.model_crashes.proofs.Reached.{only_weaker}
 use Rattle.store_phases.specs.Resting.{IsBehind, IsResting}
@@ -84,8 +85,8 @@ settled_kept old new files kept state = record {
 doubtful_kept : (old new : List ℕ → List ℕ → Type 0) (files : Image) (doubt : Option (List FileText)) → KeepsImages old new → IsDoubtful old files doubt → IsDoubtful new files doubt
 doubtful_kept old new files doubt kept state = record {
   same = λ file own c is. state.same file own c ((kept file).no_more c is);
-  not_broken = λ c is. state.not_broken c ((kept journal_name).no_more c is);
-  outcomes = λ c entries is reads. state.outcomes c entries ((kept journal_name).no_more c is) reads;
+  not_broken = λ image is. state.not_broken image (λ file own. (kept file).no_more (image file) (is file own));
+  outcomes = λ image entries is reads. state.outcomes image entries (λ file own. (kept file).no_more (image file) (is file own)) reads;
 }
 
 behind_kept : (old new : List ℕ → List ℕ → Type 0) (entry now : List FileText) (files : Image) → now ≡ entry → KeepsImages old new → IsBehind old entry files → IsBehind new now files
@@ -108,7 +109,7 @@ rests_read g old new files doubt reads state entry rests = record {
 }
 
 -- a gate that was closed
-rests_settled : {D : Type 0} (g : Ghosts D) (journal : JournalValue D) (files : Image) (doubt : Option (List FileText)) → g.tells journal.disk ≡ true → journal.state ≡ Clean → IsSettled (g.may_leave journal.disk) files
+pub rests_settled : {D : Type 0} (g : Ghosts D) (journal : JournalValue D) (files : Image) (doubt : Option (List FileText)) → g.tells journal.disk ≡ true → journal.state ≡ Clean → IsSettled (g.may_leave journal.disk) files
     → IsResting g journal files doubt
 rests_settled g journal files doubt tells clean settled = record {
   tells = tells;
@@ -122,3 +123,29 @@ pub closed_rests : {D : Type 0} (g : Ghosts D) (journal : JournalValue D) (files
     → OnOk r (IsSettled (g.may_leave journal.disk) files) → OnErr r (IsResting g journal files doubt) → IsResting g journal files doubt
 closed_rests g journal files doubt (Ok x) tells clean settled rests = rests_settled g journal files doubt tells clean settled
 closed_rests g journal files doubt (Err e) tells clean settled rests = rests
+
+-- where nothing failed, all went well
+pub unless : (r : Result Unit Failed) (P R : Type 0) → OnOk r P → OnErr r R → ¬ R → P
+unless (Ok x) P R well failed never = well
+unless (Err e) P R well failed never = absurd (never failed)
+
+-- behind a finish, the journal is at rest with the files before the entry and with it
+module _ {D : Type 0} (g : Ghosts D) (new : JournalValue D) (before files : Image) (entry : List FileText) (doubt : Option (List FileText)) (is : files ≡ with_entry before entry) (tells : g.tells new.disk ≡ true) where
+  finished_so : ((new.state ≡ Lag) × (new.entry ≡ entry)) ⊎ (new.state ≡ Doubt) → IsUnfinished new.state before entry (g.may_leave new.disk) → IsResting g new files doubt
+  finished_so (inl lag) unfinished = record {
+    tells = tells;
+    clean = λ clean. absurd (let both : Lag ≡ Clean = sym lag.0 ∙ clean in cc);
+    doubtful = λ in_doubt. absurd (let both : Lag ≡ Doubt = sym lag.0 ∙ in_doubt in cc);
+    lag = λ _. subst (λ (e : List FileText). IsBehind (g.may_leave new.disk) e files) (sym lag.1) (record { before = before; last = is; lagging = unfinished.lagging lag.0 });
+  }
+  finished_so (inr in_doubt) unfinished =
+      rests_in_doubt g new files doubt tells in_doubt
+      (IsDoubtful-any (g.may_leave new.disk) files doubt (subst (λ (f : Image). IsDoubtful (g.may_leave new.disk) f None) (sym is) (unfinished.doubtful in_doubt)))
+
+  pub finished_rests : (r : Result Unit Failed) → OnErr r (((new.state ≡ Lag) × (new.entry ≡ entry)) ⊎ (new.state ≡ Doubt)) → OnErr r (IsUnfinished new.state before entry (g.may_leave new.disk))
+      → OnErr r (IsResting g new files doubt)
+  finished_rests (Ok x) state unfinished = tt
+  finished_rests (Err e) state unfinished = finished_so state unfinished
+
+  pub finished_settled : (r : Result Unit Failed) → OnOk r (IsSettled (g.may_leave new.disk) (with_entry before entry)) → OnOk r (IsSettled (g.may_leave new.disk) files)
+  finished_settled r settled = subst (λ (f : Image). OnOk r (IsSettled (g.may_leave new.disk) f)) (sym is) settled

@@ -1,2 +1,4 @@
 pub mod Resting
+pub mod Phases
 pub mod Stores
+pub mod Opens

@@ -1,6 +1,6 @@
 //! The phases of a commit on the disk: the journal is made clean, the entry is put and its gate opened, and it comes into its files.
 ghost use Rattle.std.specs.Prelude.{◌≡◌, ◌≢◌, ◌++◌, length, List, Option, Some, None, true, OnOk, OnErr};
-ghost use Rattle.kdb_outside.specs.Faults.{HasCause, HasRisen};
+ghost use Rattle.kdb_outside.specs.Faults.{HasRisen};
 ghost use Rattle.kdb_outside.specs.Frames.{GoesOn};
 ghost use Rattle.kdb_outside.specs.Images.{Image};
 ghost use Rattle.journal_codec.specs.declared.files.FileText.{FileText as Item};
@@ -9,7 +9,9 @@ ghost use Rattle.intent_journal.specs.declared.states.State.TheVariants.{Clean a
 ghost use Rattle.intent_journal.specs.Moments.{LeavesOnly};
 ghost use Rattle.intent_journal.specs.Outcomes.{with_entry, HasOnly, IsOutcome, IsEither};
 ghost use Rattle.intent_journal.specs.States.{IsSettled, IsLagging};
+ghost use Rattle.intent_journal.specs.Steps.{Passes};
 ghost use Rattle.model_crashes.specs.Runs.{IsAmid, IsOneOf};
+ghost use Rattle.store_phases.specs.Phases.{IsPhase};
 ghost use Rattle.store_phases.specs.Resting.{IsResting};
 
 use intent_journal::{Journal, State};
@@ -21,15 +23,9 @@ use key_meta::List;
 pub fn make_clean<D: Disk>(journal: &mut Journal<D>) -> Result<(), Failed>
     ensures ok { OnOk result (journal.new.state ≡ IsClean) }
     ensures err { OnErr result (journal.new.state ≢ IsClean) }
-    ensures settled { (files : Image) (doubt : Option (List Item)) → IsResting D.Disk journal.old files doubt
-        → OnOk result (IsSettled (D.may_leave journal.new.disk) files) }
-    ensures rests { (files : Image) (doubt : Option (List Item)) → IsResting D.Disk journal.old files doubt
-        → OnErr result (IsResting D.Disk journal.new files doubt) }
-    ensures any_moment { (files : Image) (doubt : Option (List Item)) → IsResting D.Disk journal.old files doubt
-        → LeavesOnly D.Disk journal.old.disk journal.new.disk (HasOnly (IsEither files doubt)) }
-    ensures recovered { journal.new.recovered ≡ journal.old.recovered }
-    ensures goes { GoesOn D.Disk journal.old.disk journal.new.disk }
-    ensures cause { HasCause (D.faults journal.old.disk) (D.faults journal.new.disk) result }
+    ensures phase { IsPhase D.Disk journal.old journal.new result }
+    ensures passes { (files : Image) (doubt : Option (List Item)) → IsResting D.Disk journal.old files doubt
+        → Passes D.Disk journal.old.disk journal.new.disk result (λ leaves. IsSettled leaves files) (λ leaves. IsResting D.Disk journal.new files doubt) (IsEither files doubt) }
 {
     if journal.state() == State::Lag {
         return journal.finish();
@@ -47,15 +43,9 @@ pub fn begin<D: Disk>(
     requires entry { IsEntry files }
     requires encoded { encoded.now ≡ length_bytes (length (spelled files)) ++ spelled files }
     ensures ok { OnOk result ((journal.new.state ≡ IsLag) × (journal.new.entry ≡ files)) }
-    ensures lagging { D.tells journal.old.disk ≡ true → (before : Image) → IsSettled (D.may_leave journal.old.disk) before
-        → OnOk result (IsLagging (D.may_leave journal.new.disk) before files) }
-    ensures rests { D.tells journal.old.disk ≡ true → (before : Image) → IsSettled (D.may_leave journal.old.disk) before
-        → OnErr result (IsResting D.Disk journal.new before (Some files)) }
-    ensures any_moment { D.tells journal.old.disk ≡ true → (before : Image) → IsSettled (D.may_leave journal.old.disk) before
-        → LeavesOnly D.Disk journal.old.disk journal.new.disk (HasOnly (IsEither before (Some files))) }
-    ensures recovered { journal.new.recovered ≡ journal.old.recovered }
-    ensures goes { GoesOn D.Disk journal.old.disk journal.new.disk }
-    ensures cause { HasCause (D.faults journal.old.disk) (D.faults journal.new.disk) result }
+    ensures phase { IsPhase D.Disk journal.old journal.new result }
+    ensures passes { D.tells journal.old.disk ≡ true → (before : Image) → IsSettled (D.may_leave journal.old.disk) before
+        → Passes D.Disk journal.old.disk journal.new.disk result (λ leaves. IsLagging leaves before files) (λ leaves. IsResting D.Disk journal.new before (Some files)) (IsEither before (Some files)) }
 {
     journal.put_body(encoded)?;
     journal.open_gate(files)
@@ -90,9 +80,7 @@ pub fn store<D: Disk>(
         → OnErr result ((later : Option (List Item)) × IsOneOf later doubt files × IsResting D.Disk journal.new before later) }
     ensures any_moment { (before : Image) (doubt : Option (List Item)) → IsResting D.Disk journal.old before doubt
         → LeavesOnly D.Disk journal.old.disk journal.new.disk (IsAmid before doubt files) }
-    ensures recovered { journal.new.recovered ≡ journal.old.recovered }
-    ensures goes { GoesOn D.Disk journal.old.disk journal.new.disk }
-    ensures cause { HasCause (D.faults journal.old.disk) (D.faults journal.new.disk) result }
+    ensures phase { IsPhase D.Disk journal.old journal.new result }
     ensures rest_cause { journal.new.state ≢ IsClean → HasRisen (D.faults journal.old.disk) (D.faults journal.new.disk) }
 {
     make_clean(journal)?;

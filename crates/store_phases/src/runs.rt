@@ -1,26 +1,23 @@
 //! A run of commits on a journal, from its opening to its close.
-ghost use Rattle.std.specs.Prelude.{◌≡◌, ◌≢◌, ℕ, ◌++◌, length, List, Option, Some, None, true, is_some, Err, IfOk, IfErr, OnOk, OnErr};
+ghost use Rattle.std.specs.Prelude.{◌≡◌, ◌++◌, length, List, Option, true, Err, IfOk, OnOk, OnErr};
 ghost use Rattle.backend_files.specs.WholeFile.{IsWhole, IsShort, IsGiven};
 ghost use Rattle.kdb_outside.specs.Crashes.{EveryImage};
 ghost use Rattle.kdb_outside.specs.Faults.{HasCause, HasRisen};
 ghost use Rattle.kdb_outside.specs.Frames.{GoesOn, OnlyReads};
-ghost use Rattle.kdb_outside.specs.Images.{Image};
 ghost use Rattle.journal_codec.specs.declared.files.FileText.{FileText as Item};
-ghost use Rattle.journal_codec.specs.Entry.{IsEntry, journal_name, length_bytes, spelled};
-ghost use Rattle.intent_journal.specs.declared.states.State.TheVariants.{Doubt as IsDoubt};
-ghost use Rattle.intent_journal.specs.BadJournals.{bad_place, open_entry, opened_files, opened_doubt};
+ghost use Rattle.journal_codec.specs.Entry.{IsEntry, length_bytes, spelled};
 ghost use Rattle.intent_journal.specs.JournalBytes.{IsOwnFile};
 ghost use Rattle.intent_journal.specs.Moments.{LeavesOnly};
-ghost use Rattle.intent_journal.specs.Opened.{disk_of, fault_of};
-ghost use Rattle.intent_journal.specs.Outcomes.{SameFiles, HasOnly, IsEither};
-ghost use Rattle.intent_journal.specs.States.{IsSettled, IsCalm};
-ghost use Rattle.model_crashes.specs.Runs.{Run, files_of, IsReached, IsAmid, IsOneOf, new_run, after_begun, after_commit};
+ghost use Rattle.intent_journal.specs.Outcomes.{HasOnly, IsEither};
+ghost use Rattle.intent_journal.specs.States.{IsSettled};
+ghost use Rattle.model_crashes.specs.Runs.{Run, files_of, IsReached, IsAmid, IsOneOf, after_begun, after_commit};
+ghost use Rattle.store_phases.specs.Opens.{OpensRun};
 ghost use Rattle.store_phases.specs.Resting.{RestsOn};
 ghost use Rattle.store_phases.specs.Stores.{IsStore};
 
 use crate::phases::{make_clean, store};
 use backend_files::{FileFault, FileRead};
-use intent_journal::{Journal, JournalFault, JournalRefused};
+use intent_journal::{Journal, JournalRefused};
 use journal_codec::FileText;
 use kdb_outside::{Disk, Failed, FileName};
 use key_meta::List;
@@ -28,30 +25,7 @@ use std::alloc::Global;
 
 /// Opens the journal of a calm disk. A run begins on the files that this leaves, without a commit.
 pub fn open<D: Disk>(alloc: Global, disk: D) -> Result<Journal<D>, JournalRefused<D>>
-    ensures files { D.tells disk ≡ true → (files : Image) (doubt : Option (List Item)) → IsCalm (D.seen disk) (D.may_leave disk) files doubt
-        → IfOk result (λ _. IsEither files doubt (opened_files (D.seen disk))) }
-    ensures opened { D.tells disk ≡ true → (files : Image) (doubt : Option (List Item)) → IsCalm (D.seen disk) (D.may_leave disk) files doubt
-        → IfOk result (λ journal. IsStore D.Disk journal.disk journal (new_run (opened_files (D.seen disk)) (D.faults disk) (opened_doubt (D.seen disk)))) }
-    ensures own { D.tells disk ≡ true → (files : Image) (doubt : Option (List Item)) → IsCalm (D.seen disk) (D.may_leave disk) files doubt
-        → SameFiles files (opened_files (D.seen disk)) → IfOk result (λ journal. IsStore D.Disk journal.disk journal (new_run files (D.faults disk) doubt)) }
-    ensures shown { D.tells disk ≡ true → (files : Image) (doubt : Option (List Item)) → IsCalm (D.seen disk) (D.may_leave disk) files doubt
-        → IfOk result (λ journal. SameFiles (D.seen journal.disk) (opened_files (D.seen disk))) }
-    ensures recovered { D.tells disk ≡ true → IfOk result (λ journal. journal.recovered ≡ is_some (open_entry (D.seen disk journal_name))) }
-    ensures reads { D.tells disk ≡ true → open_entry (D.seen disk journal_name) ≡ None → OnlyReads D.Disk disk (disk_of result) }
-    ensures kept { IfErr result (λ refused. refused.fault ≢ JournalFault.DiskFault → OnlyReads D.Disk disk refused.disk) }
-    ensures calm_still { D.tells disk ≡ true → (files : Image) (doubt : Option (List Item)) → IsCalm (D.seen disk) (D.may_leave disk) files doubt → ¬ HasRisen (D.faults disk) (D.faults (disk_of result))
-        → IsCalm (D.seen (disk_of result)) (D.may_leave (disk_of result)) files doubt }
-    ensures doubt { IfOk result (λ journal. journal.state ≡ IsDoubt) }
-    ensures good { D.tells disk ≡ true → OnOk result (bad_place (D.seen disk journal_name) ≡ None) }
-    ensures bad { D.tells disk ≡ true → (at : ℕ) → fault_of result ≡ Some (JournalFault.BadJournal at) → bad_place (D.seen disk journal_name) ≡ Some at }
-    ensures calm { D.tells disk ≡ true → (files : Image) (doubt : Option (List Item)) → IsCalm (D.seen disk) (D.may_leave disk) files doubt
-        → (at : ℕ) → fault_of result ≡ Some (JournalFault.BadJournal at) → ⊥ }
-    ensures any_moment { D.tells disk ≡ true → (files : Image) (doubt : Option (List Item)) → IsCalm (D.seen disk) (D.may_leave disk) files doubt
-        → LeavesOnly D.Disk disk (disk_of result) (HasOnly (IsEither files doubt)) }
-    ensures rests { D.tells disk ≡ true → (files : Image) (doubt : Option (List Item)) → IsCalm (D.seen disk) (D.may_leave disk) files doubt
-        → EveryImage (D.may_leave (disk_of result)) (HasOnly (IsEither files doubt)) }
-    ensures goes { GoesOn D.Disk disk (disk_of result) }
-    ensures cause { fault_of result ≡ Some JournalFault.DiskFault → HasRisen (D.faults disk) (D.faults (disk_of result)) }
+    ensures { OpensRun D.Disk disk result }
 {
     Journal::open(alloc, disk)
 }

@@ -6,12 +6,11 @@ use Rattle.kdb_outside.specs.Frames.{GoesOn}
 use Rattle.kdb_outside.specs.Images.{Image}
 use Rattle.kdb_outside.specs.declared.disks.Disk.{Ghosts}
 use Rattle.intent_journal.specs.BadJournals.{opened_doubt, opened_files}
-use Rattle.intent_journal.specs.JournalBytes.{IsBroken}
+use Rattle.intent_journal.specs.Readings.{IsBroken}
 use Rattle.intent_journal.specs.Moments.{LeavesOnly}
 use Rattle.intent_journal.specs.Outcomes.{HasOnly, IsEither, SameFiles}
 use Rattle.intent_journal.specs.States.{IsCalm}
 use Rattle.intent_journal.specs.declared.states.State.TheVariants.{Doubt}
-use Rattle.journal_codec.specs.Entry.{journal_name}
 use Rattle.journal_codec.specs.declared.files.FileText.{FileText}
 use Rattle.model_crashes.specs.Runs.{Run, files_of, IsReached, new_run}
 use Rattle.model_files.specs.Texts.{entries_of}
@@ -76,7 +75,7 @@ disk_of (Err refused) = refused.disk
 
 -- no crash leaves a broken journal
 abbrev pub IsNeverBroken : {D : Type 0} → Ghosts D → D → Type 0
-IsNeverBroken g disk = EveryImage (g.may_leave disk) (λ image. ¬ IsBroken (image journal_name))
+IsNeverBroken g disk = EveryImage (g.may_leave disk) (λ image. ¬ IsBroken image)
 
 -- an image that stands for what a calm disk stood for, or for what a run reached
 abbrev pub WasOrReached : Image → Option (List FileText) → Run → Image → Type 0

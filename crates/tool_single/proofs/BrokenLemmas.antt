@@ -1,10 +1,11 @@
 -- What is told of a journal whose gate is open, and no whole body of an entry stands behind it.
-use Rattle.std.specs.Prelude.{◌≡◌, ◌≢◌, ◌==◌, ℕ, Bool, true, false, cond, List, Option, Some, None, Result, Ok, Err, IfOk, OnOk}
+use Rattle.std.specs.Prelude.{◌≡◌, ◌≢◌, ℕ, List, Some, None, Result, Ok, Err, IfOk, OnOk}
 use Rattle.std.proofs.Common.{refl, sym, ap, subst, ◌∙◌}
 use Rattle.all_formats.specs.Meanings as all
-use Rattle.intent_journal.specs.BadJournals.{bad_place, open_entry}
-use Rattle.intent_journal.specs.JournalBytes.{gate}
-use Rattle.intent_journal.proofs.Breaking.{IsBroken-bad_place}
+use Rattle.std.proofs.lemmas.Option.{none-some}
+use Rattle.kdb_outside.specs.Images.{Image}
+use Rattle.intent_journal.specs.BadJournals.{bad_place, open_entry, opened_reading, place_read}
+use Rattle.intent_journal.specs.JournalBytes.{first_entry}
 use Rattle.journal_codec.specs.declared.files.FileText.{FileText}
 use Rattle.kdb_outside.specs.SinkChange.{SinkChange as Change}
 use Rattle.kdb_outside.specs.declared.kinds.Kind.{Kind}
@@ -34,12 +35,12 @@ use Rattle.tool_single.specs.declared.answers.Stop.TheVariants as stops
 use Rattle.tool_single.proofs.EndLemmas.{given}
 
 -- no entry is open in such a journal
-pub bad-not_open : (journal : List ℕ) (at : ℕ) → bad_place journal ≡ Some at → open_entry journal ≡ None
-bad-not_open journal at bad = ap (λ (o : Option (List FileText)). cond (gate journal == 1) o None) (IsBroken-bad_place journal at bad).no_body ∙ none (gate journal == 1)
+pub bad-not_open : (seen : Image) (at : ℕ) → bad_place seen ≡ Some at → open_entry seen ≡ None
+bad-not_open seen at bad = none (opened_reading seen) bad
   where
-    none : (b : Bool) → ◌≡◌ {A = Option (List FileText)} (cond b None None) None
-    none true = refl
-    none false = refl
+    none : (r : Result (List (List FileText)) ℕ) → place_read r ≡ Some at → first_entry r ≡ None
+    none (Ok entries) is = absurd (none-some at is)
+    none (Err place) is = refl
 
 -- the line of a fault that was told
 line_of_broken : (at : ℕ) (why : OpenFault) → why ≢ fault.DiskFault → why ≢ fault.Memory → RefusesBroken at why → line_of_store why ≡ bad_journal at

@@ -7,7 +7,6 @@ use Rattle.intent_journal.proofs.Calm.{calm_files}
 use Rattle.intent_journal.specs.Moments.{LeavesOnly}
 use Rattle.intent_journal.specs.Outcomes.{SameFiles, HasOnly, IsEither}
 use Rattle.intent_journal.specs.States.{IsCalm}
-use Rattle.journal_codec.specs.Entry.{journal_name}
 use Rattle.journal_codec.specs.declared.files.FileText.{FileText}
 use Rattle.kdb_outside.specs.Crashes.{EveryImage}
 use Rattle.kdb_outside.specs.Faults.{HasRisen}
@@ -62,18 +61,18 @@ pub record LeavesCalm {D : Type 0} (g : Ghosts D) (files : Image) (doubt : Optio
   pub shown : Shows [] (opened_files (g.seen disk)) (g.seen disk) (g.seen end)
   pub calm : StaysCalm g files doubt [] disk end
 
-pub leaves_calm : {D : Type 0} (g : Ghosts D) (disk end : D) (files : Image) (doubt : Option (List FileText)) → g.tells disk ≡ true → GoesOn g disk end → IsCalm (g.seen disk) (g.may_leave disk) files doubt → (open_entry (g.seen disk journal_name) ≡ None → OnlyReads g disk end)
+pub leaves_calm : {D : Type 0} (g : Ghosts D) (disk end : D) (files : Image) (doubt : Option (List FileText)) → g.tells disk ≡ true → GoesOn g disk end → IsCalm (g.seen disk) (g.may_leave disk) files doubt → (open_entry (g.seen disk) ≡ None → OnlyReads g disk end)
     → IsLeft g disk end → LeavesCalm g files doubt disk end
 leaves_calm g disk end files doubt told goes calm alone (StillRead reads) = record { shown = Alone refl (reads.same told); calm = read_calm g disk end files doubt told calm reads }
-leaves_calm {D} g disk end files doubt told goes calm alone (AsOpened same now) = by (open_entry (g.seen disk journal_name)) refl
+leaves_calm {D} g disk end files doubt told goes calm alone (AsOpened same now) = by (open_entry (g.seen disk)) refl
   where
     opened : Image
     opened = opened_files (g.seen disk)
 
-    by : (o : Option (List FileText)) → open_entry (g.seen disk journal_name) ≡ o → LeavesCalm g files doubt disk end
+    by : (o : Option (List FileText)) → open_entry (g.seen disk) ≡ o → LeavesCalm g files doubt disk end
     by None is = let reads = alone is in record { shown = Alone refl (reads.same told); calm = read_calm g disk end files doubt told calm reads }
     by (Some entry) is =
-        let none : opened_doubt (g.seen disk) ≡ None = ap (λ (x : Option (List FileText)). doubt_with x (g.seen disk journal_name)) is in
+        let none : opened_doubt (g.seen disk) ≡ None = ap (λ (x : Option (List FileText)). doubt_with x (g.seen disk)) is in
         let whole = subst (λ (d : Option (List FileText)). IsCalm (g.seen end) (g.may_leave end) opened d) none now in
         record {
           shown = Stored same;
@@ -90,7 +89,7 @@ leaves_calm {D} g disk end files doubt told goes calm alone (AsOpened same now) 
 pub refused_serve : {D : Type 0} (g : Ghosts D) (disk end : D) (files : Image) (doubt : Option (List FileText)) (before now : ℕ) (question : Question) (why : OpenFault) (result : Result code.Report Stop)
     → IfOk result (λ report. report_of report ≡ warned 5 (line_of_store why)) → OnOk result ((why ≢ fault.DiskFault) × (why ≢ fault.Memory)) → result ≢ Err stops.ReadFault
     → LeavesOnly g disk end (HasOnly (IsEither files doubt)) → EveryImage (g.may_leave end) (HasOnly (IsEither files doubt))
-    → (may_be_of_journal (Some why) ≡ false → SameFiles (g.seen end) (opened_files (g.seen disk))) → (open_entry (g.seen disk journal_name) ≡ None → OnlyReads g disk end)
+    → (may_be_of_journal (Some why) ≡ false → SameFiles (g.seen end) (opened_files (g.seen disk))) → (open_entry (g.seen disk) ≡ None → OnlyReads g disk end)
     → RefusesStore all.Reads all.IsBadAt (opened_files (g.seen disk) own_mount.file) why → ((at : ℕ) → why ≡ fault.BadJournal at → ⊥)
     → (¬ HasRisen (g.faults disk) (g.faults end) → LeavesCalm g files doubt disk end) → Serve g files doubt (AnswersOver (MayRefuse result before now) question (opened_files (g.seen disk))) result disk end
 refused_serve g disk end files doubt before now question why (Ok report) told own unread meanwhile rests shown alone refuses journal left =
@@ -108,14 +107,14 @@ pub has_begun : {D : Type 0} (g : Ghosts D) (disk : D) (files : Image) (doubt : 
     → IsStore g journal.disk journal (new_run (opened_files (g.seen disk)) (g.faults disk) (opened_doubt (g.seen disk)))
     → ((others : Image) (other : Option (List FileText)) → IsCalm (g.seen disk) (g.may_leave disk) others other → SameFiles others (opened_files (g.seen disk)) → IsStore g journal.disk journal (new_run others (g.faults disk) other))
     → HasBegun g disk files doubt journal
-has_begun g disk files doubt journal calm either store own = by (open_entry (g.seen disk journal_name)) refl
+has_begun g disk files doubt journal calm either store own = by (open_entry (g.seen disk)) refl
   where
     opened : Image
     opened = opened_files (g.seen disk)
 
-    by : (o : Option (List FileText)) → open_entry (g.seen disk journal_name) ≡ o → HasBegun g disk files doubt journal
+    by : (o : Option (List FileText)) → open_entry (g.seen disk) ≡ o → HasBegun g disk files doubt journal
     by (Some entry) is =
-        let none : opened_doubt (g.seen disk) ≡ None = ap (λ (x : Option (List FileText)). doubt_with x (g.seen disk journal_name)) is in
+        let none : opened_doubt (g.seen disk) ≡ None = ap (λ (x : Option (List FileText)). doubt_with x (g.seen disk)) is in
         record { first = None; store = subst (λ (d : Option (List FileText)). IsStore g journal.disk journal (new_run opened (g.faults disk) d)) none store; within = either_none files doubt opened either; settled = λ e there. refl }
     by None is =
         let on = calm_on (g.seen disk) (g.may_leave disk) files doubt opened calm either in

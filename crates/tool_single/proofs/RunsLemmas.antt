@@ -1,17 +1,14 @@
 -- What one run leaves to the next.
-use Rattle.std.proofs.Common.{◌≡◌, ◌≢◌, ◌⊎◌, inl, inr, ℕ, ◌<◌, ◌≤◌, true, false, cond, List, [], ◌∷◌, length, drop, Option, Some, None, refl, sym, ap, subst, ◌∙◌, arith}
-use Rattle.std.specs.Prelude.{◌==◌}
-use Rattle.std.proofs.lemmas.Bool.{lt-leb, eq-eqb, ne_eqb}
-use Rattle.std.proofs.lemmas.List.{length-drop}
+use Rattle.std.proofs.Common.{◌≡◌, ◌⊎◌, inl, inr, ℕ, ◌≤◌, true, List, [], ◌∷◌, Option, Some, None, Result, refl, sym, ap, subst, ◌∙◌, arith}
 use Rattle.std.proofs.lemmas.Option.{none-some}
-use Rattle.intent_journal.specs.BadJournals.{open_entry, files_with, opened_files}
-use Rattle.intent_journal.specs.JournalBytes.{gate, entry_at, entry_in, IsBroken}
+use Rattle.intent_journal.specs.BadJournals.{entries_read, opened_files, opened_reading}
 use Rattle.intent_journal.specs.Moments.{LeavesOnly}
-use Rattle.intent_journal.specs.Outcomes.{with_entry, with_entries, SameFiles, StandsAlone, ReadsAs, HasOutcome, HasOnly, IsEither}
+use Rattle.intent_journal.specs.Outcomes.{with_entry, with_entries, SameFiles, HasOutcome, HasOnly, IsEither}
+use Rattle.intent_journal.specs.Readings.{IsBroken}
 use Rattle.intent_journal.specs.States.{IsCalm}
 use Rattle.intent_journal.proofs.Calm.{calm_files}
 use Rattle.intent_journal.proofs.OneImage.{IsCalm-one}
-use Rattle.intent_journal.proofs.Readings.{not_broken_reads}
+use Rattle.intent_journal.proofs.Readings.{decided_reads, opening_reads}
 use Rattle.journal_codec.specs.Entry.{journal_name}
 use Rattle.journal_codec.specs.declared.files.FileText.{FileText}
 use Rattle.kdb_outside.specs.Crashes.{EveryImage}
@@ -28,53 +25,20 @@ use Rattle.tool_single.proofs.CalmLemmas.{with-same}
 
 -- ---- a decided journal has one outcome
 
-short_none : (journal : List ℕ) → length journal < 5 → entry_in journal ≡ None
-unfolding entry_at
-short_none journal short = rw (lt-leb 4 (length (drop 1 journal)) (omega (arith, length-drop 1 journal))) refl
-
-none_open : (journal : List ℕ) → StandsAlone journal → open_entry journal ≡ None
-none_open journal (inl (inl short)) = elim (gate journal == 1) as (λ b. cond b (entry_in journal) None ≡ None) [ true ↦ short_none journal short | false ↦ refl ]
-none_open journal (inl (inr closed)) = ap (λ b. cond b (entry_in journal) None) (ne_eqb (gate journal) 1 (λ e. let none = closed in omega arith))
-none_open journal (inr torn) = ap (λ b. cond b (entry_in journal) None) (ne_eqb (gate journal) 1 torn.0)
-
-some_open : (journal : List ℕ) (entry : List FileText) → IsDecided journal → gate journal ≢ 0 → entry_in journal ≡ Some entry
-    → open_entry journal ≡ Some entry
-some_open journal entry (inl (inl short)) opened some = absurd (none-some entry (sym (short_none journal short) ∙ some))
-some_open journal entry (inl (inr closed)) opened some = absurd (opened closed)
-some_open journal entry (inr one) opened some = ap (λ b. cond b (entry_in journal) None) (eq-eqb (gate journal) 1 one) ∙ some
-
-with_open : (image : Image) (found : Option (List FileText)) (file : List ℕ) → open_entry (image journal_name) ≡ found
-    → files_with found image file ≡ opened_files image file
-with_open image found file e = ap (λ (o : Option (List FileText)). files_with o image file) (sym e)
-
 -- all outcomes of an image whose gate is decided are the files that its opening leaves
 pub one_outcome : (image outcome : Image) → IsDecided (image journal_name) → HasOutcome image outcome
     → SameFiles outcome (opened_files image)
-one_outcome image outcome decided has = by has.0 has.1 has.2
-  where
-    by : (entries : List (List FileText)) → ReadsAs (image journal_name) entries
-        → SameFiles outcome (with_entries image entries) → SameFiles outcome (opened_files image)
-    by [] reads same file own = same file own ∙ with_open image None file (none_open (image journal_name) reads)
-    by (entry ∷ []) reads same file own = same file own ∙ with_open image (Some entry) file (some_open (image journal_name) entry decided reads.not_closed reads.body)
-    by (entry ∷ (next ∷ entries)) reads same file own = absurd reads
+one_outcome image outcome decided has file own =
+    has.2 file own ∙ ap (λ (r : Result (List (List FileText)) ℕ). with_entries image (entries_read r) file) (sym (decided_reads image has.0 decided has.1))
 
 -- so they are one of two, if all its outcomes are one of them
 pub decided_either : (files image : Image) (doubt : Option (List FileText)) → IsDecided (image journal_name)
     → HasOnly (IsEither files doubt) image
     → IsEither files doubt (opened_files image)
 decided_either files image doubt decided only =
-    let reads = not_broken_reads (image journal_name) only.not_broken in
-    let outcome = with_entries image reads.0 in
-    let has : HasOutcome image outcome = (reads.0, reads.1, λ file own. refl) in
-    let same = one_outcome image outcome decided has in
-    either_of (only.each outcome has) same
-  where
-    either_of : {outcome : Image} → IsEither files doubt outcome → SameFiles outcome (opened_files image)
-        → IsEither files doubt (opened_files image)
-    either_of (inl is) same = inl (λ file own. sym (same file own) ∙ is file own)
-    either_of (inr one) same = inr (one.0, one.1, λ file own. sym (same file own) ∙ one.2 file own)
+    only.each (opened_files image) (entries_read (opened_reading image), opening_reads image only.not_broken, λ file own. refl)
 
-pub decided_only : (files image : Image) → IsDecided (image journal_name) → ¬ IsBroken (image journal_name)
+pub decided_only : (files image : Image) → IsDecided (image journal_name) → ¬ IsBroken image
     → SameFiles (opened_files image) files → HasOnly (IsEither files None) image
 decided_only files image decided whole same = record {
   not_broken = whole;

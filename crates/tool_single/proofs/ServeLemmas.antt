@@ -9,7 +9,6 @@ use Rattle.intent_journal.specs.declared.states.State.TheVariants.{Doubt as IsDo
 use Rattle.intent_journal.proofs.Calm.{calm_files, calm_kept}
 use Rattle.kdb_outside.proofs.Frames.{OnlyReads-none}
 use Rattle.std.proofs.lemmas.Option.{none-some}
-use Rattle.journal_codec.specs.Entry.{journal_name}
 use Rattle.journal_codec.specs.declared.files.FileText.{FileText}
 use Rattle.kdb_outside.specs.Crashes.{EveryImage}
 use Rattle.kdb_outside.specs.Faults.{HasRisen}
@@ -42,15 +41,15 @@ pub record HasBegun {D : Type 0} (g : Ghosts D) (disk : D) (files : Image) (doub
   pub first : Option (List FileText)
   pub store : IsStore g journal.disk journal (new_run (opened_files (g.seen disk)) (g.faults disk) first)
   pub within : (o : Image) → IsEither (opened_files (g.seen disk)) first o → IsEither files doubt o
-  pub settled : (entry : List FileText) → open_entry (g.seen disk journal_name) ≡ Some entry → first ≡ None
+  pub settled : (entry : List FileText) → open_entry (g.seen disk) ≡ Some entry → first ≡ None
 
 -- what an opening left of the disk
 pub record HasOpened {D P : Type 0} (g : Ghosts D) (disk : D) (files : Image) (doubt : Option (List FileText)) (core : Core D P) : Type 0 where
   pub begun : HasBegun g disk files doubt core.journal
   pub goes : GoesOn g disk core.journal.disk
   pub meanwhile : LeavesOnly g disk core.journal.disk (HasOnly (IsEither files doubt))
-  pub alone : open_entry (g.seen disk journal_name) ≡ None → OnlyReads g disk core.journal.disk
-  pub wrote : core.wrote ≡ is_some (open_entry (g.seen disk journal_name))
+  pub alone : open_entry (g.seen disk) ≡ None → OnlyReads g disk core.journal.disk
+  pub wrote : core.wrote ≡ is_some (open_entry (g.seen disk))
   pub state : core.journal.state ≡ IsDoubt
 
 -- what the close of a store left of it
@@ -141,9 +140,9 @@ module _ {D P : Type 0} (g : Ghosts D) (disk end : D) (files : Image) (doubt : O
 
   -- where nothing was stored it finds what this opening left
   found_none : IsUnwritten old new → g.tells disk ≡ true → g.tells end ≡ true → IsCalm (g.seen end) (g.may_leave end) opened has_opened.begun.first → SameFiles (opened_files (g.seen end)) opened
-  found_none kept telling told calm = by (open_entry (g.seen disk journal_name)) refl
+  found_none kept telling told calm = by (open_entry (g.seen disk)) refl
     where
-      by : (o : Option (List FileText)) → open_entry (g.seen disk journal_name) ≡ o → SameFiles (opened_files (g.seen end)) opened
+      by : (o : Option (List FileText)) → open_entry (g.seen disk) ≡ o → SameFiles (opened_files (g.seen end)) opened
       by None is =
           let reads = still_read g disk end old new (record { alone = has_opened.alone is; wrote = has_opened.wrote ∙ ap is_some is; state = has_opened.state }) has_closed.alone kept in
           λ file not_own. ap (λ (seen : Image). opened_files seen file) (reads.same telling)
@@ -296,7 +295,7 @@ serve_calm g files doubt P (Err stops.ReadFault) before after s cause still = ([
 
 -- a calm disk that is left alone
 pub calm_only : {D : Type 0} (g : Ghosts D) (disk : D) (files : Image) (doubt : Option (List FileText)) → IsCalm (g.seen disk) (g.may_leave disk) files doubt → EveryImage (g.may_leave disk) (HasOnly (IsEither files doubt))
-calm_only g disk files doubt calm image is = record { not_broken = calm.not_broken (image journal_name) (is journal_name); each = λ outcome has. calm.outcomes image outcome is has }
+calm_only g disk files doubt calm image is = record { not_broken = calm.not_broken image (λ file own. is file); each = λ outcome has. calm.outcomes image outcome is has }
 
 -- and stays so
 pub alone_calm : {D : Type 0} (g : Ghosts D) (disk : D) (files : Image) (doubt : Option (List FileText)) → g.tells disk ≡ true → IsCalm (g.seen disk) (g.may_leave disk) files doubt → StaysCalm g files doubt [] disk disk

@@ -1,7 +1,7 @@
 -- What is told where the journal's gate is open, and no whole body of an entry stands behind it. No crash of this store leaves that. (This project's own.)
 use Rattle.std.specs.Prelude.{◌≡◌, ◌≢◌, ℕ, ◌<◌, ◌≤◌, List, length}
 use Rattle.all_formats.specs.Meanings as all
-use Rattle.intent_journal.specs.BadJournals.{longest_body}
+use Rattle.intent_journal.specs.JournalBytes.{longest_body}
 use Rattle.journal_codec.specs.Entry.{IsEntry, spelled}
 use Rattle.journal_codec.specs.Places.{IsPlace}
 use Rattle.journal_codec.specs.declared.files.FileText.{FileText}

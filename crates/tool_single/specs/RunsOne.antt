@@ -2,7 +2,6 @@
 use Rattle.std.specs.Prelude.{◌≡◌, ◌≢◌, ◌≤◌, ℕ, true, List, Option, Some, None}
 use Rattle.intent_journal.specs.BadJournals.{bad_place, open_entry, opened_files}
 use Rattle.intent_journal.specs.States.{IsCalm}
-use Rattle.journal_codec.specs.Entry.{journal_name}
 use Rattle.journal_codec.specs.declared.files.FileText.{FileText}
 use Rattle.kdb_outside.specs.Faults.{HasRisen}
 use Rattle.kdb_outside.specs.Frames.{GoesOn, OnlyReads}
@@ -46,9 +45,9 @@ pub record RunsOne {S K E D P : Type 0} (s : sources.Ghosts S) (k : sinks.Ghosts
   pub unasked : (given : List ℕ) → IsInput (request line) (s.left source) given → (AsksStoreWith (request line) given → ⊥) → (end ≡ disk) × (patterns_now ≡ patterns)
   -- A journal whose gate is open, and no whole body of an entry behind it, is told in the place of an answer, by its place; an import whose input holds
   -- no keys is told so before that. However the run ends, the disk is only read. No crash of this store leaves such a journal, and so no calm disk has one
-  pub broken : d.tells disk ≡ true → (at : ℕ) → bad_place (d.seen disk journal_name) ≡ Some at → (given : List ℕ) → IsInput (request line) (s.left source) given
+  pub broken : d.tells disk ≡ true → (at : ℕ) → bad_place (d.seen disk) ≡ Some at → (given : List ℕ) → IsInput (request line) (s.left source) given
       → EndsBroken (request line) given at status (change_of k out out_now) (change_of e err err_now)
-  pub broken_stays : d.tells disk ≡ true → (at : ℕ) → bad_place (d.seen disk journal_name) ≡ Some at → OnlyReads d disk end
+  pub broken_stays : d.tells disk ≡ true → (at : ℕ) → bad_place (d.seen disk) ≡ Some at → OnlyReads d disk end
   -- Want of memory puts nothing on out and its line on err
   pub memory : EndsWithoutMemory status (change_of k out out_now) (change_of e err err_now)
   -- A fault has its cause in this call, and err tells which where err itself didn't fail: the disk's only where the store was asked, behind the input, and
@@ -61,11 +60,11 @@ pub record RunsOne {S K E D P : Type 0} (s : sources.Ghosts S) (k : sinks.Ghosts
   -- holds no open entry that is to be brought in, the disk is only read
   pub unwritten : d.tells disk ≡ true → (files : Image) (doubt : Option (List FileText)) → IsCalm (d.seen disk) (d.may_leave disk) files doubt → status ≡ 70 → Unserved d files doubt disk end
   -- Where no entry is open, and the disk need not be calm for that, nothing is written where no answer stores anything, whatever fails;
-  pub untouched : d.tells disk ≡ true → open_entry (d.seen disk journal_name) ≡ None → (given : List ℕ) → IsInput (request line) (s.left source) given
+  pub untouched : d.tells disk ≡ true → open_entry (d.seen disk) ≡ None → (given : List ℕ) → IsInput (request line) (s.left source) given
       → StoresNothing (Answers (λ _. HasRisen (p.refusals patterns) (p.refusals patterns_now)) line given (d.seen disk)) → OnlyReads d disk end
   -- nor does a run write that ends in want of memory or is refused, one that the journal refuses too: that ends neither as a command that was done nor in
   -- a fault
-  pub unstored : d.tells disk ≡ true → open_entry (d.seen disk journal_name) ≡ None → status ≢ 0 → status ≢ 74 → OnlyReads d disk end
+  pub unstored : d.tells disk ≡ true → open_entry (d.seen disk) ≡ None → status ≢ 0 → status ≢ 74 → OnlyReads d disk end
   -- An import takes so much of the input, and every other command takes none
   pub input : LeavesInput s (request line) (IsAnswered status) source source_now
   -- The disk tells as much as before, and no count of faults or of refused patterns falls

@@ -4,7 +4,6 @@ use Rattle.intent_journal.specs.BadJournals.{open_entry, opened_files}
 use Rattle.intent_journal.specs.Journal.{JournalValue}
 use Rattle.intent_journal.specs.Moments.{LeavesOnly}
 use Rattle.intent_journal.specs.Outcomes.{HasOnly, IsEither}
-use Rattle.journal_codec.specs.Entry.{journal_name}
 use Rattle.journal_codec.specs.declared.files.FileText.{FileText}
 use Rattle.kdb_outside.specs.Crashes.{EveryImage}
 use Rattle.kdb_outside.specs.Faults.{HasRisen}
@@ -133,7 +132,7 @@ pub record Served {D : Type 0} (g : Ghosts D) (files : Image) (doubt : Option (L
 -- it shows the files of the opening, or what it showed before, and is calm
 pub record Unserved {D : Type 0} (g : Ghosts D) (files : Image) (doubt : Option (List FileText)) (before after : D) : Type 0 where
   pub crash : LeavesOnly g before after (HasOnly (IsEither files doubt))
-  pub untouched : open_entry (g.seen before journal_name) ≡ None → OnlyReads g before after
+  pub untouched : open_entry (g.seen before) ≡ None → OnlyReads g before after
   pub shown : ¬ HasRisen (g.faults before) (g.faults after) → Shows [] (opened_files (g.seen before)) (g.seen before) (g.seen after)
   pub calm : ¬ HasRisen (g.faults before) (g.faults after) → StaysCalm g files doubt [] before after
 

@@ -2,8 +2,11 @@
 #![tactic(auto)]
 
 ghost use Rattle.std.specs.Prelude.{◌≡◌, ◌≢◌, ◌<◌, List, [], All, take, drop, Some, ℕ};
-ghost use Rattle.intent_journal.specs.BadJournals.{bad_place, open_length};
+ghost use Rattle.intent_journal.specs.BadJournals.{bad_place};
+ghost use Rattle.intent_journal.specs.JournalBytes.{open_length};
+ghost use Rattle.journal_codec.specs.Entry.{journal_name};
 ghost use Rattle.kdb_outside.specs.Faults.{HasRisen};
+ghost use Rattle.kdb_outside.specs.Images.{Image};
 ghost use Rattle.tool_single.specs.Answer.{Answer};
 ghost use Rattle.tool_single.specs.Answers.{Answers};
 ghost use Rattle.tool_single.specs.Broken.{IsBrokenAt};
@@ -55,6 +58,8 @@ pub fn what_is_stored_is_one_legal_commit()
 /// The place that `run` tells of a broken journal, of one of bytes whose gate is open: a length over that of every entry is told at the front, bytes that
 /// go wrong at the place where they do, and bytes of an entry that are fewer than the length at their end; and at no other place.
 pub fn a_broken_journal_is_told_by_its_place()
-    ensures told { (journal : List ℕ) (size at : ℕ) → All (λ b. b < 256) (take size (drop 5 journal)) → open_length journal ≡ Some size → bad_place journal ≡ Some at → IsBrokenAt size (take size (drop 5 journal)) at }
-    ensures alone { (journal : List ℕ) (size at : ℕ) → All (λ b. b < 256) (take size (drop 5 journal)) → open_length journal ≡ Some size → IsBrokenAt size (take size (drop 5 journal)) at → bad_place journal ≡ Some at }
+    ensures told { (seen : Image) (size at : ℕ) → All (λ b. b < 256) (take size (drop 5 (seen journal_name))) → open_length (seen journal_name) ≡ Some size
+        → bad_place seen ≡ Some at → IsBrokenAt size (take size (drop 5 (seen journal_name))) at }
+    ensures alone { (seen : Image) (size at : ℕ) → All (λ b. b < 256) (take size (drop 5 (seen journal_name))) → open_length (seen journal_name) ≡ Some size
+        → IsBrokenAt size (take size (drop 5 (seen journal_name))) at → bad_place seen ≡ Some at }
 {}

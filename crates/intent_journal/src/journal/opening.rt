@@ -1,16 +1,16 @@
 //! The opening of a journal: an open entry is brought into its files before anything else happens.
-ghost use Rattle.std.specs.Prelude.{◌≡◌, ◌≢◌, ℕ, List, Option, Some, None, true, false, is_some, Err, IfOk, IfErr, IfSome, OnOk};
+ghost use Rattle.std.specs.Prelude.{◌≡◌, ℕ, Some, None, true, false, is_some, Err, IfOk, IfErr, IfSome};
 ghost use Rattle.kdb_outside.specs.Faults.{HasRisen};
 ghost use Rattle.kdb_outside.specs.Frames.{GoesOn, OnlyReads};
 ghost use Rattle.kdb_outside.specs.Images.{Image};
-ghost use Rattle.journal_codec.specs.declared.files.FileText.{FileText as Item};
 ghost use Rattle.journal_codec.specs.Entry.{IsEntry, journal_name};
-ghost use Rattle.intent_journal.specs.BadJournals.{bad_place, open_entry, opened_files, opened_doubt};
+ghost use Rattle.intent_journal.specs.BadJournals.{bad_place, open_entry};
 ghost use Rattle.intent_journal.specs.JournalBytes.{IsOpen};
-ghost use Rattle.intent_journal.specs.Outcomes.{with_entry, SameFiles, HasOnly, IsOutcome, IsEither};
-ghost use Rattle.intent_journal.specs.States.{IsSettled, IsDoubtful, IsFound, IsCalm};
-ghost use Rattle.intent_journal.specs.Moments.{AddsOnly, LeavesOnly, IsImageOr};
-ghost use Rattle.intent_journal.specs.Opened.{disk_of, fault_of};
+ghost use Rattle.intent_journal.specs.Moments.{AddsOnly, IsImageOr};
+ghost use Rattle.intent_journal.specs.Opened.{disk_of};
+ghost use Rattle.intent_journal.specs.Opens.{OpensCalm, OpensJournal, WhereCalm};
+ghost use Rattle.intent_journal.specs.Outcomes.{with_entry, HasOnly, IsOutcome};
+ghost use Rattle.intent_journal.specs.States.{IsSettled, IsFound};
 
 use super::Journal;
 use crate::reading::read_entry;
@@ -24,29 +24,7 @@ impl<D: Disk> Journal<D> {
     /// Opens the journal of a disk, and brings an open entry into its files; a journal without one is only read. Then the gate
     /// is in doubt, since what was read may be pending. A refusal hands the disk back.
     pub fn open(alloc: Global, disk: D) -> Result<Journal<D>, JournalRefused<D>>
-        ensures state { IfOk result (λ journal. (journal.state ≡ State.Doubt) × (journal.found ≡ false)) }
-        ensures good { D.tells disk ≡ true → OnOk result (bad_place (D.seen disk journal_name) ≡ None) }
-        ensures bad { D.tells disk ≡ true → (at : ℕ) → fault_of result ≡ Some (JournalFault.BadJournal at) → bad_place (D.seen disk journal_name) ≡ Some at }
-        ensures calm { D.tells disk ≡ true → (files : Image) (doubt : Option (List Item)) → IsCalm (D.seen disk) (D.may_leave disk) files doubt
-            → (at : ℕ) → fault_of result ≡ Some (JournalFault.BadJournal at) → ⊥ }
-        ensures recovered { D.tells disk ≡ true → IfOk result (λ journal. journal.recovered ≡ is_some (open_entry (D.seen disk journal_name))) }
-        ensures left_alone { IfOk result (λ journal. journal.recovered ≡ false → OnlyReads D.Disk disk journal.disk) }
-        ensures reads { D.tells disk ≡ true → open_entry (D.seen disk journal_name) ≡ None → OnlyReads D.Disk disk (disk_of result) }
-        ensures files { D.tells disk ≡ true → (files : Image) (doubt : Option (List Item)) → IsCalm (D.seen disk) (D.may_leave disk) files doubt
-            → IfOk result (λ _. IsEither files doubt (opened_files (D.seen disk))) }
-        ensures settled { D.tells disk ≡ true → (files : Image) (doubt : Option (List Item)) → IsCalm (D.seen disk) (D.may_leave disk) files doubt
-            → IfOk result (λ journal. journal.recovered ≡ true → IsSettled (D.may_leave journal.disk) (opened_files (D.seen disk))) }
-        ensures doubtful { D.tells disk ≡ true → (files : Image) (doubt : Option (List Item)) → IsCalm (D.seen disk) (D.may_leave disk) files doubt
-            → IfOk result (λ journal. IsDoubtful (D.may_leave journal.disk) (opened_files (D.seen disk)) (opened_doubt (D.seen disk))) }
-        ensures own { D.tells disk ≡ true → (files : Image) (doubt : Option (List Item)) → IsCalm (D.seen disk) (D.may_leave disk) files doubt
-            → SameFiles files (opened_files (D.seen disk)) → IfOk result (λ journal. IsDoubtful (D.may_leave journal.disk) files doubt) }
-        ensures calm_still { D.tells disk ≡ true → (files : Image) (doubt : Option (List Item)) → IsCalm (D.seen disk) (D.may_leave disk) files doubt
-            → IfOk result (λ journal. IsCalm (D.seen journal.disk) (D.may_leave journal.disk) files doubt) }
-        ensures any_moment { D.tells disk ≡ true → (files : Image) (doubt : Option (List Item)) → IsCalm (D.seen disk) (D.may_leave disk) files doubt
-            → LeavesOnly D.Disk disk (disk_of result) (HasOnly (IsEither files doubt)) }
-        ensures kept { IfErr result (λ refused. refused.fault ≢ JournalFault.DiskFault → OnlyReads D.Disk disk refused.disk) }
-        ensures goes { GoesOn D.Disk disk (disk_of result) }
-        ensures cause { fault_of result ≡ Some JournalFault.DiskFault → HasRisen (D.faults disk) (D.faults (disk_of result)) }
+        ensures { OpensJournal D.Disk disk result }
     {
         let mut disk = disk;
         match find(alloc, &mut disk) {
@@ -59,26 +37,12 @@ impl<D: Disk> Journal<D> {
     fn begin(alloc: Global, disk: D, found: Found) -> Result<Journal<D>, JournalRefused<D>>
         requires name { found.name ≡ journal_name }
         requires entry { IfSome found.entry IsEntry }
-        requires open { D.tells disk ≡ true → found.entry ≡ open_entry (D.seen disk journal_name) }
-        ensures state { IfOk result (λ journal. (journal.state ≡ State.Doubt) × (journal.found ≡ false)) }
-        ensures recovered { IfOk result (λ journal. journal.recovered ≡ is_some found.entry) }
-        ensures left_alone { IfOk result (λ journal. journal.recovered ≡ false → journal.disk ≡ disk) }
+        requires open { D.tells disk ≡ true → found.entry ≡ open_entry (D.seen disk) }
+        ensures state { IfOk result (λ journal. (journal.state ≡ State.Doubt) × (journal.found ≡ false) × (journal.recovered ≡ is_some found.entry)) }
         ensures reads { found.entry ≡ None → disk_of result ≡ disk }
-        ensures files { D.tells disk ≡ true → (files : Image) (doubt : Option (List Item)) → IsCalm (D.seen disk) (D.may_leave disk) files doubt
-            → IsEither files doubt (opened_files (D.seen disk)) }
-        ensures settled { D.tells disk ≡ true → (files : Image) (doubt : Option (List Item)) → IsCalm (D.seen disk) (D.may_leave disk) files doubt
-            → IfOk result (λ journal. journal.recovered ≡ true → IsSettled (D.may_leave journal.disk) (opened_files (D.seen disk))) }
-        ensures doubtful { D.tells disk ≡ true → (files : Image) (doubt : Option (List Item)) → IsCalm (D.seen disk) (D.may_leave disk) files doubt
-            → IfOk result (λ journal. IsDoubtful (D.may_leave journal.disk) (opened_files (D.seen disk)) (opened_doubt (D.seen disk))) }
-        ensures own { D.tells disk ≡ true → (files : Image) (doubt : Option (List Item)) → IsCalm (D.seen disk) (D.may_leave disk) files doubt
-            → SameFiles files (opened_files (D.seen disk)) → IfOk result (λ journal. IsDoubtful (D.may_leave journal.disk) files doubt) }
-        ensures calm_still { D.tells disk ≡ true → (files : Image) (doubt : Option (List Item)) → IsCalm (D.seen disk) (D.may_leave disk) files doubt
-            → IfOk result (λ journal. IsCalm (D.seen journal.disk) (D.may_leave journal.disk) files doubt) }
-        ensures any_moment { D.tells disk ≡ true → (files : Image) (doubt : Option (List Item)) → IsCalm (D.seen disk) (D.may_leave disk) files doubt
-            → LeavesOnly D.Disk disk (disk_of result) (HasOnly (IsEither files doubt)) }
-        ensures fault { IfErr result (λ refused. refused.fault ≡ JournalFault.DiskFault) }
+        ensures leaves { WhereCalm D.Disk disk (OpensCalm D.Disk disk result) }
+        ensures fault { IfErr result (λ refused. (refused.fault ≡ JournalFault.DiskFault) × HasRisen (D.faults disk) (D.faults refused.disk)) }
         ensures goes { GoesOn D.Disk disk (disk_of result) }
-        ensures cause { IfErr result (λ refused. HasRisen (D.faults disk) (D.faults refused.disk)) }
     {
         let Found { name, entry } = found;
         match entry {
@@ -105,15 +69,13 @@ impl<D: Disk> Journal<D> {
         requires name { name ≡ journal_name }
         requires entry { IsEntry entry }
         requires open { D.tells disk ≡ true → IsOpen entry (D.seen disk journal_name) }
-        ensures state { IfOk result (λ journal. (journal.state ≡ State.Doubt) × (journal.found ≡ false)) }
-        ensures recovered { IfOk result (λ journal. journal.recovered ≡ true) }
+        ensures state { IfOk result (λ journal. (journal.state ≡ State.Doubt) × (journal.found ≡ false) × (journal.recovered ≡ true)) }
         ensures settled { D.tells disk ≡ true → (files : Image) → IsFound (D.may_leave disk) files entry
             → IfOk result (λ journal. IsSettled (D.may_leave journal.disk) (with_entry files entry)) }
         ensures any_moment { D.tells disk ≡ true → (files : Image) → IsFound (D.may_leave disk) files entry
             → AddsOnly D.Disk disk (disk_of result) (IsImageOr (D.may_leave disk) (HasOnly (IsOutcome (with_entry files entry)))) }
-        ensures fault { IfErr result (λ refused. refused.fault ≡ JournalFault.DiskFault) }
+        ensures fault { IfErr result (λ refused. (refused.fault ≡ JournalFault.DiskFault) × HasRisen (D.faults disk) (D.faults refused.disk)) }
         ensures goes { GoesOn D.Disk disk (disk_of result) }
-        ensures cause { IfErr result (λ refused. HasRisen (D.faults disk) (D.faults refused.disk)) }
     {
         let mut journal = Journal {
             disk,
@@ -148,8 +110,8 @@ struct Found {
 fn find<D: Disk>(alloc: Global, disk: &mut D) -> Result<Found, JournalFault>
     ensures name { IfOk result (λ found. found.name ≡ journal_name) }
     ensures entry { IfOk result (λ found. IfSome found.entry IsEntry) }
-    ensures good { D.tells disk.old ≡ true → IfOk result (λ found. (bad_place (D.seen disk.old journal_name) ≡ None) × (found.entry ≡ open_entry (D.seen disk.old journal_name))) }
-    ensures bad { D.tells disk.old ≡ true → (at : ℕ) → result ≡ Err (JournalFault.BadJournal at) → bad_place (D.seen disk.old journal_name) ≡ Some at }
+    ensures good { D.tells disk.old ≡ true → IfOk result (λ found. (bad_place (D.seen disk.old) ≡ None) × (found.entry ≡ open_entry (D.seen disk.old))) }
+    ensures bad { D.tells disk.old ≡ true → (at : ℕ) → result ≡ Err (JournalFault.BadJournal at) → bad_place (D.seen disk.old) ≡ Some at }
     ensures reads { OnlyReads D.Disk disk.old disk.new }
     ensures cause { result ≡ Err JournalFault.DiskFault → HasRisen (D.faults disk.old) (D.faults disk.new) }
 {

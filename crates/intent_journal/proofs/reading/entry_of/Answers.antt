@@ -1,20 +1,20 @@
-use Rattle.std.proofs.Common.{length, ap, refl}
+use Rattle.std.proofs.Common.{ap}
 use Rattle.std.specs.Prelude.{Err}
 use Rattle.journal_codec.proofs.BodyLemmas.{is_read}
-use Rattle.intent_journal.proofs.Heads.{TellsBody-whole, TellsBody-short, TellsBody-fails}
+use Rattle.intent_journal.proofs.Behind.{entry_or_place-whole, entry_or_place-short, entry_or_place-fails}
 use Rattle.intent_journal.proofs.reading.entry_of.Goals as goal
 
 pub returns-in-Err-BadJournal-clause-told : goal.returns-in-Err-BadJournal-clause-told
 returns-in-Err-BadJournal-clause-told c =
     let bad = c.in-Err-BadJournal.ensures.bad c.in-Err-BadJournal.at (ap Err c.in-Err-BadJournal.field-0-is) in
-    TellsBody-fails c.args.size c.in-Err-BadJournal.at c.args.there.now c.requires bad
+    entry_or_place-fails c.args.size c.in-Err-BadJournal.at c.args.there.now c.requires bad
 
 pub returns-then-there-size-clause-told : goal.returns-then-there-size-clause-told
-returns-then-there-size-clause-told c = TellsBody-whole c.args.size c.args.there.now c.in-Ok.files c.requires c.in-Ok.ensures.reads c.if-there-size.true
+returns-then-there-size-clause-told c = entry_or_place-whole c.args.size c.args.there.now c.in-Ok.files c.requires c.in-Ok.ensures.reads c.if-there-size.true
 
 pub returns-then-there-size-clause-entry : goal.returns-then-there-size-clause-entry
 returns-then-there-size-clause-entry c = (is_read c.args.there.now c.in-Ok.files c.in-Ok.ensures.reads).entry
 
 pub returns-else-there-size-clause-told : goal.returns-else-there-size-clause-told
 returns-else-there-size-clause-told c =
-    TellsBody-short c.args.size (length c.args.there.now) c.args.there.now c.in-Ok.files c.requires c.in-Ok.ensures.reads c.if-there-size.false refl
+    entry_or_place-short c.args.size c.args.there.now c.in-Ok.files c.requires c.in-Ok.ensures.reads c.if-there-size.false

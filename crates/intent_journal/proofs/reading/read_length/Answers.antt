@@ -1,5 +1,5 @@
 use Rattle.std.proofs.Common.{ℕ, List, ◌∙◌, sym, ap, rules, arith}
-use Rattle.intent_journal.specs.BadJournals.{open_length}
+use Rattle.intent_journal.specs.JournalBytes.{open_length}
 use Rattle.intent_journal.proofs.Heads.{open_length-short, open_length-front}
 use Rattle.kdb_outside.specs.Frames.{OnlyReads}
 use Rattle.kdb_outside.proofs.Frames.{OnlyReads-then}

@@ -3,7 +3,6 @@ use Rattle.std.proofs.Common.{◌≡◌, Some, ap, arith, refl, subst, sym}
 use Rattle.std.proofs.lemmas.Result.{IfOk-weaker}
 use Rattle.batch_script.specs.declared.steps.Script.{Script}
 use Rattle.intent_journal.specs.BadJournals.{opened_files}
-use Rattle.journal_codec.specs.Entry.{journal_name}
 use Rattle.kdb_outside.specs.Faults.{HasRisen}
 use Rattle.kdb_outside.specs.Frames.{GoesOn, OnlyReads}
 use Rattle.model_maps.specs.KeyMap.{no_keys}
@@ -60,7 +59,7 @@ returns-in-Err g c = record {
   broken = λ tells at is.
       broken_told at c.in-Err.field-0.fault c.refuse_opening.result c.refuse_opening.ensures.told c.refuse_opening.ensures.answered (c.in-Err.ensures.broken tells at is);
   broken_stays = λ tells at is.
-      subst (OnlyReads g.D.Disk c.args.disk) (sym c.given_back-disk.ensures) (c.in-Err.ensures.left_alone tells (bad-not_open (g.D.Disk.seen c.args.disk journal_name) at is));
+      subst (OnlyReads g.D.Disk c.args.disk) (sym c.given_back-disk.ensures) (c.in-Err.ensures.left_alone tells (bad-not_open (g.D.Disk.seen c.args.disk) at is));
   cause = λ is. subst (λ d. HasRisen (g.D.Disk.faults c.args.disk) (g.D.Disk.faults d)) (sym c.given_back-disk.ensures) (c.in-Err.ensures.cause (ap Some (c.refuse_opening.ensures.cause is)));
   input = c.refuse_opening.ensures.input;
   goes = subst (GoesOn g.D.Disk c.args.disk) (sym c.given_back-disk.ensures) c.in-Err.ensures.goes;

@@ -3,7 +3,6 @@ use Rattle.std.proofs.Common.{ℕ, Ok, Some, ap, is_some, subst, sym, ◌∙◌,
 use Rattle.std.proofs.lemmas.Result.{IfOk-weaker}
 use Rattle.intent_journal.specs.BadJournals.{opened_files}
 use Rattle.model_maps.specs.KeyMap.{no_keys}
-use Rattle.journal_codec.specs.Entry.{journal_name}
 use Rattle.kdb_outside.specs.Faults.{HasRisen}
 use Rattle.kdb_outside.specs.Frames.{GoesOn, OnlyReads}
 use Rattle.kdb_outside.proofs.Frames.{GoesOn-then}
@@ -124,7 +123,7 @@ returns-in-Err g c = record {
   broken = λ tells at is.
       broken_told at c.in-Err.field-0.fault c.refuse_opening.result c.refuse_opening.ensures.told c.refuse_opening.ensures.answered (c.in-Err.ensures.broken tells at is);
   broken_stays = λ tells at is.
-      subst (OnlyReads g.D.Disk c.args.disk) (sym c.given_back-disk-in-Err.ensures) (c.in-Err.ensures.left_alone tells (bad-not_open (g.D.Disk.seen c.args.disk journal_name) at is));
+      subst (OnlyReads g.D.Disk c.args.disk) (sym c.given_back-disk-in-Err.ensures) (c.in-Err.ensures.left_alone tells (bad-not_open (g.D.Disk.seen c.args.disk) at is));
   status = IfOk-weaker c.refuse_opening.result _ _ (λ report is. refused-end (own_statuses (question_of c.args.question)) report.status is) c.refuse_opening.ensures.status;
   own = IfOk-weaker c.refuse_opening.result _ _ (λ report is. refused-answered 5 report.status (omega arith) is) c.refuse_opening.ensures.status;
   cause = λ is. subst (λ d. HasRisen (g.D.Disk.faults c.args.disk) (g.D.Disk.faults d)) (sym c.given_back-disk-in-Err.ensures) (c.in-Err.ensures.cause (ap Some (c.refuse_opening.ensures.cause is)));

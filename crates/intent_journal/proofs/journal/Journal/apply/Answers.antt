@@ -1,15 +1,14 @@
 use Rattle.std.proofs.Common.{◌≡◌, ◌<◌, length, slice_index_or, subst, sym, ap, ◌∙◌}
 use Rattle.std.proofs.lemmas.Option.{get_or_from_slice_get}
 use Rattle.std.proofs.lemmas.Result.{on_ok_weaker}
-use Rattle.std.specs.Prelude.{OnOk}
 use Rattle.kdb_outside.specs.Images.{Only, KeepsOtherImages}
 use Rattle.journal_codec.specs.declared.files.FileText.{FileText}
 use Rattle.intent_journal.specs.Moments.{KeepsElse, KeepsUnnamed}
-use Rattle.intent_journal.proofs.Contents.{content_in-journal, HasApplied-more}
+use Rattle.intent_journal.specs.Steps.{PutsFile}
+use Rattle.intent_journal.proofs.Contents.{HasApplied-more}
 use Rattle.intent_journal.proofs.Meanwhile.{else_weaker}
-use Rattle.intent_journal.proofs.Passages.{IsLagging-kept}
 use Rattle.intent_journal.proofs.Sound.{IsSound-lag, KeepsElse-unnamed, unnamed_kept}
-use Rattle.intent_journal.proofs.Steps.{applying, lagging_meanwhile}
+use Rattle.intent_journal.proofs.Steps.{applying}
 use Rattle.intent_journal.proofs.journal.Journal.apply.Goals as goal
 
 pub invariant_of-self : goal.invariant_of-self
@@ -22,23 +21,14 @@ invariant_of-self g c =
     IsSound-lag (g.D.Disk.tells c.self.inside.disk) _ _ _ (g.D.Disk.may_leave c.self.inside.disk) _ _ _ _ _ c.self.invariant lag c.put_file.ensures.goes.tells
     (λ tells. unnamed_kept entry c.args.i text _ _ within place (c.put_file.ensures.others tells))
 
-pub returns-clause-durable : goal.returns-clause-durable
-returns-clause-durable g c =
+pub returns-clause-puts : goal.returns-clause-puts
+returns-clause-puts g c =
     let entry = c.self.inside.entry in
     let text = c.index-entry-i.result in
     let place : text ≡ slice_index_or entry c.args.i text = c.index-entry-i.is ∙ ap (λ files. slice_index_or files c.args.i text) c.as_slice-entry.ensures in
     rw (← c.self.view_is) (λ tells given is.
-    subst (λ (t : FileText). OnOk c.put_file.result (Only t.bytes (g.D.Disk.may_leave c.put_file.new.disk t.file)))
-    (place ∙ get_or_from_slice_get entry c.args.i given text is) (c.put_file.ensures.durable tells))
-
-pub returns-clause-others : goal.returns-clause-others
-returns-clause-others g c =
-    let entry = c.self.inside.entry in
-    let text = c.index-entry-i.result in
-    let place : text ≡ slice_index_or entry c.args.i text = c.index-entry-i.is ∙ ap (λ files. slice_index_or files c.args.i text) c.as_slice-entry.ensures in
-    rw (← c.self.view_is) (λ tells given is.
-    subst (λ (t : FileText). KeepsOtherImages t.file (g.D.Disk.may_leave c.self.inside.disk) (g.D.Disk.may_leave c.put_file.new.disk))
-    (place ∙ get_or_from_slice_get entry c.args.i given text is) (c.put_file.ensures.others tells))
+    subst (λ (t : FileText). PutsFile g.D.Disk c.self.inside.disk c.put_file.new.disk c.put_file.result t) (place ∙ get_or_from_slice_get entry c.args.i given text is)
+    (record { durable = c.put_file.ensures.durable tells; others = c.put_file.ensures.others tells }))
 
 pub returns-clause-applied : goal.returns-clause-applied
 returns-clause-applied g c =
@@ -56,19 +46,8 @@ returns-clause-applied g c =
     (subst (λ (t : FileText). KeepsOtherImages t.file old new) place (c.put_file.ensures.others tells)))
     (c.put_file.ensures.durable tells))
 
-pub returns-clause-lagging : goal.returns-clause-lagging
-returns-clause-lagging g c =
-    let entry = c.self.inside.entry in
-    let text = c.index-entry-i.result in
-    let place : text ≡ slice_index_or entry c.args.i text = c.index-entry-i.is ∙ ap (λ files. slice_index_or files c.args.i text) c.as_slice-entry.ensures in
-    let within : c.args.i < length entry = subst (λ j. c.args.i < length j.entry) (sym c.self.view_is) c.requires.within in
-    let lag = ap (λ j. j.state) c.self.view_is ∙ c.requires.lag in
-    rw (← c.self.view_is) (λ tells files state.
-    IsLagging-kept _ _ files entry state (content_in-journal entry (c.self.invariant.lag_entry lag))
-    (λ other none. (unnamed_kept entry c.args.i text _ _ within place (c.put_file.ensures.others tells) other none).no_more))
-
-pub returns-clause-any_moment : goal.returns-clause-any_moment
-returns-clause-any_moment g c =
+pub returns-clause-passes : goal.returns-clause-passes
+returns-clause-passes g c =
     let entry = c.self.inside.entry in
     let text = c.index-entry-i.result in
     let place : text ≡ slice_index_or entry c.args.i text = c.index-entry-i.is ∙ ap (λ files. slice_index_or files c.args.i text) c.as_slice-entry.ensures in
@@ -76,6 +55,6 @@ returns-clause-any_moment g c =
     let lag = ap (λ j. j.state) c.self.view_is ∙ c.requires.lag in
     rw (← c.self.view_is) (λ tells files state.
     let old = g.D.Disk.may_leave c.self.inside.disk in
-    let time = else_weaker _ _ _ (KeepsElse text.file old) (KeepsUnnamed entry old) (c.put_file.ensures.time tells) (KeepsElse-unnamed entry c.args.i text old within place) in
-    lagging_meanwhile _ _ _ _ files entry state
-    (applying _ _ _ _ files entry (content_in-journal entry (c.self.invariant.lag_entry lag)) state time) (λ image left. g.D.Disk.only_now _ image tells left))
+    applying g.D.Disk c.self.inside.disk c.put_file.new.disk c.put_file.result tells files entry (c.self.invariant.lag_entry lag) state
+    (unnamed_kept entry c.args.i text _ _ within place (c.put_file.ensures.others tells))
+    (else_weaker _ _ _ (KeepsElse text.file old) (KeepsUnnamed entry old) (c.put_file.ensures.time tells) (KeepsElse-unnamed entry c.args.i text old within place)))

@@ -1,7 +1,8 @@
-use Rattle.std.proofs.Common.{subst, ap, ◌∙◌}
+use Rattle.std.proofs.Common.{ℕ, List, subst, ap, ◌∙◌}
 use Rattle.std.proofs.lemmas.Result.{on_ok_weaker}
+use Rattle.intent_journal.specs.Steps.{WritesThrough}
 use Rattle.intent_journal.proofs.Bodies.{HasBody-put}
-use Rattle.intent_journal.proofs.Steps.{putting, putting_settled}
+use Rattle.intent_journal.proofs.Steps.{putting}
 use Rattle.intent_journal.proofs.journal.Journal.put_body.Goals as goal
 
 pub returns-clause-body : goal.returns-clause-body
@@ -14,14 +15,10 @@ returns-clause-body g c =
     let closed = c.self.invariant.clean clean tells seen (subst (λ n. g.D.Disk.may_leave disk n seen) c.self.invariant.named (g.D.Disk.read_is_image disk tells name)) in
     on_ok_weaker c.write_through.result
     (HasBody-put name seen c.args.encoded.now (g.D.Disk.may_leave c.write_through.new.disk) entry c.self.invariant.named closed is encoded)
-    (c.write_through.ensures.durable tells))
+    (c.write_through.ensures.writes tells).durable)
 
-pub returns-clause-settled : goal.returns-clause-settled
-returns-clause-settled g c =
+pub returns-clause-passes : goal.returns-clause-passes
+returns-clause-passes g c =
     rw (← c.self.view_is) (λ tells files state.
-    putting_settled _ _ _ files c.args.encoded.now c.self.invariant.named state (c.write_through.ensures.images tells))
-
-pub returns-clause-any_moment : goal.returns-clause-any_moment
-returns-clause-any_moment g c =
-    rw (← c.self.view_is) (λ tells files state.
-    putting _ _ _ _ _ files c.args.encoded.now c.self.invariant.named state (c.write_through.ensures.time tells) (λ image left. g.D.Disk.only_now _ image tells left))
+    putting g.D.Disk c.self.inside.disk c.write_through.new.disk c.write_through.result tells files c.args.encoded.now state
+    (subst (λ (n : List ℕ). WritesThrough g.D.Disk c.self.inside.disk c.write_through.new.disk c.write_through.result n 1 c.args.encoded.now) c.self.invariant.named (c.write_through.ensures.writes tells)))
