@@ -28,7 +28,6 @@ use Rattle.model_store.specs.Sets as sets
 use Rattle.model_store.specs.Sets.{front_in, wants}
 use Rattle.model_store.specs.Store.{Store, Formats, points_of}
 use Rattle.model_store.specs.Verdicts.{IsEarly, commit_of}
-use Rattle.mount_table.specs.declared.mounts.Mount.{Mount}
 use Rattle.seat_lock.specs.Known.{Place}
 use Rattle.seat_lock.specs.Story.{made_by}
 use Rattle.seat_lock.proofs.Prefixes.{prefix-trans}
@@ -112,17 +111,17 @@ stands found later set (Ok (done.Same front aside)) is = ([], sym is)
 stands found later set (Err why) is = (commits_of (told_by set (Err why)), sym is)
 
 -- and has as many commits as were told of
-told-within : (mounts : List Mount) (risen : Bool) (found later : List Commit) (keys : KeyMap) (set : sets.Prepared) (result : Result Done CommitFault) (told : ℕ) → told ≤ length found
-    → later ≡ found ++ commits_of (told_by set result) → IsJudged mounts risen found keys set result → told_then result told ≤ length later
-told-within mounts risen found later keys set (Ok (done.Committed number aside)) told le is judged = omega (arith, judged.0, ap length is, length-append found (commit_of set ∷ []))
-told-within mounts risen found later keys set (Ok (done.Same front aside)) told le is judged = omega (arith, judged.0, ap length is, length-append found [])
-told-within mounts risen found later keys set (Err Memory) told le is judged = omega (arith, le, ap length is, length-append found [])
-told-within mounts risen found later keys set (Err (Conflict mount by front)) told le is judged = omega (arith, judged.2, ap length is, length-append found [])
-told-within mounts risen found later keys set (Err (Invalid violation front)) told le is judged =
+told-within : (formats : Formats) (store : Store) (risen : Bool) (found later : List Commit) (keys : KeyMap) (set : sets.Prepared) (result : Result Done CommitFault) (told : ℕ) → told ≤ length found
+    → later ≡ found ++ commits_of (told_by set result) → IsJudged formats store risen found keys set result → told_then result told ≤ length later
+told-within formats store risen found later keys set (Ok (done.Committed number aside)) told le is judged = omega (arith, judged.0, ap length is, length-append found (commit_of set ∷ []))
+told-within formats store risen found later keys set (Ok (done.Same front aside)) told le is judged = omega (arith, judged.0, ap length is, length-append found [])
+told-within formats store risen found later keys set (Err Memory) told le is judged = omega (arith, le, ap length is, length-append found [])
+told-within formats store risen found later keys set (Err (Conflict mount by front)) told le is judged = omega (arith, judged.2, ap length is, length-append found [])
+told-within formats store risen found later keys set (Err (Invalid violation front)) told le is judged =
     omega (arith, judged.0, ap length is, length-append found (commits_of (told_by set (Err (Invalid violation front)))))
-told-within mounts risen found later keys set (Err (DatabaseFull weight front)) told le is judged = omega (arith, judged.0, ap length is, length-append found [])
-told-within mounts risen found later keys set (Err (HistoryFull weight front)) told le is judged = omega (arith, judged.0, ap length is, length-append found [])
-told-within mounts risen found later keys set (Err (DiskFault front)) told le is judged = omega (arith, judged.1, ap length is, length-append found [])
+told-within formats store risen found later keys set (Err (DatabaseFull weight front)) told le is judged = omega (arith, judged.0, ap length is, length-append found [])
+told-within formats store risen found later keys set (Err (HistoryFull weight front)) told le is judged = omega (arith, judged.0, ap length is, length-append found [])
+told-within formats store risen found later keys set (Err (DiskFault front)) told le is judged = omega (arith, judged.1, ap length is, length-append found [])
 
 -- the record that it leaves is that of the definitions
 records-then : (store : Store) (found later : List Commit) (set other : sets.Prepared) (result : Result Done CommitFault) (rec new : Record) → set ≡ other → later ≡ found ++ commits_of (told_by set result)
@@ -135,18 +134,18 @@ records-then store found later set other (Ok (done.Same front aside)) rec new sa
 records-then store found later set other (Err why) rec new same is keeps kept = kept
 
 -- the commits of its handle are those that it told
-new-numbers : (mounts : List Mount) (risen : Bool) (number : ℕ) (found : List Commit) (keys : KeyMap) (set : sets.Prepared) (result : Result Done CommitFault) → set.handle ≡ number → IsJudged mounts risen found keys set result
+new-numbers : (formats : Formats) (store : Store) (risen : Bool) (number : ℕ) (found : List Commit) (keys : KeyMap) (set : sets.Prepared) (result : Result Done CommitFault) → set.handle ≡ number → IsJudged formats store risen found keys set result
     → numbers_from number (1 + length found) (commits_of (told_by set result)) ≡ numbers_told (set_reply result)
-new-numbers mounts risen number found keys set (Ok (done.Committed n aside)) own judged =
+new-numbers formats store risen number found keys set (Ok (done.Committed n aside)) own judged =
     numbers-one number (1 + length found) (commit_of set) own ∙ ap (λ (k : ℕ). k ∷ []) (omega (arith, judged.0))
-new-numbers mounts risen number found keys set (Ok (done.Same front aside)) own judged = refl
-new-numbers mounts risen number found keys set (Err Memory) own judged = refl
-new-numbers mounts risen number found keys set (Err (Conflict mount by front)) own judged = refl
-new-numbers mounts risen number found keys set (Err (Invalid violation front)) own judged =
+new-numbers formats store risen number found keys set (Ok (done.Same front aside)) own judged = refl
+new-numbers formats store risen number found keys set (Err Memory) own judged = refl
+new-numbers formats store risen number found keys set (Err (Conflict mount by front)) own judged = refl
+new-numbers formats store risen number found keys set (Err (Invalid violation front)) own judged =
     ap (numbers_from number (1 + length found)) (told-commits set (is_refusal violation))
-new-numbers mounts risen number found keys set (Err (DatabaseFull weight front)) own judged = refl
-new-numbers mounts risen number found keys set (Err (HistoryFull weight front)) own judged = refl
-new-numbers mounts risen number found keys set (Err (DiskFault front)) own judged = refl
+new-numbers formats store risen number found keys set (Err (DatabaseFull weight front)) own judged = refl
+new-numbers formats store risen number found keys set (Err (HistoryFull weight front)) own judged = refl
+new-numbers formats store risen number found keys set (Err (DiskFault front)) own judged = refl
 
 -- ---- a set that took its turn
 
@@ -190,7 +189,7 @@ module _ (formats : Formats) (files : List MountedFile) (parent : Name) (keys wo
   stored-seen = prefix-trans old.seen stored.done.found new.seen stored.done.seen (told_by view result, sym stored.done.sees)
 
   pub within : (told : ℕ) → told ≤ length (commits_of old.seen) → told_then result told ≤ length (commits_of new.seen)
-  within told le = told-within store.mounts (tells_refusal result) found (commits_of new.seen) (replay store.start found) view result told (omega (arith, le, far)) later_is stored.done.judged
+  within told le = told-within formats store (tells_refusal result) found (commits_of new.seen) (replay store.start found) view result told (omega (arith, le, far)) later_is stored.done.judged
 
   pub judged-then : (told : ℕ) → told ≤ length (commits_of old.seen) → result ≢ Err Memory
       → record_of new.rec ≡ record_then store found (set_by store old.number (session_of old working 0) parent keys) result (record_of old.rec)
@@ -201,7 +200,7 @@ module _ (formats : Formats) (files : List MountedFile) (parent : Name) (keys wo
     result = result;
     known = known;
     early = subst (λ (s : sets.Prepared). IsEarly formats store s None) stored.made.is stored.made.early;
-    judged = subst (λ (s : sets.Prepared). IsJudged store.mounts (tells_refusal result) found (replay store.start found) s result) stored.made.is stored.done.judged;
+    judged = subst (λ (s : sets.Prepared). IsJudged formats store (tells_refusal result) found (replay store.start found) s result) stored.made.is stored.done.judged;
     stands = subst (λ (s : sets.Prepared). StandsNext (commits_of new.seen) found s result) stored.made.is (stands found (commits_of new.seen) view result later_is);
     reply_is = refl;
     new_is = ap (session_with (told_then result told) working) left;
@@ -227,7 +226,7 @@ module _ (formats : Formats) (files : List MountedFile) (parent : Name) (keys wo
     numbers = ap (numbers_by first.number) later_is
         ∙ numbers_from-append first.number 1 found (commits_of (told_by view result))
         ∙ ap₂ (λ (one two : List ℕ). one ++ two) (numbers-same first.number first.seen stored.done.found (prefix-trans first.seen old.seen stored.done.found since.seen stored.done.seen) same)
-        (new-numbers store.mounts (tells_refusal result) first.number found (replay store.start found) view result (ap (λ (s : sets.Prepared). s.handle) stored.made.is ∙ since.number) stored.done.judged);
+        (new-numbers formats store (tells_refusal result) first.number found (replay store.start found) view result (ap (λ (s : sets.Prepared). s.handle) stored.made.is ∙ since.number) stored.done.judged);
     failures = omega (arith, ap failures_in stored.done.gains, failures-append old.own (told_by view result), told-failures view result, ap failures_in since.own);
     refusals = omega (arith, ap refusals_in stored.done.gains, refusals-append old.own (told_by view result), told-refusals view result, ap refusals_in since.own);
   }

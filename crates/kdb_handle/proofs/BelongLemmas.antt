@@ -10,6 +10,7 @@ use Rattle.kdb_handle.proofs.RecordLemmas.{record-none}
 use Rattle.model_store.proofs.Accepting.{accepts-own, put-here}
 use Rattle.model_files.specs.Files.{HaveFiles}
 use Rattle.model_history.specs.History.{Commit, replay}
+use Rattle.model_maps.specs.KeyMap.{no_keys}
 use Rattle.model_store.specs.Cores.{accepts}
 use Rattle.model_store.specs.Events.{put}
 use Rattle.model_store.specs.Legal.{IsLegal}
@@ -67,12 +68,12 @@ module _ (formats : Formats) {D P : Type 0} (g : Ghosts D) (code : Coded D) (ref
     };
   }
 
-  pub belongs_in : BelongsIn formats (over (λ file. file.mount) files) (store_at files) core records known world 0 rec set
+  pub belongs_in : BelongsIn formats (store_at files) core records known world 0 rec set
   belongs_in =
       belongs_made formats (store_at files) core records known world 0 rec set (handle_of rec) (record_of rec) may.prepared.parent may.prepared.keys stands_in
       (put-here (handle_of rec) (record_of rec) (λ n m. None)) (omega (arith, length-map files (λ (file : MountedFile). file.mount), may.places)) refl
       (subst (λ (s : sets.Prepared). accepts (record_of rec) (handle_of rec) s ≡ true) (sym may.prepared.made.is) (accepts-own (points_of (store_at files)) (handle_of rec) (record_of rec) may.prepared.parent may.prepared.keys))
       may.prepared.made
 
-  pub is_ready : IsReady formats (over (λ file. file.mount) files) core rec set
-  is_ready = record { store = store_at files; records = records; made = known; world = world; number = 0; belongs = belongs_in }
+  pub is_ready : IsReady formats files core rec set
+  is_ready = record { procs = λ r. no_keys; records = records; made = known; world = world; number = 0; belongs = belongs_in }

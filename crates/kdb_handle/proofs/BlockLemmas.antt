@@ -1,7 +1,6 @@
 -- The commit that blocks a set is another handle's: fronts cover the own ones.
-use Rattle.std.proofs.Common.{◌≡◌, ℕ, ◌+◌, ◌-◌, ◌<◌, ◌≤◌, Bool, true, false, cond, nat_lt, List, [], ◌∷◌, ◌++◌, length, Option, Some, None, Err, refl, sym, ap, ◌∙◌, arith}
+use Rattle.std.proofs.Common.{◌≡◌, ℕ, ◌+◌, ◌-◌, ◌<◌, ◌≤◌, Bool, true, false, cond, List, [], ◌∷◌, length, Option, Some, None, Err, refl, sym, ap, ◌∙◌, arith}
 use Rattle.std.specs.Option.{option_and_then, option_map, option_or, unwrap_or}
-use Rattle.general_words.specs.Saturated.{saturated}
 use Rattle.general_words.specs.Searches.{first_some}
 use Rattle.general_words.proofs.Lists.{some_is}
 use Rattle.general_words.proofs.Places.{there_is}
@@ -13,18 +12,17 @@ use Rattle.kdb_handle.specs.Stores.{IsHandle}
 use Rattle.kdb_handle.specs.Story.{Told, commits_of}
 use Rattle.kdb_handle.specs.Turns.{IsPrepared}
 use Rattle.kdb_handle.proofs.CoverLemmas.{cover-seen}
-use Rattle.model_history.specs.Changes.{after}
-use Rattle.model_history.specs.History.{Commit, first_after, heaviest_history, history_weight, is_among, replay, touches}
+use Rattle.model_history.specs.History.{Commit, first_after, is_among, replay, touches}
 use Rattle.model_history.proofs.HistoryLemmas.{first_after-behind, first_after-there, first_after-within}
-use Rattle.model_maps.specs.KeyMap.{KeyMap, heaviest_map, weight}
+use Rattle.model_maps.specs.KeyMap.{KeyMap}
 use Rattle.model_names.specs.Name.{Name}
 use Rattle.model_store.specs.Cores.{keeping}
 use Rattle.model_store.specs.Records.{Fetched, Fronts, Record}
 use Rattle.model_store.specs.Sets.{Prepared as Set, front_in, only}
-use Rattle.model_store.specs.Store.{Formats, points_of}
+use Rattle.model_store.specs.Store.{Store, Formats, points_of}
 use Rattle.model_store.specs.Verdicts as late
-use Rattle.model_store.specs.Verdicts.{Late, blocking, commit_of, conflict, conflict_at, if_full, if_heavy, if_untouched}
-use Rattle.model_store.proofs.VerdictLemmas.{is_conflict, not_limited, not_same, skipped, told, unruled}
+use Rattle.model_store.specs.Verdicts.{Late, blocking, conflict, conflict_at}
+use Rattle.model_store.proofs.VerdictLemmas.{is_blocked}
 use Rattle.seat_lock.specs.Known.{Place}
 use Rattle.set_split.specs.Involved.{involved_in}
 use Rattle.store_core.specs.declared.committing.CommitFault.TheVariants as fault
@@ -35,22 +33,6 @@ use Rattle.store_verdict.specs.declared.prepared.Prepared.{Prepared}
 
 -- ---- where a conflict comes from
 
--- the conflict of a touched mount is what the history tells of the set
-pub is_blocked : (points : List Name) (history : List Commit) (keys : KeyMap) (set : Set) (m by : ℕ) → late.IsLate points history keys set (late.Conflict m by) → conflict history set ≡ Some (late.Conflict m by)
-is_blocked points history keys set m by judged =
-    let is : Late = late.Conflict m by in
-    let w : ℕ = weight (after keys set.changes) in
-    let h : ℕ = history_weight (history ++ commit_of set ∷ []) in
-    let touched = skipped (if_untouched set.touched set.aside) is _ (λ e. let off : is_conflict is ≡ false = not_same is_conflict set.touched set.aside is refl e in absurd cc) judged in
-    told (conflict history set) is _ (λ rest.
-    let valid = unruled points keys set is _ (λ violation risen e. let off : is_conflict is ≡ false = ap is_conflict e in absurd cc) rest in
-    let heavy = late.DatabaseFull (saturated w) in
-    let light = skipped (if_heavy w) is _ (λ e. let off : is_conflict is ≡ false = not_limited is_conflict (nat_lt heaviest_map w) heavy is refl e in absurd cc) valid.1 in
-    let full = late.HistoryFull (saturated h) in
-    let room = skipped (if_full h) is _ (λ e. let off : is_conflict is ≡ false = not_limited is_conflict (nat_lt heaviest_history h) full is refl e in absurd cc) light.1 in
-    let off : is_conflict is ≡ false = ap is_conflict room.1 in
-    absurd cc) touched.1
-
 -- the mount of a conflict, and the number of its commit
 abbrev mount_in : Late → ℕ
 mount_in (late.Conflict m by) = m
@@ -60,16 +42,16 @@ abbrev number_in : Late → ℕ
 number_in (late.Conflict m by) = by
 number_in other = 0
 
-pub blocked_at : (history : List Commit) (fronts : Fronts) (mounts : List ℕ) (m by : ℕ) → first_some (conflict_at history fronts) mounts ≡ Some (late.Conflict m by) → blocking history fronts m ≡ Some by
-blocked_at history fronts [] m by e = absurd cc
-blocked_at history fronts (n ∷ mounts) m by e = at_mount (blocking history fronts n) refl (blocked_at history fronts mounts m by) e
+pub blocked_at : (store : Store) (history : List Commit) (set : Set) (mounts : List ℕ) (m by : ℕ) → first_some (conflict_at store history set) mounts ≡ Some (late.Conflict m by) → blocking store history set m ≡ Some by
+blocked_at store history set [] m by e = absurd cc
+blocked_at store history set (n ∷ mounts) m by e = at_mount (blocking store history set n) refl (blocked_at store history set mounts m by) e
   where
-    at_mount : (o : Option ℕ) → blocking history fronts n ≡ o → (first_some (conflict_at history fronts) mounts ≡ Some (late.Conflict m by) → blocking history fronts m ≡ Some by)
-        → option_or (option_map (late.Conflict n) o) (first_some (conflict_at history fronts) mounts) ≡ Some (late.Conflict m by) → blocking history fronts m ≡ Some by
+    at_mount : (o : Option ℕ) → blocking store history set n ≡ o → (first_some (conflict_at store history set) mounts ≡ Some (late.Conflict m by) → blocking store history set m ≡ Some by)
+        → option_or (option_map (late.Conflict n) o) (first_some (conflict_at store history set) mounts) ≡ Some (late.Conflict m by) → blocking store history set m ≡ Some by
     at_mount None is later rest = later rest
     at_mount (Some c) is later here =
         let one = some_is (late.Conflict n c) (late.Conflict m by) here in
-        ap (blocking history fronts) (sym (ap mount_in one)) ∙ is ∙ ap Some (ap number_in one)
+        ap (blocking store history set) (sym (ap mount_in one)) ∙ is ∙ ap Some (ap number_in one)
 
 -- the front that a prepared set has of a mount is its record's
 pub own_front : (mounts : List ℕ) (rec : Record) (m front : ℕ) → front_in (only mounts rec) m ≡ Some front → front_in rec m ≡ Some front
@@ -99,8 +81,8 @@ sees-keeping mounts front kept rec m other among is =
     omega (arith, same)
 
 -- the commit that blocks a mount lies behind the fronts, and within the history
-pub blocks-behind : (history : List Commit) (mounts : List ℕ) (rec : Record) (m by n : ℕ) → SeesTo mounts n rec → blocking history (front_in (only mounts rec)) m ≡ Some by → (n < by) × (by ≤ length history)
-blocks-behind history mounts rec m by n sees blocks = by_front (front_in (only mounts rec) m) refl blocks
+pub blocks-behind : (store : Store) (history : List Commit) (set : Set) (mounts : List ℕ) (rec : Record) (m by n : ℕ) → set.fronts ≡ front_in (only mounts rec) → SeesTo mounts n rec → blocking store history set m ≡ Some by → (n < by) × (by ≤ length history)
+blocks-behind store history set mounts rec m by n fronts sees blocks = by_front (set.fronts m) (ap (λ (f : Fronts). f m) (sym fronts)) blocks
   where
     by_front : (o : Option ℕ) → front_in (only mounts rec) m ≡ o → option_and_then (first_after history m) o ≡ Some by → (n < by) × (by ≤ length history)
     by_front None is e = absurd cc
@@ -110,8 +92,8 @@ blocks-behind history mounts rec m by n sees blocks = by_front (front_in (only m
         (omega (arith, least, behind), first_after-within history m front by e)
 
 -- the commit that blocks a mount isn't one that a front there covers
-pub another : (history : List Commit) (number : ℕ) (rec : Record) (mounts : List ℕ) (m by : ℕ) → Cover number history (front_in rec) → blocking history (front_in (only mounts rec)) m ≡ Some by → IsAnothers number history by
-another history number rec mounts m by covers blocks = by_front (front_in (only mounts rec) m) refl blocks
+pub another : (store : Store) (history : List Commit) (set : Set) (number : ℕ) (rec : Record) (mounts : List ℕ) (m by : ℕ) → set.fronts ≡ front_in (only mounts rec) → Cover number history (front_in rec) → blocking store history set m ≡ Some by → IsAnothers number history by
+another store history set number rec mounts m by fronts covers blocks = by_front (set.fronts m) (ap (λ (f : Fronts). f m) (sym fronts)) blocks
   where
     by_front : (o : Option ℕ) → front_in (only mounts rec) m ≡ o → option_and_then (first_after history m) o ≡ Some by → IsAnothers number history by
     by_front None is e = absurd cc
@@ -137,9 +119,7 @@ blocked_by_another formats lock plan old new set mount by front is prepared done
     let store = store_at plan.mounted in
     let history = commits_of done.found in
     let m : ℕ = done.judged.0 in
-    let fronts : (prepared_of set).fronts ≡ front_in (only (involved_in (points_of store) prepared.parent) (record_of old.rec)) = ap (λ (s : Set). s.fronts) prepared.made.is in
-    let blocked : conflict history (prepared_of set) ≡ Some (late.Conflict m by) = is_blocked (points_of store) history (replay store.start history) (prepared_of set) m by done.judged.3 in
-    let blocks : blocking history (prepared_of set).fronts m ≡ Some by = blocked_at history (prepared_of set).fronts (prepared_of set).touched m by blocked in
-    another history old.number (record_of old.rec) (involved_in (points_of store) prepared.parent) m by
+    let blocked : conflict store history (prepared_of set) ≡ Some (late.Conflict m by) = is_blocked m by formats store history (replay store.start history) (prepared_of set) done.judged.3 in
+    another store history (prepared_of set) old.number (record_of old.rec) (involved_in (points_of store) prepared.parent) m by (ap (λ (s : Set). s.fronts) prepared.made.is)
     (cover-seen old.number old.seen done.found (front_in (record_of old.rec)) done.seen (done.own ∙ is.own) is.covers)
-    (ap (λ (f : Fronts). blocking history f m) (sym fronts) ∙ blocks)
+    (blocked_at store history (prepared_of set) (prepared_of set).touched m by blocked)

@@ -1,5 +1,5 @@
 -- A handle is one of its store's after each turn.
-use Rattle.std.proofs.Common.{◌≡◌, inl, inr, ℕ, ◌≤◌, nat_eq, Bool, true, false, cond, List, [], ◌∷◌, ◌++◌, length, map as over, Option, Some, None, Result, Ok, Err, IfOk, IfErr, refl, sym, ap, ap₂, subst, ◌∙◌, append-nil, eq-eqb}
+use Rattle.std.proofs.Common.{◌≡◌, inl, inr, ℕ, ◌≤◌, nat_eq, Bool, true, false, cond, List, [], ◌∷◌, ◌++◌, length, Option, Some, None, Result, Ok, Err, IfOk, IfErr, refl, sym, ap, ap₂, subst, ◌∙◌, append-nil, eq-eqb}
 use mathlib.Core.List.{IsPrefix}
 use Rattle.std.specs.Coded.{Coded}
 use Rattle.std.proofs.lemmas.Bool.{le-leb}
@@ -33,12 +33,11 @@ use Rattle.model_store.specs.Legal.{IsLegal}
 use Rattle.model_store.specs.Records.{IsRecord, seen_at}
 use Rattle.model_store.specs.Sets as sets
 use Rattle.model_store.specs.Sets.{front_in, wants}
-use Rattle.model_store.specs.Store.{Store, Formats, points_at, points_of, store_of}
+use Rattle.model_store.specs.Store.{Store, Formats, points_of, store_of}
 use Rattle.model_store.specs.Verdicts.{commit_of}
 use Rattle.model_store.proofs.Kept.{record-moves, good_mount}
 use Rattle.model_store.proofs.Members.{nothing_at}
 use Rattle.model_store.proofs.OneVerdict.{breach-as}
-use Rattle.mount_table.specs.declared.mounts.Mount.{Mount}
 use Rattle.mounted_files.specs.declared.files.MountedFile.{MountedFile}
 use Rattle.mounted_files.specs.declared.refusals.GetFault.{GetFault}
 use Rattle.seat_lock.specs.Known.{Known, Place, knowledge}
@@ -197,16 +196,16 @@ handle_moved lock plan old new found told is place number seen own sees gains on
 }
 
 -- of an answer it matters alone whether the pattern was refused that it tells
-judged-as : (mounts : List Mount) (risen : Bool) (history : List past.Commit) (keys : KeyMap) (set : sets.Prepared) (result : Result Done CommitFault) → IsJudged mounts risen history keys set result → IsJudged mounts (tells_refusal result) history keys set result
-judged-as mounts risen history keys set (Ok (done.Committed number aside)) judged = judged
-judged-as mounts risen history keys set (Ok (done.Same front aside)) judged = judged
-judged-as mounts risen history keys set (Err (fault.Conflict mount by front)) judged = judged
-judged-as mounts risen history keys set (Err (fault.Invalid violation front)) judged =
-    (judged.0, breach-as (points_at mounts) history keys set violation risen (is_refusal violation) (λ six short rose. both (nat_eq violation.rule 6) _ (true_is _ (eq-eqb violation.rule 6 six)) (true_is _ (le-leb (length violation.given) longest_pattern short))) judged.1)
-judged-as mounts risen history keys set (Err (fault.DatabaseFull weight front)) judged = judged
-judged-as mounts risen history keys set (Err (fault.HistoryFull weight front)) judged = judged
-judged-as mounts risen history keys set (Err (fault.DiskFault front)) judged = judged
-judged-as mounts risen history keys set (Err fault.Memory) judged = judged
+judged-as : (formats : Formats) (store : Store) (risen : Bool) (history : List past.Commit) (keys : KeyMap) (set : sets.Prepared) (result : Result Done CommitFault) → IsJudged formats store risen history keys set result → IsJudged formats store (tells_refusal result) history keys set result
+judged-as formats store risen history keys set (Ok (done.Committed number aside)) judged = judged
+judged-as formats store risen history keys set (Ok (done.Same front aside)) judged = judged
+judged-as formats store risen history keys set (Err (fault.Conflict mount by front)) judged = judged
+judged-as formats store risen history keys set (Err (fault.Invalid violation front)) judged =
+    (judged.0, breach-as formats store history keys set violation risen (is_refusal violation) (λ six short rose. both (nat_eq violation.rule 6) _ (true_is _ (eq-eqb violation.rule 6 six)) (true_is _ (le-leb (length violation.given) longest_pattern short))) judged.1)
+judged-as formats store risen history keys set (Err (fault.DatabaseFull weight front)) judged = judged
+judged-as formats store risen history keys set (Err (fault.HistoryFull weight front)) judged = judged
+judged-as formats store risen history keys set (Err (fault.DiskFault front)) judged = judged
+judged-as formats store risen history keys set (Err fault.Memory) judged = judged
 
 module _ {D P : Type 0} (formats : Formats) (g : Ghosts D) (code : Coded D) (refused : P → ℕ) {F : Type 0} (lock : Place Told) (plan : Plan F) (old : HandleValue) (core : Core D P) (entries : ℕ) (found : List Told)
     (is : IsHandle lock plan old) (seen : IsPrefix old.seen found) (shared : IsShared formats g code refused core entries found) where
@@ -239,7 +238,7 @@ module _ {D P : Type 0} (formats : Formats) (g : Ghosts D) (code : Coded D) (ref
 
   -- what a commit did
   pub is_done : (new : HandleValue) (set : Prepared) (result : Result Done CommitFault) (told : List Told) → made_by maker_of old.number found ≡ old.own → told ≡ told_by (prepared_of set) result → new.seen ≡ found ++ told → new.own ≡ old.own ++ told
-      → ((risen : Bool) × IsJudged (over (λ file. file.mount) plan.mounted) risen core.history.commits core.keys (prepared_of set) result)
+      → ((risen : Bool) × IsJudged formats (store_at plan.mounted) risen core.history.commits core.keys (prepared_of set) result)
       → record_of new.rec ≡ record_by (store_at plan.mounted) core.history.commits (prepared_of set) result (record_of old.rec) → IsDone formats plan.mounted old new set result
   is_done new set result told own told_is sees gains judged kept =
       let history = shared_history formats g code refused core entries found shared in
@@ -248,9 +247,9 @@ module _ {D P : Type 0} (formats : Formats) (g : Ghosts D) (code : Coded D) (ref
         seen = seen;
         own = own;
         legal = legal_found;
-        judged = subst (λ (cs : List past.Commit). IsJudged (over (λ file. file.mount) plan.mounted) (tells_refusal result) cs (replay (visible_keys plan.mounted) (commits_of found)) (prepared_of set) result) history
-            (subst (λ (k : KeyMap). IsJudged (over (λ file. file.mount) plan.mounted) (tells_refusal result) core.history.commits k (prepared_of set) result) (shared_keys formats g code refused plan.mounted core entries found shared opening)
-            (judged-as (over (λ file. file.mount) plan.mounted) judged.0 core.history.commits core.keys (prepared_of set) result judged.1));
+        judged = subst (λ (cs : List past.Commit). IsJudged formats (store_at plan.mounted) (tells_refusal result) cs (replay (visible_keys plan.mounted) (commits_of found)) (prepared_of set) result) history
+            (subst (λ (k : KeyMap). IsJudged formats (store_at plan.mounted) (tells_refusal result) core.history.commits k (prepared_of set) result) (shared_keys formats g code refused plan.mounted core entries found shared opening)
+            (judged-as formats (store_at plan.mounted) judged.0 core.history.commits core.keys (prepared_of set) result judged.1));
         sees = sees ∙ ap (λ (l : List Told). found ++ l) told_is;
         gains = gains ∙ ap (λ (l : List Told). old.own ++ l) told_is;
         kept = kept ∙ ap (λ (cs : List past.Commit). record_by (store_at plan.mounted) cs (prepared_of set) result (record_of old.rec)) history;
@@ -378,7 +377,7 @@ module _ {F : Type 0} (lock : Place Told) (plan : Plan F) (old : HandleValue) (s
           (cover-judged (store_at plan.mounted) (commits_of found) seat.number (prepared_of set) (record_of rec) result (covers_found made)))
 
       pub done_so : (new : HandleValue) (result : Result Done CommitFault) (told : List Told) → made_by maker_of seat.number found ≡ seat.own → told ≡ told_by (prepared_of set) result → new.seen ≡ found ++ told → new.own ≡ seat.own ++ told
-          → ((risen : Bool) × IsJudged (over (λ file. file.mount) plan.mounted) risen core.history.commits core.keys (prepared_of set) result)
+          → ((risen : Bool) × IsJudged formats (store_at plan.mounted) risen core.history.commits core.keys (prepared_of set) result)
           → record_of new.rec ≡ record_by (store_at plan.mounted) core.history.commits (prepared_of set) result (record_of rec) → IsDone formats plan.mounted old new set result
       done_so new result told own told_is sees gains judged kept =
           subst (λ (o : HandleValue). IsDone formats plan.mounted o new set result) old_is

@@ -12,16 +12,17 @@ use Rattle.kdb_handle.specs.Story.{Told, commits_of}
 use Rattle.kdb_handle.specs.declared.merging.MergeEnd.{MergeEnd}
 use Rattle.kdb_handle.specs.declared.merging.MergeEnd.TheVariants as merge_end
 use Rattle.kdb_handle.specs.declared.merging.Tried.{Tried}
-use Rattle.kdb_handle.proofs.BlockLemmas.{SeesTo, blocked_at, blocks-behind, is_blocked, sees-keeping}
+use Rattle.kdb_handle.proofs.BlockLemmas.{SeesTo, blocked_at, blocks-behind, sees-keeping}
 use Rattle.kdb_handle.proofs.StoryLemmas.{commits-prefix}
 use Rattle.model_history.specs.History.{Commit, replay}
 use Rattle.model_maps.specs.KeyMap.{KeyMap}
 use Rattle.model_names.specs.Name.{Name}
-use Rattle.model_store.specs.Records.{Fronts, Record}
-use Rattle.model_store.specs.Sets.{Prepared as Set, front_in, only, wants}
+use Rattle.model_store.specs.Records.{Record}
+use Rattle.model_store.specs.Sets.{Prepared as Set, front_in, wants}
 use Rattle.model_store.specs.Store.{Formats, points_of, store_of}
 use Rattle.model_store.specs.Verdicts as late
-use Rattle.model_store.specs.Verdicts.{blocking, conflict}
+use Rattle.model_store.specs.Verdicts.{conflict}
+use Rattle.model_store.proofs.VerdictLemmas.{is_blocked}
 use Rattle.mounted_files.specs.declared.files.MountedFile.{MountedFile}
 use Rattle.set_split.specs.Involved.{involved_in}
 use Rattle.seat_lock.proofs.Prefixes.{prefix-length}
@@ -43,10 +44,8 @@ module _ (formats : Formats) (files : List MountedFile) (parent : Name) (strateg
       let history : List Commit = commits_of done.found in
       let set : Set = prepared_of stored.set in
       let m : ℕ = done.judged.0 in
-      let fronts : set.fronts ≡ front_in (only involved (record_of first.rec)) = ap (λ (s : Set). s.fronts) stored.made.is in
-      let blocked : conflict history set ≡ Some (late.Conflict m by) = is_blocked (points_of store) history (replay store.start history) set m by done.judged.3 in
-      let blocks : blocking history set.fronts m ≡ Some by = blocked_at history set.fronts set.touched m by blocked in
-      blocks-behind history involved (record_of first.rec) m by n sees (ap (λ (f : Fronts). blocking history f m) (sym fronts) ∙ blocks)
+      let blocked : conflict store history set ≡ Some (late.Conflict m by) = is_blocked m by formats store history (replay store.start history) set done.judged.3 in
+      blocks-behind store history set involved (record_of first.rec) m by n (ap (λ (s : Set). s.fronts) stored.made.is) sees (blocked_at store history set set.touched m by blocked)
 
   -- the get behind it sees so far
   seen-behind : (old : HandleValue) (ours : KeyMap) (item : Tried) (new : HandleValue) (base theirs : KeyMap) → (retry : IsRetry formats files parent old ours item new base theirs) → item.by ≤ length (commits_of retry.stored.done.found) → SeesTo involved item.by (record_of new.rec)

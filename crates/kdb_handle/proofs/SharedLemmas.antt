@@ -1,5 +1,5 @@
 -- The core stands for the story after each turn.
-use Rattle.std.proofs.Common.{◌≡◌, inl, ℕ, ◌+◌, ◌≤◌, nat_eq, Bool, true, false, cond, List, [], ◌∷◌, ◌++◌, length, map as over, Option, Some, None, Result, Ok, Err, refl, sym, ap, ap₂, subst, ◌∙◌, append-nil, arith, length-append, eqb-true}
+use Rattle.std.proofs.Common.{◌≡◌, inl, ℕ, ◌+◌, ◌≤◌, nat_eq, Bool, true, false, cond, List, [], ◌∷◌, ◌++◌, length, Option, Some, None, Result, Ok, Err, refl, sym, ap, ap₂, subst, ◌∙◌, append-nil, arith, length-append, eqb-true}
 use Rattle.std.specs.Coded.{Coded}
 use Rattle.std.proofs.lemmas.Bool.{and_parts, leb-true}
 use Rattle.general_words.proofs.Lists.{some_is}
@@ -22,7 +22,7 @@ use Rattle.model_crashes.specs.Runs.{Run, IsOneOf, after_begun, after_commit}
 use Rattle.model_files.specs.Texts.{entry_of}
 use Rattle.model_history.specs.History as past
 use Rattle.model_history.specs.History.{replay}
-use Rattle.model_maps.specs.KeyMap.{KeyMap}
+use Rattle.model_maps.specs.KeyMap.{KeyMap, no_keys}
 use Rattle.model_rules.specs.Rules.{longest_pattern}
 use Rattle.model_specified.specs.declared.violations.Violation.{Violation}
 use Rattle.model_store.specs.Cores as cores
@@ -34,7 +34,7 @@ use Rattle.model_store.specs.Records as model
 use Rattle.model_store.specs.Records.{IsRecord}
 use Rattle.model_store.specs.Sets as sets
 use Rattle.model_store.specs.Sets.{front_in}
-use Rattle.model_store.specs.Store.{Store, Formats}
+use Rattle.model_store.specs.Store.{Store, Formats, store_of}
 use Rattle.model_store.specs.Verdicts as late
 use Rattle.model_store.specs.Verdicts.{commit_of}
 use Rattle.model_store.specs.Worlds.{World, first_world}
@@ -112,14 +112,14 @@ module _ (formats : Formats) {D P : Type 0} (g : Ghosts D) (code : Coded D) (ref
   abbrev next : cores.Core
   next = core_with after (put (handle_of rec) (record_of new) recs) sets_known
 
-  judged_next : (front aside : ℕ) → CommitMade store old (handle_of rec) 0 front (late.Commits (commit_of now) aside) next → next ≡ core_after store old (handle_of rec) now (late.Commits (commit_of now) aside)
+  judged_next : (front aside : ℕ) → CommitMade formats store old (handle_of rec) 0 front (late.Commits (commit_of now) aside) next → next ≡ core_after store old (handle_of rec) now (late.Commits (commit_of now) aside)
   judged_next front aside made =
       made.next_is ∙ ap (λ (s : sets.Prepared). core_after store old (handle_of rec) s (late.Commits (commit_of now) aside)) (sym (some_is now made.judged.set made.judged.is_set))
 
   made_of : (answer other : event.Answer) → answer ≡ other → Made formats store old (event.Commit (handle_of rec) 0) answer next → Made formats store old (event.Commit (handle_of rec) 0) other next
   made_of answer other is made = subst (λ (a : event.Answer). Made formats store old (event.Commit (handle_of rec) 0) a next) is made
 
-  next_by : (result : Result Done CommitFault) → HasMade formats store.mounts store core after recs sets_known 0 rec new set risen result → next ≡ core_by store old (handle_of rec) now result
+  next_by : (result : Result Done CommitFault) → HasMade formats store core after recs sets_known 0 rec new set risen result → next ≡ core_by store old (handle_of rec) now result
   next_by (Ok (done.Committed number aside)) has = judged_next (length core.history.commits) aside (made_of has.answer _ has.is_answer.1 has.is_made)
   next_by (Ok (done.Same front aside)) has = (made_of has.answer _ has.is_answer has.is_made).next_is
   next_by (Err (fault.Conflict mount by front)) has = (made_of has.answer _ has.is_answer.2 has.is_made).next_is
@@ -155,7 +155,7 @@ module _ (formats : Formats) {D P : Type 0} (g : Ghosts D) (code : Coded D) (ref
   record_next (Err why) = here
 
   -- the record after a commit
-  pub record_after : (result : Result Done CommitFault) → HasMade formats store.mounts store core after recs sets_known 0 rec new set risen result → record_of new ≡ record_by store core.history.commits now result (record_of rec)
+  pub record_after : (result : Result Done CommitFault) → HasMade formats store core after recs sets_known 0 rec new set risen result → record_of new ≡ record_by store core.history.commits now result (record_of rec)
   record_after result has = sym (put-here (handle_of rec) (record_of new) recs) ∙ ap (λ (c : cores.Core). c.records (handle_of rec)) (next_by result has) ∙ record_next result
 
   -- the run goes on by the story
@@ -263,9 +263,9 @@ module _ (formats : Formats) {D P : Type 0} (g : Ghosts D) (code : Coded D) (ref
 
   -- the core stands for the story with what the turn told
   pub shared_next : (result : Result Done CommitFault) (told : List Told) (count : ℕ) → told ≡ told_by now result → count ≡ entries + length told
-      → HasMade formats store.mounts store core after recs sets_known 0 rec new set risen result
-      → ((start : D) (run : Run) → Belongs formats g store.mounts store start core recs sets_known (world formats g code refused files core entries log rec set may) run 0 rec set
-      → HasAnswered formats g store.mounts store start core after recs sets_known run 0 rec new set risen result)
+      → HasMade formats store core after recs sets_known 0 rec new set risen result
+      → ((start : D) (run : Run) → Belongs formats g store start core recs sets_known (world formats g code refused files core entries log rec set may) run 0 rec set
+      → HasAnswered formats g store start core after recs sets_known run 0 rec new set risen result)
       → GoesOn g core.journal.disk after.journal.disk → ((front : ℕ) → result ≡ Err (fault.DiskFault front) → HasRisen (g.faults core.journal.disk) (g.faults after.journal.disk))
       → refused core.patterns ≤ refused after.patterns → RefusalClause result → UnwrittenClause result
       → IsShared formats g code refused after count (log ++ told)
@@ -312,7 +312,7 @@ module _ (formats : Formats) {D P : Type 0} (g : Ghosts D) (code : Coded D) (ref
       }
 
   -- and the record is that of its fronts in the history then
-  pub record_kept : (result : Result Done CommitFault) (told : List Told) → told ≡ told_by now result → HasMade formats store.mounts store core after recs sets_known 0 rec new set risen result
+  pub record_kept : (result : Result Done CommitFault) (told : List Told) → told ≡ told_by now result → HasMade formats store core after recs sets_known 0 rec new set risen result
       → IsRecord store (commits_of (log ++ told)) (front_in (record_of new)) (record_of new)
   record_kept result told told_is has =
       let shared = may.shared in
@@ -328,20 +328,20 @@ module _ (formats : Formats) {D P : Type 0} (g : Ghosts D) (code : Coded D) (ref
   -- ---- the same, from the clauses of the call
 
   abbrev MadeClause : Result Done CommitFault → Type 0
-  MadeClause result = (of : Store) (rs : ℕ → model.Record) (ss : ℕ → Option sets.Prepared) (w : World) (p : ℕ) → BelongsIn formats (over (λ file. file.mount) files) of core rs ss w p rec set → HasMade formats (over (λ file. file.mount) files) of core after rs ss p rec new set risen result
+  MadeClause result = (procs : ℕ → KeyMap) (rs : ℕ → model.Record) (ss : ℕ → Option sets.Prepared) (w : World) (p : ℕ) → BelongsIn formats (store_of files procs) core rs ss w p rec set → HasMade formats (store_of files procs) core after rs ss p rec new set risen result
 
-  made_here : (result : Result Done CommitFault) → MadeClause result → HasMade formats store.mounts store core after recs sets_known 0 rec new set risen result
-  made_here result clause = clause store recs sets_known (world formats g code refused files core entries log rec set may) 0 (belongs_in formats g code refused files core entries log rec set may)
+  made_here : (result : Result Done CommitFault) → MadeClause result → HasMade formats store core after recs sets_known 0 rec new set risen result
+  made_here result clause = clause (λ r. no_keys) recs sets_known (world formats g code refused files core entries log rec set may) 0 (belongs_in formats g code refused files core entries log rec set may)
 
   pub next_shared : (result : Result Done CommitFault) (told : List Told) (count : ℕ) → told ≡ told_by now result → count ≡ entries + length (told_by now result) → MadeClause result
-      → ((of : Store) (start : D) (rs : ℕ → model.Record) (ss : ℕ → Option sets.Prepared) (w : World) (run : Run) (p : ℕ) → Belongs formats g (over (λ file. file.mount) files) of start core rs ss w run p rec set
-      → HasAnswered formats g (over (λ file. file.mount) files) of start core after rs ss run p rec new set risen result)
+      → ((procs : ℕ → KeyMap) (start : D) (rs : ℕ → model.Record) (ss : ℕ → Option sets.Prepared) (w : World) (run : Run) (p : ℕ) → Belongs formats g (store_of files procs) start core rs ss w run p rec set
+      → HasAnswered formats g (store_of files procs) start core after rs ss run p rec new set risen result)
       → GoesOn g core.journal.disk after.journal.disk → ((front : ℕ) → result ≡ Err (fault.DiskFault front) → HasRisen (g.faults core.journal.disk) (g.faults after.journal.disk))
       → refused core.patterns ≤ refused after.patterns → RefusalClause result → UnwrittenClause result
       → IsShared formats g code refused after count (log ++ told)
   next_shared result told count told_is counted made answered goes cause more refusal unwritten =
       shared_next result told count told_is (counted ∙ ap (λ (l : List Told). entries + length l) (sym told_is)) (made_here result made)
-      (λ start run b. answered store start recs sets_known (world formats g code refused files core entries log rec set may) run 0 b) goes cause more refusal unwritten
+      (λ start run b. answered (λ r. no_keys) start recs sets_known (world formats g code refused files core entries log rec set may) run 0 b) goes cause more refusal unwritten
 
   pub next_kept : (result : Result Done CommitFault) (told : List Told) → told ≡ told_by now result → MadeClause result → IsRecord store (commits_of (log ++ told)) (front_in (record_of new)) (record_of new)
   next_kept result told told_is made = record_kept result told told_is (made_here result made)

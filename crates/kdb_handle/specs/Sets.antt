@@ -43,7 +43,7 @@ pub record IsDone (formats : Formats) (files : List MountedFile) (old new : Hand
   pub seen : IsPrefix old.seen found
   pub own : made_by maker_of old.number found ≡ old.own
   pub legal : IsLegal formats (store_at files) (commits_of found)
-  pub judged : IsJudged (store_at files).mounts (tells_refusal result) (commits_of found) (replay (store_at files).start (commits_of found)) (prepared_of set) result
+  pub judged : IsJudged formats (store_at files) (tells_refusal result) (commits_of found) (replay (store_at files).start (commits_of found)) (prepared_of set) result
   pub sees : new.seen ≡ found ++ told_by (prepared_of set) result
   pub gains : new.own ≡ old.own ++ told_by (prepared_of set) result
   pub kept : record_of new.rec ≡ record_by (store_at files) (commits_of found) (prepared_of set) result (record_of old.rec)

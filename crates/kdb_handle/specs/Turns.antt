@@ -1,5 +1,5 @@
 -- What a turn at an open store needs and leaves. (This project's own.)
-use Rattle.std.specs.Prelude.{◌≡◌, ℕ, ◌+◌, ◌≤◌, nat_eq, nat_le, Bool, ◌&&◌, if◌then◌else◌, List, [], ◌∷◌, ◌++◌, length, map as over, Result, Ok, Err}
+use Rattle.std.specs.Prelude.{◌≡◌, ℕ, ◌+◌, ◌≤◌, nat_eq, nat_le, Bool, ◌&&◌, if◌then◌else◌, List, [], ◌∷◌, ◌++◌, length, Result, Ok, Err}
 use Rattle.std.specs.Coded.{Coded}
 use Rattle.kdb_outside.specs.declared.disks.Disk.{Ghosts}
 use Rattle.kdb_handle.specs.Opened.{store_at}
@@ -76,7 +76,7 @@ pub record Commits (formats : Formats) {D F P : Type 0} (g : Ghosts D) (code : C
   pub keeps : (log : List Told) → MayCommit formats g code refused files old.core old.entries log rec set
       → IsRecord (store_at files) (commits_of (log ++ told_now new.fresh)) (front_in (record_of left)) (record_of left)
   pub told : told_now new.fresh ≡ told_by (prepared_of set) result
-  pub judged : (risen : Bool) × IsJudged (over (λ file. file.mount) files) risen old.core.history.commits old.core.keys (prepared_of set) result
+  pub judged : (risen : Bool) × IsJudged formats (store_at files) risen old.core.history.commits old.core.keys (prepared_of set) result
   pub kept : (log : List Told) → MayCommit formats g code refused files old.core old.entries log rec set
       → record_of left ≡ record_by (store_at files) old.core.history.commits (prepared_of set) result (record_of rec)
   pub handle : handle_of left ≡ handle_of rec

@@ -8,7 +8,7 @@ use Rattle.kdb_handle.specs.Sets.{tells_refusal}
 use Rattle.kdb_handle.specs.declared.replies.Reply.{Reply}
 use Rattle.kdb_handle.specs.declared.replies.Reply.TheVariants as reply
 use Rattle.kdb_handle.specs.declared.setting.SetFault.TheVariants as set_fault
-use Rattle.kdb_handle.proofs.BlockLemmas.{another, blocked_at, is_blocked}
+use Rattle.kdb_handle.proofs.BlockLemmas.{another, blocked_at}
 use Rattle.kdb_handle.proofs.CoverLemmas.{cover-keeping, cover-own}
 use Rattle.model_batch.specs.Replies.{conflicts_told, numbers_told, set_reply}
 use Rattle.model_batch.specs.Sessions.{Session}
@@ -19,9 +19,10 @@ use Rattle.model_maps.specs.KeyMap.{KeyMap}
 use Rattle.model_names.specs.Name.{Name}
 use Rattle.model_store.specs.Cores.{keeping}
 use Rattle.model_store.specs.Records.{Record}
-use Rattle.model_store.specs.Sets.{Prepared, front_in, only, wants}
+use Rattle.model_store.specs.Sets.{Prepared, front_in, wants}
 use Rattle.model_store.specs.Store.{Formats, Store, points_of}
 use Rattle.model_store.specs.Verdicts.{blocking, commit_of}
+use Rattle.model_store.proofs.VerdictLemmas.{is_blocked}
 use Rattle.model_store.proofs.Members.{from_all}
 use Rattle.seat_lock.proofs.Prefixes.{prefix-trans}
 use Rattle.set_split.specs.Involved.{involved_in}
@@ -109,10 +110,10 @@ module _ (number : ℕ) (history : List Commit) where
           let cover = past-cover past old.rec old.told p (none-behind old.told front (length past) [] tt (omega (arith, is)) told) covers in
           (cover, covers-past past old.rec front p is cover)
 
-      judged-covers : (risen : Bool) (result : Result Done CommitFault) → IsJudged store.mounts risen past (replay store.start past) set result → StandsNext history past set result
+      judged-covers : (formats : Formats) (risen : Bool) (result : Result Done CommitFault) → IsJudged formats store risen past (replay store.start past) set result → StandsNext history past set result
           → AreTold old.told (numbers_told (set_reply result)) (told_then result old.told)
           → Covers (record_then store past set result old.rec) (told_then result old.told) × AreAnothers (conflicts_told (set_reply result))
-      judged-covers risen (Ok (Committed n aside)) h stands told =
+      judged-covers formats risen (Ok (Committed n aside)) h stands told =
           let all : List Commit = past ++ commit_of set ∷ [] in
           let p : IsPrefix past history = prefix-trans past all history (commit_of set ∷ [], refl) stands in
           let none = none-behind old.told n (length past) (n ∷ []) (omega (arith, h.0), tt) (omega (arith, h.0)) told in
@@ -120,23 +121,22 @@ module _ (number : ℕ) (history : List Commit) where
           let wanted : ℕ → KeyMap = wants (points_of store) (replay store.start all) in
           let cover = cover-own number past (commit_of set) wanted old.rec (past-cover past old.rec old.told p none covers) in
           (covers-past all (keeping set.touched (length all) wanted old.rec) n stands (omega (arith, h.0, long)) (subst (λ (k : ℕ). Cover number all (front_in (keeping set.touched k wanted old.rec))) long cover), tt)
-      judged-covers risen (Ok (Same front aside)) h stands told = ((stays front stands h.0 told).1, tt)
-      judged-covers risen (Err (Conflict mount by front)) h stands told =
+      judged-covers formats risen (Ok (Same front aside)) h stands told = ((stays front stands h.0 told).1, tt)
+      judged-covers formats risen (Err (Conflict mount by front)) h stands told =
           let done = stays front stands h.2 told in
-          let blocks : blocking past (front_in (only (involved_in (points_of store) parent) old.rec)) h.0 ≡ Some by =
-          blocked_at past set.fronts set.touched h.0 by (is_blocked (points_of store) past (replay store.start past) set h.0 by h.3) in
-          (done.1, (anothers-longer number past history by stands (another past number old.rec (involved_in (points_of store) parent) h.0 by done.0 blocks), tt))
-      judged-covers risen (Err (Invalid violation front)) h stands told = ((stays front stands h.0 told).1, tt)
-      judged-covers risen (Err (DatabaseFull weight front)) h stands told = ((stays front stands h.0 told).1, tt)
-      judged-covers risen (Err (HistoryFull weight front)) h stands told = ((stays front stands h.0 told).1, tt)
-      judged-covers risen (Err (DiskFault front)) h stands told = ((stays front stands h.1 told).1, tt)
-      judged-covers risen (Err Memory) h stands told = (covers, tt)
+          let blocks : blocking store past set h.0 ≡ Some by = blocked_at store past set set.touched h.0 by (is_blocked h.0 by formats store past (replay store.start past) set h.3) in
+          (done.1, (anothers-longer number past history by stands (another store past set number old.rec (involved_in (points_of store) parent) h.0 by refl done.0 blocks), tt))
+      judged-covers formats risen (Err (Invalid violation front)) h stands told = ((stays front stands h.0 told).1, tt)
+      judged-covers formats risen (Err (DatabaseFull weight front)) h stands told = ((stays front stands h.0 told).1, tt)
+      judged-covers formats risen (Err (HistoryFull weight front)) h stands told = ((stays front stands h.0 told).1, tt)
+      judged-covers formats risen (Err (DiskFault front)) h stands told = ((stays front stands h.1 told).1, tt)
+      judged-covers formats risen (Err Memory) h stands told = (covers, tt)
 
     pub set-covers : (formats : Formats) (keys : KeyMap) (old new : Session) (answer : Reply) → MeansSet formats store number history parent keys old answer new → Covers old.rec old.told
         → AreTold old.told (numbers_told answer) new.told → Leaves answer new
     set-covers formats keys old new answer (inl h) covers told =
         leaves old.told (set_reply h.result) answer (record old { rec = record_then store h.past (set_by store number old parent keys) h.result old.rec; told = told_then h.result old.told }) new h.reply_is h.new_is
-        (judged-covers h.past keys old covers (tells_refusal h.result) h.result h.judged h.stands) told
+        (judged-covers h.past keys old covers formats (tells_refusal h.result) h.result h.judged h.stands) told
     set-covers formats keys old new answer (inr (inl h)) covers told =
         leaves-same (reply.SetRefused (set_fault.Prepare h.why)) old new answer refl h.reply_is (ap (λ (s : Session). s.rec) h.new_is) (ap (λ (s : Session). s.told) h.new_is) covers
     set-covers formats keys old new answer (inr (inr (inl h))) covers told = lacks-covers (reply.SetRefused (set_fault.Commit Memory)) old new answer refl h covers

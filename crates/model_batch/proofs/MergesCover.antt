@@ -15,7 +15,7 @@ use Rattle.kdb_handle.specs.declared.replies.Reply.{Reply}
 use Rattle.kdb_handle.specs.declared.replies.Reply.TheVariants as reply
 use Rattle.kdb_handle.specs.declared.setting.SetFault.{SetFault}
 use Rattle.kdb_handle.specs.declared.setting.SetFault.TheVariants as set_fault
-use Rattle.kdb_handle.proofs.BlockLemmas.{SeesTo, another, blocked_at, blocks-behind, is_blocked, sees-keeping}
+use Rattle.kdb_handle.proofs.BlockLemmas.{SeesTo, another, blocked_at, blocks-behind, sees-keeping}
 use Rattle.model_batch.specs.Merges.{EndsSo, Merges, Retries, SetsSo, Stays}
 use Rattle.model_batch.specs.Replies.{conflicts_told, merge_reply, numbers_told, set_reply, stored_reply}
 use Rattle.model_batch.specs.Sessions.{Session}
@@ -32,6 +32,7 @@ use Rattle.model_store.specs.Records.{Record}
 use Rattle.model_store.specs.Sets.{Prepared, front_in, only, wants}
 use Rattle.model_store.specs.Store.{Formats, Store, points_of}
 use Rattle.model_store.specs.Verdicts.{blocking}
+use Rattle.model_store.proofs.VerdictLemmas.{is_blocked}
 use Rattle.mounted_files.specs.declared.files.MountedFile.{MountedFile}
 use Rattle.set_split.specs.Involved.{involved_in}
 use Rattle.store_core.specs.Answers.{IsJudged}
@@ -87,7 +88,9 @@ module _ (number : ℕ) (history : List Commit) (formats : Formats) (files : Lis
     pub begins : IsPrefix past history
     pub no_less : old.told ≤ length past
     pub mount : ℕ
-    pub blocks : blocking past (front_in (only involved old.rec)) mount ≡ Some by
+    pub set : Prepared
+    pub fronts : set.fronts ≡ front_in (only involved old.rec)
+    pub blocks : blocking store past set mount ≡ Some by
     pub rec_is : new.rec ≡ old.rec
     pub told_is : new.told ≡ length past
 
@@ -95,8 +98,8 @@ module _ (number : ℕ) (history : List Commit) (formats : Formats) (files : Lis
   met keys old new mount by front h =
       let set : Prepared = set_by store number old parent keys in
       let same : h.result ≡ Err (Conflict mount by front) = sym (result-back h.result) ∙ ap result_in (sym h.reply_is) in
-      let judged : IsJudged store.mounts (tells_refusal (Err (Conflict mount by front))) h.past (replay store.start h.past) set (Err (Conflict mount by front)) =
-      subst (λ (r : Result Done CommitFault). IsJudged store.mounts (tells_refusal r) h.past (replay store.start h.past) set r) same h.judged in
+      let judged : IsJudged formats store (tells_refusal (Err (Conflict mount by front))) h.past (replay store.start h.past) set (Err (Conflict mount by front)) =
+      subst (λ (r : Result Done CommitFault). IsJudged formats store (tells_refusal r) h.past (replay store.start h.past) set r) same h.judged in
       let rec_is : new.rec ≡ record_then store h.past set h.result old.rec = ap (λ (s : Session). s.rec) h.new_is in
       let told_is : new.told ≡ told_then h.result old.told = ap (λ (s : Session). s.told) h.new_is in
       record {
@@ -104,7 +107,9 @@ module _ (number : ℕ) (history : List Commit) (formats : Formats) (files : Lis
         begins = subst (StandsNext history h.past set) same h.stands;
         no_less = h.no_less;
         mount = judged.0;
-        blocks = blocked_at h.past set.fronts set.touched judged.0 by (is_blocked (points_of store) h.past (replay store.start h.past) set judged.0 by judged.3);
+        set = set;
+        fronts = refl;
+        blocks = blocked_at store h.past set set.touched judged.0 by (is_blocked judged.0 by formats store h.past (replay store.start h.past) set judged.3);
         rec_is = rec_is ∙ ap (λ (r : Result Done CommitFault). record_then store h.past set r old.rec) same;
         told_is = told_is ∙ ap (λ (r : Result Done CommitFault). told_then r old.told) same ∙ judged.2;
       }
@@ -118,8 +123,8 @@ module _ (number : ℕ) (history : List Commit) (formats : Formats) (files : Lis
       → new.told ≤ to → Counts from to by
   counts old new by meets from to none covers sees le =
       let cover = past-cover number history meets.past old.rec old.told meets.begins none covers in
-      let other = anothers-longer number meets.past history by meets.begins (another meets.past number old.rec involved meets.mount by cover meets.blocks) in
-      let behind = blocks-behind meets.past involved old.rec meets.mount by from sees meets.blocks in
+      let other = anothers-longer number meets.past history by meets.begins (another store meets.past meets.set number old.rec involved meets.mount by meets.fronts cover meets.blocks) in
+      let behind = blocks-behind store meets.past meets.set involved old.rec meets.mount by from meets.fronts sees meets.blocks in
       record {
         anothers = other;
         more = count-more number history from other.place to other.commit other.there other.another (omega (arith, behind.0, other.by_is)) (omega (arith, behind.1, other.by_is, meets.told_is, le));

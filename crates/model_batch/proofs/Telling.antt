@@ -33,7 +33,6 @@ use Rattle.model_specified.specs.Specified.{specified}
 use Rattle.model_store.specs.Sets.{Prepared}
 use Rattle.model_store.specs.Store.{Store, Formats, points_of}
 use Rattle.model_store.specs.Verdicts.{commit_of}
-use Rattle.mount_table.specs.declared.mounts.Mount.{Mount}
 use Rattle.mounted_files.specs.declared.files.MountedFile.{MountedFile}
 use Rattle.mounted_files.specs.declared.refusals.GetFault.{GetFault}
 use Rattle.seat_lock.proofs.Prefixes.{prefix-trans}
@@ -183,21 +182,21 @@ gets-later files procs number history parent old new answer h =
     (omega (arith, ap (λ (s : Session). s.told) h.new_is, h.no_less), subst (IsAtLeast old.told) (sym h.reply_is) (h.no_less, tt))
 
 -- a judged set tells of the commits by which it was judged
-judged-front : (mounts : List Mount) (risen : Bool) (past : List Commit) (keys : KeyMap) (set : Prepared) (floor : ℕ) (result : Result Done CommitFault) → floor ≤ length past → IsJudged mounts risen past keys set result
+judged-front : (formats : Formats) (store : Store) (risen : Bool) (past : List Commit) (keys : KeyMap) (set : Prepared) (floor : ℕ) (result : Result Done CommitFault) → floor ≤ length past → IsJudged formats store risen past keys set result
     → (floor ≤ told_then result floor) × IsAtLeast floor (set_reply result)
-judged-front mounts risen past keys set floor (Ok (Committed number aside)) le h = (omega (arith, h.0), (omega (arith, h.0), tt))
-judged-front mounts risen past keys set floor (Ok (Same front aside)) le h = (omega (arith, h.0), (omega (arith, h.0), tt))
-judged-front mounts risen past keys set floor (Err (Conflict mount by front)) le h = (omega (arith, h.2), (omega (arith, h.2), tt))
-judged-front mounts risen past keys set floor (Err (Invalid violation front)) le h = (omega (arith, h.0), (omega (arith, h.0), tt))
-judged-front mounts risen past keys set floor (Err (DatabaseFull weight front)) le h = (omega (arith, h.0), (omega (arith, h.0), tt))
-judged-front mounts risen past keys set floor (Err (HistoryFull weight front)) le h = (omega (arith, h.0), (omega (arith, h.0), tt))
-judged-front mounts risen past keys set floor (Err (DiskFault front)) le h = (omega (arith, h.1), (omega (arith, h.1), tt))
-judged-front mounts risen past keys set floor (Err Memory) le h = (omega arith, tt)
+judged-front formats store risen past keys set floor (Ok (Committed number aside)) le h = (omega (arith, h.0), (omega (arith, h.0), tt))
+judged-front formats store risen past keys set floor (Ok (Same front aside)) le h = (omega (arith, h.0), (omega (arith, h.0), tt))
+judged-front formats store risen past keys set floor (Err (Conflict mount by front)) le h = (omega (arith, h.2), (omega (arith, h.2), tt))
+judged-front formats store risen past keys set floor (Err (Invalid violation front)) le h = (omega (arith, h.0), (omega (arith, h.0), tt))
+judged-front formats store risen past keys set floor (Err (DatabaseFull weight front)) le h = (omega (arith, h.0), (omega (arith, h.0), tt))
+judged-front formats store risen past keys set floor (Err (HistoryFull weight front)) le h = (omega (arith, h.0), (omega (arith, h.0), tt))
+judged-front formats store risen past keys set floor (Err (DiskFault front)) le h = (omega (arith, h.1), (omega (arith, h.1), tt))
+judged-front formats store risen past keys set floor (Err Memory) le h = (omega arith, tt)
 
 pub set-later : (formats : Formats) (store : Store) (number : ℕ) (history : List Commit) (parent : Name) (keys : KeyMap) (old new : Session) (answer : Reply)
     → MeansSet formats store number history parent keys old answer new → IsLater old answer new
 set-later formats store number history parent keys old new answer (inl h) =
-    let told = judged-front store.mounts (tells_refusal h.result) h.past (replay store.start h.past) (set_by store number old parent keys) old.told h.result h.no_less h.judged in
+    let told = judged-front formats store (tells_refusal h.result) h.past (replay store.start h.past) (set_by store number old parent keys) old.told h.result h.no_less h.judged in
     (omega (arith, told.0, ap (λ (s : Session). s.told) h.new_is), subst (IsAtLeast old.told) (sym h.reply_is) told.1)
 set-later formats store number history parent keys old new answer (inr (inl h)) = (omega (arith, ap (λ (s : Session). s.told) h.new_is), subst (IsAtLeast old.told) (sym h.reply_is) tt)
 set-later formats store number history parent keys old new answer (inr (inr (inl h))) = lacks (reply.SetRefused (set_fault.Commit Memory)) old new answer (λ floor. tt) h

@@ -69,7 +69,7 @@ pub record IsJudgedThen (formats : Formats) (store : Store) (number : ℕ) (hist
   pub result : Result Done CommitFault
   pub known : result ≢ Err Memory
   pub early : IsEarly formats store (set_by store number old parent keys) None
-  pub judged : IsJudged store.mounts (tells_refusal result) past (replay store.start past) (set_by store number old parent keys) result
+  pub judged : IsJudged formats store (tells_refusal result) past (replay store.start past) (set_by store number old parent keys) result
   pub stands : StandsNext history past (set_by store number old parent keys) result
   pub reply_is : answer ≡ set_reply result
   pub new_is : new ≡ record old { rec = record_then store past (set_by store number old parent keys) result old.rec; told = told_then result old.told }

@@ -67,7 +67,7 @@ module _ (formats : Formats) (store : Store) (history : List Commit) (handle : �
         | false ↦ map.get-empty name_cmp q
       ]
 
-  module _ (rec : Record) (known : IsRecord store history fronts rec) (legal : AreLegal formats store store.start history) (passed : HasPassed formats store set) (commit : Commit) (done : IsCommitted points history present set commit) where
+  module _ (rec : Record) (known : IsRecord store history fronts rec) (legal : AreLegal formats store store.start history) (passed : HasPassed formats store set) (commit : Commit) (done : IsCommitted store history present set commit) where
     -- the front of a touched mount
     pub record HasFront (m : ℕ) : Type 0 where
       pub front : ℕ
@@ -92,7 +92,7 @@ module _ (formats : Formats) (store : Store) (history : List Commit) (handle : �
     as_kept : (m : ℕ) → is_among set.touched m ≡ true → owned_by points m present ≡ before m
     as_kept m among =
         let at = has_front m among in
-        unblocked formats store history m at.front legal (not_blocked history set m at.front done.free among at.in_set)
+        unblocked formats store history m at.front legal (not_blocked store history set m at.front done.free among at.in_set)
         ∙ sym (kept-of store history fronts m at.front at.there)
         ∙ sym (ap (λ (o : Option Fetched). unwrap_or (option_map (λ (f : Fetched). f.kept) o) no_keys) (only-there involved (record_of store history fronts) m at.reached))
 

@@ -120,8 +120,8 @@ nothing_after m zero = refl
 nothing_after m (suc front) = refl
 
 -- no commit, no conflict
-pub free-first : (set : Prepared) → conflict [] set ≡ None
-free-first set = nothing_of (conflict_at [] set.fronts) set.touched (λ m among. by m (set.fronts m))
+pub free-first : (store : Store) (set : Prepared) → conflict store [] set ≡ None
+free-first store set = nothing_of (conflict_at store [] set) set.touched (λ m among. by m (set.fronts m))
   where
     by : (m : ℕ) (o : Option ℕ) → option_map (Conflict m) (option_and_then (first_after [] m) o) ≡ None
     by m None = refl
@@ -145,30 +145,30 @@ is_full (DatabaseFull n) = false
 is_full (HistoryFull n) = true
 is_full (Commits commit aside) = false
 
-module _ (points : List Name) (history : List Commit) (start : KeyMap) (set : Prepared) (free : conflict history set ≡ None) where
+module _ (formats : Formats) (store : Store) (history : List Commit) (start : KeyMap) (set : Prepared) (free : conflict store history set ≡ None) where
   abbrev w : ℕ
   w = weight (after start set.changes)
 
   abbrev h : ℕ
   h = history_weight (history ++ commit_of set ∷ [])
 
-  no_conflict : (told : Late) (bad : Late → Bool) → conflict history set ≡ Some told → bad told ≡ false
+  no_conflict : (told : Late) (bad : Late → Bool) → conflict store history set ≡ Some told → bad told ≡ false
   no_conflict told bad is = let both : None ≡ Some told = sym free ∙ is in absurd cc
 
-  never_blocked : (late : Late) → IsLate points history start set late → is_conflict late ≡ false
+  never_blocked : (late : Late) → IsLate formats store history start set late → is_conflict late ≡ false
   never_blocked late is =
       told_off is_conflict (if_untouched set.touched set.aside) late _ (λ told e. not_same is_conflict set.touched set.aside told refl e)
-      (λ _ p. told_off is_conflict (conflict history set) late _ (λ told e. no_conflict told is_conflict e)
-      (λ _ c. checked_off is_conflict points start set late _ (λ violation risen. refl)
+      (λ _ p. told_off is_conflict (conflict store history set) late _ (λ told e. no_conflict told is_conflict e)
+      (λ _ c. checked_off is_conflict (points_of store) start set late _ (λ violation risen. refl)
       (λ q. told_off is_conflict (if_heavy w) late _ (λ told e. not_limited is_conflict (nat_lt heaviest_map w) (DatabaseFull (saturated w)) told refl e)
       (λ _ r. told_off is_conflict (if_full h) late _ (λ told e. not_limited is_conflict (nat_lt heaviest_history h) (HistoryFull (saturated h)) told refl e)
       (λ _ s. ap is_conflict s) r) q) c) p) is
 
-  never_full : (w ≤ heaviest_map → h ≤ heaviest_history) → (late : Late) → IsLate points history start set late → is_full late ≡ false
+  never_full : (w ≤ heaviest_map → h ≤ heaviest_history) → (late : Late) → IsLate formats store history start set late → is_full late ≡ false
   never_full room late is =
       told_off is_full (if_untouched set.touched set.aside) late _ (λ told e. not_same is_full set.touched set.aside told refl e)
-      (λ _ p. told_off is_full (conflict history set) late _ (λ told e. no_conflict told is_full e)
-      (λ _ c. checked_off is_full points start set late _ (λ violation risen. refl)
+      (λ _ p. told_off is_full (conflict store history set) late _ (λ told e. no_conflict told is_full e)
+      (λ _ c. checked_off is_full (points_of store) start set late _ (λ violation risen. refl)
       (λ q. told_off is_full (if_heavy w) late _ (λ told e. not_limited is_full (nat_lt heaviest_map w) (DatabaseFull (saturated w)) told refl e)
       (λ light r. told_off is_full (if_full h) late _ (λ told e. absurd (full_off told (room (ltb-false heaviest_map w (cond_off _ (DatabaseFull (saturated w)) light))) e))
       (λ _ s. ap is_full s) r) q) c) p) is
@@ -232,17 +232,16 @@ module _ (formats : Formats) (store : Store) (handle : ℕ) (parent : Name) (key
   pub never-unseen : (early : Option Early) (m : ℕ) → IsEarly formats store (first_set store handle parent keys) early → early ≡ Some (NotFetched m) → ⊥
   never-unseen early m is unseen = never_unseen formats store (first_set store handle parent keys) (fetched-first store handle parent keys) early m is unseen
 
-module _ (store : Store) (handle : ℕ) (parent : Name) (keys : KeyMap) where
-  pub never-blocked : (late : Late) (m by : ℕ) → IsLate (points_of store) [] store.start (first_set store handle parent keys) late → late ≡ Conflict m by → ⊥
+  pub never-blocked : (late : Late) (m by : ℕ) → IsLate formats store [] store.start (first_set store handle parent keys) late → late ≡ Conflict m by → ⊥
   never-blocked late m by is blocked =
       let set = first_set store handle parent keys in
-      let off : is_conflict late ≡ false = never_blocked (points_of store) [] store.start set (free-first set) late is in
+      let off : is_conflict late ≡ false = never_blocked formats store [] store.start set (free-first store set) late is in
       let on : is_conflict late ≡ true = ap is_conflict blocked in
       absurd cc
 
-  pub never-full : weight store.start ≤ heaviest_map → (late : Late) (n : ℕ) → IsLate (points_of store) [] store.start (first_set store handle parent keys) late → late ≡ HistoryFull n → ⊥
+  pub never-full : weight store.start ≤ heaviest_map → (late : Late) (n : ℕ) → IsLate formats store [] store.start (first_set store handle parent keys) late → late ≡ HistoryFull n → ⊥
   never-full light late n is full =
       let set = first_set store handle parent keys in
-      let off : is_full late ≡ false = never_full (points_of store) [] store.start set (free-first set) (room-first store handle parent keys light) late is in
+      let off : is_full late ≡ false = never_full formats store [] store.start set (free-first store set) (room-first store handle parent keys light) late is in
       let on : is_full late ≡ true = ap is_full full in
       absurd cc

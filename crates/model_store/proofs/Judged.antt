@@ -10,7 +10,7 @@ use Rattle.model_history.specs.Changes.{after}
 use Rattle.model_history.specs.History as past
 use Rattle.model_history.specs.History.{is_among, history_weight, heaviest_history, first_after}
 use Rattle.model_specified.specs.declared.violations.Violation.{Violation}
-use Rattle.model_store.specs.Store.{Store, Formats}
+use Rattle.model_store.specs.Store.{Store, Formats, points_of}
 use Rattle.model_store.specs.Fitting.{Fits, too_heavy, too_long, bad_table, IsStorableAt}
 use Rattle.model_store.specs.Rules.{FirstBreach, KeepRules}
 use Rattle.model_store.specs.Sets.{Prepared}
@@ -55,10 +55,10 @@ has_passed formats store set early =
 
 -- ---- by the history
 
-pub record IsCommitted (points : List Name) (history : List past.Commit) (keys : KeyMap) (set : Prepared) (commit : past.Commit) : Type 0 where
+pub record IsCommitted (store : Store) (history : List past.Commit) (keys : KeyMap) (set : Prepared) (commit : past.Commit) : Type 0 where
   pub some : set.touched ≢ []
-  pub free : conflict history set ≡ None
-  pub valid : KeepRules points set.touched (after keys set.changes)
+  pub free : conflict store history set ≡ None
+  pub valid : KeepRules (points_of store) set.touched (after keys set.changes)
   pub light : weight (after keys set.changes) ≤ heaviest_map
   pub not_full : history_weight (history ++ commit_of set ∷ []) ≤ heaviest_history
   pub is : commit ≡ commit_of set
@@ -73,12 +73,12 @@ within n limit told e = elim (nat_lt limit n) as (λ b. nat_lt limit n ≡ b →
   | false ↦ λ is h. ltb-false limit n is
 ] refl e
 
-pub is_committed : (points : List Name) (history : List past.Commit) (keys : KeyMap) (set : Prepared) (commit : past.Commit) (aside : ℕ) → IsLate points history keys set (Commits commit aside) → IsCommitted points history keys set commit
-is_committed points history keys set commit aside late =
+pub is_committed : (formats : Formats) (store : Store) (history : List past.Commit) (keys : KeyMap) (set : Prepared) (commit : past.Commit) (aside : ℕ) → IsLate formats store history keys set (Commits commit aside) → IsCommitted store history keys set commit
+is_committed formats store history keys set commit aside late =
     let is : Late = Commits commit aside in
     let touched = skipped (if_untouched set.touched set.aside) is _ (λ e. let off : is_commit is ≡ false = not_same is_commit set.touched set.aside is refl e in absurd cc) late in
-    let free = skipped (conflict history set) is _ (λ e. let off : is_commit is ≡ false = not_conflict is_commit history set.fronts set.touched is (λ m by. refl) e in absurd cc) touched.1 in
-    let valid = unruled points keys set is _ (λ violation risen e. let off : is_commit is ≡ false = ap is_commit e in absurd cc) free.1 in
+    let free = skipped (conflict store history set) is _ (λ e. let off : is_commit is ≡ false = not_conflict is_commit store history set set.touched is (λ m by. refl) e in absurd cc) touched.1 in
+    let valid = unruled (points_of store) keys set is _ (λ violation risen e. let off : is_commit is ≡ false = ap is_commit e in absurd cc) free.1 in
     let w : ℕ = weight (after keys set.changes) in
     let light = skipped (if_heavy w) is _ (λ e. let off : is_commit is ≡ false = not_limited is_commit (nat_lt heaviest_map w) (DatabaseFull (saturated w)) is refl e in absurd cc) valid.1 in
     let h : ℕ = history_weight (history ++ commit_of set ∷ []) in
@@ -100,13 +100,16 @@ is_invalid (Invalid violation risen) = true
 is_invalid late = false
 
 -- a set that is refused by the rules has this first violation
-pub is_breach : (points : List Name) (history : List past.Commit) (keys : KeyMap) (set : Prepared) (violation : Violation) (risen : Bool) → IsLate points history keys set (Invalid violation risen) → FirstBreach points set.touched (after keys set.changes) violation risen
-is_breach points history keys set violation risen late =
+pub is_breach : (formats : Formats) (store : Store) (history : List past.Commit) (keys : KeyMap) (set : Prepared) (violation : Violation) (risen : Bool) → IsLate formats store history keys set (Invalid violation risen) → FirstBreach (points_of store) set.touched (after keys set.changes) violation risen
+is_breach formats store history keys set violation risen late =
     let is : Late = Invalid violation risen in
     let touched = skipped (if_untouched set.touched set.aside) is _ (λ e. let off : is_invalid is ≡ false = not_same is_invalid set.touched set.aside is refl e in absurd cc) late in
-    let free = skipped (conflict history set) is _ (λ e. let off : is_invalid is ≡ false = not_conflict is_invalid history set.fronts set.touched is (λ m by. refl) e in absurd cc) touched.1 in
+    let free = skipped (conflict store history set) is _ (λ e. let off : is_invalid is ≡ false = not_conflict is_invalid store history set set.touched is (λ m by. refl) e in absurd cc) touched.1 in
     by free.1
   where
+    points : List Name
+    points = points_of store
+
     is : Late
     is = Invalid violation risen
 
@@ -129,11 +132,11 @@ is_breach points history keys set violation risen late =
         absurd cc
 
 -- a mount of a set that commits is blocked by nothing
-pub not_blocked : (history : List past.Commit) (set : Prepared) (m front : ℕ) → conflict history set ≡ None → is_among set.touched m ≡ true → set.fronts m ≡ Some front → first_after history m front ≡ None
-not_blocked history set m front free among is = by (first_after history m front) refl (nothing_at (conflict_at history set.fronts) set.touched m free among)
+pub not_blocked : (store : Store) (history : List past.Commit) (set : Prepared) (m front : ℕ) → conflict store history set ≡ None → is_among set.touched m ≡ true → set.fronts m ≡ Some front → first_after history m front ≡ None
+not_blocked store history set m front free among is = by (first_after history m front) refl (nothing_at (conflict_at store history set) set.touched m free among)
   where
-    by : (o : Option ℕ) → first_after history m front ≡ o → conflict_at history set.fronts m ≡ None → first_after history m front ≡ None
+    by : (o : Option ℕ) → first_after history m front ≡ o → conflict_at store history set m ≡ None → first_after history m front ≡ None
     by None e none = e
     by (Some n) e none =
-        let told : conflict_at history set.fronts m ≡ Some (Conflict m n) = ap (λ o. option_map (Conflict m) (option_and_then (first_after history m) o)) is ∙ ap (option_map (Conflict m)) e in
+        let told : conflict_at store history set m ≡ Some (Conflict m n) = ap (λ o. option_map (Conflict m) (option_and_then (first_after history m) o)) is ∙ ap (option_map (Conflict m)) e in
         absurd cc

@@ -18,7 +18,7 @@ use Rattle.model_specified.proofs.FirstsOnce.{first-once, first-none}
 use Rattle.model_specified.proofs.Refusals.{AreOfKeys-none, first-as, first-caused, first_or_none}
 use Rattle.model_store.specs.Fitting.{Early, NotStorable, IsStorableAt, BreaksAtMount}
 use Rattle.model_store.specs.Sets.{Prepared}
-use Rattle.model_store.specs.Store.{Store, Formats, contents}
+use Rattle.model_store.specs.Store.{Store, Formats, contents, points_of}
 use Rattle.model_store.specs.Verdicts.{Late, Invalid, Commits, Follows, Checks, BreaksRules, IsEarly, IsLate, BreaksFirst, FromFormats, wanted_in, before_formats, behind_formats, conflict, commit_of, if_untouched, if_heavy, if_full, is_certain}
 use Rattle.model_store.proofs.Judged.{is_breach, is_invalid}
 use Rattle.model_store.proofs.VerdictLemmas.{not_conflict, not_same}
@@ -139,7 +139,10 @@ module _ (formats : Formats)
 
 -- ---- what the history decides
 
-module _ (points : List Name) (history : List Commit) (keys : KeyMap) (set : Prepared) where
+module _ (formats : Formats) (store : Store) (history : List Commit) (keys : KeyMap) (set : Prepared) where
+  abbrev points : List Name
+  points = points_of store
+
   abbrev later : KeyMap
   later = after keys set.changes
 
@@ -156,7 +159,7 @@ module _ (points : List Name) (history : List Commit) (keys : KeyMap) (set : Pre
   Checked answer = Checks points keys set answer (Heavy answer)
 
   abbrev Blocked : Late → Type 0
-  Blocked answer = Follows (conflict history set) (Some answer) (Checked answer)
+  Blocked answer = Follows (conflict store history set) (Some answer) (Checked answer)
 
   -- a certain violation was found without a refusal
   sure : (answer : Late) → is_certain answer ≡ true → (breaks : BreaksRules points keys set answer) → BeginWith ⊥ chosen breaks.violation
@@ -180,11 +183,11 @@ module _ (points : List Name) (history : List Commit) (keys : KeyMap) (set : Pre
   checked_once late other c d once (inr p) (inl q) = absurd (first-none chosen q.violation p.0 (sure other d q))
   checked_once late other c d once (inr p) (inr q) = once p.1 q.1
 
-  pub IsLate-once : (late other : Late) → is_certain late ≡ true → is_certain other ≡ true → IsLate points history keys set late → IsLate points history keys set other → late ≡ other
+  pub IsLate-once : (late other : Late) → is_certain late ≡ true → is_certain other ≡ true → IsLate formats store history keys set late → IsLate formats store history keys set other → late ≡ other
   IsLate-once late other c d p q =
       some_is late other
       (follows-once (if_untouched set.touched set.aside) (Some late) (Some other) (Blocked late) (Blocked other)
-      (follows-once (conflict history set) (Some late) (Some other) (Checked late) (Checked other)
+      (follows-once (conflict store history set) (Some late) (Some other) (Checked late) (Checked other)
       (λ a b. ap Some (checked_once late other c d
       (λ x y. some_is late other
       (follows-once (if_heavy (weight later)) (Some late) (Some other) (Full late) (Full other)
@@ -198,10 +201,10 @@ module _ (points : List Name) (history : List Commit) (keys : KeyMap) (set : Pre
   abbrev Has : (Late → Type 0) → Type 0
   Has P = ((late : Late) → P late → ⊥) → ⊥
 
-  pub IsLate-some : ((late : Late) → IsLate points history keys set late → ⊥) → ⊥
+  pub IsLate-some : ((late : Late) → IsLate formats store history keys set late → ⊥) → ⊥
   IsLate-some =
       step (if_untouched set.touched set.aside) Blocked
-      (step (conflict history set) Checked
+      (step (conflict store history set) Checked
       (checks
       (step (if_heavy (weight later)) Full
       (step (if_full (history_weight (history ++ commit_of set ∷ []))) (λ late. late ≡ Commits (commit_of set) set.aside)
@@ -217,19 +220,19 @@ module _ (points : List Name) (history : List Commit) (keys : KeyMap) (set : Pre
           (λ none. other (λ late heavy. off late (inr (AreOfKeys-none (T true) ⊥ chosen none, heavy))))
 
   -- a pattern that isn't too long is told by rule 6 only where the count of refusals rose
-  pub breach-caused : (violation : Violation) (risen : Bool) → IsLate points history keys set (Invalid violation risen) → violation.rule ≡ 6 → length violation.given ≤ longest_pattern → risen ≡ true
-  breach-caused violation risen late six short = by risen (is_breach points history keys set violation risen late)
+  pub breach-caused : (violation : Violation) (risen : Bool) → IsLate formats store history keys set (Invalid violation risen) → violation.rule ≡ 6 → length violation.given ≤ longest_pattern → risen ≡ true
+  breach-caused violation risen late six short = by risen (is_breach formats store history keys set violation risen late)
     where
       by : (rose : Bool) → BeginWith (T rose) chosen violation → rose ≡ true
       by true first = refl
       by false first = absurd (first-caused ⊥ chosen violation first six short)
 
   -- of a violation's own pattern alone it matters whether it was refused
-  pub breach-as : (violation : Violation) (risen other : Bool) → (violation.rule ≡ 6 → length violation.given ≤ longest_pattern → T risen → T other) → IsLate points history keys set (Invalid violation risen) → IsLate points history keys set (Invalid violation other)
+  pub breach-as : (violation : Violation) (risen other : Bool) → (violation.rule ≡ 6 → length violation.given ≤ longest_pattern → T risen → T other) → IsLate formats store history keys set (Invalid violation risen) → IsLate formats store history keys set (Invalid violation other)
   breach-as violation risen other so late =
       passes (if_untouched set.touched set.aside) (λ e. true≢false (not_same is_invalid set.touched set.aside (Invalid violation risen) refl e))
-      (passes (conflict history set) (λ e. true≢false (not_conflict is_invalid history set.fronts set.touched (Invalid violation risen) (λ m by. refl) e))
-      (λ _. inl (record { violation = violation; risen = other; first = first-as (T risen) (T other) chosen violation so (is_breach points history keys set violation risen late); is = refl }))) late
+      (passes (conflict store history set) (λ e. true≢false (not_conflict is_invalid store history set set.touched (Invalid violation risen) (λ m by. refl) e))
+      (λ _. inl (record { violation = violation; risen = other; first = first-as (T risen) (T other) chosen violation so (is_breach formats store history keys set violation risen late); is = refl }))) late
     where
       passes : {P Q : Type 0} (o : Option Late) → (o ≡ Some (Invalid violation risen) → ⊥) → (P → Q) → Follows o (Some (Invalid violation risen)) P → Follows o (Some (Invalid violation other)) Q
       passes None off more h = more h

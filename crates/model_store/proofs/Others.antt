@@ -11,6 +11,7 @@ use Rattle.model_history.proofs.HistoryLemmas.{first_after-behind, first_after-t
 use Rattle.model_store.specs.Events.{Event, Get, Prepare, Commit, Answer, Memory, Bad, Got, Refused, Ready, Judged, Failed, put}
 use Rattle.model_store.specs.Promise.{Runs}
 use Rattle.model_store.specs.Records.{Fronts, seen_at}
+use Rattle.model_store.specs.Sets.{Prepared}
 use Rattle.model_store.specs.Store.{Store, Formats, points_of}
 use Rattle.model_store.specs.Verdicts.{Late, Same, Conflict, Invalid, DatabaseFull, HistoryFull, Commits, blocking}
 use Rattle.model_store.specs.Worlds.{World, first_world, Meant, Judges, set_now, world_after}
@@ -69,7 +70,7 @@ module _ (formats : Formats) (store : Store) where
   judged world r p front (DatabaseFull n) j h = h
   judged world r p front (HistoryFull n) j h = h
   judged world r p front (Commits commit aside) j h =
-      let done = is_committed (points_of store) world.history (replay store.start world.history) (set_now store world r j.asked.parent j.asked.keys) commit aside j.late_is in
+      let done = is_committed formats store world.history (replay store.start world.history) (set_now store world r j.asked.parent j.asked.keys) commit aside j.late_is in
       seen-own world.history world.fronts r commit (ap (λ (c : past.Commit). c.handle) done.is) h
 
   step : (world : World) (event : Event) (answer : Answer) (next : World) → Meant formats store world event answer next → Sees world → Sees next
@@ -90,13 +91,14 @@ module _ (formats : Formats) (store : Store) where
   run [] world last h runs = same-world world last h runs
   run (call ∷ calls) world last h runs = run calls runs.0 last (step world call.0 call.1 runs.0 runs.1 h) runs.2
 
-  pub others-block : (calls : List (Event × Answer)) (world : World) → Runs (Meant formats store) first_world calls world → (r m number : ℕ) (commit : past.Commit) → blocking world.history (world.fronts r) m ≡ Some (number + 1) → slice_get world.history number ≡ Some commit → commit.handle ≡ r → ⊥
-  others-block calls world runs r m number commit blocks there = by (world.fronts r m) refl blocks
+  pub others-block : (calls : List (Event × Answer)) (world : World) → Runs (Meant formats store) first_world calls world → (set : Prepared) (m number : ℕ) (commit : past.Commit) → set.fronts m ≡ world.fronts set.handle m
+      → blocking store world.history set m ≡ Some (number + 1) → slice_get world.history number ≡ Some commit → commit.handle ≡ set.handle → ⊥
+  others-block calls world runs set m number commit same blocks there = by (set.fronts m) refl blocks
     where
       sees : SeesOwn world.history world.fronts
       sees = run calls first_world world (λ q n front at other is at_there le on own. absurd cc) runs
 
-      by : (o : Option ℕ) → world.fronts r m ≡ o → option_and_then (first_after world.history m) o ≡ Some (number + 1) → commit.handle ≡ r → ⊥
+      by : (o : Option ℕ) → set.fronts m ≡ o → option_and_then (first_after world.history m) o ≡ Some (number + 1) → commit.handle ≡ set.handle → ⊥
       by None is e own = absurd cc
       by (Some front) is e own =
-          sees r m front number commit is there (omega (arith, first_after-behind world.history m front (number + 1) e)) (first_after-there world.history m front number commit e there) own
+          sees set.handle m front number commit (sym same ∙ is) there (omega (arith, first_after-behind world.history m front (number + 1) e)) (first_after-there world.history m front number commit e there) own

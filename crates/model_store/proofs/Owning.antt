@@ -118,7 +118,7 @@ module _ (formats : Formats) (store : Store) where
       ∙ ap (option_map (λ (f : Fetched). f.front)) (only-there involved (record_of store world.history asked.fronts) m among)
       ∙ front-of store world.history asked.fronts m))
 
-  is_present : (world : World) (sets : ℕ → Option Prepared) (r p front : ℕ) (late : Late) → Known world sets → (made : JudgementMade store (core_at world sets) r p front late) → IsPresent world r p made.set
+  is_present : (world : World) (sets : ℕ → Option Prepared) (r p front : ℕ) (late : Late) → Known world sets → (made : JudgementMade formats store (core_at world sets) r p front late) → IsPresent world r p made.set
   is_present world sets r p front late k made = by (world.asked p) refl (subst (λ (s : Option Prepared). IsSet formats store world.history (world.asked p) s) made.is_set (k.asked p))
     where
       by : (o : Option Asked) → world.asked p ≡ o → IsSet formats store world.history (world.asked p) (Some made.set) → IsPresent world r p made.set
@@ -128,24 +128,24 @@ module _ (formats : Formats) (store : Store) where
           let same : made.set ≡ set_now store world r asked.parent asked.keys = accepted world sets r asked made.set a made.accepted in
           record { asked = asked; was_asked = is; is = same; early = subst (λ (s : Prepared). IsEarly formats store s None) same a.passed }
 
-  judges : (world : World) (sets : ℕ → Option Prepared) (r p front : ℕ) (late : Late) → (made : JudgementMade store (core_at world sets) r p front late) → IsPresent world r p made.set → Judges formats store world r p front late
+  judges : (world : World) (sets : ℕ → Option Prepared) (r p front : ℕ) (late : Late) → (made : JudgementMade formats store (core_at world sets) r p front late) → IsPresent world r p made.set → Judges formats store world r p front late
   judges world sets r p front late made at = record {
     asked = at.asked;
     was_asked = at.was_asked;
     front_is = made.front_is;
     early = at.early;
-    late_is = subst (λ (s : Prepared). IsLate (points_of store) world.history (replay store.start world.history) s late) at.is made.late_is;
+    late_is = subst (λ (s : Prepared). IsLate formats store world.history (replay store.start world.history) s late) at.is made.late_is;
   }
 
   -- the core after the commit of a set stands for the world after it
   commits : (world : World) (sets : ℕ → Option Prepared) (r : ℕ) (parent : Name) (keys : KeyMap) (commit : past.Commit) (aside : ℕ) → Known world sets
-      → IsEarly formats store (set_now store world r parent keys) None → IsLate (points_of store) world.history (replay store.start world.history) (set_now store world r parent keys) (Commits commit aside)
+      → IsEarly formats store (set_now store world r parent keys) None → IsLate formats store world.history (replay store.start world.history) (set_now store world r parent keys) (Commits commit aside)
       → Stands formats store (world_after world r (Commits commit aside)) (core_after store (core_at world sets) r (set_now store world r parent keys) (Commits commit aside))
   commits world sets r parent keys commit aside k early late =
       let set : Prepared = set_now store world r parent keys in
       let rec : Record = record_of store world.history (world.fronts r) in
       let passed : HasPassed formats store (set_now store world r parent keys) = has_passed formats store (set_now store world r parent keys) early in
-      let done : IsCommitted (points_of store) world.history (replay store.start world.history) (set_now store world r parent keys) commit = is_committed (points_of store) world.history (replay store.start world.history) (set_now store world r parent keys) commit aside late in
+      let done : IsCommitted store world.history (replay store.start world.history) (set_now store world r parent keys) commit = is_committed formats store world.history (replay store.start world.history) (set_now store world r parent keys) commit aside late in
       let legal : IsLegalCommit formats store (replay store.start world.history) (commit_of (set_now store world r parent keys)) = legal_commit formats store world.history r (world.fronts r) parent keys rec (k.records r) k.legal.each passed commit done in
       let kept : (n : ℕ) → IsRecord store (world.history ++ commit_of (set_now store world r parent keys) ∷ []) (world.fronts n) (record_of store world.history (world.fronts n)) = λ n. record-stays store world.history (commit_of (set_now store world r parent keys) ∷ []) (world.fronts n) (record_of store world.history (world.fronts n)) (k.records n) in
       subst (λ (c : past.Commit). Stands formats store (world_after world r (Commits c aside)) (core_after store (core_at world sets) r set (Commits c aside))) (sym done.is) (record {
@@ -161,14 +161,14 @@ module _ (formats : Formats) (store : Store) where
         sets = λ p. set-stays store formats world.history (commit_of set ∷ []) (world.asked p) (sets p) (k.asked p);
       })
 
-  unchanged : (world : World) (sets : ℕ → Option Prepared) (r p front : ℕ) (late : Late) (next : Core) → Known world sets → (made : JudgementMade store (core_at world sets) r p front late) → next ≡ core_at world sets → world ≡ world_after world r late → Goes world (Commit r p) (Judged front late) next
+  unchanged : (world : World) (sets : ℕ → Option Prepared) (r p front : ℕ) (late : Late) (next : Core) → Known world sets → (made : JudgementMade formats store (core_at world sets) r p front late) → next ≡ core_at world sets → world ≡ world_after world r late → Goes world (Commit r p) (Judged front late) next
   unchanged world sets r p front late next k made is same = record {
     after = world;
     meant = (judges world sets r p front late made (is_present world sets r p front late k made), same);
     stands = stays world sets next k is;
   }
 
-  judged : (world : World) (sets : ℕ → Option Prepared) (r p front : ℕ) (late : Late) (next : Core) → Known world sets → CommitMade store (core_at world sets) r p front late next → Goes world (Commit r p) (Judged front late) next
+  judged : (world : World) (sets : ℕ → Option Prepared) (r p front : ℕ) (late : Late) (next : Core) → Known world sets → CommitMade formats store (core_at world sets) r p front late next → Goes world (Commit r p) (Judged front late) next
   judged world sets r p front (Same aside) next k made = unchanged world sets r p front (Same aside) next k made.judged made.next_is refl
   judged world sets r p front (Conflict m by) next k made = unchanged world sets r p front (Conflict m by) next k made.judged made.next_is refl
   judged world sets r p front (Invalid violation risen) next k made = unchanged world sets r p front (Invalid violation risen) next k made.judged made.next_is refl
@@ -177,8 +177,8 @@ module _ (formats : Formats) (store : Store) where
   judged world sets r p front (Commits commit aside) next k made =
       let at = is_present world sets r p front (Commits commit aside) k made.judged in
       let meant = judges world sets r p front (Commits commit aside) made.judged at in
-      let late_is : IsLate (points_of store) world.history (replay store.start world.history) (set_now store world r at.asked.parent at.asked.keys) (Commits commit aside) =
-      subst (λ (s : Prepared). IsLate (points_of store) world.history (replay store.start world.history) s (Commits commit aside)) at.is made.judged.late_is in
+      let late_is : IsLate formats store world.history (replay store.start world.history) (set_now store world r at.asked.parent at.asked.keys) (Commits commit aside) =
+      subst (λ (s : Prepared). IsLate formats store world.history (replay store.start world.history) s (Commits commit aside)) at.is made.judged.late_is in
       record {
         after = world_after world r (Commits commit aside);
         meant = (meant, refl);

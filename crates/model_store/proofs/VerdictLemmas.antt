@@ -11,6 +11,7 @@ use Rattle.model_names.specs.Name.{Name}
 use Rattle.model_specified.specs.declared.violations.Violation.{Violation}
 use Rattle.model_store.specs.Rules.{KeepRules}
 use Rattle.model_store.specs.Sets.{Prepared}
+use Rattle.model_store.specs.Store.{Store, Formats, points_of}
 use Rattle.model_store.specs.Verdicts.{Late, Same, Conflict, Invalid, DatabaseFull, HistoryFull, Commits, Follows, Checks, IsLate, blocking, conflict_at, conflict, commit_of, if_untouched, if_heavy, if_full}
 use Rattle.model_store.proofs.Members.{among-first, among-rest}
 
@@ -45,10 +46,10 @@ module _ (is_kind : Late → Bool) where
   not_same [] aside late off e = ap is_kind (sym (some_is (Same aside) late e)) ∙ off
   not_same (m ∷ touched) aside late off e = absurd cc
 
-  pub not_conflict : (history : List Commit) (fronts : ℕ → Option ℕ) (ms : List ℕ) (late : Late) → ((m by : ℕ) → is_kind (Conflict m by) ≡ false) → first_some (conflict_at history fronts) ms ≡ Some late → is_kind late ≡ false
-  not_conflict history fronts [] late off e = absurd cc
-  not_conflict history fronts (m ∷ ms) late off e = elim (blocking history fronts m) as (λ (o : Option ℕ). option_or (option_map (Conflict m) o) (first_some (conflict_at history fronts) ms) ≡ Some late → is_kind late ≡ false) [
-    | None ↦ λ h. not_conflict history fronts ms late off h
+  pub not_conflict : (store : Store) (history : List Commit) (set : Prepared) (ms : List ℕ) (late : Late) → ((m by : ℕ) → is_kind (Conflict m by) ≡ false) → first_some (conflict_at store history set) ms ≡ Some late → is_kind late ≡ false
+  not_conflict store history set [] late off e = absurd cc
+  not_conflict store history set (m ∷ ms) late off e = elim (blocking store history set m) as (λ (o : Option ℕ). option_or (option_map (Conflict m) o) (first_some (conflict_at store history set) ms) ≡ Some late → is_kind late ≡ false) [
+    | None ↦ λ h. not_conflict store history set ms late off h
     | Some by ↦ λ h. ap is_kind (sym (some_is (Conflict m by) late h)) ∙ off m by
   ] e
 
@@ -67,26 +68,30 @@ is_conflict (HistoryFull n) = false
 is_conflict (Commits commit aside) = false
 
 module _ (m by : ℕ) where
-  conflict_among : (history : List Commit) (fronts : ℕ → Option ℕ) (ms : List ℕ) → first_some (conflict_at history fronts) ms ≡ Some (Conflict m by) → is_among ms m ≡ true
-  conflict_among history fronts [] e = absurd cc
-  conflict_among history fronts (n ∷ ms) e = elim (blocking history fronts n) as (λ (o : Option ℕ). option_or (option_map (Conflict n) o) (first_some (conflict_at history fronts) ms) ≡ Some (Conflict m by) → is_among (n ∷ ms) m ≡ true) [
-    | None ↦ λ h. among-rest n m ms (conflict_among history fronts ms h)
+  conflict_among : (store : Store) (history : List Commit) (set : Prepared) (ms : List ℕ) → first_some (conflict_at store history set) ms ≡ Some (Conflict m by) → is_among ms m ≡ true
+  conflict_among store history set [] e = absurd cc
+  conflict_among store history set (n ∷ ms) e = elim (blocking store history set n) as (λ (o : Option ℕ). option_or (option_map (Conflict n) o) (first_some (conflict_at store history set) ms) ≡ Some (Conflict m by) → is_among (n ∷ ms) m ≡ true) [
+    | None ↦ λ h. among-rest n m ms (conflict_among store history set ms h)
     | Some k ↦ λ h. subst (λ j. is_among (n ∷ ms) j ≡ true) (same n k h) (among-first n ms)
   ] e
     where
       same : (n k : ℕ) → Some (Conflict n k) ≡ Some (Conflict m by) → n ≡ m
       same n k h = cc
 
-  -- the mount of a conflict is touched
-  pub conflict_touched : (points : List Name) (history : List Commit) (keys : KeyMap) (set : Prepared) → IsLate points history keys set (Conflict m by) → is_among set.touched m ≡ true
-  conflict_touched points history keys set late =
+  -- a conflict is what the history tells of the set
+  pub is_blocked : (formats : Formats) (store : Store) (history : List Commit) (keys : KeyMap) (set : Prepared) → IsLate formats store history keys set (Conflict m by) → conflict store history set ≡ Some (Conflict m by)
+  is_blocked formats store history keys set late =
       let is : Late = Conflict m by in
       let w : ℕ = weight (after keys set.changes) in
       let h : ℕ = history_weight (history ++ commit_of set ∷ []) in
       let touched = skipped (if_untouched set.touched set.aside) is _ (λ e. let off : is_conflict is ≡ false = not_same is_conflict set.touched set.aside is refl e in absurd cc) late in
-      conflict_among history set.fronts set.touched (told (conflict history set) is _ (λ rest.
-      let valid = unruled points keys set is _ (λ violation risen e. let off : is_conflict is ≡ false = ap is_conflict e in absurd cc) rest in
+      told (conflict store history set) is _ (λ rest.
+      let valid = unruled (points_of store) keys set is _ (λ violation risen e. let off : is_conflict is ≡ false = ap is_conflict e in absurd cc) rest in
       let light = skipped (if_heavy w) is _ (λ e. let off : is_conflict is ≡ false = not_limited is_conflict (nat_lt heaviest_map w) (DatabaseFull (saturated w)) is refl e in absurd cc) valid.1 in
       let full = skipped (if_full h) is _ (λ e. let off : is_conflict is ≡ false = not_limited is_conflict (nat_lt heaviest_history h) (HistoryFull (saturated h)) is refl e in absurd cc) light.1 in
       let off : is_conflict is ≡ false = ap is_conflict full.1 in
-      absurd cc) touched.1)
+      absurd cc) touched.1
+
+  -- its mount is touched
+  pub conflict_touched : (formats : Formats) (store : Store) (history : List Commit) (keys : KeyMap) (set : Prepared) → IsLate formats store history keys set (Conflict m by) → is_among set.touched m ≡ true
+  conflict_touched formats store history keys set late = conflict_among store history set set.touched (is_blocked formats store history keys set late)

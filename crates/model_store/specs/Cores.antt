@@ -61,21 +61,21 @@ core_after store core r set (Commits commit aside) = record {
 }
 core_after store core r set late = core
 
-pub record JudgementMade (store : Store) (core : Core) (r p front : ℕ) (late : Late) : Type 0 where
+pub record JudgementMade (formats : Formats) (store : Store) (core : Core) (r p front : ℕ) (late : Late) : Type 0 where
   pub set : Prepared
   pub is_set : core.sets p ≡ Some set
   pub accepted : accepts (core.records r) r set ≡ true
   pub front_is : front ≡ length core.history
-  pub late_is : IsLate (points_of store) core.history core.keys set late
+  pub late_is : IsLate formats store core.history core.keys set late
 
-pub record CommitMade (store : Store) (core : Core) (r p front : ℕ) (late : Late) (next : Core) : Type 0 where
-  pub judged : JudgementMade store core r p front late
+pub record CommitMade (formats : Formats) (store : Store) (core : Core) (r p front : ℕ) (late : Late) (next : Core) : Type 0 where
+  pub judged : JudgementMade formats store core r p front late
   pub next_is : next ≡ core_after store core r judged.set late
 
-pub record FailureMade (store : Store) (core : Core) (r p front : ℕ) (next : Core) : Type 0 where
+pub record FailureMade (formats : Formats) (store : Store) (core : Core) (r p front : ℕ) (next : Core) : Type 0 where
   pub commit : past.Commit
   pub aside : ℕ
-  pub judged : JudgementMade store core r p front (Commits commit aside)
+  pub judged : JudgementMade formats store core r p front (Commits commit aside)
   pub next_is : next ≡ core
 
 -- what each call does with a core
@@ -87,6 +87,6 @@ Made formats store core (Prepare r p parent keys) Memory next = next ≡ core
 Made formats store core (Prepare r p parent keys) (Refused why) next = RefusalMade formats store core r parent keys why next
 Made formats store core (Prepare r p parent keys) Ready next = PreparationMade formats store core r p parent keys next
 Made formats store core (Commit r p) Memory next = next ≡ core
-Made formats store core (Commit r p) (Judged front late) next = CommitMade store core r p front late next
-Made formats store core (Commit r p) (Failed front) next = FailureMade store core r p front next
+Made formats store core (Commit r p) (Judged front late) next = CommitMade formats store core r p front late next
+Made formats store core (Commit r p) (Failed front) next = FailureMade formats store core r p front next
 Made formats store core event answer next = ⊥

@@ -14,7 +14,6 @@ use Rattle.model_specified.specs.declared.violations.Violation.{Violation}
 use Rattle.mounted_files.specs.Setting.{first_long_in}
 use Rattle.model_store.specs.Store.{Store, Formats, points_of}
 use Rattle.model_store.specs.Fitting.{Early, NotFetched, ValueTooLong, NotStorable, too_heavy, too_long, bad_table, IsStorableAt, BreaksAtMount}
-use Rattle.model_store.specs.Records.{Fronts}
 use Rattle.model_store.specs.Rules.{FirstBreach, KeepRules}
 use Rattle.model_store.specs.Sets.{Prepared, wants}
 
@@ -71,9 +70,9 @@ IsEarly formats store set answer = Follows (before_formats store set) answer (Fr
 
 -- ---- blocking commits
 
--- the commit that blocks a mount: the first behind the front of the mount that touches it
-abbrev pub blocking : List Commit → Fronts → ℕ → Option ℕ
-blocking history fronts m = option_and_then (first_after history m) (fronts m)
+-- the commit that blocks a mount of a set: the first behind its front of the mount that touches it
+abbrev pub blocking : Store → List Commit → Prepared → ℕ → Option ℕ
+blocking store history set m = option_and_then (first_after history m) (set.fronts m)
 
 -- ---- what the history decides
 
@@ -97,11 +96,11 @@ if_untouched [] aside = Some (Same aside)
 if_untouched (m ∷ mounts) aside = None
 
 -- the lowest touched mount that a commit blocks
-abbrev pub conflict_at : List Commit → Fronts → ℕ → Option Late
-conflict_at history fronts m = option_map (Conflict m) (blocking history fronts m)
+abbrev pub conflict_at : Store → List Commit → Prepared → ℕ → Option Late
+conflict_at store history set m = option_map (Conflict m) (blocking store history set m)
 
-abbrev pub conflict : List Commit → Prepared → Option Late
-conflict history set = first_some (conflict_at history set.fronts) set.touched
+abbrev pub conflict : Store → List Commit → Prepared → Option Late
+conflict store history set = first_some (conflict_at store history set) set.touched
 
 -- a key that a touched mount owns breaks a rule in the map after the set: the first violation
 pub record BreaksRules (points : List Name) (keys : KeyMap) (set : Prepared) (answer : Late) : Type 0 where
@@ -120,12 +119,12 @@ if_heavy n = if nat_lt heaviest_map n then Some (DatabaseFull (saturated n)) els
 abbrev pub if_full : ℕ → Option Late
 if_full n = if nat_lt heaviest_history n then Some (HistoryFull (saturated n)) else None
 
--- what becomes of a set that passed, by the mountpoints, the history and the present map
-abbrev pub IsLate : List Name → List Commit → KeyMap → Prepared → Late → Type 0
-IsLate points history keys set answer =
+-- what becomes of a set that passed, by the formats, the store, the history and the present map
+abbrev pub IsLate : Formats → Store → List Commit → KeyMap → Prepared → Late → Type 0
+IsLate formats store history keys set answer =
     Follows (if_untouched set.touched set.aside) (Some answer)
-    (Follows (conflict history set) (Some answer)
-    (Checks points keys set answer
+    (Follows (conflict store history set) (Some answer)
+    (Checks (points_of store) keys set answer
     (Follows (if_heavy (weight (after keys set.changes))) (Some answer)
     (Follows (if_full (history_weight (history ++ commit_of set ∷ []))) (Some answer)
     (answer ≡ Commits (commit_of set) set.aside)))))

@@ -66,7 +66,7 @@ pub record Judges (formats : Formats) (store : Store) (world : World) (r p front
   pub was_asked : world.asked p ≡ Some asked
   pub front_is : front ≡ length world.history
   pub early : IsEarly formats store (set_now store world r asked.parent asked.keys) None
-  pub late_is : IsLate (points_of store) world.history (present store world) (set_now store world r asked.parent asked.keys) late
+  pub late_is : IsLate formats store world.history (present store world) (set_now store world r asked.parent asked.keys) late
 
 -- a disk fails only in the place of a commit, and then nothing changes
 pub record Fails (formats : Formats) (store : Store) (world : World) (r p front : ℕ) (next : World) : Type 0 where

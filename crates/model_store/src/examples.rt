@@ -1,8 +1,7 @@
 //! Worked rows.
-ghost use Rattle.std.specs.Prelude.{◌≡◌, ℕ, nat_eq, if◌then◌else◌, List, [], ◌∷◌, Some, None};
+ghost use Rattle.std.specs.Prelude.{◌≡◌, ℕ, nat_eq, if◌then◌else◌, [], ◌∷◌, Some, None};
 ghost use Rattle.std.specs.FinMap as map;
 ghost use Rattle.model_maps.specs.KeyMap.{KeyMap, no_keys};
-ghost use Rattle.model_names.specs.Name.{Name};
 ghost use Rattle.model_store.specs.Fitting.{NotFetched};
 ghost use Rattle.model_store.specs.Store.{Store, formats_of};
 ghost use Rattle.model_store.specs.Verdicts.{Conflict, IsEarly, IsLate, Same, blocking};
@@ -16,13 +15,13 @@ pub fn an_unseen_mount_is_refused_first<F: Formats>(_formats: &F)
 {}
 
 /// A set that touches no mount comes to nothing, whatever others have stored.
-pub fn a_set_without_changes_comes_to_nothing()
-    ensures { (points : List Name) (keys : KeyMap) → IsLate points (record { handle = 2; touched = 0 ∷ []; changes = [] } ∷ []) keys (record { handle = 1; involved = 0 ∷ []; fronts = λ m. Some 0; keys = no_keys; touched = []; changes = map.empty; aside = 3 }) (Same 3) }
+pub fn a_set_without_changes_comes_to_nothing<F: Formats>(_formats: &F)
+    ensures { (store : Store) (keys : KeyMap) → IsLate (formats_of F.Formats) store (record { handle = 2; touched = 0 ∷ []; changes = [] } ∷ []) keys (record { handle = 1; involved = 0 ∷ []; fronts = λ m. Some 0; keys = no_keys; touched = []; changes = map.empty; aside = 3 }) (Same 3) }
 {}
 
 /// Of three commits the handle saw the first. It touches the mounts 0 and 1, of which another handle's commits touched mount
 /// 1 first and then 0: the lowest mount is told, with its commit. Once all three are seen nothing blocks.
-pub fn the_lowest_blocked_mount_is_told()
-    ensures told { (points : List Name) (keys : KeyMap) → IsLate points (record { handle = 1; touched = 0 ∷ 1 ∷ []; changes = [] } ∷ record { handle = 2; touched = 1 ∷ []; changes = [] } ∷ record { handle = 2; touched = 0 ∷ []; changes = [] } ∷ []) keys (record { handle = 1; involved = 0 ∷ 1 ∷ []; fronts = λ m. Some 1; keys = no_keys; touched = 0 ∷ 1 ∷ []; changes = map.empty; aside = 0 }) (Conflict 0 3) }
-    ensures seen { blocking (record { handle = 1; touched = 0 ∷ 1 ∷ []; changes = [] } ∷ record { handle = 2; touched = 1 ∷ []; changes = [] } ∷ record { handle = 2; touched = 0 ∷ []; changes = [] } ∷ []) (λ m. Some 3) 0 ≡ None }
+pub fn the_lowest_blocked_mount_is_told<F: Formats>(_formats: &F)
+    ensures told { (store : Store) (keys : KeyMap) → IsLate (formats_of F.Formats) store (record { handle = 1; touched = 0 ∷ 1 ∷ []; changes = [] } ∷ record { handle = 2; touched = 1 ∷ []; changes = [] } ∷ record { handle = 2; touched = 0 ∷ []; changes = [] } ∷ []) keys (record { handle = 1; involved = 0 ∷ 1 ∷ []; fronts = λ m. Some 1; keys = no_keys; touched = 0 ∷ 1 ∷ []; changes = map.empty; aside = 0 }) (Conflict 0 3) }
+    ensures seen { (store : Store) → blocking store (record { handle = 1; touched = 0 ∷ 1 ∷ []; changes = [] } ∷ record { handle = 2; touched = 1 ∷ []; changes = [] } ∷ record { handle = 2; touched = 0 ∷ []; changes = [] } ∷ []) (record { handle = 1; involved = 0 ∷ 1 ∷ []; fronts = λ m. Some 3; keys = no_keys; touched = 0 ∷ 1 ∷ []; changes = map.empty; aside = 0 }) 0 ≡ None }
 {}

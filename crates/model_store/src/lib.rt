@@ -12,7 +12,7 @@ ghost use Rattle.model_maps.specs.KeyMap.{KeyMap, weight, heaviest_map};
 ghost use Rattle.model_names.specs.Name.{Name};
 ghost use Rattle.model_rules.specs.Rules.{longest_pattern};
 ghost use Rattle.model_specified.specs.declared.violations.Violation.{Violation};
-ghost use Rattle.model_store.specs.Store.{Store, formats_of, points_of};
+ghost use Rattle.model_store.specs.Store.{Store, formats_of};
 ghost use Rattle.model_store.specs.Events.{Event, Answer};
 ghost use Rattle.model_store.specs.Cores.{Core, first_core, Made};
 ghost use Rattle.model_store.specs.First.{first_set};
@@ -35,9 +35,10 @@ pub fn a_store_has_one_owner<F: Formats>(_formats: &F)
     ensures { (store : Store) (calls : List (Event × Answer)) (core : Core) → Runs (Made (formats_of F.Formats) store) (first_core store) calls core → IsOneOwner (formats_of F.Formats) store calls core }
 {}
 
-/// The commit that blocks a mount of a handle is another handle's, since an own commit is seen as it is made.
+/// The commit that blocks a mount of a set with its handle's front of it is another handle's, since an own commit is seen as it is made.
 pub fn only_others_block<F: Formats>(_formats: &F)
-    ensures { (store : Store) (calls : List (Event × Answer)) (world : World) → Runs (Meant (formats_of F.Formats) store) first_world calls world → (r m number : ℕ) (commit : past.Commit) → blocking world.history (world.fronts r) m ≡ Some (number + 1) → slice_get world.history number ≡ Some commit → commit.handle ≢ r }
+    ensures { (store : Store) (calls : List (Event × Answer)) (world : World) → Runs (Meant (formats_of F.Formats) store) first_world calls world → (set : Prepared) (m number : ℕ) (commit : past.Commit) → set.fronts m ≡ world.fronts set.handle m
+        → blocking store world.history set m ≡ Some (number + 1) → slice_get world.history number ≡ Some commit → commit.handle ≢ set.handle }
 {}
 
 /// A set has one verdict before the history is asked. By the history it is absurd that it has none, and it has one at most of those that no
@@ -46,10 +47,10 @@ pub fn a_set_has_one_verdict<F: Formats>(_formats: &F)
     ensures some_early { (store : Store) (set : Prepared) → (early : Option Early) × IsEarly (formats_of F.Formats) store set early }
     ensures one_early { (store : Store) (set : Prepared) (early other : Option Early) →
         IsEarly (formats_of F.Formats) store set early → IsEarly (formats_of F.Formats) store set other → early ≡ other }
-    ensures some_late { (points : List Name) (history : List past.Commit) (keys : KeyMap) (set : Prepared) → ((late : Late) → IsLate points history keys set late → ⊥) → ⊥ }
-    ensures one_late { (points : List Name) (history : List past.Commit) (keys : KeyMap) (set : Prepared) (late other : Late) → is_certain late ≡ true → is_certain other ≡ true
-        → IsLate points history keys set late → IsLate points history keys set other → late ≡ other }
-    ensures refused { (points : List Name) (history : List past.Commit) (keys : KeyMap) (set : Prepared) (violation : Violation) (risen : Bool) → IsLate points history keys set (Invalid violation risen)
+    ensures some_late { (store : Store) (history : List past.Commit) (keys : KeyMap) (set : Prepared) → ((late : Late) → IsLate (formats_of F.Formats) store history keys set late → ⊥) → ⊥ }
+    ensures one_late { (store : Store) (history : List past.Commit) (keys : KeyMap) (set : Prepared) (late other : Late) → is_certain late ≡ true → is_certain other ≡ true
+        → IsLate (formats_of F.Formats) store history keys set late → IsLate (formats_of F.Formats) store history keys set other → late ≡ other }
+    ensures refused { (store : Store) (history : List past.Commit) (keys : KeyMap) (set : Prepared) (violation : Violation) (risen : Bool) → IsLate (formats_of F.Formats) store history keys set (Invalid violation risen)
         → violation.rule ≡ 6 → length violation.given ≤ longest_pattern → risen ≡ true }
 {}
 
@@ -58,9 +59,9 @@ pub fn a_set_has_one_verdict<F: Formats>(_formats: &F)
 pub fn a_first_set_is_judged_alone<F: Formats>(_formats: &F)
     ensures fetched { (store : Store) (handle : ℕ) (parent : Name) (keys : KeyMap) (early : Option Early) (m : ℕ) →
         IsEarly (formats_of F.Formats) store (first_set store handle parent keys) early → early ≢ Some (NotFetched m) }
-    ensures free { (store : Store) (handle : ℕ) (parent : Name) (keys : KeyMap) (late : Late) (m by : ℕ) → IsLate (points_of store) [] store.start (first_set store handle parent keys) late → late ≢ Conflict m by }
+    ensures free { (store : Store) (handle : ℕ) (parent : Name) (keys : KeyMap) (late : Late) (m by : ℕ) → IsLate (formats_of F.Formats) store [] store.start (first_set store handle parent keys) late → late ≢ Conflict m by }
     ensures room { (store : Store) (handle : ℕ) (parent : Name) (keys : KeyMap) (late : Late) (n : ℕ) →
-        weight store.start ≤ heaviest_map → IsLate (points_of store) [] store.start (first_set store handle parent keys) late → late ≢ HistoryFull n }
+        weight store.start ≤ heaviest_map → IsLate (formats_of F.Formats) store [] store.start (first_set store handle parent keys) late → late ≢ HistoryFull n }
 {}
 
 /// The test of a count tells just whether it rose.

@@ -19,12 +19,11 @@ use Rattle.model_store.specs.Events.{Answer, put}
 use Rattle.model_store.specs.Records as model
 use Rattle.model_store.specs.Sets as sets
 use Rattle.model_store.specs.Sets.{wants}
-use Rattle.model_store.specs.Store.{Store, Formats, points_at, points_of}
+use Rattle.model_store.specs.Store.{Store, Formats, points_of}
 use Rattle.model_store.specs.Verdicts as verdict
 use Rattle.model_store.specs.Verdicts.{Late, IsLate, commit_of}
 use Rattle.model_store.specs.Worlds.{World}
 use Rattle.model_store.proofs.VerdictLemmas.{conflict_touched}
-use Rattle.mount_table.specs.declared.mounts.Mount.{Mount}
 use Rattle.set_split.specs.declared.parts.Part.{Part}
 use Rattle.store_core.specs.Answers.{IsAnswer, IsJudged, has_written}
 use Rattle.store_core.specs.Committing.{BeginsSet, BeginsOnly, RunsOn}
@@ -56,8 +55,8 @@ put-same r x records is n = elim (nat_eq n r) as (λ b. nat_eq n r ≡ b → con
 pub matched : {D P : Type 0} (core : Core D P) (patterns : P) → IsUnwritten core (record core { patterns = patterns })
 matched core patterns = record { journal = refl; history = refl; keys = refl; wrote = refl }
 
-module _ (formats : Formats) {D P : Type 0} (mounts : List Mount) (store : Store) (core : Core D P) (records : ℕ → model.Record) (made : ℕ → Option sets.Prepared) (world : World) (p : ℕ) (rec : Record) (prepared : Prepared)
-    (b : BelongsIn formats mounts store core records made world p rec prepared) where
+module _ (formats : Formats) {D P : Type 0} (store : Store) (core : Core D P) (records : ℕ → model.Record) (made : ℕ → Option sets.Prepared) (world : World) (p : ℕ) (rec : Record) (prepared : Prepared)
+    (b : BelongsIn formats store core records made world p rec prepared) where
   abbrev r : ℕ
   r = handle_of rec
 
@@ -73,17 +72,11 @@ module _ (formats : Formats) {D P : Type 0} (mounts : List Mount) (store : Store
   taken : accepts (records r) r set ≡ true
   taken = subst (λ (x : model.Record). accepts x r set ≡ true) (sym b.record_is) b.accepted
 
-  -- a verdict by the mountpoints is one of the store's
-  of_store : (late : Late) → IsLate (points_at mounts) core.history.commits core.keys set late → IsLate (points_of store) core.history.commits core.keys set late
-  of_store late is = subst (λ (ms : List Mount). IsLate (points_at ms) core.history.commits core.keys set late) (sym b.mounts_are) is
-
   all_within : AllByRecursion (λ m. m < length store.mounts) set.touched
   all_within = within formats store core records made world b.stands r p set b.set_is taken
 
-  pub conflict_within : (m by : ℕ) → IsLate (points_at mounts) core.history.commits core.keys set (verdict.Conflict m by) → m < length mounts
-  conflict_within m by late =
-      subst (λ (ms : List Mount). m < length ms) b.mounts_are
-      (among-within (length store.mounts) prepared.touched m all_within (conflict_touched m by (points_of store) core.history.commits core.keys set (of_store (verdict.Conflict m by) late)))
+  pub conflict_within : (m by : ℕ) → IsLate formats store core.history.commits core.keys set (verdict.Conflict m by) → m < length store.mounts
+  conflict_within m by late = among-within (length store.mounts) prepared.touched m all_within (conflict_touched m by formats store core.history.commits core.keys set late)
 
   pub parts_within : All (λ (part : Part). part.mount < places_of rec) prepared.wanted
   parts_within =
@@ -94,8 +87,8 @@ module _ (formats : Formats) {D P : Type 0} (mounts : List Mount) (store : Store
       all-below [] all = tt
       all-below (m ∷ ms) all = (omega (arith, all.0, b.places), all-below ms all.1)
 
-  abbrev judged : (late : Late) → IsLate (points_at mounts) core.history.commits core.keys set late → JudgementMade store old r p found late
-  judged late is = judgement formats store core records made world b.stands r p set b.set_is taken late (of_store late is)
+  abbrev judged : (late : Late) → IsLate formats store core.history.commits core.keys set late → JudgementMade formats store old r p found late
+  judged late is = judgement formats store core records made world b.stands r p set b.set_is taken late is
 
   -- where what is kept is as it was, so is what the definitions have
   kept : (after : Core D P) (new : Record) → after.history.commits ≡ core.history.commits → after.keys ≡ core.keys → record_of new ≡ record_of rec → core_with after (put r (record_of new) records) made ≡ old
@@ -106,15 +99,15 @@ module _ (formats : Formats) {D P : Type 0} (mounts : List Mount) (store : Store
   -- ---- where the set is no commit
 
   module _ (after : Core D P) (still : IsUnwritten core after) (risen : Bool) where
-    told : (result : Result Done CommitFault) (late : Late) → IsLate (points_at mounts) core.history.commits core.keys set late → core_after store old r set late ≡ old → IsAnswer mounts risen found set result (event.Judged found late)
-        → HasMade formats mounts store core after records made p rec rec prepared risen result
+    told : (result : Result Done CommitFault) (late : Late) → IsLate formats store core.history.commits core.keys set late → core_after store old r set late ≡ old → IsAnswer store.mounts risen found set result (event.Judged found late)
+        → HasMade formats store core after records made p rec rec prepared risen result
     told result late is nothing answer = record {
       answer = event.Judged found late;
       is_answer = answer;
       is_made = record { judged = judged late is; next_is = kept after rec still.history still.keys refl ∙ sym nothing };
     }
 
-    pub made_unwritten : (result : Result Done CommitFault) → has_written result ≡ false → IsJudged mounts risen core.history.commits core.keys set result → HasMade formats mounts store core after records made p rec rec prepared risen result
+    pub made_unwritten : (result : Result Done CommitFault) → has_written result ≡ false → IsJudged formats store risen core.history.commits core.keys set result → HasMade formats store core after records made p rec rec prepared risen result
     made_unwritten (Ok (done.Committed number aside)) unwritten is = absurd cc
     made_unwritten (Ok (done.Same front aside)) unwritten is = told (Ok (done.Same front aside)) (verdict.Same aside) is.1 refl (ap (λ f. event.Judged f (verdict.Same aside)) (sym is.0))
     made_unwritten (Err (fault.Conflict mount by front)) unwritten is =
@@ -127,21 +120,21 @@ module _ (formats : Formats) {D P : Type 0} (mounts : List Mount) (store : Store
 
   -- ---- where it is one
 
-  module _ (commit : past.Commit) (aside : ℕ) (is : IsLate (points_at mounts) core.history.commits core.keys set (verdict.Commits commit aside)) where
+  module _ (commit : past.Commit) (aside : ℕ) (is : IsLate formats store core.history.commits core.keys set (verdict.Commits commit aside)) where
     pub not_full : history_weight (core.history.commits ++ commit ∷ []) ≤ heaviest_history
-    not_full = light formats store core records made world b.stands r p set b.set_is taken commit aside (of_store (verdict.Commits commit aside) is)
+    not_full = light formats store core records made world b.stands r p set b.set_is taken commit aside is
 
     pub is_entry : IsEntry prepared.texts
-    is_entry = subst IsEntry (sym b.texts) (entry formats store core records made world b.stands r p set b.set_is taken commit aside (of_store (verdict.Commits commit aside) is))
+    is_entry = subst IsEntry (sym b.texts) (entry formats store core records made world b.stands r p set b.set_is taken commit aside is)
 
     commit_is : commit ≡ commit_of set
-    commit_is = commit_is_set formats store core records made world b.stands r p set b.set_is taken commit aside (of_store (verdict.Commits commit aside) is)
+    commit_is = commit_is_set formats store core records made world b.stands r p set b.set_is taken commit aside is
 
     pub texts_are : prepared.texts ≡ entry_of formats store core.keys (commit_of set)
-    texts_are = b.texts ∙ entry_is formats store core records made world b.stands r p set b.set_is taken commit aside (of_store (verdict.Commits commit aside) is)
+    texts_are = b.texts ∙ entry_is formats store core records made world b.stands r p set b.set_is taken commit aside is
 
     module _ (g : Ghosts D) (keys : KeyMap) (keys_are : keys ≡ after core.keys set.changes) (patterns : P) (next : Core D P) (new : Record) (risen : Bool) where
-      entered : HasEntered g commit keys prepared (record core { patterns = patterns }) next rec new → HasMade formats mounts store core next records made p rec new prepared risen (Ok (done.Committed (found + 1) aside))
+      entered : HasEntered g commit keys prepared (record core { patterns = patterns }) next rec new → HasMade formats store core next records made p rec new prepared risen (Ok (done.Committed (found + 1) aside))
       entered has =
           let moved : record_of new ≡ keeping set.touched (found + 1) (wants (points_of store) set.keys) (records r) =
           has.kept prepared.touched (wants (points_of store) prepared.keys) b.wanted ∙ ap (keeping set.touched (found + 1) (wants (points_of store) set.keys)) (sym b.record_is) in
@@ -152,8 +145,8 @@ module _ (formats : Formats) {D P : Type 0} (mounts : List Mount) (store : Store
             is_made = record { judged = judged (verdict.Commits commit aside) is; next_is = λ i. record { history = has.history i; keys = all i; records = put r (moved i) records; sets = made } };
           }
 
-      pub made_entered : (result : Result Done CommitFault) → IsEntered g commit aside keys prepared (record core { patterns = patterns }) next rec new result → HasMade formats mounts store core next records made p rec new prepared risen result
-      made_entered (Ok m) has = subst (λ (d : Done). HasMade formats mounts store core next records made p rec new prepared risen (Ok d)) (sym has.0) (entered has.1)
+      pub made_entered : (result : Result Done CommitFault) → IsEntered g commit aside keys prepared (record core { patterns = patterns }) next rec new result → HasMade formats store core next records made p rec new prepared risen result
+      made_entered (Ok m) has = subst (λ (d : Done). HasMade formats store core next records made p rec new prepared risen (Ok d)) (sym has.0) (entered has.1)
       made_entered (Err fault.Memory) has = record { answer = event.Memory; is_answer = refl; is_made = kept next new has.1.history has.1.keys has.0 }
       made_entered (Err (fault.DiskFault front)) has = record {
         answer = event.Failed found;
@@ -168,9 +161,9 @@ module _ (formats : Formats) {D P : Type 0} (mounts : List Mount) (store : Store
   -- ---- and on the disk
 
   module _ (g : Ghosts D) (opened : D) (run : Run) (on_disk : IsStore g opened core.journal run) (next : Core D P) (new : Record) (risen : Bool) where
-    on_run : (result : Result Done CommitFault) (later : Run) → HasMade formats mounts store core next records made p rec new prepared risen result
-        → ((answer : Answer) → IsAnswer mounts risen found set result answer → RunsOn formats store core.keys run (made p) answer later) → IsStore g opened next.journal later
-        → HasAnswered formats g mounts store opened core next records made run p rec new prepared risen result
+    on_run : (result : Result Done CommitFault) (later : Run) → HasMade formats store core next records made p rec new prepared risen result
+        → ((answer : Answer) → IsAnswer store.mounts risen found set result answer → RunsOn formats store core.keys run (made p) answer later) → IsStore g opened next.journal later
+        → HasAnswered formats g store opened core next records made run p rec new prepared risen result
     on_run result later has goes stored = record {
       later = later;
       answer = has.answer;
@@ -179,7 +172,7 @@ module _ (formats : Formats) {D P : Type 0} (mounts : List Mount) (store : Store
     }
 
     -- an answer told of nothing written leaves the run
-    runs_still : (result : Result Done CommitFault) → has_written result ≡ false → (answer : Answer) → IsAnswer mounts risen found set result answer → RunsOn formats store core.keys run (made p) answer run
+    runs_still : (result : Result Done CommitFault) → has_written result ≡ false → (answer : Answer) → IsAnswer store.mounts risen found set result answer → RunsOn formats store core.keys run (made p) answer run
     runs_still (Ok (done.Committed number aside)) unwritten answer is = absurd cc
     runs_still (Ok (done.Same front aside)) unwritten answer is = subst (λ (a : Answer). RunsOn formats store core.keys run (made p) a run) (sym is) refl
     runs_still (Err (fault.Conflict mount by front)) unwritten answer is = subst (λ (a : Answer). RunsOn formats store core.keys run (made p) a run) (sym is.2) refl
@@ -189,18 +182,18 @@ module _ (formats : Formats) {D P : Type 0} (mounts : List Mount) (store : Store
     runs_still (Err (fault.DiskFault front)) unwritten answer is = absurd cc
     runs_still (Err fault.Memory) unwritten answer is = subst (λ (a : Answer). RunsOn formats store core.keys run (made p) a run) (sym is) refl
 
-    pub answered_unwritten : IsUnwritten core next → (result : Result Done CommitFault) → has_written result ≡ false → HasMade formats mounts store core next records made p rec new prepared risen result
-        → HasAnswered formats g mounts store opened core next records made run p rec new prepared risen result
+    pub answered_unwritten : IsUnwritten core next → (result : Result Done CommitFault) → has_written result ≡ false → HasMade formats store core next records made p rec new prepared risen result
+        → HasAnswered formats g store opened core next records made run p rec new prepared risen result
     answered_unwritten still result unwritten has = on_run result run has (runs_still result unwritten) (subst (λ (j : JournalValue D). IsStore g opened j run) (sym still.journal) on_disk)
 
-    module _ (commit : past.Commit) (aside : ℕ) (late_is : IsLate (points_at mounts) core.history.commits core.keys set (verdict.Commits commit aside)) (keys : KeyMap) (patterns : P) where
+    module _ (commit : past.Commit) (aside : ℕ) (late_is : IsLate formats store core.history.commits core.keys set (verdict.Commits commit aside)) (keys : KeyMap) (patterns : P) where
       texts : prepared.texts ≡ entry_of formats store core.keys (commit_of set)
       texts = texts_are commit aside late_is
 
-      pub answered_entered : (result : Result Done CommitFault) → IsEntered g commit aside keys prepared (record core { patterns = patterns }) next rec new result → HasMade formats mounts store core next records made p rec new prepared risen result
-          → HasAnswered formats g mounts store opened core next records made run p rec new prepared risen result
+      pub answered_entered : (result : Result Done CommitFault) → IsEntered g commit aside keys prepared (record core { patterns = patterns }) next rec new result → HasMade formats store core next records made p rec new prepared risen result
+          → HasAnswered formats g store opened core next records made run p rec new prepared risen result
       answered_entered (Ok m) is has =
-          subst (λ (d : Done). HasMade formats mounts store core next records made p rec new prepared risen (Ok d) → HasAnswered formats g mounts store opened core next records made run p rec new prepared risen (Ok d)) (sym is.0)
+          subst (λ (d : Done). HasMade formats store core next records made p rec new prepared risen (Ok d) → HasAnswered formats g store opened core next records made run p rec new prepared risen (Ok d)) (sym is.0)
           (λ made_of. on_run (Ok (done.Committed (found + 1) aside)) (after_commit run prepared.texts) made_of
           (λ answer told. subst (λ (a : Answer). RunsOn formats store core.keys run (made p) a (after_commit run prepared.texts)) (sym told.1) (ap (after_commit run) texts))
           (is.1.stored opened run on_disk)) has

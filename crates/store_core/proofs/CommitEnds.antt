@@ -1,5 +1,5 @@
 -- The two ways in which a commit of a set ends: nothing is written, or the set enters the history.
-use Rattle.std.proofs.Common.{◌≡◌, ℕ, ◌≤◌, Bool, true, false, true≢false, List, length, Result, Ok, Err, refl, sym, ap, subst, ◌∙◌}
+use Rattle.std.proofs.Common.{◌≡◌, ℕ, ◌≤◌, Bool, true, false, true≢false, List, length, map as over, Result, Ok, Err, refl, sym, ap, subst, ◌∙◌}
 use Rattle.kdb_outside.specs.declared.disks.Disk.{Ghosts}
 use Rattle.kdb_outside.specs.Faults.{HasRisen}
 use Rattle.kdb_outside.specs.Frames.{GoesOn}
@@ -11,17 +11,17 @@ use Rattle.model_crashes.specs.Runs.{IsAmid, files_of}
 use Rattle.model_files.specs.Texts.{entry_of}
 use Rattle.model_history.specs.Changes.{after}
 use Rattle.model_history.specs.History as past
-use Rattle.model_maps.specs.KeyMap.{KeyMap}
+use Rattle.model_maps.specs.KeyMap.{KeyMap, no_keys}
 use Rattle.model_specified.specs.declared.violations.Violation.{Violation}
 use Rattle.model_store.specs.Rules.{has_risen}
 use Rattle.model_store.specs.Sets as sets
-use Rattle.model_store.specs.Store.{Formats, points_at}
+use Rattle.model_store.specs.Store.{Formats, store_of}
 use Rattle.model_store.specs.Verdicts as verdict
-use Rattle.model_store.specs.Verdicts.{IsLate, commit_of}
+use Rattle.model_store.specs.Verdicts.{IsLate, Late, commit_of}
 use Rattle.model_store.proofs.Judged.{is_committed}
 use Rattle.model_store.proofs.OneVerdict.{breach-caused}
 use Rattle.model_store.proofs.Risen.{has_risen-Decides}
-use Rattle.mount_table.specs.declared.mounts.Mount.{Mount}
+use Rattle.mounted_files.specs.declared.files.MountedFile.{MountedFile}
 use Rattle.store_core.specs.Answers.{IsConflict, IsJudged, has_written}
 use Rattle.store_core.specs.Commits.{CommitsSet}
 use Rattle.store_core.specs.Entering.{EntersHistory, IsEntered}
@@ -50,32 +50,43 @@ enters_nothing {D} g commit aside keys set old new rec result memory still patte
   proc = refl;
 }
 
-module _ (formats : Formats) {D P : Type 0} (g : Ghosts D) (refusals : P → ℕ) (mounts : List Mount) (core : Core D P) (patterns : P) (rec : Record) (prepared : Prepared) (later : refusals core.patterns ≤ refusals patterns) where
+module _ (formats : Formats) {D P : Type 0} (g : Ghosts D) (refusals : P → ℕ) (files : List MountedFile) (core : Core D P) (patterns : P) (rec : Record) (prepared : Prepared) (later : refusals core.patterns ≤ refusals patterns) where
   abbrev set : sets.Prepared
   set = prepared_of prepared
 
   abbrev risen : Bool
   risen = has_risen (refusals core.patterns) (refusals patterns)
 
+  -- some keys of the handles in `proc`
+  abbrev none_of : ℕ → KeyMap
+  none_of r = no_keys
+
+  -- what the history decides, by the store of the files
+  abbrev Decides : Late → Type 0
+  Decides late = (procs : ℕ → KeyMap) → IsLate formats (store_of files procs) core.history.commits core.keys set late
+
+  abbrev Judges : Bool → Result Done CommitFault → Type 0
+  Judges rose result = (procs : ℕ → KeyMap) → IsJudged formats (store_of files procs) rose core.history.commits core.keys set result
+
   -- the matcher alone moved
   abbrev moved : Core D P
   moved = record core { patterns = patterns }
 
-  pub commits_nothing : (result : Result Done CommitFault) → has_written result ≡ false → IsJudged mounts risen core.history.commits core.keys set result → CommitsSet formats g refusals mounts core moved rec rec prepared result
+  pub commits_nothing : (result : Result Done CommitFault) → has_written result ≡ false → Judges risen result → CommitsSet formats g refusals files core moved rec rec prepared result
   commits_nothing result none judged =
       let still : IsUnwritten core moved = matched core patterns in
       record {
         judged = judged;
-        made = λ store records made world p b. made_unwritten formats mounts store core records made world p rec prepared b moved still risen result none judged;
-        committed = λ store opened records made world run p b.
-            answered_unwritten formats mounts store core records made world p rec prepared b.here g opened run b.on_disk moved rec risen still result none
-            (made_unwritten formats mounts store core records made world p rec prepared b.here moved still risen result none judged);
-        any_moment = λ store opened records made world run p b. nothing_stored g opened core.journal run (entry_of formats store core.keys (commit_of set)) b.on_disk;
+        made = λ procs records made world p b. made_unwritten formats (store_of files procs) core records made world p rec prepared b moved still risen result none (judged procs);
+        committed = λ procs opened records made world run p b.
+            answered_unwritten formats (store_of files procs) core records made world p rec prepared b.here g opened run b.on_disk moved rec risen still result none
+            (made_unwritten formats (store_of files procs) core records made world p rec prepared b.here moved still risen result none (judged procs));
+        any_moment = λ procs opened records made world run p b. nothing_stored g opened core.journal run (entry_of formats (store_of files procs) core.keys (commit_of set)) b.on_disk;
         goes = OnlyReads-goes_on g core.journal.disk core.journal.disk (OnlyReads-none g core.journal.disk);
         cause = λ front is. absurd (true≢false (sym (ap has_written is) ∙ none));
         refused = λ violation front is six short.
             (has_risen-Decides (refusals core.patterns) (refusals patterns)).0
-            (breach-caused (points_at mounts) core.history.commits core.keys set violation risen (subst (IsJudged mounts risen core.history.commits core.keys set) is judged).1 six short);
+            (breach-caused formats (store_of files none_of) core.history.commits core.keys set violation risen (subst (Judges risen) is judged none_of).1 six short);
         later = later;
         unwritten = λ is. still;
         wrote = λ yes. absurd (true≢false (sym yes ∙ none));
@@ -85,24 +96,24 @@ module _ (formats : Formats) {D P : Type 0} (g : Ghosts D) (refusals : P → ℕ
       }
 
   -- a conflict, or want of memory for its name
-  pub commits_conflict : (m by front : ℕ) (why : CommitFault) → front ≡ length core.history.commits → IsLate (points_at mounts) core.history.commits core.keys set (verdict.Conflict m by) → IsConflict mounts m by front why
-      → CommitsSet formats g refusals mounts core moved rec rec prepared (Err why)
-  commits_conflict m by front fault.Memory same is conflict = commits_nothing (Err fault.Memory) refl tt
+  pub commits_conflict : (m by front : ℕ) (why : CommitFault) → front ≡ length core.history.commits → Decides (verdict.Conflict m by) → IsConflict (over (λ file. file.mount) files) m by front why
+      → CommitsSet formats g refusals files core moved rec rec prepared (Err why)
+  commits_conflict m by front fault.Memory same is conflict = commits_nothing (Err fault.Memory) refl (λ procs. tt)
   commits_conflict m by front (fault.Conflict mount number found) same is conflict =
       commits_nothing (Err (fault.Conflict mount number found)) refl
-      (m, conflict.0, conflict.2 ∙ same, subst (λ n. IsLate (points_at mounts) core.history.commits core.keys set (verdict.Conflict m n)) (sym conflict.1) is)
+      (λ procs. (m, conflict.0, conflict.2 ∙ same, subst (λ n. IsLate formats (store_of files procs) core.history.commits core.keys set (verdict.Conflict m n)) (sym conflict.1) (is procs)))
   commits_conflict m by front (fault.Invalid violation found) same is conflict = absurd conflict
   commits_conflict m by front (fault.DatabaseFull weight found) same is conflict = absurd conflict
   commits_conflict m by front (fault.HistoryFull weight found) same is conflict = absurd conflict
   commits_conflict m by front (fault.DiskFault found) same is conflict = absurd conflict
 
-  module _ (commit : past.Commit) (aside : ℕ) (is : IsLate (points_at mounts) core.history.commits core.keys set (verdict.Commits commit aside)) (keys : KeyMap) (keys_are : keys ≡ after core.keys set.changes) (next : Core D P) (new : Record) where
-    own : IsLate (points_at mounts) core.history.commits core.keys set (verdict.Commits (commit_of set) aside)
-    own = subst (λ (c : past.Commit). IsLate (points_at mounts) core.history.commits core.keys set (verdict.Commits c aside)) (is_committed (points_at mounts) core.history.commits core.keys set commit aside is).is is
+  module _ (commit : past.Commit) (aside : ℕ) (is : Decides (verdict.Commits commit aside)) (keys : KeyMap) (keys_are : keys ≡ after core.keys set.changes) (next : Core D P) (new : Record) where
+    own : Decides (verdict.Commits (commit_of set) aside)
+    own = subst (λ (c : past.Commit). Decides (verdict.Commits c aside)) (is_committed formats (store_of files none_of) core.history.commits core.keys set commit aside (is none_of)).is is
 
     -- what the core and the record are by the answer
     record Ends (result : Result Done CommitFault) : Type 0 where
-      judged : (rose : Bool) → IsJudged mounts rose core.history.commits core.keys set result
+      judged : (rose : Bool) → Judges rose result
       cause : (front : ℕ) → result ≡ Err (fault.DiskFault front) → HasRisen (g.faults core.journal.disk) (g.faults next.journal.disk)
       valid : (violation : Violation) (front : ℕ) → result ≡ Err (fault.Invalid violation front) → ⊥
       unwritten : has_written result ≡ false → IsUnwritten core next
@@ -110,21 +121,21 @@ module _ (formats : Formats) {D P : Type 0} (g : Ghosts D) (refusals : P → ℕ
 
     ends : (result : Result Done CommitFault) → IsEntered g commit aside keys prepared moved next rec new result → Ends result
     ends (Ok m) has = record {
-      judged = λ rose. subst (λ (d : Done). IsJudged mounts rose core.history.commits core.keys set (Ok d)) (sym has.0) (refl, own);
+      judged = λ rose. subst (λ (d : Done). Judges rose (Ok d)) (sym has.0) (λ procs. (refl, own procs));
       cause = λ front e. absurd cc;
       valid = λ rule front e. cc;
       unwritten = λ none. absurd (true≢false (sym (ap (λ (d : Done). has_written (Ok d)) has.0) ∙ none));
       wrote = λ yes. has.1.wrote;
     }
     ends (Err fault.Memory) has = record {
-      judged = λ rose. tt;
+      judged = λ rose procs. tt;
       cause = λ front e. absurd cc;
       valid = λ rule front e. cc;
       unwritten = λ none. record { journal = has.1.journal; history = has.1.history; keys = has.1.keys; wrote = has.1.wrote };
       wrote = λ yes. absurd cc;
     }
     ends (Err (fault.DiskFault front)) has = record {
-      judged = λ rose. (aside, has.0, own);
+      judged = λ rose procs. (aside, has.0, own procs);
       cause = λ other e. has.1.cause;
       valid = λ rule other e. cc;
       unwritten = λ none. absurd cc;
@@ -135,20 +146,20 @@ module _ (formats : Formats) {D P : Type 0} (g : Ghosts D) (refusals : P → ℕ
     ends (Err (fault.DatabaseFull weight front)) has = absurd has
     ends (Err (fault.HistoryFull weight front)) has = absurd has
 
-    pub commits_entry : (result : Result Done CommitFault) → EntersHistory g commit aside keys prepared moved next rec new result → CommitsSet formats g refusals mounts core next rec new prepared result
+    pub commits_entry : (result : Result Done CommitFault) → EntersHistory g commit aside keys prepared moved next rec new result → CommitsSet formats g refusals files core next rec new prepared result
     commits_entry result enters =
         let end : Ends result = ends result enters.entered in
         let rose : Bool = has_risen (refusals core.patterns) (refusals next.patterns) in
         record {
           judged = end.judged rose;
-          made = λ store records made world p b.
-              made_entered formats mounts store core records made world p rec prepared b commit aside is g keys keys_are patterns next new rose result enters.entered;
-          committed = λ store opened records made world run p b.
-              answered_entered formats mounts store core records made world p rec prepared b.here g opened run b.on_disk next new rose commit aside is keys patterns result enters.entered
-              (made_entered formats mounts store core records made world p rec prepared b.here commit aside is g keys keys_are patterns next new rose result enters.entered);
-          any_moment = λ store opened records made world run p b.
+          made = λ procs records made world p b.
+              made_entered formats (store_of files procs) core records made world p rec prepared b commit aside (is procs) g keys keys_are patterns next new rose result enters.entered;
+          committed = λ procs opened records made world run p b.
+              answered_entered formats (store_of files procs) core records made world p rec prepared b.here g opened run b.on_disk next new rose commit aside (is procs) keys patterns result enters.entered
+              (made_entered formats (store_of files procs) core records made world p rec prepared b.here commit aside (is procs) g keys keys_are patterns next new rose result enters.entered);
+          any_moment = λ procs opened records made world run p b.
               subst (λ (entry : List FileText). LeavesOnly g core.journal.disk next.journal.disk (IsAmid (files_of run) run.doubt entry))
-              (texts_are formats mounts store core records made world p rec prepared b.here commit aside is) (enters.any_moment opened run b.on_disk);
+              (texts_are formats (store_of files procs) core records made world p rec prepared b.here commit aside (is procs)) (enters.any_moment opened run b.on_disk);
           goes = enters.goes;
           cause = end.cause;
           refused = λ violation front e six short. absurd (end.valid violation front e);

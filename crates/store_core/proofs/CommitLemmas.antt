@@ -55,7 +55,7 @@ module _ (formats : Formats) (store : Store) where
         ∙ sym (entries-next store.start before.history.commits commit)
         ∙ ap (entries_of formats store) (sym joined)
 
-    entries-judged : (front : ℕ) (late : Late) → CommitMade store old r p front late new → RunsOn formats store before.keys run (sets p) (Judged front late) later → later.commits ≡ entries_of formats store after.history.commits
+    entries-judged : (front : ℕ) (late : Late) → CommitMade formats store old r p front late new → RunsOn formats store before.keys run (sets p) (Judged front late) later → later.commits ≡ entries_of formats store after.history.commits
     entries-judged front (Same aside) made on = entries-stay made.next_is (ap (λ (x : Run). x.commits) on)
     entries-judged front (Conflict mount by) made on = entries-stay made.next_is (ap (λ (x : Run). x.commits) on)
     entries-judged front (Invalid violation risen) made on = entries-stay made.next_is (ap (λ (x : Run). x.commits) on)

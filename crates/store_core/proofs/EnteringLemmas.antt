@@ -73,13 +73,13 @@ module _ (formats : Formats) {D P : Type 0} (store : Store) (core : Core D P) (r
   old = core_with core records sets
 
   -- a verdict of the history is one of the definitions
-  abbrev pub judgement : (late : Late) → IsLate (points_of store) core.history.commits core.keys set late → JudgementMade store old r p (length core.history.commits) late
+  abbrev pub judgement : (late : Late) → IsLate formats store core.history.commits core.keys set late → JudgementMade formats store old r p (length core.history.commits) late
   judgement late is = record { set = set; is_set = is_set; accepted = accepted; front_is = refl; late_is = is }
 
   pub present : replay store.start core.history.commits ≡ core.keys
   present = ap (replay store.start) st.stands.history ∙ sym st.stands.keys
 
-  module _ (commit : past.Commit) (aside : ℕ) (late : IsLate (points_of store) core.history.commits core.keys set (Commits commit aside)) where
+  module _ (commit : past.Commit) (aside : ℕ) (late : IsLate formats store core.history.commits core.keys set (Commits commit aside)) where
     abbrev next : cores.Core
     next = core_after store old r set (Commits commit aside)
 
@@ -123,7 +123,7 @@ module _ (formats : Formats) {D P : Type 0} (store : Store) (core : Core D P) (r
             ∙ sym (ap (λ (x : Fetched). x.kept) is)
 
     pub commit_is_set : commit ≡ commit_of set
-    commit_is_set = (is_committed (points_of store) core.history.commits core.keys set commit aside late).is
+    commit_is_set = (is_committed formats store core.history.commits core.keys set commit aside late).is
 
     pub entry_is : as_entry (texts_at formats store set.keys set.touched) ≡ entry_of formats store core.keys (commit_of set)
     entry_is = ap as_entry (texts-alike formats store set.keys (after core.keys set.changes) set.touched (λ m among. sym (stored m among)))

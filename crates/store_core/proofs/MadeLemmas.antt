@@ -1,5 +1,5 @@
 -- A prepared set that its record accepts may be committed.
-use Rattle.std.proofs.Common.{◌≡◌, ℕ, ◌≤◌, true, length, map as over, Option, Some, refl, sym, ap, ◌∙◌}
+use Rattle.std.proofs.Common.{◌≡◌, ℕ, ◌≤◌, true, length, map as over, Option, Some, sym, ap, ◌∙◌}
 use Rattle.model_files.specs.Texts.{as_entry, texts_at}
 use Rattle.model_maps.specs.KeyMap.{KeyMap}
 use Rattle.model_names.specs.Name.{Name}
@@ -20,11 +20,10 @@ use Rattle.store_verdict.specs.declared.records.Record.{Record}
 
 pub belongs_made : (formats : Formats) {D P : Type 0} (store : Store) (core : Core D P) (records : ℕ → model.Record) (made : ℕ → Option sets.Prepared) (world : World) (p : ℕ) (rec : Record) (set : Prepared) (handle : ℕ) (before : model.Record) (parent : Name) (keys : KeyMap)
     → StandsIn formats store core records made world → records (handle_of rec) ≡ record_of rec → length store.mounts ≤ places_of rec → made p ≡ Some (prepared_of set) → accepts (record_of rec) (handle_of rec) (prepared_of set) ≡ true
-    → IsMade formats store handle before parent keys set → BelongsIn formats store.mounts store core records made world p rec set
+    → IsMade formats store handle before parent keys set → BelongsIn formats store core records made world p rec set
 belongs_made formats store core records made world p rec set handle before parent keys stands record_is places set_is accepted is_made =
     let same : keys ≡ set.keys = sym (ap (λ (s : sets.Prepared). s.keys) is_made.is) in
     record {
-      mounts_are = refl;
       stands = stands;
       record_is = record_is;
       places = places;

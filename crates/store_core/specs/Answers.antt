@@ -6,7 +6,7 @@ use Rattle.model_maps.specs.KeyMap.{KeyMap}
 use Rattle.model_names.specs.Name.{Name}
 use Rattle.model_store.specs.Events as event
 use Rattle.model_store.specs.Sets.{Prepared}
-use Rattle.model_store.specs.Store.{points_at}
+use Rattle.model_store.specs.Store.{Store, Formats}
 use Rattle.model_store.specs.Verdicts as late
 use Rattle.mount_table.specs.declared.mounts.Mount.{Mount}
 use Rattle.store_core.specs.declared.committing.CommitFault.{CommitFault}
@@ -30,15 +30,15 @@ IsAnswer mounts risen found set (Err (DiskFault front)) answer = answer ≡ even
 IsAnswer mounts risen found set (Err Memory) answer = answer ≡ event.Memory
 
 -- what the history decides of a set, by the answer to its commit, whatever the disk tells: it decides before the disk is touched
-abbrev pub IsJudged : List Mount → Bool → List Commit → KeyMap → Prepared → Result Done CommitFault → Type 0
-IsJudged mounts risen history keys set (Ok (Committed number aside)) = (number ≡ length history + 1) × late.IsLate (points_at mounts) history keys set (late.Commits (late.commit_of set) aside)
-IsJudged mounts risen history keys set (Ok (Same front aside)) = (front ≡ length history) × late.IsLate (points_at mounts) history keys set (late.Same aside)
-IsJudged mounts risen history keys set (Err (Conflict mount by front)) = (m : ℕ) × (point_at mounts m ≡ Some mount) × (front ≡ length history) × late.IsLate (points_at mounts) history keys set (late.Conflict m by)
-IsJudged mounts risen history keys set (Err (Invalid violation front)) = (front ≡ length history) × late.IsLate (points_at mounts) history keys set (late.Invalid violation risen)
-IsJudged mounts risen history keys set (Err (DatabaseFull weight front)) = (front ≡ length history) × late.IsLate (points_at mounts) history keys set (late.DatabaseFull weight)
-IsJudged mounts risen history keys set (Err (HistoryFull weight front)) = (front ≡ length history) × late.IsLate (points_at mounts) history keys set (late.HistoryFull weight)
-IsJudged mounts risen history keys set (Err (DiskFault front)) = (aside : ℕ) × (front ≡ length history) × late.IsLate (points_at mounts) history keys set (late.Commits (late.commit_of set) aside)
-IsJudged mounts risen history keys set (Err Memory) = Unit {0}
+abbrev pub IsJudged : Formats → Store → Bool → List Commit → KeyMap → Prepared → Result Done CommitFault → Type 0
+IsJudged formats store risen history keys set (Ok (Committed number aside)) = (number ≡ length history + 1) × late.IsLate formats store history keys set (late.Commits (late.commit_of set) aside)
+IsJudged formats store risen history keys set (Ok (Same front aside)) = (front ≡ length history) × late.IsLate formats store history keys set (late.Same aside)
+IsJudged formats store risen history keys set (Err (Conflict mount by front)) = (m : ℕ) × (point_at store.mounts m ≡ Some mount) × (front ≡ length history) × late.IsLate formats store history keys set (late.Conflict m by)
+IsJudged formats store risen history keys set (Err (Invalid violation front)) = (front ≡ length history) × late.IsLate formats store history keys set (late.Invalid violation risen)
+IsJudged formats store risen history keys set (Err (DatabaseFull weight front)) = (front ≡ length history) × late.IsLate formats store history keys set (late.DatabaseFull weight)
+IsJudged formats store risen history keys set (Err (HistoryFull weight front)) = (front ≡ length history) × late.IsLate formats store history keys set (late.HistoryFull weight)
+IsJudged formats store risen history keys set (Err (DiskFault front)) = (aside : ℕ) × (front ≡ length history) × late.IsLate formats store history keys set (late.Commits (late.commit_of set) aside)
+IsJudged formats store risen history keys set (Err Memory) = Unit {0}
 
 -- an answer before which the disk was written: the commit is stored, or a fault came amid it
 abbrev pub has_written : Result Done CommitFault → Bool

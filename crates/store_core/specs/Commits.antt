@@ -6,15 +6,16 @@ use Rattle.kdb_outside.specs.Frames.{GoesOn}
 use Rattle.intent_journal.specs.Moments.{LeavesOnly}
 use Rattle.model_crashes.specs.Runs.{Run, files_of, IsAmid}
 use Rattle.model_files.specs.Texts.{entry_of}
+use Rattle.model_maps.specs.KeyMap.{KeyMap}
 use Rattle.model_rules.specs.Rules.{longest_pattern}
 use Rattle.model_specified.specs.declared.violations.Violation.{Violation}
 use Rattle.model_store.specs.Records as model
 use Rattle.model_store.specs.Rules.{has_risen}
 use Rattle.model_store.specs.Sets as sets
-use Rattle.model_store.specs.Store.{Store, Formats}
+use Rattle.model_store.specs.Store.{Formats, store_of}
 use Rattle.model_store.specs.Verdicts.{commit_of}
 use Rattle.model_store.specs.Worlds.{World}
-use Rattle.mount_table.specs.declared.mounts.Mount.{Mount}
+use Rattle.mounted_files.specs.declared.files.MountedFile.{MountedFile}
 use Rattle.store_core.specs.Answers.{IsJudged, has_written}
 use Rattle.store_core.specs.Frames.{IsUnwritten}
 use Rattle.store_core.specs.Joined.{Belongs, BelongsIn, HasAnswered, HasMade}
@@ -27,20 +28,20 @@ use Rattle.store_verdict.specs.RecordView.{handle_of, places_of, proc_of}
 use Rattle.store_verdict.specs.declared.prepared.Prepared.{Prepared}
 use Rattle.store_verdict.specs.declared.records.Record.{Record}
 
--- by the mounts of the plan, and by the matcher's count of refusals
-pub record CommitsSet (formats : Formats) {D P : Type 0} (g : Ghosts D) (refusals : P → ℕ) (mounts : List Mount) (old new : Core D P) (before after : Record) (set : Prepared) (result : Result Done CommitFault) : Type 0 where
+-- by the mounted files of the plan, for any keys that the handles have in `proc`, and by the matcher's count of refusals
+pub record CommitsSet (formats : Formats) {D P : Type 0} (g : Ghosts D) (refusals : P → ℕ) (files : List MountedFile) (old new : Core D P) (before after : Record) (set : Prepared) (result : Result Done CommitFault) : Type 0 where
   -- what the history decides, whatever the disk tells
-  pub judged : IsJudged mounts (has_risen (refusals old.patterns) (refusals new.patterns)) old.history.commits old.keys (prepared_of set) result
-  pub made : (store : Store) (records : ℕ → model.Record) (made : ℕ → Option sets.Prepared) (world : World) (p : ℕ)
-      → BelongsIn formats mounts store old records made world p before set
-      → HasMade formats mounts store old new records made p before after set (has_risen (refusals old.patterns) (refusals new.patterns)) result
+  pub judged : (procs : ℕ → KeyMap) → IsJudged formats (store_of files procs) (has_risen (refusals old.patterns) (refusals new.patterns)) old.history.commits old.keys (prepared_of set) result
+  pub made : (procs : ℕ → KeyMap) (records : ℕ → model.Record) (made : ℕ → Option sets.Prepared) (world : World) (p : ℕ)
+      → BelongsIn formats (store_of files procs) old records made world p before set
+      → HasMade formats (store_of files procs) old new records made p before after set (has_risen (refusals old.patterns) (refusals new.patterns)) result
   -- and on the disk
-  pub committed : (store : Store) (opened : D) (records : ℕ → model.Record) (made : ℕ → Option sets.Prepared) (world : World) (run : Run) (p : ℕ)
-      → Belongs formats g mounts store opened old records made world run p before set
-      → HasAnswered formats g mounts store opened old new records made run p before after set (has_risen (refusals old.patterns) (refusals new.patterns)) result
-  pub any_moment : (store : Store) (opened : D) (records : ℕ → model.Record) (made : ℕ → Option sets.Prepared) (world : World) (run : Run) (p : ℕ)
-      → Belongs formats g mounts store opened old records made world run p before set
-      → LeavesOnly g old.journal.disk new.journal.disk (IsAmid (files_of run) run.doubt (entry_of formats store old.keys (commit_of (prepared_of set))))
+  pub committed : (procs : ℕ → KeyMap) (opened : D) (records : ℕ → model.Record) (made : ℕ → Option sets.Prepared) (world : World) (run : Run) (p : ℕ)
+      → Belongs formats g (store_of files procs) opened old records made world run p before set
+      → HasAnswered formats g (store_of files procs) opened old new records made run p before after set (has_risen (refusals old.patterns) (refusals new.patterns)) result
+  pub any_moment : (procs : ℕ → KeyMap) (opened : D) (records : ℕ → model.Record) (made : ℕ → Option sets.Prepared) (world : World) (run : Run) (p : ℕ)
+      → Belongs formats g (store_of files procs) opened old records made world run p before set
+      → LeavesOnly g old.journal.disk new.journal.disk (IsAmid (files_of run) run.doubt (entry_of formats (store_of files procs) old.keys (commit_of (prepared_of set))))
   pub goes : GoesOn g old.journal.disk new.journal.disk
   pub cause : (front : ℕ) → result ≡ Err (DiskFault front) → HasRisen (g.faults old.journal.disk) (g.faults new.journal.disk)
   -- a pattern that is not too long breaks rule 6 only where the matcher refused one

@@ -1,8 +1,9 @@
 //! A commit of a handle's prepared set: the history and the rules decide, then memory is taken, then the disk is written, and then the record moves.
-ghost use Rattle.std.specs.Prelude.{◌≡◌, ◌≤◌, ◌<◌, IfOk, length, map as over};
+ghost use Rattle.std.specs.Prelude.{◌≡◌, ◌≤◌, ◌<◌, ℕ, IfOk, length, map as over};
 ghost use Rattle.model_history.specs.Changes.{after};
+ghost use Rattle.model_maps.specs.KeyMap.{KeyMap};
 ghost use Rattle.model_store.specs.Rules.{has_risen};
-ghost use Rattle.model_store.specs.Store.{formats_of, points_at};
+ghost use Rattle.model_store.specs.Store.{formats_of, store_of};
 ghost use Rattle.model_store.specs.Verdicts.{IsLate};
 ghost use Rattle.store_core.specs.Answers.{IsConflict};
 ghost use Rattle.store_core.specs.Commits.{CommitsSet};
@@ -75,8 +76,8 @@ impl<D: Disk, P: Patterns + Drop> Core<D, P> {
         rec: &mut Record,
         prepared: Prepared,
     ) -> Result<Done, CommitFault>
-        requires ready { IsReady (formats_of F.Formats) (over (λ file. file.mount) plan.now.mounted) self.old rec.old prepared }
-        ensures { CommitsSet (formats_of F.Formats) D.Disk P.refusals (over (λ file. file.mount) plan.now.mounted) self.old self.new rec.old rec.new prepared result }
+        requires ready { IsReady (formats_of F.Formats) plan.now.mounted self.old rec.old prepared }
+        ensures { CommitsSet (formats_of F.Formats) D.Disk P.refusals plan.now.mounted self.old self.new rec.old rec.new prepared result }
     {
         let front = self.history.len();
         let judged = match judge_set(
@@ -113,13 +114,13 @@ fn judge_set<F: Formats + Drop, P: Patterns>(
     keys: &KeySet,
     prepared: &Prepared,
 ) -> Result<Judged, Memory>
-    ensures late { IfOk result (λ made. IsLate (points_at (over (λ file. file.mount) plan.now.mounted)) history.now.commits keys.now (prepared_of prepared.now) (late_of (has_risen (P.refusals patterns.old) (P.refusals patterns.new)) made.late)) }
+    ensures late { IfOk result (λ made. (procs : ℕ → KeyMap)
+        → IsLate (formats_of F.Formats) (store_of plan.now.mounted procs) history.now.commits keys.now (prepared_of prepared.now) (late_of (has_risen (P.refusals patterns.old) (P.refusals patterns.new)) made.late)) }
     ensures keys { IfOk result (λ made. made.keys ≡ after keys.now prepared.now.changes) }
     ensures later { P.refusals patterns.old ≤ P.refusals patterns.new }
 {
     let keys = prepared.changes.applied(keys)?;
-    let points = plan.table().points();
-    let late = judge(alloc, patterns, points, history, &keys, prepared)?;
+    let late = judge::<F, P>(alloc, patterns, &plan.mounted, history, &keys, prepared)?;
     Ok(Judged { late, keys })
 }
 

@@ -48,5 +48,5 @@ pub fn a_prepared_set_may_be_committed<D: Disk, F: Formats, P: Patterns + Drop>(
         → records (handle_of rec.now) ≡ record_of rec.now → length store.mounts ≤ places_of rec.now → sets p ≡ Some (prepared_of prepared.now)
         → accepts (record_of rec.now) (handle_of rec.now) (prepared_of prepared.now) ≡ true
         → IsMade (formats_of F.Formats) store handle before parent keys prepared.now
-        → BelongsIn (formats_of F.Formats) store.mounts store core.now records sets world p rec.now prepared.now }
+        → BelongsIn (formats_of F.Formats) store core.now records sets world p rec.now prepared.now }
 {}

@@ -11,8 +11,8 @@ ghost use Rattle.store_core.specs.Frames.{OnlyReadsFiles};
 use crate::OpenFault;
 use backend_files::FileFault;
 use intent_journal::Journal;
-use kdb_outside::{Disk, FileName};
-use key_meta::Memory;
+use kdb_outside::Disk;
+use mount_table::own_file;
 use mounted_files::{Mounted, Opening};
 use std::alloc::Global;
 use storage_api::Formats;
@@ -97,15 +97,5 @@ fn add_next<D: Disk, F: Formats>(
     match opening.add(alloc, formats, &read) {
         Ok(()) => Ok(()),
         Err(_) => Err(FileFault::Memory),
-    }
-}
-
-/// The file of the table's own keys.
-fn own_file(alloc: Global) -> Result<FileName, Memory>
-    ensures { IfOk result (λ file. file ≡ own_mount.file) }
-{
-    match FileName::new(alloc, "elektra.ecf")? {
-        Some(file) => Ok(file),
-        None => unreachable!(),
     }
 }

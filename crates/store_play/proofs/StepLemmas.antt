@@ -36,7 +36,6 @@ use Rattle.store_core.proofs.MadeLemmas.{belongs_made}
 use Rattle.store_play.specs.Handles.{Holds, IsHandle, AreHandles, IsHeld, AreHeld, records_of, nothing, held_at, held_in}
 use Rattle.store_play.specs.Plays.{Stepped, IsKeptBack, IsSkipped}
 use Rattle.store_play.specs.Stages.{stage_of, Stage}
-use Rattle.store_play.specs.Told.{mounts_of}
 use Rattle.store_play.specs.declared.events.Answer.TheVariants as told
 use Rattle.store_play.specs.declared.events.Event.{Event}
 use Rattle.store_play.specs.declared.events.Event.TheVariants as asked
@@ -255,18 +254,18 @@ module _ (formats : Formats) {D P : Type 0} (g : Ghosts D) (files : List Mounted
   held_by p d prepared lt is = held_there p d lt ∙ is
 
   module _ (r p : ℕ) (old : Record) (prepared : Prepared) (there : slice_get records r ≡ Some old) (is_held : held_at places p ≡ Some prepared) (accepted : accepts (record_of old) (handle_of old) (prepared_of prepared) ≡ true) where
-    pub belongs_here : BelongsIn formats (mounts_of files) store core (records_of records) known world p old prepared
+    pub belongs_here : BelongsIn formats store core (records_of records) known world p old prepared
     belongs_here =
         let is = h.held p prepared is_held in
         let made = is.was_made in
         belongs_made formats store core (records_of records) known world p old prepared made.handle made.before made.parent made.keys h.stands.here (record_is r old there)
         (omega (arith, length-map files (λ (file : MountedFile). file.mount), (h.handles r old there).places)) is.is accepted made.made
 
-    pub belongs : Belongs formats g (mounts_of files) store opened core (records_of records) known world run p old prepared
+    pub belongs : Belongs formats g store opened core (records_of records) known world run p old prepared
     belongs = record { here = belongs_here; on_disk = h.stands.on_disk }
 
     committed : (after : Core D P) (new : Record) (risen : Bool) (result : Result Done CommitFault) → r < length records → p < length places → Moves old new
-        → HasAnswered formats g (mounts_of files) store opened core after (records_of records) known run p old new prepared risen result
+        → HasAnswered formats g store opened core after (records_of records) known run p old new prepared risen result
         → Stepped formats g files procs opened first (asked.Commit r p) (told.Committed result) after (set records r new) (set places p None)
     committed after new risen result lt free moves has =
         let next : ℕ → model.Record = records_of (set records r new) in
@@ -297,7 +296,7 @@ module _ (formats : Formats) {D P : Type 0} (g : Ghosts D) (files : List Mounted
             (λ other e. h.held n one e)
 
     pub committed_so : (after : Core D P) (new : Record) (risen : Bool) (result : Result Done CommitFault) (place : Option Prepared) → place ≡ None → r < length records → p < length places → Moves old new
-        → HasAnswered formats g (mounts_of files) store opened core after (records_of records) known run p old new prepared risen result
+        → HasAnswered formats g store opened core after (records_of records) known run p old new prepared risen result
         → Stepped formats g files procs opened first (asked.Commit r p) (told.Committed result) after (set records r new) (set places p place)
     committed_so after new risen result place free lt there_is moves has =
         subst (λ (o : Option Prepared). Stepped formats g files procs opened first (asked.Commit r p) (told.Committed result) after (set records r new) (set places p o)) (sym free) (committed after new risen result lt there_is moves has)

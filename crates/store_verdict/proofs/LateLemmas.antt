@@ -13,8 +13,9 @@ use Rattle.model_specified.proofs.Refusals.{AreOfKeys-none}
 use Rattle.model_history.specs.Changes.{after}
 use Rattle.model_history.specs.History.{Commit, history_weight, heaviest_history}
 use Rattle.model_store.specs.Sets.{Prepared}
+use Rattle.model_store.specs.Store.{Store, Formats, points_of}
 use Rattle.model_store.specs.Rules.{FirstBreach, KeepRules, has_risen}
-use Rattle.model_store.specs.Verdicts.{Late, Invalid, DatabaseFull, HistoryFull, Commits, Follows, Checks, IsLate, commit_of, conflict, if_untouched, if_heavy, if_full}
+use Rattle.model_store.specs.Verdicts.{Late, Conflict, Invalid, DatabaseFull, HistoryFull, Commits, Follows, Checks, IsLate, commit_of, conflict, if_untouched, if_heavy, if_full}
 use Rattle.model_store.proofs.Risen.{first-tested}
 use Rattle.store_verdict.specs.declared.judging.Late.TheVariants as verdict
 use Rattle.store_verdict.specs.LateView.{late_of, unless_full}
@@ -40,15 +41,24 @@ full-step risen h full e commit made same aside = subst (λ n. Follows (if_full 
     at true = refl
     at false = ap (λ c. Commits c aside) same
 
-module _ (points : List Name) (history : List Commit) (keys : KeyMap) (set : Prepared) (some : 0 < length set.touched) (free : conflict history set ≡ None) where
+-- a set that a commit blocks is told so
+pub late-blocked : (formats : Formats) (store : Store) (history : List Commit) (keys : KeyMap) (set : Prepared) (m by : ℕ) → 0 < length set.touched → conflict store history set ≡ Some (Conflict m by)
+    → IsLate formats store history keys set (Conflict m by)
+late-blocked formats store history keys set m by some blocked =
+    behind (if_untouched set.touched set.aside) (Some (Conflict m by)) _ (touched-none set.touched set.aside some) (told (conflict store history set) (Conflict m by) _ blocked)
+
+module _ (formats : Formats) (store : Store) (history : List Commit) (keys : KeyMap) (set : Prepared) (some : 0 < length set.touched) (free : conflict store history set ≡ None) where
+  abbrev points : List Name
+  points = points_of store
+
   -- a set that nothing blocks is judged by the rules
-  late-free : (answer : Late) → Checks points keys set answer (Follows (if_heavy (weight (after keys set.changes))) (Some answer) (Follows (if_full (history_weight (history ++ commit_of set ∷ []))) (Some answer) (answer ≡ Commits (commit_of set) set.aside))) → IsLate points history keys set answer
+  late-free : (answer : Late) → Checks points keys set answer (Follows (if_heavy (weight (after keys set.changes))) (Some answer) (Follows (if_full (history_weight (history ++ commit_of set ∷ []))) (Some answer) (answer ≡ Commits (commit_of set) set.aside))) → IsLate formats store history keys set answer
   late-free answer checks =
       behind (if_untouched set.touched set.aside) (Some answer) _ (touched-none set.touched set.aside some)
-      (behind (conflict history set) (Some answer) _ free checks)
+      (behind (conflict store history set) (Some answer) _ free checks)
 
   module _ (later : KeyMap) (later_is : later ≡ after keys set.changes) where
-    pub late-invalid : (before now : ℕ) (violation : Violation) → IsFirstViolation (HasRisen before now) (is_owned points set.touched) later (Some violation) → IsLate points history keys set (Invalid violation (has_risen before now))
+    pub late-invalid : (before now : ℕ) (violation : Violation) → IsFirstViolation (HasRisen before now) (is_owned points set.touched) later (Some violation) → IsLate formats store history keys set (Invalid violation (has_risen before now))
     late-invalid before now violation first = late-free (Invalid violation (has_risen before now)) (inl (record {
       violation = violation;
       risen = has_risen before now;
@@ -60,7 +70,7 @@ module _ (points : List Name) (history : List Commit) (keys : KeyMap) (set : Pre
       kept : KeepRules points set.touched (after keys set.changes)
       kept = subst (KeepRules points set.touched) later_is (AreOfKeys-none (HasRisen before now) ⊥ (checked_keys (is_owned points set.touched) later) none)
 
-      pub late-heavy : (w : ℕ) → w ≡ saturated (weight later) → heaviest_map < w → IsLate points history keys set (DatabaseFull w)
+      pub late-heavy : (w : ℕ) → w ≡ saturated (weight later) → heaviest_map < w → IsLate formats store history keys set (DatabaseFull w)
       late-heavy w is lt =
           let n : ℕ = weight (after keys set.changes) in
           let same : w ≡ saturated n = is ∙ ap (λ k. saturated (weight k)) later_is in
@@ -69,7 +79,7 @@ module _ (points : List Name) (history : List Commit) (keys : KeyMap) (set : Pre
           (inr (kept, told (if_heavy n) (DatabaseFull w) _ (cond-true (nat_lt heaviest_map n) (Some (DatabaseFull (saturated n))) None (lt-ltb heaviest_map n heavy) ∙ ap (λ k. Some (DatabaseFull k)) (sym same))))
 
       pub late-light : (w : ℕ) → w ≡ saturated (weight later) → w ≤ heaviest_map → (commit : code.Commit) → log.commit_of commit ≡ commit_of set → (risen : Bool)
-          → IsLate points history keys set (late_of risen (unless_full (history_weight (history ++ log.commit_of commit ∷ [])) commit set.aside))
+          → IsLate formats store history keys set (late_of risen (unless_full (history_weight (history ++ log.commit_of commit ∷ [])) commit set.aside))
       late-light w is le commit same risen =
           let n : ℕ = weight (after keys set.changes) in
           let w_is : w ≡ saturated n = is ∙ ap (λ k. saturated (weight k)) later_is in

@@ -1,12 +1,11 @@
 //! What the history decides of a prepared set.
-ghost use Rattle.std.specs.Prelude.{◌≡◌, ◌≤◌, ◌++◌, ◌∷◌, [], IfOk};
-ghost use Rattle.std.specs.List.Sorted.{IsStrictlySortedBy};
+ghost use Rattle.std.specs.Prelude.{◌≡◌, ◌≤◌, ◌++◌, ◌∷◌, [], ℕ, IfOk};
 ghost use Rattle.std.specs.Option.{option_map};
 ghost use Rattle.model_history.specs.Changes.{after};
 ghost use Rattle.model_history.specs.History.{history_weight};
-ghost use Rattle.model_maps.specs.KeyMap as maps;
-ghost use Rattle.model_names.specs.Order.{name_cmp};
+ghost use Rattle.model_maps.specs.KeyMap.{KeyMap};
 ghost use Rattle.model_store.specs.Rules.{has_risen};
+ghost use Rattle.model_store.specs.Store.{Store, formats_of, store_of};
 ghost use Rattle.model_store.specs.Verdicts.{IsLate, Conflict, commit_of, conflict, conflict_at};
 ghost use Rattle.commit_log.specs.CommitView as log;
 ghost use Rattle.store_verdict.specs.LateView.{late_of, conflict_of, unless_full};
@@ -15,11 +14,12 @@ ghost use Rattle.store_verdict.specs.PreparedView.{prepared_of};
 use crate::prepared::{Prepared, front_of};
 use commit_log::{Commit, HEAVIEST_HISTORY, History};
 use key_meta::{List, Memory};
-use key_name::KeyName;
 use key_set::{HEAVIEST_MAP, KeySet};
+use mounted_files::Mounted;
 use plugin_chain::{Violation, first_violation};
 use regex_check::Patterns;
 use std::alloc::Global;
+use storage_api::Formats;
 
 /// What becomes of a prepared set. Weights are at most `u64::MAX`.
 #[derive(Debug, Drop)]
@@ -45,21 +45,20 @@ pub struct Block {
     pub by: u64,
 }
 
-/// What becomes of a prepared set by the commits so far and the keys of all mounts after it. The points of all mounts stand in name order, and
-/// the mounts are numbered by them from 0.
+/// What becomes of a prepared set by the commits so far and the keys of all mounts after it.
 ///
 /// The first of these applies: `Same`, where no mount is touched; `Conflict`, for the lowest touched mount that a commit behind the set's
 /// front touches, with the first such commit; `Invalid`, with the first violation in the touched mounts; `DatabaseFull`; `HistoryFull`; `Commits`.
-pub fn judge<P: Patterns>(
+pub fn judge<F: Formats, P: Patterns>(
     alloc: Global,
     patterns: &mut P,
-    points: &[KeyName],
+    mounted: &Mounted,
     history: &History,
     keys: &KeySet,
     set: &Prepared,
 ) -> Result<Late, Memory>
-    requires { IsStrictlySortedBy name_cmp points.now }
-    ensures late { IfOk result (λ made. (before : maps.KeyMap) → keys.now ≡ after before set.now.changes → IsLate points.now history.now.commits before (prepared_of set.now) (late_of (has_risen (P.refusals patterns.old) (P.refusals patterns.new)) made)) }
+    ensures late { IfOk result (λ made. (procs : ℕ → KeyMap) (before : KeyMap) → keys.now ≡ after before set.now.changes
+        → IsLate (formats_of F.Formats) (store_of mounted.now procs) history.now.commits before (prepared_of set.now) (late_of (has_risen (P.refusals patterns.old) (P.refusals patterns.new)) made)) }
     ensures later { P.refusals patterns.old ≤ P.refusals patterns.new }
 {
     if set.touched.as_slice().is_empty() {
@@ -73,6 +72,7 @@ pub fn judge<P: Patterns>(
             by: block.by,
         });
     }
+    let points = mounted.table().points();
     if let Some(violation) = first_violation(patterns, keys, points, set.touched.as_slice())? {
         return Ok(Late::Invalid { violation });
     }
@@ -85,7 +85,7 @@ pub fn judge<P: Patterns>(
 
 /// The lowest touched mount that a commit blocks.
 fn first_block(history: &History, set: &Prepared) -> Option<Block>
-    ensures { conflict_of result ≡ conflict history.now.commits (prepared_of set.now) }
+    ensures { (store : Store) → conflict_of result ≡ conflict store history.now.commits (prepared_of set.now) }
 {
     for mount in set.touched.as_slice() {
         let mount = *mount as usize;
@@ -98,7 +98,7 @@ fn first_block(history: &History, set: &Prepared) -> Option<Block>
 
 /// The commit that blocks a mount.
 fn blocking(history: &History, set: &Prepared, mount: usize) -> Option<u64>
-    ensures { option_map (Conflict mount) result ≡ conflict_at history.now.commits (prepared_of set.now).fronts mount }
+    ensures { (store : Store) → option_map (Conflict mount) result ≡ conflict_at store history.now.commits (prepared_of set.now) mount }
 {
     history.first_after(mount, front_of(set.seen.as_slice(), mount)?)
 }

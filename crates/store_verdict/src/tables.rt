@@ -5,8 +5,7 @@ ghost use Rattle.set_split.specs.Seen.{numbered};
 ghost use Rattle.store_verdict.specs.Filing.{IsTold, table_at};
 
 use crate::PrepareFault;
-use mount_table::{MountTable, TableFault};
-use mounted_files::is_own_point;
+use mount_table::{MountTable, TableFault, is_own_point};
 use set_split::Part;
 use std::alloc::Global;
 

@@ -1,5 +1,5 @@
 -- What the commit of a set alone does to a store, and what it answers.
-use Rattle.std.proofs.Common.{◌≡◌, ◌≢◌, ℕ, Bool, T, true, false, List, [], ◌∷◌, length, map as over, Option, Some, None, Result, Ok, Err, refl, sym, ap, ap₂, subst, ◌∙◌, arith}
+use Rattle.std.proofs.Common.{◌≡◌, ◌≢◌, ℕ, Bool, T, true, false, List, [], ◌∷◌, length, Option, Some, None, Result, Ok, Err, refl, sym, ap, ap₂, subst, ◌∙◌, arith}
 use Rattle.std.proofs.lemmas.List.{length-map}
 use Rattle.kdb_outside.specs.declared.disks.Disk.{Ghosts}
 use Rattle.journal_codec.specs.Entry.{IsEntry}
@@ -8,7 +8,7 @@ use Rattle.intent_journal.specs.Journal.{JournalValue}
 use Rattle.model_crashes.specs.Runs.{Run, IsOneOf, after_begun, after_commit}
 use Rattle.model_files.specs.Texts as texts
 use Rattle.model_history.specs.History as past
-use Rattle.model_maps.specs.KeyMap.{KeyMap}
+use Rattle.model_maps.specs.KeyMap.{KeyMap, no_keys}
 use Rattle.model_names.specs.Name.{Name}
 use Rattle.model_store.specs.Cores as cores
 use Rattle.model_store.specs.Cores.{accepts, first_core}
@@ -20,14 +20,13 @@ use Rattle.model_store.specs.Records as model
 use Rattle.model_store.specs.Sets as sets
 use Rattle.model_store.specs.Sets.{prepared}
 use Rattle.model_specified.specs.declared.violations.Violation.{Violation}
-use Rattle.model_store.specs.Store.{Store, points_at, points_of}
+use Rattle.model_store.specs.Store.{Store, points_of}
 use Rattle.model_store.specs.Verdicts as late
 use Rattle.model_store.specs.Verdicts.{Late, IsEarly, IsLate, commit_of}
 use Rattle.model_store.specs.Worlds.{World, first_world}
 use Rattle.model_store.proofs.Accepting.{accepts-own}
 use Rattle.model_store.proofs.FirstSets.{never-blocked}
 use Rattle.model_store.proofs.Owning.{Goes, first_stands, follows}
-use Rattle.mount_table.specs.declared.mounts.Mount.{Mount}
 use Rattle.mounted_files.specs.declared.files.MountedFile.{MountedFile}
 use Rattle.store_core.specs.Answers.{IsJudged, has_written}
 use Rattle.store_core.specs.Committing.{RunsOn}
@@ -66,9 +65,6 @@ module _ {D P : Type 0} (g : Ghosts D) (files : List MountedFile) (core : Core D
     (parent : Name) (keys : KeyMap) (fetched : HasFetched files parent rec) (is_made : IsMade formats (store_alone files) the_handle (record_of rec) parent keys set) where
   abbrev store : Store
   store = store_alone files
-
-  abbrev mounts : List Mount
-  mounts = over (λ (file : MountedFile). file.mount) files
 
   abbrev no_records : ℕ → model.Record
   no_records r m = None
@@ -119,7 +115,7 @@ module _ {D P : Type 0} (g : Ghosts D) (files : List MountedFile) (core : Core D
     sets = ap (λ (s : sets.Prepared). put 0 (Some s) no_sets) (sym is_set) i;
   }
 
-  pub belongs : BelongsIn formats mounts store core records made world 0 rec set
+  pub belongs : BelongsIn formats store core records made world 0 rec set
   belongs = belongs_made formats store core records made world 0 rec set the_handle (record_of rec) parent keys
       (record { files = here.files; stands = subst (λ (c : cores.Core). Stands formats store world c) core_is after_prepare.stands })
       (ap (λ h. put the_handle (record_of rec) no_records h) fetched.handle)
@@ -128,31 +124,31 @@ module _ {D P : Type 0} (g : Ghosts D) (files : List MountedFile) (core : Core D
       (ap₂ (λ (h : ℕ) (s : sets.Prepared). accepts (record_of rec) h s) fetched.handle is_made.is ∙ accepts-own (points_of store) the_handle (record_of rec) parent keys)
       is_made
 
-  pub ready : IsReady formats mounts core rec set
-  ready = record { store = store; records = records; made = made; world = world; number = 0; belongs = belongs }
+  pub ready : IsReady formats files core rec set
+  ready = record { procs = λ handle. no_keys; records = records; made = made; world = world; number = 0; belongs = belongs }
 
   -- what the history decides of the set is what the definitions say of it alone
-  alone : (verdict : Late) → IsLate (points_at mounts) core.history.commits core.keys (prepared_of set) verdict → IsLate (points_at mounts) [] store.start (set_alone store parent keys) verdict
+  alone : (verdict : Late) → IsLate formats store core.history.commits core.keys (prepared_of set) verdict → IsLate formats store [] store.start (set_alone store parent keys) verdict
   alone verdict is =
-      subst (λ (s : sets.Prepared). IsLate (points_at mounts) [] store.start s verdict) is_set
-      (subst (λ (k : KeyMap). IsLate (points_at mounts) [] k (prepared_of set) verdict) keys_are (subst (λ (h : List past.Commit). IsLate (points_at mounts) h core.keys (prepared_of set) verdict) history is))
+      subst (λ (s : sets.Prepared). IsLate formats store [] store.start s verdict) is_set
+      (subst (λ (k : KeyMap). IsLate formats store [] k (prepared_of set) verdict) keys_are (subst (λ (h : List past.Commit). IsLate formats store h core.keys (prepared_of set) verdict) history is))
 
   -- no commit blocks it
-  pub not_blocked : (m by : ℕ) → IsLate (points_at mounts) core.history.commits core.keys (prepared_of set) (late.Conflict m by) → ⊥
-  not_blocked m by is = never-blocked store the_handle parent keys (late.Conflict m by) m by (alone (late.Conflict m by) is) refl
+  pub not_blocked : (m by : ℕ) → IsLate formats store core.history.commits core.keys (prepared_of set) (late.Conflict m by) → ⊥
+  not_blocked m by is = never-blocked formats store the_handle parent keys (late.Conflict m by) m by (alone (late.Conflict m by) is) refl
 
-  pub blocks_not : (risen : Bool) (why : CommitFault) → IsJudged mounts risen core.history.commits core.keys (prepared_of set) (Err why) → (mount : Name) (by front : ℕ) → why ≡ fault.Conflict mount by front → ⊥
+  pub blocks_not : (risen : Bool) (why : CommitFault) → IsJudged formats store risen core.history.commits core.keys (prepared_of set) (Err why) → (mount : Name) (by front : ℕ) → why ≡ fault.Conflict mount by front → ⊥
   blocks_not risen why judged mount by front is =
-      let conflict = subst (λ (w : CommitFault). IsJudged mounts risen core.history.commits core.keys (prepared_of set) (Err w)) is judged in
+      let conflict = subst (λ (w : CommitFault). IsJudged formats store risen core.history.commits core.keys (prepared_of set) (Err w)) is judged in
       not_blocked conflict.0 by conflict.3
 
-  pub joined : (opened : D) (run : Run) → IsStore g opened core.journal run → Belongs formats g mounts store opened core records made world run 0 rec set
+  pub joined : (opened : D) (run : Run) → IsStore g opened core.journal run → Belongs formats g store opened core records made world run 0 rec set
   joined opened run on_disk = record { here = belongs; on_disk = on_disk }
 
   module _ (MayRefuse : List ℕ → Type 0) (risen : Bool) (out : List ℕ) (after : Core D P) (new : Record) where
     -- the set was committed with this answer, for each run that the journal stands for
     abbrev ForEachRun : Result Done CommitFault → Type 0
-    ForEachRun result = (opened : D) (run : Run) → IsStore g opened core.journal run → HasAnswered formats g mounts store opened core after records made run 0 rec new set risen result
+    ForEachRun result = (opened : D) (run : Run) → IsStore g opened core.journal run → HasAnswered formats g store opened core after records made run 0 rec new set risen result
 
     abbrev Answered : Answer → Type 0
     Answered = AnswersSet MayRefuse files parent keys out
@@ -164,20 +160,20 @@ module _ {D P : Type 0} (g : Ghosts D) (files : List MountedFile) (core : Core D
     stored = stored_by store store.start the_commit
 
     -- the set is a commit
-    module _ (aside : ℕ) (is : IsLate (points_at mounts) core.history.commits core.keys (prepared_of set) (late.Commits (commit_of (prepared_of set)) aside)) where
+    module _ (aside : ℕ) (is : IsLate formats store core.history.commits core.keys (prepared_of set) (late.Commits (commit_of (prepared_of set)) aside)) where
       entry_is : texts.entry_of formats store core.keys (commit_of (prepared_of set)) ≡ entry_of stored
       entry_is = ap₂ (λ (k : KeyMap) (s : sets.Prepared). texts.entry_of formats store k (commit_of s)) keys_are is_set
 
       some : stored ≢ []
       some none =
-          let whole : IsEntry set.texts = is_entry formats mounts store core records made world 0 rec set belongs (commit_of (prepared_of set)) aside is in
-          let texts : set.texts ≡ entry_of stored = texts_are formats mounts store core records made world 0 rec set belongs (commit_of (prepared_of set)) aside is ∙ entry_is in
+          let whole : IsEntry set.texts = is_entry formats store core records made world 0 rec set belongs (commit_of (prepared_of set)) aside is in
+          let texts : set.texts ≡ entry_of stored = texts_are formats store core records made world 0 rec set belongs (commit_of (prepared_of set)) aside is ∙ entry_is in
           let empty : length set.texts ≡ 0 = ap length texts ∙ ap (λ (ts : Texts). length (entry_of ts)) none in
           absurd (omega (arith, whole.not_empty, empty))
 
       answers : Answered (answer.stores stored out)
       answers = Judged early (late.Commits the_commit aside)
-          (subst (λ (s : sets.Prepared). IsLate (points_at mounts) [] store.start (set_alone store parent keys) (late.Commits (commit_of s) aside)) is_set (alone (late.Commits (commit_of (prepared_of set)) aside) is)) refl
+          (subst (λ (s : sets.Prepared). IsLate formats store [] store.start (set_alone store parent keys) (late.Commits (commit_of s) aside)) is_set (alone (late.Commits (commit_of (prepared_of set)) aside) is)) refl
 
     with_some : (run : Run) (texts : Texts) → texts ≢ [] → after_commit run (entry_of texts) ≡ run_with run texts
     with_some run [] none = absurd (none refl)
@@ -187,7 +183,7 @@ module _ {D P : Type 0} (g : Ghosts D) (files : List MountedFile) (core : Core D
     still : (opened : D) (run : Run) → IsStore g opened core.journal run → IsUnwritten core after → IsStore g opened after.journal run
     still opened run on_disk kept = subst (λ (j : JournalValue D). IsStore g opened j run) (sym kept.journal) on_disk
 
-    pub committed_serves : (number aside : ℕ) → IsJudged mounts risen core.history.commits core.keys (prepared_of set) (Ok (done.Committed number aside)) → ForEachRun (Ok (done.Committed number aside)) → Serves g Answered (told out) core after
+    pub committed_serves : (number aside : ℕ) → IsJudged formats store risen core.history.commits core.keys (prepared_of set) (Ok (done.Committed number aside)) → ForEachRun (Ok (done.Committed number aside)) → Serves g Answered (told out) core after
     committed_serves number aside judged has = record {
       answer = answer.stores stored out;
       answers = answers aside judged.1;
@@ -197,12 +193,12 @@ module _ {D P : Type 0} (g : Ghosts D) (files : List MountedFile) (core : Core D
       done = λ there. refl;
     }
       where
-        goes_on : (opened : D) (run : Run) → HasAnswered formats g mounts store opened core after records made run 0 rec new set risen (Ok (done.Committed number aside)) → IsStore g opened after.journal (run_with run stored)
+        goes_on : (opened : D) (run : Run) → HasAnswered formats g store opened core after records made run 0 rec new set risen (Ok (done.Committed number aside)) → IsStore g opened after.journal (run_with run stored)
         goes_on opened run has =
             let later_is : has.later ≡ after_commit run (entry_of stored) = subst (λ (t : Told). RunsOn formats store core.keys run (made 0) t has.later) has.is_answer.1 has.committed.runs_on ∙ ap (after_commit run) (entry_is aside judged.1) in
             subst (λ (r : Run). IsStore g opened after.journal r) (later_is ∙ with_some run stored (some aside judged.1)) has.committed.on_disk
 
-    pub same_serves : (front aside : ℕ) → IsJudged mounts risen core.history.commits core.keys (prepared_of set) (Ok (done.Same front aside)) → IsUnwritten core after → Serves g Answered (told out) core after
+    pub same_serves : (front aside : ℕ) → IsJudged formats store risen core.history.commits core.keys (prepared_of set) (Ok (done.Same front aside)) → IsUnwritten core after → Serves g Answered (told out) core after
     same_serves front aside judged kept = record {
       answer = answer.done out;
       answers = Judged early (late.Same aside) (alone (late.Same aside) judged.1) refl;
@@ -212,11 +208,11 @@ module _ {D P : Type 0} (g : Ghosts D) (files : List MountedFile) (core : Core D
       done = λ there. refl;
     }
 
-    pub done_serves : (d : Done) → IsJudged mounts risen core.history.commits core.keys (prepared_of set) (Ok d) → ForEachRun (Ok d) → (has_written (Ok d) ≡ false → IsUnwritten core after) → Serves g Answered (told out) core after
+    pub done_serves : (d : Done) → IsJudged formats store risen core.history.commits core.keys (prepared_of set) (Ok d) → ForEachRun (Ok d) → (has_written (Ok d) ≡ false → IsUnwritten core after) → Serves g Answered (told out) core after
     done_serves (done.Committed number aside) judged has kept = committed_serves number aside judged has
     done_serves (done.Same front aside) judged has kept = same_serves front aside judged (kept refl)
 
-    pub rule_serves : (violation : Violation) (front : ℕ) (report : Report) → ((pattern : List ℕ) → T risen → MayRefuse pattern) → report ≡ warned 5 (invalid violation) → IsJudged mounts risen core.history.commits core.keys (prepared_of set) (Err (fault.Invalid violation front)) → IsUnwritten core after → Serves g Answered report core after
+    pub rule_serves : (violation : Violation) (front : ℕ) (report : Report) → ((pattern : List ℕ) → T risen → MayRefuse pattern) → report ≡ warned 5 (invalid violation) → IsJudged formats store risen core.history.commits core.keys (prepared_of set) (Err (fault.Invalid violation front)) → IsUnwritten core after → Serves g Answered report core after
     rule_serves violation front report may told_is judged kept = record {
       answer = answer.refused 5 (invalid violation);
       answers = Judged early (late.Invalid violation risen) (alone (late.Invalid violation risen) judged.1) (may violation.given, refl);
@@ -226,7 +222,7 @@ module _ {D P : Type 0} (g : Ghosts D) (files : List MountedFile) (core : Core D
       done = λ some. absurd (some refl);
     }
 
-    pub full_serves : (weight front : ℕ) (report : Report) → report ≡ warned 5 (database_full weight) → IsJudged mounts risen core.history.commits core.keys (prepared_of set) (Err (fault.DatabaseFull weight front)) → IsUnwritten core after → Serves g Answered report core after
+    pub full_serves : (weight front : ℕ) (report : Report) → report ≡ warned 5 (database_full weight) → IsJudged formats store risen core.history.commits core.keys (prepared_of set) (Err (fault.DatabaseFull weight front)) → IsUnwritten core after → Serves g Answered report core after
     full_serves weight front report told_is judged kept = record {
       answer = answer.refused 5 (database_full weight);
       answers = Judged early (late.DatabaseFull weight) (alone (late.DatabaseFull weight) judged.1) refl;
@@ -236,7 +232,7 @@ module _ {D P : Type 0} (g : Ghosts D) (files : List MountedFile) (core : Core D
       done = λ some. absurd (some refl);
     }
 
-    pub history_serves : (weight front : ℕ) (report : Report) → report ≡ warned 5 (history_full weight) → IsJudged mounts risen core.history.commits core.keys (prepared_of set) (Err (fault.HistoryFull weight front)) → IsUnwritten core after → Serves g Answered report core after
+    pub history_serves : (weight front : ℕ) (report : Report) → report ≡ warned 5 (history_full weight) → IsJudged formats store risen core.history.commits core.keys (prepared_of set) (Err (fault.HistoryFull weight front)) → IsUnwritten core after → Serves g Answered report core after
     history_serves weight front report told_is judged kept = record {
       answer = answer.refused 5 (history_full weight);
       answers = Judged early (late.HistoryFull weight) (alone (late.HistoryFull weight) judged.1) refl;
@@ -246,7 +242,7 @@ module _ {D P : Type 0} (g : Ghosts D) (files : List MountedFile) (core : Core D
       done = λ some. absurd (some refl);
     }
 
-    pub fault_fails : (front : ℕ) → after.wrote ≡ true → IsJudged mounts risen core.history.commits core.keys (prepared_of set) (Err (fault.DiskFault front)) → ForEachRun (Err (fault.DiskFault front)) → FailsToStore g Answered core after
+    pub fault_fails : (front : ℕ) → after.wrote ≡ true → IsJudged formats store risen core.history.commits core.keys (prepared_of set) (Err (fault.DiskFault front)) → ForEachRun (Err (fault.DiskFault front)) → FailsToStore g Answered core after
     fault_fails front wrote judged has = record {
       answer = answer.stores stored out;
       answers = answers judged.0 judged.2;
@@ -255,7 +251,7 @@ module _ {D P : Type 0} (g : Ghosts D) (files : List MountedFile) (core : Core D
       wrote = wrote;
     }
       where
-        begins : (opened : D) (run : Run) → HasAnswered formats g mounts store opened core after records made run 0 rec new set risen (Err (fault.DiskFault front)) → BeginsEntry g opened run (entry_of stored) after.journal
+        begins : (opened : D) (run : Run) → HasAnswered formats g store opened core after records made run 0 rec new set risen (Err (fault.DiskFault front)) → BeginsEntry g opened run (entry_of stored) after.journal
         begins opened run has =
             let later = subst (λ (t : Told). RunsOn formats store core.keys run (made 0) t has.later) has.is_answer has.committed.runs_on in
             let same = entry_is judged.0 judged.2 in
@@ -266,7 +262,7 @@ module _ {D P : Type 0} (g : Ghosts D) (files : List MountedFile) (core : Core D
             }
 
     -- what a set comes to that isn't committed
-    pub refused_serving : (why : CommitFault) (result : Result code.Report Stop) → ((pattern : List ℕ) → T risen → MayRefuse pattern) → IsRefusalOf why result → IsJudged mounts risen core.history.commits core.keys (prepared_of set) (Err why) → ForEachRun (Err why)
+    pub refused_serving : (why : CommitFault) (result : Result code.Report Stop) → ((pattern : List ℕ) → T risen → MayRefuse pattern) → IsRefusalOf why result → IsJudged formats store risen core.history.commits core.keys (prepared_of set) (Err why) → ForEachRun (Err why)
         → (has_written (Err why) ≡ false → IsUnwritten core after) → (has_written (Err why) ≡ true → after.wrote ≡ true) → Serving g Answered result core after
     refused_serving (fault.Conflict mount by front) result may refusal judged has kept wrote = absurd refusal
     refused_serving (fault.Invalid violation front) (Ok report) may refusal judged has kept wrote = rule_serves violation front (report_of report) may refusal judged (kept refl)

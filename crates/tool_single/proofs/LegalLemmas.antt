@@ -80,7 +80,7 @@ good_parent files parent keys has = by (first_bad (store_alone files) parent) re
 -- ---- a set that is a commit
 
 module _ (files : List MountedFile) (parent : Name) (keys : KeyMap) (good : first_bad (store_alone files) parent ≡ None) (early : IsEarly formats (store_alone files) (set_alone (store_alone files) parent keys) None) (commit : Commit) (aside : ℕ)
-    (late : IsLate (points_of (store_alone files)) [] (store_alone files).start (set_alone (store_alone files) parent keys) (Commits commit aside)) where
+    (late : IsLate formats (store_alone files) [] (store_alone files).start (set_alone (store_alone files) parent keys) (Commits commit aside)) where
   abbrev store : Store
   store = store_alone files
 

@@ -97,7 +97,7 @@ Set-once MayRefuse off files parent keys out a b = by
     by (Refused why early p) (Judged early' late is q) = absurd (none-some why (one None (Some why) early' early))
     by (Judged early late is p) (Refused why early' q) = absurd (none-some why (one None (Some why) early early'))
     by (Judged early late is p) (Judged early' other is' q) =
-        let same : told_alone other ≡ told_alone late = verdict-once MayRefuse (points_of store) [] store.start set off other late (permitted MayRefuse store store.start out other b q) (permitted MayRefuse store store.start out late a p) is' is in
+        let same : told_alone other ≡ told_alone late = verdict-once MayRefuse formats store [] store.start set off other late (permitted MayRefuse store store.start out other b q) (permitted MayRefuse store store.start out late a p) is' is in
         judgement_once MayRefuse store store.start out (told_alone late) a b (alone_judged MayRefuse store store.start out late a p)
         (subst (λ (l : Late). IsJudgement MayRefuse store store.start out l b) same (alone_judged MayRefuse store store.start out other b q))
 
@@ -247,9 +247,9 @@ Set-some MayRefuse each files parent keys out none = by (IsEarly-some formats la
     set : Prepared
     set = set_alone store parent keys
 
-    judged : (late : Late) → IsLate (points_of store) [] store.start set late → IsPermitted MayRefuse late → (answer : Answer) × IsJudgement MayRefuse store store.start out late answer
+    judged : (late : Late) → IsLate formats store [] store.start set late → IsPermitted MayRefuse late → (answer : Answer) × IsJudgement MayRefuse store store.start out late answer
     judged (Same aside) is may = (done out, refl)
-    judged (Conflict mount by) is may = absurd (never-blocked store the_handle parent keys (Conflict mount by) mount by is refl)
+    judged (Conflict mount by) is may = absurd (never-blocked formats store the_handle parent keys (Conflict mount by) mount by is refl)
     judged (Invalid violation risen) is may = (refused 5 (invalid violation), (may, refl))
     judged (DatabaseFull weight) is may = (refused 5 (database_full weight), refl)
     judged (HistoryFull weight) is may = (refused 5 (history_full weight), refl)
@@ -260,7 +260,7 @@ Set-some MayRefuse each files parent keys out none = by (IsEarly-some formats la
         let line = line_of store set why (λ m e. never-unseen formats store the_handle parent keys (Some why) m early (ap Some e)) early in
         none line.answer (Refused why early (subst (λ (o : Option PrepareFault). IsSomeAnd o (λ f. IsRefusal f line.answer)) (sym line.is) line.line))
     by (None, early) =
-        verdict-some MayRefuse (points_of store) [] store.start set each (λ late is may.
+        verdict-some MayRefuse formats store [] store.start set each (λ late is may.
         let answer = judged late is may in
         none answer.0 (Judged early late is answer.1))
 

@@ -14,6 +14,7 @@ use Rattle.model_specified.proofs.FirstsOnce.{first_by-none, first_by-once}
 use Rattle.model_specified.proofs.Refusals.{RefusesEach}
 use Rattle.model_specified.proofs.ViolationsOnce.{RefusesNoPattern}
 use Rattle.model_store.specs.Sets.{Prepared}
+use Rattle.model_store.specs.Store.{Store, Formats, points_of}
 use Rattle.model_store.specs.Verdicts.{Late, Same, Conflict, Invalid, DatabaseFull, HistoryFull, Commits, Follows, Checks, IsLate, conflict, commit_of, if_untouched, if_heavy, if_full}
 use Rattle.model_store.proofs.VerdictLemmas.{not_same, not_conflict, not_limited}
 use Rattle.tool_single.proofs.FirstRefusals.{first-or_none}
@@ -48,12 +49,12 @@ other_permitted MayRefuse (DatabaseFull n) other = tt
 other_permitted MayRefuse (HistoryFull n) other = tt
 other_permitted MayRefuse (Commits commit aside) other = tt
 
-module _ (MayRefuse : List ℕ → Type 0) (points : List Name) (history : List Commit) (keys : KeyMap) (set : Prepared) where
+module _ (MayRefuse : List ℕ → Type 0) (formats : Formats) (store : Store) (history : List Commit) (keys : KeyMap) (set : Prepared) where
   abbrev later : KeyMap
   later = after keys set.changes
 
   abbrev chosen : List (Name × Entry)
-  chosen = checked_keys (is_owned points set.touched) later
+  chosen = checked_keys (is_owned (points_of store) set.touched) later
 
   abbrev weighs : ℕ
   weighs = weight later
@@ -68,10 +69,10 @@ module _ (MayRefuse : List ℕ → Type 0) (points : List Name) (history : List 
   Heavy answer = Follows (if_heavy weighs) (Some answer) (Full answer)
 
   abbrev Checked : Late → Type 0
-  Checked answer = Checks points keys set answer (Heavy answer)
+  Checked answer = Checks (points_of store) keys set answer (Heavy answer)
 
   abbrev Blocked : Late → Type 0
-  Blocked answer = Follows (conflict history set) (Some answer) (Checked answer)
+  Blocked answer = Follows (conflict store history set) (Some answer) (Checked answer)
 
   -- ---- one at most
 
@@ -87,10 +88,10 @@ module _ (MayRefuse : List ℕ → Type 0) (points : List Name) (history : List 
   checked_once off late other may might once (inr p) (inl q) = absurd (first_by-none MayRefuse off (T q.risen) chosen q.violation (subst (IsPermitted MayRefuse) q.is might) p.0 q.first)
   checked_once off late other may might once (inr p) (inr q) = once p.1 q.1
 
-  pub verdict-once : RefusesNoPattern MayRefuse → (late other : Late) → IsPermitted MayRefuse late → IsPermitted MayRefuse other → IsLate points history keys set late → IsLate points history keys set other → told_alone late ≡ told_alone other
+  pub verdict-once : RefusesNoPattern MayRefuse → (late other : Late) → IsPermitted MayRefuse late → IsPermitted MayRefuse other → IsLate formats store history keys set late → IsLate formats store history keys set other → told_alone late ≡ told_alone other
   verdict-once off late other may might =
       step_once late other (if_untouched set.touched set.aside) (Blocked late) (Blocked other)
-      (step_once late other (conflict history set) (Checked late) (Checked other)
+      (step_once late other (conflict store history set) (Checked late) (Checked other)
       (checked_once off late other may might
       (step_once late other (if_heavy weighs) (Full late) (Full other)
       (step_once late other (if_full in_all) (late ≡ Commits (commit_of set) set.aside) (other ≡ Commits (commit_of set) set.aside) (λ p q. ap told_alone (p ∙ sym q))))))
@@ -111,10 +112,10 @@ module _ (MayRefuse : List ℕ → Type 0) (points : List Name) (history : List 
       (λ violation risen may first. off (Invalid violation risen) (inl (record { violation = violation; risen = risen; first = first; is = refl })) may)
       (λ none. other (λ late heavy may. off late (inr (none, heavy)) may))
 
-  pub verdict-some : RefusesEach MayRefuse → Has (IsLate points history keys set)
+  pub verdict-some : RefusesEach MayRefuse → Has (IsLate formats store history keys set)
   verdict-some each =
       step_some (if_untouched set.touched set.aside) Blocked (λ late. not_same is_violation set.touched set.aside late refl)
-      (step_some (conflict history set) Checked (λ late. not_conflict is_violation history set.fronts set.touched late (λ m by. refl))
+      (step_some (conflict store history set) Checked (λ late. not_conflict is_violation store history set set.touched late (λ m by. refl))
       (checks_some each
       (step_some (if_heavy weighs) Full (λ late. not_limited is_violation (nat_lt heaviest_map weighs) (DatabaseFull (saturated weighs)) late refl)
       (step_some (if_full in_all) (λ late. late ≡ Commits (commit_of set) set.aside) (λ late. not_limited is_violation (nat_lt heaviest_history in_all) (HistoryFull (saturated in_all)) late refl)

@@ -11,7 +11,7 @@ use Rattle.model_names.specs.Name.{Name}
 use Rattle.model_store.specs.First.{first_set}
 use Rattle.model_store.specs.Fitting.{Early}
 use Rattle.model_store.specs.Sets.{Prepared}
-use Rattle.model_store.specs.Store.{Store, Formats, points_of}
+use Rattle.model_store.specs.Store.{Store, Formats}
 use Rattle.model_store.specs.Verdicts.{Late, Same, Conflict, Invalid, DatabaseFull, HistoryFull, Commits, IsEarly, IsLate}
 use Rattle.mounted_files.specs.declared.files.MountedFile.{MountedFile}
 use Rattle.store_verdict.specs.Preparing.{fault_of}
@@ -55,4 +55,4 @@ IsJudgement MayRefuse store keys out (Commits commit aside) answer = answer ≡ 
 -- the answer where keys are set at a parent whose keys were got
 pub data AnswersSet (MayRefuse : List ℕ → Type 0) (files : List MountedFile) (parent : Name) (keys : KeyMap) (out : List ℕ) (answer : Answer) : Type 0 where
   Refused : (why : Early) → IsEarly formats (store_alone files) (set_alone (store_alone files) parent keys) (Some why) → IsSomeAnd (fault_of (store_alone files).mounts why) (λ fault. IsRefusal fault answer) → AnswersSet MayRefuse files parent keys out answer
-  Judged : IsEarly formats (store_alone files) (set_alone (store_alone files) parent keys) None → (late : Late) → IsLate (points_of (store_alone files)) [] (store_alone files).start (set_alone (store_alone files) parent keys) late → IsJudgement MayRefuse (store_alone files) (store_alone files).start out late answer → AnswersSet MayRefuse files parent keys out answer
+  Judged : IsEarly formats (store_alone files) (set_alone (store_alone files) parent keys) None → (late : Late) → IsLate formats (store_alone files) [] (store_alone files).start (set_alone (store_alone files) parent keys) late → IsJudgement MayRefuse (store_alone files) (store_alone files).start out late answer → AnswersSet MayRefuse files parent keys out answer

@@ -4,12 +4,10 @@ use Rattle.model_store.proofs.FirstSets.{never-blocked, never-full, never-unseen
 use Rattle.model_store.proofs.a_first_set_is_judged_alone.Goals as goal
 
 pub returns-clause-fetched : goal.returns-clause-fetched
-returns-clause-fetched g c store handle parent keys early m is =
-    let f = g.F.Formats in
-    never-unseen (formats_of f) store handle parent keys early m is
+returns-clause-fetched g c = never-unseen (formats_of g.F.Formats)
 
 pub returns-clause-free : goal.returns-clause-free
-returns-clause-free g c = never-blocked
+returns-clause-free g c = never-blocked (formats_of g.F.Formats)
 
 pub returns-clause-room : goal.returns-clause-room
-returns-clause-room g c store handle parent keys late n light is = never-full store handle parent keys light late n is
+returns-clause-room g c store handle parent keys late n light is = never-full (formats_of g.F.Formats) store handle parent keys light late n is

@@ -14,10 +14,10 @@ returns-clause-one_early g c =
     IsEarly-once (formats_of f) f.storable_breaks_nowhere f.one_break
 
 pub returns-clause-some_late : goal.returns-clause-some_late
-returns-clause-some_late g c = IsLate-some
+returns-clause-some_late g c = IsLate-some (formats_of g.F.Formats)
 
 pub returns-clause-one_late : goal.returns-clause-one_late
-returns-clause-one_late g c = IsLate-once
+returns-clause-one_late g c = IsLate-once (formats_of g.F.Formats)
 
 pub returns-clause-refused : goal.returns-clause-refused
-returns-clause-refused g c = breach-caused
+returns-clause-refused g c = breach-caused (formats_of g.F.Formats)

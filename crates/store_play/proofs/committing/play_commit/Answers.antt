@@ -3,7 +3,7 @@ use Rattle.std.proofs.Common.{◌≡◌, true, get_or, subst}
 use Rattle.std.proofs.lemmas.List.{get_or_default}
 use Rattle.std.proofs.lemmas.Option.{slice_get-get_or}
 use Rattle.model_store.specs.Cores.{accepts}
-use Rattle.model_store.specs.Store.{formats_of, store_of}
+use Rattle.model_store.specs.Store.{formats_of}
 use Rattle.store_play.specs.Handles.{records_of}
 use Rattle.store_play.proofs.CauseLemmas.{commit_caused}
 use Rattle.store_play.proofs.StepLemmas.{belongs, belongs_here, committed_so, declined, held_by}
@@ -21,7 +21,7 @@ commit-requires g c =
     subst (λ (x : Record). accepts (record_of x) (handle_of x) (prepared_of c.in-Ok.set) ≡ true) (get_or_default c.args.records.now c.args.handle c.index-records-handle.result d c.if-handle-records.false) c.in-Ok.ensures.accepted in
     record {
       ready = record {
-        store = store_of c.args.plan.now.mounted w.procs;
+        procs = w.procs;
         records = records_of c.args.records.now;
         made = w.known;
         world = w.world;
@@ -45,7 +45,7 @@ returns-in-Ok-clause-stepped g c procs opened known world run h =
     c.args.handle c.args.number rec c.in-Ok.set there is_held accepted
     c.commit.new.self c.commit.new.rec _ c.commit.result c.take.new.place c.in-Ok.ensures.free c.if-handle-records.false c.if-number-places.false
     (record { handle = c.commit.ensures.handle; places = c.commit.ensures.places; proc = c.commit.ensures.proc })
-    (c.commit.ensures.committed (store_of c.args.plan.now.mounted procs) opened (records_of c.args.records.now) known world run c.args.number
+    (c.commit.ensures.committed procs opened (records_of c.args.records.now) known world run c.args.number
     (belongs (formats_of g.F.Formats) g.D.Disk c.args.plan.now.mounted procs opened c.args.core.now c.args.records.now c.args.places.now known world run h c.args.handle c.args.number rec c.in-Ok.set there is_held accepted))
 
 pub returns-in-Err-clause-stepped : goal.returns-in-Err-clause-stepped

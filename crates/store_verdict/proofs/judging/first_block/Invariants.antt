@@ -1,9 +1,10 @@
 -- None of the mounts so far is blocked.
 use Rattle.std.proofs.Common.{◌≡◌, None, take}
 use Rattle.general_words.specs.Searches.{first_some}
+use Rattle.model_store.specs.Store.{Store}
 use Rattle.model_store.specs.Verdicts.{conflict_at}
-use Rattle.store_verdict.specs.PreparedView.{front_of}
+use Rattle.store_verdict.specs.PreparedView.{prepared_of}
 use Rattle.store_verdict.proofs.judging.first_block.Given as goal
 
 abbrev pub invariant-loop-mount : goal.invariant-loop-mount
-invariant-loop-mount l = first_some (conflict_at l.history.commits (front_of l.set.seen)) (take l.mount-index l.set.touched) ≡ None
+invariant-loop-mount l = (store : Store) → first_some (conflict_at store l.history.commits (prepared_of l.set)) (take l.mount-index l.set.touched) ≡ None

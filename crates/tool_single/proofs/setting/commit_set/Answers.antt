@@ -4,7 +4,6 @@ use Rattle.model_maps.specs.KeyMap.{no_keys}
 use Rattle.tool_commands.specs.Report.{Report}
 use Rattle.kdb_outside.specs.Faults.{HasRisen}
 use Rattle.tool_single.specs.Serving.{MayRefuse, Serves}
-use Rattle.tool_single.specs.Alone.{store_alone}
 use Rattle.tool_single.specs.Sets.{AnswersSet}
 use Rattle.std.specs.Prelude.{string_bytes}
 use Rattle.model_store.specs.Rules.{has_risen}
@@ -22,7 +21,7 @@ pub refuse_commit-requires : goal.refuse_commit-requires
 refuse_commit-requires g c = λ mount by front is.
     let refused = g.P.Patterns.refusals in
     let risen = has_risen (refused c.args.core.now.patterns) (refused c.commit.new.self.patterns) in
-    blocks_not g.D.Disk c.args.plan.now.mounted c.args.core.now c.args.rec.now c.args.prepared (c.requires.open.world (λ h. no_keys)) c.requires.alone.parent c.requires.alone.keys c.requires.alone.fetched c.requires.alone.made risen c.in-Err.fault c.in-Err.ensures.judged mount by front is
+    blocks_not g.D.Disk c.args.plan.now.mounted c.args.core.now c.args.rec.now c.args.prepared (c.requires.open.world (λ h. no_keys)) c.requires.alone.parent c.requires.alone.keys c.requires.alone.fetched c.requires.alone.made risen c.in-Err.fault (c.in-Err.ensures.judged (λ h. no_keys)) mount by front is
 
 pub returns-in-Ok-clause-serving : goal.returns-in-Ok-clause-serving
 returns-in-Ok-clause-serving g c = λ parent keys fetched is_made.
@@ -35,8 +34,8 @@ returns-in-Ok-clause-serving g c = λ parent keys fetched is_made.
     let Rose : List ℕ → Type 0 = λ pattern. HasRisen (refused c.args.core.now.patterns) (refused c.commit.new.self.patterns) in
     let risen = has_risen (refused c.args.core.now.patterns) (refused c.commit.new.self.patterns) in
     subst (λ (r : Report). Serves g.D.Disk (AnswersSet Rose files parent keys out) r core after) (sym c.tell-report.ensures.told)
-    (done_serves g.D.Disk files core c.args.rec.now c.args.prepared here parent keys fetched is_made Rose risen out after c.commit.new.rec c.in-Ok.field-0 c.in-Ok.ensures.judged
-    (λ opened run on_disk. c.in-Ok.ensures.committed (store_alone files) opened (records g.D.Disk files core c.args.rec.now c.args.prepared here parent keys fetched is_made) (made g.D.Disk files core c.args.rec.now c.args.prepared here parent keys fetched is_made)
+    (done_serves g.D.Disk files core c.args.rec.now c.args.prepared here parent keys fetched is_made Rose risen out after c.commit.new.rec c.in-Ok.field-0 (c.in-Ok.ensures.judged (λ h. no_keys))
+    (λ opened run on_disk. c.in-Ok.ensures.committed (λ h. no_keys) opened (records g.D.Disk files core c.args.rec.now c.args.prepared here parent keys fetched is_made) (made g.D.Disk files core c.args.rec.now c.args.prepared here parent keys fetched is_made)
     (world g.D.Disk files core c.args.rec.now c.args.prepared here parent keys fetched is_made) run 0 (joined g.D.Disk files core c.args.rec.now c.args.prepared here parent keys fetched is_made opened run on_disk))
     c.in-Ok.ensures.unwritten)
 
@@ -51,8 +50,8 @@ returns-in-Err-clause-serving g c = λ parent keys fetched is_made.
     let Refusing = MayRefuse c.refuse_commit.result (refused c.args.core.now.patterns) (refused c.commit.new.self.patterns) in
     let risen = has_risen (refused c.args.core.now.patterns) (refused c.commit.new.self.patterns) in
     refused_serving g.D.Disk files core c.args.rec.now c.args.prepared here parent keys fetched is_made Refusing risen out after c.commit.new.rec c.in-Err.fault c.refuse_commit.result
-    (rose_may c.refuse_commit.result (refused core.patterns) (refused after.patterns)) c.refuse_commit.ensures.refused c.in-Err.ensures.judged
-    (λ opened run on_disk. c.in-Err.ensures.committed (store_alone files) opened (records g.D.Disk files core c.args.rec.now c.args.prepared here parent keys fetched is_made) (made g.D.Disk files core c.args.rec.now c.args.prepared here parent keys fetched is_made)
+    (rose_may c.refuse_commit.result (refused core.patterns) (refused after.patterns)) c.refuse_commit.ensures.refused (c.in-Err.ensures.judged (λ h. no_keys))
+    (λ opened run on_disk. c.in-Err.ensures.committed (λ h. no_keys) opened (records g.D.Disk files core c.args.rec.now c.args.prepared here parent keys fetched is_made) (made g.D.Disk files core c.args.rec.now c.args.prepared here parent keys fetched is_made)
     (world g.D.Disk files core c.args.rec.now c.args.prepared here parent keys fetched is_made) run 0 (joined g.D.Disk files core c.args.rec.now c.args.prepared here parent keys fetched is_made opened run on_disk))
     c.in-Err.ensures.unwritten c.in-Err.ensures.wrote
 

@@ -5,6 +5,7 @@ use Rattle.kdb_handle.specs.Story.{Told}
 use Rattle.kdb_handle.specs.Turns.{told_by}
 use Rattle.kdb_handle.proofs.BelongLemmas.{is_ready}
 use Rattle.kdb_handle.proofs.SharedLemmas.{next_shared, next_kept, next_record}
+use Rattle.model_maps.specs.KeyMap.{no_keys}
 use Rattle.model_store.specs.Rules.{has_risen}
 use Rattle.model_store.specs.Store.{Formats, formats_of}
 use Rattle.store_core.specs.declared.cores.Core.{Core}
@@ -37,7 +38,7 @@ returns g c =
       keeps = λ log may.
           next_kept formats g.D.Disk g.row.D.coded g.P.Patterns.refusals files old.core old.entries log c.args.rec.now c.args.prepared may core call.new.rec risen call.result told told_is call.ensures.made;
       told = told_is;
-      judged = search rules;
+      judged = (risen, call.ensures.judged (λ r. no_keys));
       kept = λ log may.
           next_record formats g.D.Disk g.row.D.coded g.P.Patterns.refusals files old.core old.entries log c.args.rec.now c.args.prepared may core call.new.rec risen call.result call.ensures.made;
       handle = search rules;
