@@ -1,6 +1,6 @@
 //! The history of an opening. Its index says of each mount behind which commit none touches it, so that most questions are
 //! answered without a look at the commits.
-ghost use Rattle.std.specs.Prelude.{◌≡◌, ◌+◌, ◌-◌, ◌<◌, ◌≤◌, ◌++◌, [], ◌∷◌, All, IfOk, OnOk, None, if◌then◌else◌, ◌==◌, length, take, slice_get, map};
+ghost use Rattle.std.specs.Prelude.{◌≡◌, ◌+◌, ◌-◌, ◌<◌, ◌≤◌, ◌++◌, [], ◌∷◌, All, IfOk, OnOk, None, if◌then◌else◌, ◌==◌, length, take, drop, slice_get, map};
 ghost use Rattle.std.specs.Option.{option_map};
 ghost use Rattle.model_history.specs.History.{first_after, replay, history_weight, heaviest_history};
 ghost use Rattle.commit_log.specs.CommitView.{commit_of};
@@ -67,6 +67,15 @@ impl History {
             return None;
         }
         self.commits.get(number as usize - 1)
+    }
+
+    /// The commits behind a front. With those before them they weigh no more than a history may.
+    pub fn behind(&self, front: u64) -> &[Commit]
+        requires { front ≤ length self.now.commits }
+        ensures behind { map commit_of result.now ≡ drop front self.now.commits }
+        ensures light { history_weight self.now.commits ≤ heaviest_history }
+    {
+        &self.commits[front as usize..]
     }
 
     /// The number of the first commit behind a front that touches a mount.

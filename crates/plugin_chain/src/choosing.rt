@@ -28,7 +28,7 @@ pub fn is_touched(points: &[KeyName], mounts: &[u32], name: &KeyName) -> bool
 }
 
 /// Whether a name is another one or below it. A cascading one stands for its path in every namespace.
-fn is_within(at: &KeyName, name: &KeyName) -> Result<bool, Memory>
+pub fn is_within(at: &KeyName, name: &KeyName) -> Result<bool, Memory>
     ensures { IfOk result (λ is. is ≡ is_within at.now name.now) }
 {
     if name.is_below_or_same(at) {

@@ -10,6 +10,7 @@ mod listing;
 mod spec_metas;
 mod specifying;
 
+pub use choosing::is_within;
 pub use listing::{first_violation, violations};
 pub use model_specified::Violation;
 pub use spec_metas::spec_meta;
