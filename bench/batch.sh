@@ -1,7 +1,8 @@
 #!/usr/bin/env bash
 # Steps a second of a batch of 1, 2, 4, 8, 16 and 32 sessions, on the disk of the temporary folder and in memory, each
 # session at a mount of its own and all at one mount, beside as many runs of the single command; commits a second where
-# all of them merge at one mount; and the greatest generated run: the best of three runs. A word stands for the count of
+# all of them merge at one mount; polls a second of one that watches beside 31 that set; and the greatest generated run:
+# the best of three runs. A word stands for the count of
 # sets, 512 without one. Wants build/kdb (first-use.sh makes it). Not part of the gate.
 set -eu
 cd "$(dirname "$0")/.."
@@ -44,6 +45,35 @@ merges() {
         printf "put user:/s1/key%d %d\nmerge user:/s1 our 100000\n", session, turn
     }
   }'
+}
+
+# watched WRITERS POLLS: so many sets, each session at its own mount, and a session that polls beside them, and once
+# behind them all
+watched() {
+  awk -v writers="$1" -v polls="$2" -v sets="$sets" 'BEGIN {
+    print "session 32\nwatch user:/ 4096\nphase\nsession 32"
+    for (turn = 0; turn < polls; turn++) print "poll"
+    for (session = 1; session <= writers; session++) {
+      print "session " session
+      mount = "user:/s" session
+      for (turn = session; turn <= sets; turn += writers)
+        printf "get %s\nput %s/key%d %d\nset %s\n", mount, mount, session, turn, mount
+    }
+    print "phase\nsession 32\npoll"
+  }'
+}
+
+# heard FOLDER SCRIPT: how many changes the polls of a script tell; each change of a set is told or counted
+heard() {
+  sh "$1/back.sh"
+  KDB_DIR=$1 "$kdb" batch <"$2" | awk '
+    /^commit [0-9]+ aside/ { made++ }
+    /^news / { missed += $4 }
+    /^~ / { told++ }
+    END {
+      if (told + missed == made) print told + 0
+      else { print told " and " missed " of " made " changes" >"/dev/stderr"; exit 1 }
+    }'
 }
 
 # rate FOLDER COUNT COMMAND: how many a second, of so many that a command makes on the store of a folder
@@ -99,6 +129,24 @@ for sessions in 1 2 4 8 16 32; do
   [ "$made" = "$(shown "$sets")" ] || { echo "$made of $sets merged sets were stored" >&2; exit 1; }
   commits=$(rate "$memory" "$sets" "$kdb batch < $work/merged")
   echo "| $sessions | $commits | $(told "$memory" "$work/merged" tried) |"
+done
+polls=$((sets * 4))
+cat <<TEXT
+
+A session that watches all of them, with room for 4,096 changes, in memory: it polls $(shown $polls) times beside sessions that
+make the $(shown "$sets") sets above at mounts of their own, and once behind them. The rates are by the time of the whole run.
+TEXT
+echo
+echo "| sessions that set | polls a second | sets a second | sets a second without the polls | changes told, of $(shown "$sets") |"
+echo "|---|---|---|---|---|"
+for writers in 1 2 4 8 16 31; do
+  watched $writers $polls >"$work/watched"
+  watched $writers 0 >"$work/unwatched"
+  told=$(heard "$memory" "$work/watched")
+  polled=$(rate "$memory" $polls "$kdb batch < $work/watched")
+  beside=$(rate "$memory" "$sets" "$kdb batch < $work/watched")
+  alone=$(rate "$memory" "$sets" "$kdb batch < $work/unwatched")
+  echo "| $writers | $polled | $beside | $alone | $(shown "$told") |"
 done
 echo
 seconds=$(timed 3 "$kdb gen 1000" | awk '{ printf "%.1f", $3 / 1000 }')

@@ -155,7 +155,7 @@ def text_of(data, script, store):
 
 # ---- judging
 
-FRONT = re.compile(rf"(?:got|same) {NUMBER} |(?:conflict|refused|spent) .* front {NUMBER}$")
+FRONT = re.compile(rf"(?:got|same|news) {NUMBER} |(?:conflict|refused|spent) .* front {NUMBER}$|watch {NUMBER}$")
 COMMITTED = re.compile(rf"commit {NUMBER} aside {NUMBER}$")
 TRIED = re.compile(rf"tried (.*) by {NUMBER} front {NUMBER} again {NUMBER}$")
 SPENT = re.compile(rf"spent (.*) by {NUMBER} front {NUMBER}$")
@@ -168,7 +168,7 @@ def front_of(line):
     if committed:
         return int(committed[1]) - 1
     found = FRONT.match(line)
-    return found and int(found[1] or found[2])
+    return found and int(found[1] or found[2] or found[3])
 
 
 class Trial:
@@ -227,7 +227,7 @@ class Trial:
                     if step.word in EDITS:
                         if lines[line : line + 1] == ["memory"]:
                             tries.append((at, line + 1, state))
-                        state = Session(edited(state.working, step), state.fronts, state.told)
+                        state = state._replace(working=edited(state.working, step))
                         continue
                     end = self.end_of(step, lines, line)
                     state = self.reply(number, state, step, lines[line : end + 1], made)
@@ -241,11 +241,13 @@ class Trial:
         raise why or Beyond("too many edits without memory")
 
     def end_of(self, step, lines, line):
-        """The place of the last line of a reply that begins at a place: only a merge has more than one."""
+        """The place of the last line of a reply that begins at a place: only merges and polls have more than one."""
         while step.word == "merge" and lines[line : line + 1] and lines[line].startswith("tried "):
             line += 1
         if line == len(lines):
             raise Unfair("text", "a reply is missing")
+        while step.word == "poll" and lines[line + 1 : line + 2] and lines[line + 1].startswith("~ "):
+            line += 1
         return line
 
     def reply(self, number, state, step, lines, made):
@@ -255,6 +257,10 @@ class Trial:
         if lines == ["memory"]:
             return state
         front = self.placed(front_of(lines[0]), state.told, lines[0], made)
+        if step.word == "watch":
+            return self.watch(state, step, lines[0], front)
+        if step.word == "poll":
+            return self.poll(state, lines, front)
         tell = {"get": self.get, "look": self.look, "set": self.set}[step.word]
         return tell(number, state, step.name, lines[0], front)
 
@@ -298,13 +304,31 @@ class Trial:
         verdict, commit = self.judge.verdict(number, state, wanted, front)
         if commit and line == f"refused {DISK_FAULT} front {front}":
             self.failed.append((front, wanted))
-            return Session(state.working, state.fronts, front)
+            return state._replace(told=front)
         self.want(line, verdict, "set")
         if not commit:
-            return Session(state.working, state.fronts, front)
+            return state._replace(told=front)
         if front >= len(self.history) or self.history.commits[front] != commit:
             raise Unfair("commit", f"commit {front + 1} of the history is not the one of session {number}")
         return self.judge.stored(state, commit, front + 1)
+
+    # ---- watches
+
+    def watch(self, state, step, line, front):
+        self.want(line, f"watch {front}", "watch")
+        return self.judge.watched(state, step, front)
+
+    def poll(self, state, lines, front):
+        """A session after a poll, which tells all changes since the watch began or was asked last, or the last of them
+        and how many are left out."""
+        if not state.watch:
+            self.want(lines, ["no-watch"], "poll")
+            return state
+        if front is None:
+            raise Unfair("poll", f"{lines[0]!r} is no answer to a poll")
+        wanted, after = self.judge.polled(state, front)
+        self.want(lines, wanted, "poll")
+        return after
 
     # ---- merges
 
@@ -319,10 +343,10 @@ class Trial:
                 raise Unfair("merge", f"{line!r} where a merge has no set to try")
             now, names = self.again(number, now, step, line, made)
         if end == "memory":
-            return Session(state.working, now.fronts, now.told)
+            return now._replace(working=state.working)
         if names:
             self.want(end, " ".join(["merge-conflict", *map(shown, names)]), "merge")
-            return Session(state.working, now.fronts, now.told)
+            return now._replace(working=state.working)
         return self.ended(number, state, now, step, end, made)
 
     def counted(self, number, step, tried, end):
@@ -357,7 +381,7 @@ class Trial:
         line = re.sub("^spent ", "conflict ", end)
         after = self.set(number, now, step.name, line, self.placed(front_of(end), now.told, end, made))
         is_stored = end.startswith(("commit ", "same "))
-        return Session(after.working if is_stored else state.working, after.fronts, after.told)
+        return after if is_stored else after._replace(working=state.working)
 
     def status(self):
         lines = [line for phase in self.text.replies for replies in phase.values() for line in replies]

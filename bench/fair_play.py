@@ -33,6 +33,8 @@ class Play:
         for step in steps:
             if step.word == "merge":
                 yield from self.merge(number, step, lines)
+            elif step.word == "poll":
+                lines += self.poll(number)
             else:
                 line = self.step(number, step)
                 lines += [line] if line else []
@@ -41,7 +43,7 @@ class Play:
     def step(self, number, step):
         state, front = self.states[number], len(self.history)
         if step.word in EDITS:
-            self.states[number] = Session(edited(state.working, step), state.fronts, state.told)
+            self.states[number] = state._replace(working=edited(state.working, step))
             return None
         if step.word == "look":
             return looked_up(state.working, step.name)
@@ -51,14 +53,28 @@ class Play:
                 return f"refused {bad}"
             self.states[number] = self.judge.fetched(state, step.name, self.script.procs.get(number, {}), front)
             return f"got {front} {len(self.states[number].working)}"
+        if step.word == "watch":
+            return self.watch(number, step)
         return self.set(number, state, step.name, front)
+
+    def watch(self, number, step):
+        front = len(self.history)
+        self.states[number] = self.judge.watched(self.states[number], step, front)
+        return f"watch {front}"
+
+    def poll(self, number):
+        """The lines of a poll."""
+        if not self.states[number].watch:
+            return ["no-watch"]
+        lines, self.states[number] = self.judge.polled(self.states[number], len(self.history))
+        return lines
 
     def set(self, number, state, parent, front):
         refusal, wanted = self.judge.early(state, parent)
         if refusal:
             return f"refused {refusal}"
         line, commit = self.judge.verdict(number, state, wanted, front)
-        self.states[number] = Session(state.working, state.fronts, front)
+        self.states[number] = state._replace(told=front)
         if commit and self.chance.random() < self.fails:
             return f"refused {DISK_FAULT} front {front}"
         if commit:
@@ -88,11 +104,10 @@ class Play:
         """Gets behind a conflict, and gives what is to be tried next, and the names in conflict."""
         front = len(self.history)
         state, names = self.judge.remade(self.holding(number, ours), step.name, step.strategy, front)
-        self.states[number] = Session(self.states[number].working, state.fronts, front)
+        self.states[number] = state._replace(working=self.states[number].working)
         lines.append(f"{tried} again {front}")
         return state.working, names
 
     def holding(self, number, keys):
         """A session with another working set."""
-        state = self.states[number]
-        return Session(keys, state.fronts, state.told)
+        return self.states[number]._replace(working=keys)

@@ -6,7 +6,7 @@ import re
 from fair_formats import dump_of
 from fair_keys import (CASCADING, LONGEST_META, PROC, name_of, plain, quoted, size, spelling, unquoted_at)
 
-MOST_SESSIONS, LONGEST_SCRIPT, MOST_LINES, MOST_TRIES = 32, 4 * 2**20, 100_000, 100_000
+MOST_SESSIONS, LONGEST_SCRIPT, MOST_LINES, MOST_TRIES, LARGEST_ROOM = 32, 4 * 2**20, 100_000, 100_000, 4096
 STRATEGIES = ("abort", "our", "their")
 
 
@@ -16,7 +16,7 @@ class BadScript(Exception):
 
 # ---- scripts
 
-Step = collections.namedtuple("Step", "word name meta value strategy tries", defaults=(None, None, None, None))
+Step = collections.namedtuple("Step", "word name meta value strategy tries room", defaults=(None,) * 5)
 Script = collections.namedtuple("Script", "procs phases sessions")
 
 
@@ -50,6 +50,8 @@ def session_of(word):
 
 def step_of(words):
     """The step of a line's words, or None."""
+    if words == ["poll"]:
+        return Step("poll", None)
     word, names = words[0], [name_of(it) for it in words[1:2]]
     if not names or names[0] is None:
         return None
@@ -62,6 +64,8 @@ def step_of(words):
         return Step(word, name, rest[0], rest[1])
     if word == "merge" and len(rest) == 2 and rest[0] in STRATEGIES and count_of(rest[1], MOST_TRIES):
         return Step(word, name, strategy=rest[0], tries=int(rest[1]))
+    if word == "watch" and len(rest) == 1 and count_of(rest[0], LARGEST_ROOM):
+        return Step(word, name, room=int(rest[0]))
     return None
 
 
@@ -150,6 +154,7 @@ SAYINGS = [("type", "boolean"), ("type", "octet"), ("type", "string"), ("type", 
            ("override/#0", "/b"), ("override/#0", "no name"), ("fallback/#0", "user:/b"), ("namespace/#0", "system"),
            ("namespace/#0", "nowhere"), ("namespace/#1", "user"), ("note", "said")]
 TRIES = ["1", "2", "2", "3", "10", "100", "100000"]
+ROOMS = ["1", "1", "2", "3", "10", "4096"]
 ENTRIES = [("system:/elektra/mountpoints/user:\\/new/path", "new.ecf"),
            ("system:/elektra/mountpoints/user:\\/new/path", "user.ecf"),
            ("system:/elektra/mountpoints/user:\\/new/plugin", "hosts"),
@@ -225,19 +230,23 @@ class Making:
         """A few steps of a session."""
         pick, turn = self.chance.choice, self.chance.random()
         parent = pick(PARENTS)
-        if turn < 0.5:
+        if turn < 0.46:
             self.step("get", parent)
             for _ in range(self.chance.randrange(4)):
                 self.edit(parent)
             self.store(parent)
-        elif turn < 0.62:
+        elif turn < 0.58:
             self.store(parent)
-        elif turn < 0.7:
+        elif turn < 0.66:
             self.step("get", parent)
-        elif turn < 0.85:
+        elif turn < 0.78:
             self.edit()
-        else:
+        elif turn < 0.86:
             self.step("look", pick(LOOKS))
+        elif turn < 0.9:
+            self.step("watch", parent, pick(ROOMS))
+        else:
+            self.step("poll")
         if self.chance.random() < 0.05:
             self.lines.append(pick(["", "# a comment", "   ", "\t#"]))
 

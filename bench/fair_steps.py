@@ -4,8 +4,8 @@ import collections
 
 from fair_files import ELEKTRA, LONGEST_FILE, table_of
 from fair_formats import NotStorable
-from fair_keys import (HEAVIEST_HISTORY, HEAVIEST_MAP, LONGEST_TEXT, Specified, broken, is_below_or_same, joined,
-                       quoted, shown, size, weight, weight_of_entry, weight_of_name, with_meta, with_value)
+from fair_keys import (CASCADING, HEAVIEST_HISTORY, HEAVIEST_MAP, LONGEST_TEXT, Specified, broken, is_below_or_same,
+                       joined, quoted, shown, size, weight, weight_of_entry, weight_of_name, with_meta, with_value)
 
 EDITS = ("put", "meta", "del", "cut")
 
@@ -85,11 +85,11 @@ def differing(before, wants):
     return [(name, wants.get(name)) for name in {*before, *wants} if before.get(name) != wants.get(name)]
 
 
-class Session:
-    """A session between two steps: its working set, the front of each mount that it fetched, and s."""
+# what a session watches: the keys at and below a parent, from a front on, and how many changes are kept for it
+Watch = collections.namedtuple("Watch", "parent room front")
 
-    def __init__(self, working, fronts, told):
-        self.working, self.fronts, self.told = working, fronts, told
+# a session between two steps: its working set, the front of each mount that it fetched, s, and what it watches
+Session = collections.namedtuple("Session", "working fronts told watch", defaults=(None,))
 
 
 class Judge:
@@ -113,7 +113,7 @@ class Judge:
     def fetched(self, session, parent, procs, front):
         """A session after a get."""
         fronts = {**session.fronts, **{m: front for m in self.store.involved(parent)}}
-        return Session(self.got(parent, procs, front), fronts, front)
+        return session._replace(working=self.got(parent, procs, front), fronts=fronts, told=front)
 
     def wanted(self, session, parent):
         """The mounts that a set touches, with its changes; how many keys it leaves aside; what it wants for each."""
@@ -218,7 +218,7 @@ class Judge:
 
     def stored(self, session, commit, number):
         """A session whose set became a commit."""
-        return Session(session.working, {**session.fronts, **{m: number for m in commit.touched}}, number)
+        return session._replace(fronts={**session.fronts, **{m: number for m in commit.touched}}, told=number)
 
     def remade(self, session, parent, strategy, front):
         """A session behind a conflict that has got the parent, with what it is to try next; and the names in conflict.
@@ -226,7 +226,22 @@ class Judge:
         ours, aside = self.parted(session.working, parent)
         fetched = self.fetched(session, parent, {}, front)
         keys, names = merged(self.kept(session, parent), ours, fetched.working, strategy)
-        return Session({**aside, **keys}, fetched.fronts, front), names
+        return fetched._replace(working={**aside, **keys}), names
+
+    def watched(self, session, step, front):
+        """A session that watches from a front on. What it watched before is forgotten."""
+        return session._replace(told=front, watch=Watch(step.name, step.room, front))
+
+    def polled(self, session, front):
+        """The lines of a poll that has looked at so many commits, and the session behind it."""
+        heard = []
+        for number in range(session.watch.front + 1, front + 1):
+            for name, entry in self.history.commits[number - 1].changes:
+                if hears(session.watch.parent, name):
+                    heard.append(f"~ {number} {'+' if entry else '-'} {shown(name)}")
+        missed = max(0, len(heard) - session.watch.room)
+        return [f"news {front} missed {missed}", *heard[missed:]], session._replace(
+            told=front, watch=session.watch._replace(front=front))
 
     def kept(self, session, parent):
         """What a session's record keeps of the mounts that a parent involves."""
@@ -255,6 +270,11 @@ def merged(base, ours, theirs, strategy):
         if entry is not None:
             keys[name] = entry
     return keys, names if strategy == "abort" else []
+
+
+def hears(parent, name):
+    """Whether a name is that of a parent or below it; one without a namespace is that of its path in each of them."""
+    return is_below_or_same(name, parent if parent[0] != CASCADING else (name[0], parent[1]))
 
 
 def edited(keys, step):

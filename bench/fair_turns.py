@@ -2,8 +2,8 @@
 
 Some texts stand here with their turns. Many more are made up, by a store that plays scripts in any order and whose disk
 fails now and then; each of their lines is dropped, doubled, changed with the next one, or has a number that is one more
-or less. What is still fair of these tells another front of a reply, and nothing else. Stores that merge in a wrong way
-are told by what they print of made-up scripts.
+or less. What is still fair of these tells another front of a reply, and nothing else. Stores that merge or watch in a
+wrong way are told by what they print of made-up scripts.
 """
 import collections
 import random
@@ -12,6 +12,7 @@ import sys
 
 import fair_cases
 import fair_merges
+import fair_watches
 from fair_cases import NESTED
 from fair_files import Store
 from fair_formats import dump_of
@@ -21,7 +22,7 @@ from fair_scripts import Making, files_of, key, relative_keys, script_of
 from fair_wrong import told_wrong
 
 TEXTS, TURNS = 60, 60
-CASES = fair_cases.CASES + fair_merges.CASES
+CASES = fair_cases.CASES + fair_merges.CASES + fair_watches.CASES
 # how a line begins that ends with a front
 FRONTED = ("conflict", "refused", "tried", "spent")
 
@@ -116,7 +117,8 @@ def turned(lines, chance):
     other = str(max(0, int(number[0]) + chance.choice([-1, 1])))
     line = lines[at][: number.start()] + other + lines[at][number.end() :]
     begin = lines[at][: number.start()]
-    is_front = begin in ("got ", "same ") or begin.endswith((" front ", " again ")) and line.startswith(FRONTED)
+    is_later = begin.endswith((" front ", " again ")) and line.startswith(FRONTED)
+    is_front = begin in ("got ", "same ", "watch ", "news ") or is_later
     return lines[:at] + [line] + lines[at + 1 :], is_front
 
 
@@ -152,7 +154,7 @@ def selftest():
     print(f"{many} runs with other files or another status are refused")
     print(f"{TEXTS} texts that were made up are fair, and {counts['refused']:,} turns of them are refused")
     print(f"{counts['front']} turns that tell another front alone are fair as well")
-    print(f"{stores - len(taken)} of {stores} stores that merge in a wrong way are refused")
+    print(f"{stores - len(taken)} of {stores} stores that merge or watch in a wrong way are refused")
     for it in wrong + more + most + taken:
         print(it)
     sys.exit(1 if wrong or more or most or taken or not counts["refused"] else 0)

@@ -1,13 +1,15 @@
-"""Stores that merge in a wrong way, for bench/fair.py selftest: what each of them prints of made-up scripts has to be
-refused. Each gets one thing wrong.
+"""Stores that merge or watch in a wrong way, for bench/fair.py selftest: what each of them prints of made-up scripts
+has to be refused. Each gets one thing wrong.
 """
 import random
+import re
 
 from fair_files import Store
 from fair_judge import Trial, Unfair, rendered, text_of
+from fair_keys import CASCADING, USER
 from fair_play import Play
 from fair_scripts import Making, files_of, script_of
-from fair_steps import Session, merged
+from fair_steps import merged
 
 SCRIPTS = 40
 
@@ -108,7 +110,7 @@ class ForgetsItsGet(Play):
     def again(self, number, step, ours, lines, tried):
         fronts = self.states[number].fronts
         made = super().again(number, step, ours, lines, tried)
-        self.states[number] = Session(self.states[number].working, fronts, self.states[number].told)
+        self.states[number] = self.states[number]._replace(fronts=fronts)
         return made
 
     def merge(self, number, step, lines):
@@ -166,8 +168,78 @@ class GivesUp(Play):
         yield from super().merge(number, step._replace(tries=max(1, step.tries - 1)), lines)
 
 
+class StaysAtItsFront(Play):
+    """A poll tells again what the one before it told."""
+
+    def poll(self, number):
+        watch = self.states[number].watch
+        lines = super().poll(number)
+        self.states[number] = self.states[number]._replace(watch=watch)
+        return lines
+
+
+class KeepsTheFirst(Play):
+    """The first changes are kept, and the last ones left out."""
+
+    def poll(self, number):
+        watch = self.states[number].watch
+        lines = super().poll(number)
+        if not watch or lines[0].endswith(" missed 0"):
+            return lines
+        whole, _ = self.judge.polled(self.states[number]._replace(watch=watch._replace(room=4096)), len(self.history))
+        return [lines[0], *whole[1 : len(lines)]]
+
+
+class CountsNothing(Play):
+    """What is left out is not counted."""
+
+    def poll(self, number):
+        lines = super().poll(number)
+        return [re.sub("missed .*", "missed 0", lines[0]), *lines[1:]]
+
+
+class IsDeafToItself(Play):
+    """A session isn't told of its own commits."""
+
+    def poll(self, number):
+        own = {str(n) for n, commit in enumerate(self.history.commits, 1) if commit.session == number}
+        return [line for line in super().poll(number) if not line.startswith("~") or line.split(" ")[1] not in own]
+
+
+class HearsAll(Play):
+    """Every change is told, also one of another parent's keys."""
+
+    def watch(self, number, step):
+        return super().watch(number, step._replace(name=(CASCADING, ())))
+
+
+class HearsOneSpace(Play):
+    """A cascading parent is that of one namespace."""
+
+    def watch(self, number, step):
+        return super().watch(number, step._replace(name=(step.name[0] or USER, step.name[1])))
+
+
+class KeepsItsWatch(Play):
+    """A second watch doesn't take the place of the first."""
+
+    def watch(self, number, step):
+        watch = self.states[number].watch
+        line = super().watch(number, step)
+        self.states[number] = self.states[number]._replace(watch=watch or self.states[number].watch)
+        return line
+
+
+class TellsKeysAlone(Play):
+    """What was removed is not told."""
+
+    def poll(self, number):
+        return [line for line in super().poll(number) if not re.match("~ [0-9]+ - ", line)]
+
+
 WRONG = [Exchanges, HasNoBase, KeepsOurs, TakesTheirs, DropsAside, GetsProc, NeverAborts, Removes, MergesFiles,
-         ForgetsItsGet, TellsNoTry, WorksOn, StoresAlone, TriesOnce, GivesUp]
+         ForgetsItsGet, TellsNoTry, WorksOn, StoresAlone, TriesOnce, GivesUp, StaysAtItsFront, KeepsTheFirst,
+         CountsNothing, IsDeafToItself, HearsAll, HearsOneSpace, KeepsItsWatch, TellsKeysAlone]
 
 
 def is_refused(kind, seed):

@@ -1,10 +1,12 @@
 -- How a session goes on, what the sessions of a batch come to together, and how a script comes to be played.
 pub mod CommitNumbers
+mod WatchLemmas
 pub mod Joining
 mod EditLemmas
 mod GetTurns
 mod SetTurns
 mod MergeTurns
+mod WatchTurns
 mod Growing
 mod Hearing
 mod Rising

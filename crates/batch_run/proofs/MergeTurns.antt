@@ -1,5 +1,5 @@
 -- A merged set: each try of the handle is one of its session, and so is the end. The working set stays on the way, and the keys that are tried go beside it.
-use Rattle.std.proofs.Common.{◌≡◌, inl, inr, ℕ, ◌≤◌, List, [], ◌∷◌, length, Result, Ok, Err, refl, sym, ap, subst, ◌∙◌, append-nil, arith}
+use Rattle.std.proofs.Common.{◌≡◌, inl, inr, ℕ, ◌≤◌, List, [], ◌∷◌, length, Option, None, Result, Ok, Err, refl, sym, ap, subst, ◌∙◌, append-nil, arith}
 use mathlib.Core.List.{IsPrefix}
 use Rattle.batch_script.specs.declared.steps.Step.TheVariants.{Merge}
 use Rattle.key_merge.specs.declared.strategies.Strategy.{Strategy}
@@ -23,7 +23,7 @@ use Rattle.kdb_handle.specs.declared.setting.SetFault.TheVariants as set_fault
 use Rattle.kdb_handle.proofs.StoryLemmas.{commits-prefix}
 use Rattle.model_batch.specs.Merges.{Retries, SetsSo, Stays}
 use Rattle.model_batch.specs.Replies.{merge_reply, set_reply}
-use Rattle.model_batch.specs.Sessions.{Session}
+use Rattle.model_batch.specs.Sessions.{Session, Watching}
 use Rattle.model_batch.specs.Sets.{IsJudgedThen, MeansSet, told_then}
 use Rattle.model_batch.specs.Steps.{Means}
 use Rattle.model_batch.proofs.Telling.{judged-more}
@@ -37,16 +37,21 @@ use Rattle.mounted_files.specs.declared.files.MountedFile.{MountedFile}
 use Rattle.seat_lock.specs.Known.{Place}
 use Rattle.seat_lock.specs.Story.{made_by}
 use Rattle.seat_lock.proofs.Prefixes.{prefix-self, prefix-trans}
-use Rattle.batch_run.specs.Stepping.{GoesOn, session_of}
+use Rattle.batch_run.specs.Stepping.{GoesOn, Held, IsReady, held, session_of}
+use Rattle.batch_run.specs.declared.workspaces.Workspace.{Workspace}
 use Rattle.batch_run.proofs.CommitNumbers.{IsSince, longer-commits, since-self, since-trans}
 use Rattle.batch_run.proofs.GetTurns.{session_with}
-use Rattle.batch_run.proofs.Joining.{goes-one}
+use Rattle.batch_run.proofs.Joining.{goes-keys}
 use Rattle.batch_run.proofs.SetTurns.{Makes, judged-then, silent-makes, stored-makes, stored-means, stored-seen, unprepared-means, within}
 use Rattle.store_core.specs.declared.committing.CommitFault.{CommitFault}
 use Rattle.store_core.specs.declared.committing.CommitFault.TheVariants.{Conflict}
 use Rattle.store_core.specs.declared.committing.Done.{Done}
 use Rattle.store_core.specs.declared.cores.Plan.{Plan}
 use Rattle.store_verdict.specs.RecordView.{proc_of, record_of}
+
+-- some keys, where nothing is watched
+abbrev with-keys : KeyMap → Held
+with-keys keys = record { working = keys; watching = None }
 
 module _ (formats : Formats) (files : List MountedFile) (parent : Name) (strategy : Strategy) where
   abbrev points : List Name
@@ -57,7 +62,7 @@ module _ (formats : Formats) (files : List MountedFile) (parent : Name) (strateg
   retry-since : (old : HandleValue) (ours : KeyMap) (item : Tried) (new : HandleValue) (base theirs : KeyMap) → IsRetry formats files parent old ours item new base theirs → IsSince old new
   retry-since old ours item new base theirs retry = record {
     number = retry.number ∙ retry.numbered;
-    seen = prefix-trans old.seen retry.between.seen new.seen (stored-seen formats files parent ours ours old retry.between (Err (Conflict item.mount item.by item.front)) retry.stored) retry.seen;
+    seen = prefix-trans old.seen retry.between.seen new.seen (stored-seen formats files parent ours (with-keys ours) old retry.between (Err (Conflict item.mount item.by item.front)) retry.stored) retry.seen;
     own = retry.own ∙ retry.stored.done.gains ∙ append-nil old.own;
   }
 
@@ -72,9 +77,9 @@ module _ (formats : Formats) (files : List MountedFile) (parent : Name) (strateg
 
     -- the end has seen more, too
     end-seen : (end : Result Done MergeEnd) → IsEnd formats files parent strategy tries last keys made new tried end → IsPrefix last.seen new.seen
-    end-seen (Ok done) h = stored-seen formats files parent keys keys last new (Ok done) h.1
-    end-seen (Err (merge_end.TriesSpent mount by front)) h = stored-seen formats files parent keys keys last new (Err (Conflict mount by front)) h.1
-    end-seen (Err (merge_end.Set (set_fault.Commit why))) h = stored-seen formats files parent keys keys last new (Err why) h.1
+    end-seen (Ok done) h = stored-seen formats files parent keys (with-keys keys) last new (Ok done) h.1
+    end-seen (Err (merge_end.TriesSpent mount by front)) h = stored-seen formats files parent keys (with-keys keys) last new (Err (Conflict mount by front)) h.1
+    end-seen (Err (merge_end.Set (set_fault.Commit why))) h = stored-seen formats files parent keys (with-keys keys) last new (Err why) h.1
     end-seen (Err (merge_end.Set (set_fault.Prepare why))) h = subst (λ (handle : HandleValue). IsPrefix last.seen handle.seen) (sym h.1.0) (prefix-self last.seen)
     end-seen (Err (merge_end.MergeConflicts names)) h = (cut-since _ h).seen
     end-seen (Err merge_end.Memory) (inl idle) = idle.1.seen
@@ -84,13 +89,13 @@ module _ (formats : Formats) (files : List MountedFile) (parent : Name) (strateg
     end-makes : (first : HandleValue) (end : Result Done MergeEnd) → first.own ≡ made_by maker_of first.number first.seen → new.own ≡ made_by maker_of new.number new.seen → new.number ≡ first.number → IsSince first last
         → IsEnd formats files parent strategy tries last keys made new tried end → Makes first new (merge_reply tried end)
     end-makes first (Ok done) was is number since h =
-        let makes = stored-makes formats files parent keys keys last new (Ok done) h.1 first was since in
+        let makes = stored-makes formats files parent keys (with-keys keys) last new (Ok done) h.1 first was since in
         record { numbers = makes.numbers; failures = makes.failures; refusals = makes.refusals }
     end-makes first (Err (merge_end.TriesSpent mount by front)) was is number since h =
-        let makes = stored-makes formats files parent keys keys last new (Err (Conflict mount by front)) h.1 first was since in
+        let makes = stored-makes formats files parent keys (with-keys keys) last new (Err (Conflict mount by front)) h.1 first was since in
         record { numbers = makes.numbers; failures = makes.failures; refusals = makes.refusals }
     end-makes first (Err (merge_end.Set (set_fault.Commit why))) was is number since h =
-        let makes = stored-makes formats files parent keys keys last new (Err why) h.1 first was since in
+        let makes = stored-makes formats files parent keys (with-keys keys) last new (Err why) h.1 first was since in
         record { numbers = makes.numbers; failures = makes.failures; refusals = makes.refusals }
     end-makes first (Err (merge_end.Set (set_fault.Prepare why))) was is number since h =
         silent-makes first new _ was is (subst (IsSince first) (sym h.1.0) since) (record { numbers = refl; failures = refl; refusals = refl })
@@ -104,7 +109,7 @@ module _ (formats : Formats) (files : List MountedFile) (parent : Name) (strateg
 
   -- ---- what the session does on the way
 
-  module _ (working : KeyMap) (number : ℕ) (history : List Commit) where
+  module _ (working : Held) (number : ℕ) (history : List Commit) where
     abbrev Retry : Session → KeyMap → Tried → Session → KeyMap → KeyMap → Type 0
     Retry = Retries formats files number history parent
 
@@ -154,7 +159,7 @@ module _ (formats : Formats) (files : List MountedFile) (parent : Name) (strateg
           },
         )
 
-  module _ (working : KeyMap) (number tries : ℕ) (last new : HandleValue) (keys : KeyMap) (made tried : List Tried) (told : ℕ) (numbered : last.number ≡ number) (le : told ≤ length (commits_of last.seen))
+  module _ (working : Held) (number tries : ℕ) (last new : HandleValue) (keys : KeyMap) (made tried : List Tried) (told : ℕ) (numbered : last.number ≡ number) (le : told ≤ length (commits_of last.seen))
       (keeps : IsRecord (store_at files) (commits_of new.seen) (front_in (record_of new.rec)) (record_of new.rec)) where
     abbrev present : List Commit
     present = commits_of new.seen
@@ -207,46 +212,46 @@ module _ (formats : Formats) (files : List MountedFile) (parent : Name) (strateg
 
 -- ---- the step
 
-module _ (formats : Formats) {F : Type 0} (lock : Place Told) (plan : Plan F) (parent : Name) (strategy : Strategy) (tries : ℕ) (old new : HandleValue) (was : IsHandle lock plan old) (is : IsHandle lock plan new)
-    (number : new.number ≡ old.number) (procs : proc_of new.rec ≡ proc_of old.rec) (before after : KeyMap) where
-  merge-goes : (tried : List Tried) (end : Result Done MergeEnd) → IsMergedSet formats plan.mounted parent strategy tries old before new after tried end
-      → GoesOn formats lock plan (Merge parent strategy tries ∷ []) (merge_reply tried end ∷ []) old before new after
+module _ (formats : Formats) {F : Type 0} (lock : Place Told) (plan : Plan F) (parent : Name) (strategy : Strategy) (tries : ℕ) (old new : HandleValue) (before : Workspace) (was : IsReady lock plan old before) (is : IsHandle lock plan new)
+    (number : new.number ≡ old.number) (procs : proc_of new.rec ≡ proc_of old.rec) (after : KeyMap) where
+  merge-goes : (tried : List Tried) (end : Result Done MergeEnd) → IsMergedSet formats plan.mounted parent strategy tries old before.keys new after tried end
+      → GoesOn formats lock plan (Merge parent strategy tries ∷ []) (merge_reply tried end ∷ []) old before new (record before { keys = after })
   merge-goes tried end merged =
-      goes-one formats lock plan (Merge parent strategy tries) (merge_reply tried end) old new before after is number procs (prefix-trans old.seen merged.last.seen new.seen since.seen seen) means makes.numbers makes.failures makes.refusals
+      goes-keys formats lock plan (Merge parent strategy tries) (merge_reply tried end) old new before after was is number procs (prefix-trans old.seen merged.last.seen new.seen since.seen seen) means makes.numbers makes.failures makes.refusals
     where
       since : IsSince old merged.last
-      since = tries-since formats plan.mounted parent strategy old before merged.made merged.last merged.keys merged.retries
+      since = tries-since formats plan.mounted parent strategy old before.keys merged.made merged.last merged.keys merged.retries
 
       seen : IsPrefix merged.last.seen new.seen
       seen = end-seen formats plan.mounted parent strategy tries merged.last new merged.keys merged.made tried end merged.ends
 
       makes : Makes old new (merge_reply tried end)
-      makes = end-makes formats plan.mounted parent strategy tries merged.last new merged.keys merged.made tried old end was.own is.own number since merged.ends
+      makes = end-makes formats plan.mounted parent strategy tries merged.last new merged.keys merged.made tried old end was.handle_is.own is.own number since merged.ends
 
-      means : (told : ℕ) → told ≤ length (commits_of old.seen)
-          → (later : ℕ) × (later ≤ length (commits_of new.seen)) × Means formats plan.mounted (proc_of old.rec) old.number (commits_of new.seen) (session_of old before told) (Merge parent strategy tries) (merge_reply tried end) (session_of new after later)
-      means told le =
-          let made = tries-go formats plan.mounted parent strategy before old.number (commits_of new.seen) old before merged.made merged.last merged.keys told refl le (commits-prefix merged.last.seen new.seen seen) merged.retries in
-          let ended = end-goes formats plan.mounted parent strategy before old.number tries merged.last new merged.keys merged.made tried made.0 since.number made.1 is.keeps end merged.ends in (
+      means : (told : ℕ) (watching : Option Watching) → told ≤ length (commits_of old.seen)
+          → (later : ℕ) × (later ≤ length (commits_of new.seen)) × Means formats plan.mounted (proc_of old.rec) old.number (commits_of new.seen) (session_of old (held before watching) told) (Merge parent strategy tries) (merge_reply tried end) (session_of new (record { working = after; watching = watching }) later)
+      means told watching le =
+          let made = tries-go formats plan.mounted parent strategy (held before watching) old.number (commits_of new.seen) old before.keys merged.made merged.last merged.keys told refl le (commits-prefix merged.last.seen new.seen seen) merged.retries in
+          let ended = end-goes formats plan.mounted parent strategy (held before watching) old.number tries merged.last new merged.keys merged.made tried made.0 since.number made.1 is.keeps end merged.ends in (
             ended.0,
             ended.1,
             inl (record {
               tried = tried;
               end = end;
-              after = session_of new before ended.0;
+              after = session_of new (held before watching) ended.0;
               keys = after;
-              merged = record { made = merged.made; last = session_of merged.last before made.0; keys = merged.keys; retries = made.2; fewer = merged.fewer; ends = ended.2; after_is = merged.after_is };
+              merged = record { made = merged.made; last = session_of merged.last (held before watching) made.0; keys = merged.keys; retries = made.2; fewer = merged.fewer; ends = ended.2; after_is = merged.after_is };
               reply_is = refl;
               new_is = refl;
             }),
           )
 
-  pub merged-goes : (result : Result Merging MergeFault) (merging : Merging) → result ≡ Ok merging → IsMergedSet formats plan.mounted parent strategy tries old before new after (tried_in result) (end_of result)
-      → GoesOn formats lock plan (Merge parent strategy tries ∷ []) (reply.Merged merging ∷ []) old before new after
+  pub merged-goes : (result : Result Merging MergeFault) (merging : Merging) → result ≡ Ok merging → IsMergedSet formats plan.mounted parent strategy tries old before.keys new after (tried_in result) (end_of result)
+      → GoesOn formats lock plan (Merge parent strategy tries ∷ []) (reply.Merged merging ∷ []) old before new (record before { keys = after })
   merged-goes result merging e merged =
-      merge-goes merging.tried (Ok merging.done) (subst (λ (r : Result Merging MergeFault). IsMergedSet formats plan.mounted parent strategy tries old before new after (tried_in r) (end_of r)) e merged)
+      merge-goes merging.tried (Ok merging.done) (subst (λ (r : Result Merging MergeFault). IsMergedSet formats plan.mounted parent strategy tries old before.keys new after (tried_in r) (end_of r)) e merged)
 
-  pub unmerged-goes : (result : Result Merging MergeFault) (fault : MergeFault) → result ≡ Err fault → IsMergedSet formats plan.mounted parent strategy tries old before new after (tried_in result) (end_of result)
-      → GoesOn formats lock plan (Merge parent strategy tries ∷ []) (reply.MergeRefused fault ∷ []) old before new after
+  pub unmerged-goes : (result : Result Merging MergeFault) (fault : MergeFault) → result ≡ Err fault → IsMergedSet formats plan.mounted parent strategy tries old before.keys new after (tried_in result) (end_of result)
+      → GoesOn formats lock plan (Merge parent strategy tries ∷ []) (reply.MergeRefused fault ∷ []) old before new (record before { keys = after })
   unmerged-goes result fault e merged =
-      merge-goes fault.tried (Err fault.end) (subst (λ (r : Result Merging MergeFault). IsMergedSet formats plan.mounted parent strategy tries old before new after (tried_in r) (end_of r)) e merged)
+      merge-goes fault.tried (Err fault.end) (subst (λ (r : Result Merging MergeFault). IsMergedSet formats plan.mounted parent strategy tries old before.keys new after (tried_in r) (end_of r)) e merged)

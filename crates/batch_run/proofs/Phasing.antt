@@ -37,4 +37,4 @@ module _ (formats : Formats) {F : Type 0} (lock : Place Told) (plan : Plan F) wh
   pub rest-next : (steps : List (List Step)) (replies : List (List Reply)) (old new : List Worker) → IsThrough formats lock plan steps replies old new → (i : ℕ) (d : Worker) → i < length new → IsResting lock plan (get_or new i d)
   rest-next steps replies old new through i d lt =
       let was : i < length old = omega (arith, through.many) in
-      record { handle = (through.goes i d was).handle; none = through.idle i d was }
+      record { ready = (through.goes i d was).ready; none = through.idle i d was }

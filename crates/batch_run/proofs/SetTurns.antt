@@ -31,9 +31,10 @@ use Rattle.model_store.specs.Verdicts.{IsEarly, commit_of}
 use Rattle.seat_lock.specs.Known.{Place}
 use Rattle.seat_lock.specs.Story.{made_by}
 use Rattle.seat_lock.proofs.Prefixes.{prefix-trans}
-use Rattle.batch_run.specs.Stepping.{GoesOn, session_of}
+use Rattle.batch_run.specs.Stepping.{GoesOn, Held, IsReady, held, session_of}
+use Rattle.batch_run.specs.declared.workspaces.Workspace.{Workspace}
 use Rattle.batch_run.proofs.EditLemmas.{stays, IsSilent}
-use Rattle.batch_run.proofs.Joining.{goes-one}
+use Rattle.batch_run.proofs.Joining.{goes-keys}
 use Rattle.batch_run.proofs.CommitNumbers.{longer-commits, numbers-one, numbers-same, numbers_from-append, IsSince, numbers-since, since-self}
 use Rattle.set_split.specs.Parts.{owned_by}
 use Rattle.store_core.specs.Answers.{IsJudged}
@@ -164,7 +165,7 @@ silent-makes old new answer was is since silent = record {
 }
 
 -- Some keys were set, which need not be the working set
-module _ (formats : Formats) (files : List MountedFile) (parent : Name) (keys working : KeyMap) (old new : HandleValue) (result : Result Done CommitFault) (stored : IsStored formats files old new parent keys result) where
+module _ (formats : Formats) (files : List MountedFile) (parent : Name) (keys : KeyMap) (working : Held) (old new : HandleValue) (result : Result Done CommitFault) (stored : IsStored formats files old new parent keys result) where
   abbrev store : Store
   store = store_at files
 
@@ -251,33 +252,33 @@ unprepared-means formats store number history parent keys session (early_fault.B
 
 -- ---- the step
 
-module _ (formats : Formats) {F : Type 0} (lock : Place Told) (plan : Plan F) (parent : Name) (working : KeyMap) (old new : HandleValue) (was : IsHandle lock plan old) (is : IsHandle lock plan new)
+module _ (formats : Formats) {F : Type 0} (lock : Place Told) (plan : Plan F) (parent : Name) (before : Workspace) (old new : HandleValue) (was : IsReady lock plan old before) (is : IsHandle lock plan new)
     (number : new.number ≡ old.number) (procs : proc_of new.rec ≡ proc_of old.rec) where
-  stored-goes : (result : Result Done CommitFault) → IsStored formats plan.mounted old new parent working result → GoesOn formats lock plan (Set parent ∷ []) (set_reply result ∷ []) old working new working
+  stored-goes : (result : Result Done CommitFault) → IsStored formats plan.mounted old new parent before.keys result → GoesOn formats lock plan (Set parent ∷ []) (set_reply result ∷ []) old before new before
   stored-goes result stored =
-      let makes = stored-makes formats plan.mounted parent working working old new result stored old was.own (since-self old) in
-      goes-one formats lock plan (Set parent) (set_reply result) old new working working is number procs (stored-seen formats plan.mounted parent working working old new result stored)
-      (λ told le. (
+      let makes = stored-makes formats plan.mounted parent before.keys (held before None) old new result stored old was.handle_is.own (since-self old) in
+      goes-keys formats lock plan (Set parent) (set_reply result) old new before before.keys was is number procs (stored-seen formats plan.mounted parent before.keys (held before None) old new result stored)
+      (λ told watching le. (
         told_then result told,
-        within formats plan.mounted parent working working old new result stored told le,
-        stored-means formats plan.mounted parent working working old new result stored told le is.keeps,
+        within formats plan.mounted parent before.keys (held before watching) old new result stored told le,
+        stored-means formats plan.mounted parent before.keys (held before watching) old new result stored told le is.keeps,
       ))
       makes.numbers makes.failures makes.refusals
 
-  unprepared-goes : (why : PrepareFault) → IsSet formats plan.mounted old new parent working (Err (set_fault.Prepare why)) → GoesOn formats lock plan (Set parent ∷ []) (reply.SetRefused (set_fault.Prepare why) ∷ []) old working new working
+  unprepared-goes : (why : PrepareFault) → IsSet formats plan.mounted old new parent before.keys (Err (set_fault.Prepare why)) → GoesOn formats lock plan (Set parent ∷ []) (reply.SetRefused (set_fault.Prepare why) ∷ []) old before new before
   unprepared-goes why h =
-      subst (λ (handle : HandleValue). GoesOn formats lock plan (Set parent ∷ []) (reply.SetRefused (set_fault.Prepare why) ∷ []) old working handle working) (sym h.0)
-      (stays formats lock plan old working working (Set parent) (reply.SetRefused (set_fault.Prepare why)) was (record { numbers = refl; failures = refl; refusals = refl })
-      (λ told. unprepared-means formats (store_at plan.mounted) old.number (commits_of old.seen) parent working (session_of old working told) why h.1))
+      subst (λ (handle : HandleValue). GoesOn formats lock plan (Set parent ∷ []) (reply.SetRefused (set_fault.Prepare why) ∷ []) old before handle before) (sym h.0)
+      (stays formats lock plan old before before.keys (Set parent) (reply.SetRefused (set_fault.Prepare why)) was (record { numbers = refl; failures = refl; refusals = refl })
+      (λ told watching. unprepared-means formats (store_at plan.mounted) old.number (commits_of old.seen) parent before.keys (session_of old (held before watching) told) why h.1))
 
-  set-as : (result : Result Done SetFault) → IsSet formats plan.mounted old new parent working result → GoesOn formats lock plan (Set parent ∷ []) (stored_reply result ∷ []) old working new working
+  set-as : (result : Result Done SetFault) → IsSet formats plan.mounted old new parent before.keys result → GoesOn formats lock plan (Set parent ∷ []) (stored_reply result ∷ []) old before new before
   set-as (Ok d) h = stored-goes (Ok d) h
   set-as (Err (set_fault.Commit why)) h = stored-goes (Err why) h
   set-as (Err (set_fault.Prepare why)) h = unprepared-goes why h
 
-  pub set-goes : (result : Result Done SetFault) (d : Done) → result ≡ Ok d → IsSet formats plan.mounted old new parent working result → GoesOn formats lock plan (Set parent ∷ []) (reply.SetDone d ∷ []) old working new working
-  set-goes result d e h = set-as (Ok d) (subst (IsSet formats plan.mounted old new parent working) e h)
+  pub set-goes : (result : Result Done SetFault) (d : Done) → result ≡ Ok d → IsSet formats plan.mounted old new parent before.keys result → GoesOn formats lock plan (Set parent ∷ []) (reply.SetDone d ∷ []) old before new before
+  set-goes result d e h = set-as (Ok d) (subst (IsSet formats plan.mounted old new parent before.keys) e h)
 
-  pub unset-goes : (result : Result Done SetFault) (why : SetFault) → result ≡ Err why → IsSet formats plan.mounted old new parent working result
-      → GoesOn formats lock plan (Set parent ∷ []) (reply.SetRefused why ∷ []) old working new working
-  unset-goes result why e h = set-as (Err why) (subst (IsSet formats plan.mounted old new parent working) e h)
+  pub unset-goes : (result : Result Done SetFault) (why : SetFault) → result ≡ Err why → IsSet formats plan.mounted old new parent before.keys result
+      → GoesOn formats lock plan (Set parent ∷ []) (reply.SetRefused why ∷ []) old before new before
+  unset-goes result why e h = set-as (Err why) (subst (IsSet formats plan.mounted old new parent before.keys) e h)

@@ -1,5 +1,5 @@
 -- How the sessions of a batch come from one phase to the next, and what all of it says of the history in the end.
-use Rattle.std.proofs.Common.{◌≡◌, ◌⊎◌, inl, inr, ℕ, zero, suc, ◌+◌, ◌<◌, ◌≤◌, List, [], ◌∷◌, ◌++◌, length, get_or, take, map, slice_get, Some, All, flat_map, sum_by, refl, sym, ap, subst, ◌∙◌, append-nil, arith}
+use Rattle.std.proofs.Common.{◌≡◌, ◌⊎◌, inl, inr, ℕ, zero, suc, ◌+◌, ◌<◌, ◌≤◌, List, [], ◌∷◌, ◌++◌, length, get_or, take, map, slice_get, Option, Some, None, All, flat_map, sum_by, refl, sym, ap, subst, ◌∙◌, append-nil, arith}
 use Rattle.std.proofs.lemmas.List.{get_or-map, length_push, take-append-le, take_at}
 use Rattle.std.proofs.lemmas.List.Concat.{flat_map-append}
 use Rattle.std.proofs.lemmas.List.Elements.{All-from_recursion}
@@ -12,17 +12,18 @@ use Rattle.batch_script.specs.declared.steps.Step.{Step}
 use Rattle.batch_run.specs.Closes.{Closes, IsFresh}
 use Rattle.batch_run.specs.Going.{IsThrough, count_seen}
 use Rattle.batch_run.specs.Stands.{HasTaken, IsFull, Stand}
-use Rattle.batch_run.specs.Workers.{IsSeated, handle_in}
+use Rattle.batch_run.specs.Workers.{IsResting, IsSeated, handle_in}
 use Rattle.batch_run.specs.declared.workers.Worker.{Worker}
 use Rattle.batch_run.proofs.Counting.{covered}
 use Rattle.batch_run.proofs.ShownLemmas.{in_row-at}
+use Rattle.batch_run.proofs.WatchLemmas.{stands-within}
 use Rattle.kdb_handle.specs.Handles.{HandleValue}
 use Rattle.kdb_handle.specs.Story.{Told, commits_of, failures_in, refusals_in}
 use Rattle.kdb_handle.specs.declared.replies.Reply.{Reply}
 use Rattle.kdb_handle.proofs.StoryLemmas.{commits-prefix}
 use Rattle.model_batch.specs.Fair.{IsFair, in_row, of_session, commits_told, count_told}
 use Rattle.model_batch.specs.Replies.{failures_told, numbers_told, refusals_told}
-use Rattle.model_batch.specs.Sessions.{Session, first_session}
+use Rattle.model_batch.specs.Sessions.{Session, Watching, first_session}
 use Rattle.model_batch.specs.Told.{IsAtLeast, Tells, numbers_by}
 use Rattle.model_batch.proofs.Telling.{all-less, tells-append, tells-later, tells-more}
 use Rattle.model_history.specs.History.{Commit}
@@ -30,9 +31,11 @@ use Rattle.model_maps.specs.KeyMap.{KeyMap}
 use Rattle.model_store.specs.Store.{Formats}
 use Rattle.mounted_files.specs.declared.files.MountedFile.{MountedFile}
 use Rattle.seat_lock.specs.Known.{Place}
-use Rattle.batch_run.specs.Stepping.{GoesOn, session_of}
+use Rattle.batch_run.specs.Stepping.{GoesOn, Leads, held, session_of}
+use Rattle.batch_run.specs.Watching.{StandsFor}
 use Rattle.store_core.specs.declared.cores.Plan.{Plan}
 use Rattle.store_verdict.specs.RecordView.{proc_of}
+use Rattle.watch_feed.specs.Watches.{WatchValue}
 
 -- ---- rows
 
@@ -68,9 +71,13 @@ module _ (formats : Formats) {F : Type 0} (lock : Place Told) (plan : Plan F) wh
         handle = fresh.handle_is;
         number_is = fresh.number_is;
         procs_are = fresh.procs_are;
-        last = 0;
-        within = omega arith;
-        tells = λ i. record { working = seated.working i; rec = λ m. fresh.rec m i; told = 0 };
+        leads = record {
+          told = 0;
+          within = omega arith;
+          watching = None;
+          watches = subst (λ (watch : Option WatchValue). StandsFor (commits_of worker.session.handle.seen) watch None) (sym seated.watch) tt;
+          tells = λ i. record { working = seated.keys i; rec = λ m. fresh.rec m i; told = 0; watching = None };
+        };
         own = ap (numbers_by number) none;
         failures = ap failures_in fresh.own;
         refusals = ap refusals_in fresh.own;
@@ -78,49 +85,63 @@ module _ (formats : Formats) {F : Type 0} (lock : Place Told) (plan : Plan F) wh
       }
 
   -- how a session went on, by its number and its keys in `proc`
-  goes-as : (procs : KeyMap) (number : ℕ) (steps : List Step) (replies : List Reply) (old new : Worker) (told : ℕ) → GoesOn formats lock plan steps replies old.session.handle old.session.working new.session.handle new.session.working
-      → old.session.handle.number ≡ number → proc_of old.session.handle.rec ≡ procs → told ≤ length (commits_of old.session.handle.seen)
-      → (last : ℕ) × (last ≤ length (commits_of new.session.handle.seen)) × Tells formats plan.mounted procs number (commits_of new.session.handle.seen) (session_of old.session.handle old.session.working told) steps replies (session_of new.session.handle new.session.working last)
-  goes-as procs number steps replies old new told goes number_is procs_are le =
-      let history = commits_of new.session.handle.seen in
-      let Says : KeyMap → ℕ → Type 0 = λ p n. (last : ℕ) × (last ≤ length history) × Tells formats plan.mounted p n history (session_of old.session.handle old.session.working told) steps replies (session_of new.session.handle new.session.working last) in
-      subst (λ (p : KeyMap). Says p number) procs_are (subst (λ (n : ℕ). Says (proc_of old.session.handle.rec) n) number_is (goes.tells told le))
+  goes-as : (procs : KeyMap) (number : ℕ) (steps : List Step) (replies : List Reply) (old new : Worker) (told : ℕ) (watching : Option Watching)
+      → GoesOn formats lock plan steps replies old.session.handle old.session.workspace new.session.handle new.session.workspace
+      → old.session.handle.number ≡ number → proc_of old.session.handle.rec ≡ procs → told ≤ length (commits_of old.session.handle.seen) → StandsFor (commits_of old.session.handle.seen) old.session.workspace.watch watching
+      → Leads formats plan.mounted procs number (session_of old.session.handle (held old.session.workspace watching) told) steps replies new.session.handle new.session.workspace
+  goes-as procs number steps replies old new told watching goes number_is procs_are le stands =
+      let Says : KeyMap → ℕ → Type 0 = λ p n. Leads formats plan.mounted p n (session_of old.session.handle (held old.session.workspace watching) told) steps replies new.session.handle new.session.workspace in
+      subst (λ (p : KeyMap). Says p number) procs_are (subst (λ (n : ℕ). Says (proc_of old.session.handle.rec) n) number_is (goes.tells told watching le stands))
 
   taken-next : (procs : KeyMap) (number : ℕ) (steps more : List Step) (replies told : List Reply) (old new : Worker) → HasTaken formats lock plan procs number steps replies old
-      → GoesOn formats lock plan more told old.session.handle old.session.working new.session.handle new.session.working → new.told.items ≡ [] → HasTaken formats lock plan procs number (steps ++ more) (replies ++ told) new
+      → GoesOn formats lock plan more told old.session.handle old.session.workspace new.session.handle new.session.workspace → new.told.items ≡ [] → HasTaken formats lock plan procs number (steps ++ more) (replies ++ told) new
   taken-next procs number steps more replies told old new was goes idle =
       let history = commits_of new.session.handle.seen in
-      let on = goes-as procs number more told old new was.last goes was.number_is was.procs_are was.within in
-      let before = tells-more formats plan.mounted procs number (commits_of old.session.handle.seen) history first_session (session_of old.session.handle old.session.working was.last) steps replies (commits-prefix old.session.handle.seen new.session.handle.seen goes.seen) was.tells in
+      let led = was.leads in
+      let on = goes-as procs number more told old new led.told led.watching goes was.number_is was.procs_are led.within led.watches in
+      let before = tells-more formats plan.mounted procs number (commits_of old.session.handle.seen) history first_session (session_of old.session.handle (held old.session.workspace led.watching) led.told) steps replies (commits-prefix old.session.handle.seen new.session.handle.seen goes.seen) led.tells in
       let own : numbers_by number history ≡ numbers_by number (commits_of old.session.handle.seen) ++ flat_map numbers_told told =
       subst (λ (n : ℕ). numbers_by n history ≡ numbers_by n (commits_of old.session.handle.seen) ++ flat_map numbers_told told) was.number_is goes.own in
       record {
-        handle = goes.handle;
+        handle = goes.ready.handle_is;
         number_is = goes.number ∙ was.number_is;
         procs_are = goes.procs ∙ was.procs_are;
-        last = on.0;
-        within = on.1;
-        tells = tells-append formats plan.mounted procs number history first_session (session_of old.session.handle old.session.working was.last) (session_of new.session.handle new.session.working on.0) steps more replies told before on.2;
+        leads = record {
+          told = on.told;
+          within = on.within;
+          watching = on.watching;
+          watches = on.watches;
+          tells = tells-append formats plan.mounted procs number history first_session (session_of old.session.handle (held old.session.workspace led.watching) led.told)
+              (session_of new.session.handle (held new.session.workspace on.watching) on.told) steps more replies told before on.tells;
+        };
         own = own ∙ ap (λ (l : List ℕ). l ++ flat_map numbers_told told) was.own ∙ sym (flat_map-append numbers_told replies told);
         failures = goes.failures ∙ ap (λ k. k + sum_by failures_told told) was.failures ∙ sym (sum_by-append failures_told replies told);
         refusals = goes.refusals ∙ ap (λ k. k + sum_by refusals_told told) was.refusals ∙ sym (sum_by-append refusals_told replies told);
         idle = idle;
       }
 
-  -- each front of a phase is at least what the handle had seen before
-  goes-fronts : (steps : List Step) (replies : List Reply) (old new : Worker) → GoesOn formats lock plan steps replies old.session.handle old.session.working new.session.handle new.session.working
-      → AllByRecursion (IsAtLeast (length (commits_of old.session.handle.seen))) replies
-  goes-fronts steps replies old new goes =
-      let seen = length (commits_of old.session.handle.seen) in
-      let on = goes.tells seen (omega arith) in
-      (tells-later formats plan.mounted (proc_of old.session.handle.rec) old.session.handle.number (commits_of new.session.handle.seen) (session_of old.session.handle old.session.working seen)
-      (session_of new.session.handle new.session.working on.0) steps replies on.2).1
+  module _ (steps : List Step) (replies : List Reply) (old new : Worker) (watching : Option Watching) (stands : StandsFor (commits_of old.session.handle.seen) old.session.workspace.watch watching)
+      (goes : GoesOn formats lock plan steps replies old.session.handle old.session.workspace new.session.handle new.session.workspace) where
+    -- each front of a phase is at least what the handle had seen before
+    goes-fronts : AllByRecursion (IsAtLeast (length (commits_of old.session.handle.seen))) replies
+    goes-fronts =
+        let seen = length (commits_of old.session.handle.seen) in
+        let on = goes.tells seen watching (omega arith) stands in
+        (tells-later formats plan.mounted (proc_of old.session.handle.rec) old.session.handle.number (commits_of new.session.handle.seen) (session_of old.session.handle (held old.session.workspace watching) seen)
+        (session_of new.session.handle (held new.session.workspace on.watching) on.told) steps replies on.tells).1
 
-  goes-length : (steps : List Step) (replies : List Reply) (old new : Worker) → GoesOn formats lock plan steps replies old.session.handle old.session.working new.session.handle new.session.working → length replies ≡ length steps
-  goes-length steps replies old new goes =
-      let on = goes.tells 0 (omega arith) in
-      tells-length formats plan.mounted (proc_of old.session.handle.rec) old.session.handle.number (commits_of new.session.handle.seen) (session_of old.session.handle old.session.working 0)
-      (session_of new.session.handle new.session.working on.0) steps replies on.2
+    goes-length : length replies ≡ length steps
+    goes-length =
+        let on = goes.tells 0 watching (omega arith) stands in
+        tells-length formats plan.mounted (proc_of old.session.handle.rec) old.session.handle.number (commits_of new.session.handle.seen) (session_of old.session.handle (held old.session.workspace watching) 0)
+        (session_of new.session.handle (held new.session.workspace on.watching) on.told) steps replies on.tells
+
+  -- one that has no replies in its present phase can take steps
+  pub rests : (procs : KeyMap) (number : ℕ) (steps : List Step) (replies : List Reply) (worker : Worker) → HasTaken formats lock plan procs number steps replies worker → IsResting lock plan worker
+  rests procs number steps replies worker taken = record {
+    ready = record { handle_is = taken.handle; watch = stands-within worker.session.handle.seen worker.session.workspace.watch taken.leads.watching taken.leads.watches };
+    none = taken.idle;
+  }
 
   -- ---- all sessions
 
@@ -162,9 +183,12 @@ module _ (formats : Formats) {F : Type 0} (lock : Place Told) (plan : Plan F) wh
         some : (d : Worker) × (slice_get old k ≡ Some d)
         some = there_is old k lt'
 
+        led : Leads formats plan.mounted (procs (k + 1)) (k + 1) first_session (of_session k steps) (of_session k replies) (get_or old k some.0).session.handle (get_or old k some.0).session.workspace
+        led = (stand.each k some.0 lt').leads
+
         each : All (IsAtLeast (count_told (length old) replies)) (in_row k told)
         each = lower (count_told (length old) replies) (length (commits_of (get_or old k some.0).session.handle.seen)) (in_row k told) (stand.covers k some.0 lt')
-            (goes-fronts (in_row k row) (in_row k told) (get_or old k some.0) (get_or new k some.0) (through.goes k some.0 lt'))
+            (goes-fronts (in_row k row) (in_row k told) (get_or old k some.0) (get_or new k some.0) led.watching led.watches (through.goes k some.0 lt'))
 
     next-phases : Stand formats lock plan procs steps replies old → IsThrough formats lock plan row told old new → (p : ℕ) (there : List (List Reply)) → slice_get (replies ++ told ∷ []) p ≡ Some there
         → All (All (IsAtLeast (count_told (length new) (take p (replies ++ told ∷ []))))) there
@@ -182,13 +206,14 @@ module _ (formats : Formats) {F : Type 0} (lock : Place Told) (plan : Plan F) wh
             (subst (λ (rows : List (List (List Reply))). Floor (length old) rows there) (sym (take_at replies (told ∷ []) p (sym last.0)))
             (subst (Floor (length old) replies) last.1 (last-phase stand through)))
 
-    last-full : IsThrough formats lock plan row told old new → IsFull (length new) row told
-    last-full through = record {
+    last-full : Stand formats lock plan procs steps replies old → IsThrough formats lock plan row told old new → IsFull (length new) row told
+    last-full stand through = record {
       wide = through.told ∙ sym through.many;
       even = λ i lt.
           let lt' : i < length old = omega (arith, through.many) in
           let some = there_is old i lt' in
-          goes-length (in_row i row) (in_row i told) (get_or old i some.0) (get_or new i some.0) (through.goes i some.0 lt');
+          let led = (stand.each i some.0 lt').leads in
+          goes-length (in_row i row) (in_row i told) (get_or old i some.0) (get_or new i some.0) led.watching led.watches (through.goes i some.0 lt');
     }
 
     next-full : Stand formats lock plan procs steps replies old → IsThrough formats lock plan row told old new → (p : ℕ) (made : List (List Step)) (there : List (List Reply)) → slice_get (steps ++ row ∷ []) p ≡ Some made
@@ -199,7 +224,7 @@ module _ (formats : Formats) {F : Type 0} (lock : Place Told) (plan : Plan F) wh
         by (inl here) (inl answered) = subst (λ (n : ℕ). IsFull n made there) (sym through.many) (stand.full p made there here answered)
         by (inl here) (inr last) = absurd (omega (arith, slice_get_within steps p made here, stand.long, last.0))
         by (inr last) (inl answered) = absurd (omega (arith, slice_get_within replies p there answered, stand.long, last.0))
-        by (inr last) (inr end) = subst (λ (s : List (List Step)). IsFull (length new) s there) last.1 (subst (IsFull (length new) row) end.1 (last-full through))
+        by (inr last) (inr end) = subst (λ (s : List (List Step)). IsFull (length new) s there) last.1 (subst (IsFull (length new) row) end.1 (last-full stand through))
 
     pub stand-next : Stand formats lock plan procs steps replies old → IsThrough formats lock plan row told old new → Stand formats lock plan procs (steps ++ row ∷ []) (replies ++ told ∷ []) new
     stand-next stand through = record {
@@ -217,10 +242,11 @@ module _ (formats : Formats) {F : Type 0} (lock : Place Told) (plan : Plan F) wh
   fair-rows procs steps replies workers history stand closes = record {
     tells = λ i lt.
         let some = there_is workers i lt in
-        let made = stand.each i some.0 lt in (
-          session_of (get_or workers i some.0).session.handle (get_or workers i some.0).session.working made.last,
+        let led = (stand.each i some.0 lt).leads in
+        let last : Session = session_of (get_or workers i some.0).session.handle (held (get_or workers i some.0).session.workspace led.watching) led.told in (
+          last,
           tells-more formats plan.mounted (procs (i + 1)) (i + 1) (commits_of (get_or workers i some.0).session.handle.seen) history first_session
-              (session_of (get_or workers i some.0).session.handle (get_or workers i some.0).session.working made.last) (of_session i steps) (of_session i replies) (begins i some.0 lt) made.tells,
+              last (of_session i steps) (of_session i replies) (begins i some.0 lt) led.tells,
         );
     own = λ i lt.
         let some = there_is workers i lt in

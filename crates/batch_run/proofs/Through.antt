@@ -8,22 +8,21 @@ use Rattle.batch_run.specs.Going.{IsExchanged, IsThrough, Meets, Works, count_se
 use Rattle.batch_run.specs.Rooms.{HaveRoom, IsRoom, told_in}
 use Rattle.batch_run.specs.Workers.{IsResting, number_in}
 use Rattle.batch_run.specs.declared.workers.Worker.{Worker}
+use Rattle.batch_run.specs.declared.workspaces.Workspace.{Workspace}
 use Rattle.batch_run.proofs.Counting.{count-prefix}
 use Rattle.batch_run.proofs.ShownLemmas.{in_row-at}
 use Rattle.batch_script.specs.declared.steps.Step.{Step}
 use Rattle.batch_script.specs.declared.steps.Steps.{Steps}
-use Rattle.kdb_handle.specs.Handles.{HandleValue}
 use Rattle.kdb_handle.specs.Stores.{IsHandle}
 use Rattle.kdb_handle.specs.Story.{Told, commits_of, maker_of}
 use Rattle.kdb_handle.specs.declared.replies.Reply.{Reply}
 use Rattle.kdb_handle.proofs.StoryLemmas.{commits-prefix}
 use Rattle.model_batch.specs.Fair.{in_row}
 use Rattle.model_batch.specs.Scripts.{steps_in}
-use Rattle.model_maps.specs.KeyMap.{KeyMap}
 use Rattle.model_store.specs.Store.{Formats}
 use Rattle.seat_lock.specs.Known.{Place}
 use Rattle.seat_lock.specs.Story.{made_by}
-use Rattle.batch_run.specs.Stepping.{GoesOn}
+use Rattle.batch_run.specs.Stepping.{GoesOn, IsReady}
 use Rattle.batch_run.proofs.Joining.{goes-met}
 use Rattle.batch_run.proofs.CommitNumbers.{numbers-same}
 use Rattle.store_core.specs.declared.cores.Plan.{Plan}
@@ -41,32 +40,31 @@ ready-rooms phase old new rooms left room exchanged i d lt =
     let number : get_or (map number_in old) i 0 ≡ (get_or new i d).session.number = get_or-map number_in old i d 0 lt ∙ ap (λ s. s.number) (sym one.session) in
     subst (λ (n : ℕ). IsRoom (length (steps_in phase n)) (get_or new i d).told) number (subst (IsRoom (length (steps_in phase (get_or (map number_in old) i 0)))) (sym one.told) is)
 
--- and the handles are the store's
-pub ready-handles : {F : Type 0} (lock : Place Told) (plan : Plan F) (old new : List Worker) (rooms left : List (Vec Reply)) → length rooms ≡ length old → ((i : ℕ) (d : Worker) → i < length old → IsResting lock plan (get_or old i d))
+-- and all are ready for it
+pub ready-all : {F : Type 0} (lock : Place Told) (plan : Plan F) (old new : List Worker) (rooms left : List (Vec Reply)) → length rooms ≡ length old → ((i : ℕ) (d : Worker) → i < length old → IsResting lock plan (get_or old i d))
     → ((i : ℕ) (d : Worker) (e : Vec Reply) → i < length old → IsExchanged (get_or old i d) (get_or rooms i e) (get_or new i d) (get_or left i e))
-    → (i : ℕ) (d : Worker) → i < length old → IsHandle lock plan (get_or new i d).session.handle
-ready-handles lock plan old new rooms left many resting exchanged i d lt =
+    → (i : ℕ) (d : Worker) → i < length old → IsReady lock plan (get_or new i d).session.handle (get_or new i d).session.workspace
+ready-all lock plan old new rooms left many resting exchanged i d lt =
     let some = there_is rooms i (omega (arith, many)) in
     let one = exchanged i d some.0 lt in
-    subst (λ s. IsHandle lock plan s.handle) (sym one.session) (resting i d lt).handle
+    subst (λ s. IsReady lock plan s.handle s.workspace) (sym one.session) (resting i d lt).ready
 
 module _ (formats : Formats) {F : Type 0} (lock : Place Told) (plan : Plan F) (phase : List Steps) where
   -- what a session did in the phase, from its beginning to the end
   through-one : (old given taken back : Worker) (room left shown : Vec Reply) (new : Worker) → IsExchanged old room given left → Works formats lock plan (steps_in phase given.session.number) given taken
       → IsExchanged taken left back shown → Meets lock plan back new
-      → GoesOn formats lock plan (steps_in phase old.session.number) shown.items old.session.handle old.session.working new.session.handle new.session.working
+      → GoesOn formats lock plan (steps_in phase old.session.number) shown.items old.session.handle old.session.workspace new.session.handle new.session.workspace
   through-one old given taken back room left shown new out works home meets =
-      let Goes : HandleValue → KeyMap → List Step → List Reply → Type 0 = λ handle working steps replies. GoesOn formats lock plan steps replies handle working taken.session.handle taken.session.working in
       let goes = works.goes in
-      let begun : GoesOn formats lock plan (steps_in phase old.session.number) taken.told.items old.session.handle old.session.working taken.session.handle taken.session.working =
-      subst (λ s. GoesOn formats lock plan (steps_in phase s.number) taken.told.items s.handle s.working taken.session.handle taken.session.working) out.session goes in
-      let replied : GoesOn formats lock plan (steps_in phase old.session.number) shown.items old.session.handle old.session.working taken.session.handle taken.session.working =
-      subst (λ (v : Vec Reply). GoesOn formats lock plan (steps_in phase old.session.number) v.items old.session.handle old.session.working taken.session.handle taken.session.working) (sym home.left_is) begun in
-      let came : GoesOn formats lock plan (steps_in phase old.session.number) shown.items old.session.handle old.session.working back.session.handle back.session.working =
-      subst (λ s. GoesOn formats lock plan (steps_in phase old.session.number) shown.items old.session.handle old.session.working s.handle s.working) (sym home.session) replied in
-      let met : GoesOn formats lock plan (steps_in phase old.session.number) shown.items old.session.handle old.session.working new.session.handle back.session.working =
-      goes-met formats lock plan (steps_in phase old.session.number) shown.items old.session.handle back.session.handle new.session.handle old.session.working back.session.working came.handle meets.handle meets.number meets.seen meets.own meets.rec came in
-      subst (λ (keys : KeyMap). GoesOn formats lock plan (steps_in phase old.session.number) shown.items old.session.handle old.session.working new.session.handle keys) (sym meets.working) met
+      let begun : GoesOn formats lock plan (steps_in phase old.session.number) taken.told.items old.session.handle old.session.workspace taken.session.handle taken.session.workspace =
+      subst (λ s. GoesOn formats lock plan (steps_in phase s.number) taken.told.items s.handle s.workspace taken.session.handle taken.session.workspace) out.session goes in
+      let replied : GoesOn formats lock plan (steps_in phase old.session.number) shown.items old.session.handle old.session.workspace taken.session.handle taken.session.workspace =
+      subst (λ (v : Vec Reply). GoesOn formats lock plan (steps_in phase old.session.number) v.items old.session.handle old.session.workspace taken.session.handle taken.session.workspace) (sym home.left_is) begun in
+      let came : GoesOn formats lock plan (steps_in phase old.session.number) shown.items old.session.handle old.session.workspace back.session.handle back.session.workspace =
+      subst (λ s. GoesOn formats lock plan (steps_in phase old.session.number) shown.items old.session.handle old.session.workspace s.handle s.workspace) (sym home.session) replied in
+      let met : GoesOn formats lock plan (steps_in phase old.session.number) shown.items old.session.handle old.session.workspace new.session.handle back.session.workspace =
+      goes-met formats lock plan (steps_in phase old.session.number) shown.items old.session.handle back.session.handle new.session.handle old.session.workspace back.session.workspace meets.handle meets.number meets.seen meets.own meets.rec came in
+      subst (λ (workspace : Workspace). GoesOn formats lock plan (steps_in phase old.session.number) shown.items old.session.handle old.session.workspace new.session.handle workspace) (sym meets.workspace) met
 
   module _ (old given taken back new : List Worker) (rooms left shown : List (Vec Reply)) where
     -- all four parts of a phase
@@ -93,8 +91,8 @@ module _ (formats : Formats) {F : Type 0} (lock : Place Told) (plan : Plan F) (p
         (parts.meets i d (omega (arith, parts.back_many))).session ∙ ap (λ s. s.number) home.session ∙ (parts.works i d (omega (arith, parts.given_many))).number ∙ ap (λ s. s.number) out.session
 
     goes : Parts → (i : ℕ) (d : Worker) → i < length old
-        → GoesOn formats lock plan (in_row i (map (steps_in phase) (map number_in old))) (in_row i (map told_in shown)) (get_or old i d).session.handle (get_or old i d).session.working (get_or new i d).session.handle
-        (get_or new i d).session.working
+        → GoesOn formats lock plan (in_row i (map (steps_in phase) (map number_in old))) (in_row i (map told_in shown)) (get_or old i d).session.handle (get_or old i d).session.workspace (get_or new i d).session.handle
+        (get_or new i d).session.workspace
     goes parts i d lt =
         let within : i < length shown = omega (arith, parts.shown_many) in
         let some = there_is shown i within in
@@ -106,8 +104,8 @@ module _ (formats : Formats) {F : Type 0} (lock : Place Told) (plan : Plan F) (p
         let steps : in_row i (map (steps_in phase) (map number_in old)) ≡ steps_in phase (get_or old i d).session.number =
         in_row-at (map (steps_in phase) (map number_in old)) i [] (omega arith) ∙ get_or-map (steps_in phase) (map number_in old) i 0 [] (omega arith) ∙ ap (steps_in phase) (get_or-map number_in old i d 0 lt) in
         let told : in_row i (map told_in shown) ≡ (get_or shown i e).items = in_row-at (map told_in shown) i [] (omega (arith, length-map shown told_in)) ∙ get_or-map told_in shown i e [] within in
-        subst (λ (s : List Step). GoesOn formats lock plan s (in_row i (map told_in shown)) (get_or old i d).session.handle (get_or old i d).session.working (get_or new i d).session.handle (get_or new i d).session.working) (sym steps)
-        (subst (λ (r : List Reply). GoesOn formats lock plan (steps_in phase (get_or old i d).session.number) r (get_or old i d).session.handle (get_or old i d).session.working (get_or new i d).session.handle (get_or new i d).session.working) (sym told) one)
+        subst (λ (s : List Step). GoesOn formats lock plan s (in_row i (map told_in shown)) (get_or old i d).session.handle (get_or old i d).session.workspace (get_or new i d).session.handle (get_or new i d).session.workspace) (sym steps)
+        (subst (λ (r : List Reply). GoesOn formats lock plan (steps_in phase (get_or old i d).session.number) r (get_or old i d).session.handle (get_or old i d).session.workspace (get_or new i d).session.handle (get_or new i d).session.workspace) (sym told) one)
 
     idle : Parts → (i : ℕ) (d : Worker) → i < length old → (get_or new i d).told.items ≡ []
     idle parts i d lt =
@@ -136,7 +134,7 @@ module _ (formats : Formats) {F : Type 0} (lock : Place Told) (plan : Plan F) (p
         back-handle k e within =
             let some = there_is shown k (omega (arith, parts.shown_many, parts.back_many)) in
             let home = parts.home k e some.0 (omega (arith, parts.taken_many, parts.back_many)) in
-            subst (λ s. IsHandle lock plan s.handle) (sym home.session) (parts.works k e (omega (arith, parts.given_many, parts.back_many))).goes.handle
+            subst (λ s. IsHandle lock plan s.handle) (sym home.session) (parts.works k e (omega (arith, parts.given_many, parts.back_many))).goes.ready.handle_is
 
     pub through : Parts → IsThrough formats lock plan (map (steps_in phase) (map number_in old)) (map told_in shown) old new
     through parts = record {
@@ -160,4 +158,4 @@ pub home-handles : (formats : Formats) {F : Type 0} (lock : Place Told) (plan : 
 home-handles formats lock plan phase given taken back left shown many rooms works home i d lt =
     let some = there_is left i (omega (arith, rooms)) in
     let one = home i d some.0 lt in
-    subst (λ s. IsHandle lock plan s.handle) (sym one.session) (works i d (omega (arith, many))).goes.handle
+    subst (λ s. IsHandle lock plan s.handle) (sym one.session) (works i d (omega (arith, many))).goes.ready.handle_is

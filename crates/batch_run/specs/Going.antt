@@ -22,7 +22,7 @@ count_seen number handle = length (numbers_by number (commits_of handle.seen))
 
 -- a session took steps, and has their replies
 pub record Works (formats : Formats) {F : Type 0} (lock : Place Told) (plan : Plan F) (steps : List Step) (old new : Worker) : Type 0 where
-  pub goes : GoesOn formats lock plan steps new.told.items old.session.handle old.session.working new.session.handle new.session.working
+  pub goes : GoesOn formats lock plan steps new.told.items old.session.handle old.session.workspace new.session.handle new.session.workspace
   pub number : new.session.number ≡ old.session.number
 
 -- a session has the room for replies that stood in its place, and gave what it had for it
@@ -39,7 +39,7 @@ pub record Meets {F : Type 0} (lock : Place Told) (plan : Plan F) (old new : Wor
   pub own : new.session.handle.own ≡ old.session.handle.own
   pub rec : new.session.handle.rec ≡ old.session.handle.rec
   pub session : new.session.number ≡ old.session.number
-  pub working : new.session.working ≡ old.session.working
+  pub workspace : new.session.workspace ≡ old.session.workspace
   pub told : new.told ≡ old.told
 
 -- A phase of some sessions: each took the steps of its place and got the replies there. Then they met: each has seen of the commits of each other as many as that one
@@ -48,7 +48,7 @@ pub record IsThrough (formats : Formats) {F : Type 0} (lock : Place Told) (plan 
   pub many : length new ≡ length old
   pub told : length replies ≡ length old
   pub goes : (i : ℕ) (d : Worker) → i < length old
-      → GoesOn formats lock plan (in_row i steps) (in_row i replies) (get_or old i d).session.handle (get_or old i d).session.working (get_or new i d).session.handle (get_or new i d).session.working
+      → GoesOn formats lock plan (in_row i steps) (in_row i replies) (get_or old i d).session.handle (get_or old i d).session.workspace (get_or new i d).session.handle (get_or new i d).session.workspace
   pub numbers : over number_in new ≡ over number_in old
   pub idle : (i : ℕ) (d : Worker) → i < length old → (get_or new i d).told.items ≡ []
   pub met : (i j : ℕ) (d : Worker) → i < length old → j < length old → count_seen (get_or new j d).session.handle.number (get_or new j d).session.handle ≤ count_seen (get_or new j d).session.handle.number (get_or new i d).session.handle

@@ -1,5 +1,6 @@
 -- What the sessions of a batch do together, and what comes of a script.
 pub mod Stepping
+pub mod Watching
 pub mod Workers
 pub mod Going
 pub mod Stands

@@ -11,11 +11,11 @@ use Rattle.model_batch.specs.Fair.{in_row, of_session, count_told}
 use Rattle.model_batch.specs.Replies.{failures_told, numbers_told, refusals_told}
 use Rattle.model_batch.specs.Scripts.{steps_in}
 use Rattle.model_batch.specs.Sessions.{first_session}
-use Rattle.model_batch.specs.Told.{IsAtLeast, Tells, numbers_by}
+use Rattle.model_batch.specs.Told.{IsAtLeast, numbers_by}
 use Rattle.model_maps.specs.KeyMap.{KeyMap}
 use Rattle.model_store.specs.Store.{Formats}
 use Rattle.seat_lock.specs.Known.{Place}
-use Rattle.batch_run.specs.Stepping.{session_of}
+use Rattle.batch_run.specs.Stepping.{Leads}
 use Rattle.store_core.specs.declared.cores.Plan.{Plan}
 use Rattle.store_verdict.specs.RecordView.{proc_of}
 
@@ -25,9 +25,7 @@ pub record HasTaken (formats : Formats) {F : Type 0} (lock : Place Told) (plan :
   pub handle : IsHandle lock plan worker.session.handle
   pub number_is : worker.session.handle.number ≡ number
   pub procs_are : proc_of worker.session.handle.rec ≡ procs
-  pub last : ℕ
-  pub within : last ≤ length (commits_of worker.session.handle.seen)
-  pub tells : Tells formats plan.mounted procs number (commits_of worker.session.handle.seen) first_session steps replies (session_of worker.session.handle worker.session.working last)
+  pub leads : Leads formats plan.mounted procs number first_session steps replies worker.session.handle worker.session.workspace
   pub own : numbers_by number (commits_of worker.session.handle.seen) ≡ flat_map numbers_told replies
   pub failures : failures_in worker.session.handle.own ≡ sum_by failures_told replies
   pub refusals : refusals_in worker.session.handle.own ≡ sum_by refusals_told replies

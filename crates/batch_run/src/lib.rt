@@ -18,10 +18,13 @@ mod seating;
 mod sessions;
 mod showing;
 mod turns;
+mod watching;
 mod workers;
+mod workspaces;
 
 pub use laws::what_bytes_read_as_can_be_played;
 pub use numbers::sessions_of;
 pub use playing::{Played, play_on};
 pub use running::{Sessions, run_sessions};
 pub use sessions::Session;
+pub use workspaces::Workspace;

@@ -3,9 +3,9 @@ ghost use Rattle.std.specs.Prelude.{ℕ, ◌<◌, [], length, slice_index_or, ma
 ghost use Rattle.batch_run.specs.Going.{IsThrough, Works};
 ghost use Rattle.batch_run.specs.Rooms.{ArePhaseRooms, HaveRoom, IsRoom, KeepShown, row_in, told_in};
 ghost use Rattle.batch_run.specs.Stands.{Stand, rows_of};
+ghost use Rattle.batch_run.specs.Stepping.{IsReady};
 ghost use Rattle.batch_run.specs.Workers.{IsResting, number_in};
 ghost use Rattle.batch_run.specs.declared.workers.Worker.{Worker};
-ghost use Rattle.kdb_handle.specs.Stores.{IsHandle};
 ghost use Rattle.kdb_handle.specs.Views.{lock_of, plan_of};
 ghost use Rattle.model_batch.specs.Scripts.{steps_in};
 ghost use Rattle.model_maps.specs.KeyMap.{KeyMap};
@@ -102,7 +102,7 @@ fn take_all<
     phase: &[Steps],
     workers: &mut [Worker],
 )
-    requires handles { (i : ℕ) (d : Worker) → i < length workers.old → IsHandle (lock_of store.now) (plan_of store.now) (slice_index_or workers.old i d).session.handle }
+    requires ready { (i : ℕ) (d : Worker) → i < length workers.old → IsReady (lock_of store.now) (plan_of store.now) (slice_index_or workers.old i d).session.handle (slice_index_or workers.old i d).session.workspace }
     requires rooms { (i : ℕ) (d : Worker) → i < length workers.old → IsRoom (length (steps_in phase.now (slice_index_or workers.old i d).session.number)) (slice_index_or workers.old i d).told }
     ensures { (i : ℕ) (d : Worker) → i < length workers.old
         → Works (formats_of F.Formats) (lock_of store.now) (plan_of store.now) (steps_in phase.now (slice_index_or workers.old i d).session.number) (slice_index_or workers.old i d) (slice_index_or workers.new i d) }
@@ -122,7 +122,7 @@ fn take_in_turn<G: Gate, D: Disk, F: Formats + Drop, P: Patterns + Drop, R: Wait
     phase: &[Steps],
     workers: &mut [Worker],
 )
-    requires handles { (i : ℕ) (d : Worker) → i < length workers.old → IsHandle (lock_of store.now) (plan_of store.now) (slice_index_or workers.old i d).session.handle }
+    requires ready { (i : ℕ) (d : Worker) → i < length workers.old → IsReady (lock_of store.now) (plan_of store.now) (slice_index_or workers.old i d).session.handle (slice_index_or workers.old i d).session.workspace }
     requires rooms { (i : ℕ) (d : Worker) → i < length workers.old → IsRoom (length (steps_in phase.now (slice_index_or workers.old i d).session.number)) (slice_index_or workers.old i d).told }
     ensures { (i : ℕ) (d : Worker) → i < length workers.old
         → Works (formats_of F.Formats) (lock_of store.now) (plan_of store.now) (steps_in phase.now (slice_index_or workers.old i d).session.number) (slice_index_or workers.old i d) (slice_index_or workers.new i d) }
@@ -147,7 +147,7 @@ fn take_beside<
     phase: &[Steps],
     workers: &mut [Worker],
 )
-    requires handles { (i : ℕ) (d : Worker) → i < length workers.old → IsHandle (lock_of store.now) (plan_of store.now) (slice_index_or workers.old i d).session.handle }
+    requires ready { (i : ℕ) (d : Worker) → i < length workers.old → IsReady (lock_of store.now) (plan_of store.now) (slice_index_or workers.old i d).session.handle (slice_index_or workers.old i d).session.workspace }
     requires rooms { (i : ℕ) (d : Worker) → i < length workers.old → IsRoom (length (steps_in phase.now (slice_index_or workers.old i d).session.number)) (slice_index_or workers.old i d).told }
     ensures { (i : ℕ) (d : Worker) → i < length workers.old
         → Works (formats_of F.Formats) (lock_of store.now) (plan_of store.now) (steps_in phase.now (slice_index_or workers.old i d).session.number) (slice_index_or workers.old i d) (slice_index_or workers.new i d) }
@@ -173,7 +173,7 @@ fn take_own<G: Gate, D: Disk, F: Formats + Drop, P: Patterns + Drop, R: Wait>(
     phase: &[Steps],
     worker: &mut Worker,
 )
-    requires handle { IsHandle (lock_of store.now) (plan_of store.now) worker.old.session.handle }
+    requires ready { IsReady (lock_of store.now) (plan_of store.now) worker.old.session.handle worker.old.session.workspace }
     requires room { IsRoom (length (steps_in phase.now worker.old.session.number)) worker.old.told }
     ensures { Works (formats_of F.Formats) (lock_of store.now) (plan_of store.now) (steps_in phase.now worker.old.session.number) worker.old worker.new }
 {

@@ -1,48 +1,54 @@
 //! One step of a session.
 ghost use Rattle.std.specs.Prelude.{◌∷◌, []};
 ghost use Rattle.batch_script.specs.declared.steps.Step.TheVariants as step;
-ghost use Rattle.kdb_handle.specs.Stores.{IsHandle};
 ghost use Rattle.kdb_handle.specs.Views.{lock_of, plan_of};
-ghost use Rattle.batch_run.specs.Stepping.{GoesOn};
+ghost use Rattle.batch_run.specs.Stepping.{GoesOn, IsReady};
 ghost use Rattle.model_store.specs.Store.{formats_of};
 
 use crate::editing::{cut, delete, look, put, set_meta};
+use crate::watching::{poll, watch};
+use crate::workspaces::Workspace;
 use batch_script::{Step, Tries};
 use kdb_handle::{Handle, Reply, SharedStore};
 use kdb_outside::Disk;
 use key_merge::Strategy;
 use key_name::KeyName;
-use key_set::KeySet;
 use regex_check::Patterns;
 use std::alloc::Global;
 use std::sync::Wait;
 use storage_api::Formats;
 
-/// Takes a step with a handle and the working set, and replies to it.
+/// Takes a step with a handle and a workspace, and replies to it.
 pub(crate) fn take_step<D: Disk, F: Formats + Drop, P: Patterns + Drop, R: Wait>(
     rt: &R,
     alloc: Global,
     store: &SharedStore<D, F, P>,
     step: &Step,
     handle: &mut Handle,
-    working: &mut KeySet,
+    workspace: &mut Workspace,
 ) -> Reply
-    requires { IsHandle (lock_of store.now) (plan_of store.now) handle.old }
-    ensures { GoesOn (formats_of F.Formats) (lock_of store.now) (plan_of store.now) (step.now ∷ []) (result ∷ []) handle.old working.old handle.new working.new }
+    requires { IsReady (lock_of store.now) (plan_of store.now) handle.old workspace.old }
+    ensures { GoesOn (formats_of F.Formats) (lock_of store.now) (plan_of store.now) (step.now ∷ []) (result ∷ []) handle.old workspace.old handle.new workspace.new }
 {
     match step {
-        Step::Get { parent } => get(rt, alloc, store, parent, handle, working),
-        Step::Put { name, value } => put(alloc, name, value, working),
-        Step::MetaStep { name, meta, value } => set_meta(alloc, name, meta, value, working),
-        Step::Del { name } => delete(name, working),
-        Step::Cut { name } => cut(name, working),
-        Step::Look { name } => look(name, working),
-        Step::Set { parent } => set(rt, alloc, store, parent, handle, working),
+        Step::Get { parent } => get(rt, alloc, store, parent, handle, workspace),
+        Step::Put { name, value } => put(alloc, name, value, &mut workspace.keys),
+        Step::MetaStep { name, meta, value } => {
+            set_meta(alloc, name, meta, value, &mut workspace.keys)
+        }
+        Step::Del { name } => delete(name, &mut workspace.keys),
+        Step::Cut { name } => cut(name, &mut workspace.keys),
+        Step::Look { name } => look(name, &workspace.keys),
+        Step::Set { parent } => set(rt, alloc, store, parent, handle, workspace),
         Step::Merge {
             parent,
             strategy,
             tries,
-        } => merge(rt, alloc, store, parent, *strategy, tries, handle, working),
+        } => merge(
+            rt, alloc, store, parent, *strategy, tries, handle, workspace,
+        ),
+        Step::Watch { parent, room } => watch(alloc, parent, room, handle, workspace),
+        Step::Poll => poll(rt, store, handle, workspace),
     }
 }
 
@@ -53,15 +59,15 @@ fn get<D: Disk, F: Formats + Drop, P: Patterns + Drop, R: Wait>(
     store: &SharedStore<D, F, P>,
     parent: &KeyName,
     handle: &mut Handle,
-    working: &mut KeySet,
+    workspace: &mut Workspace,
 ) -> Reply
-    requires { IsHandle (lock_of store.now) (plan_of store.now) handle.old }
-    ensures { GoesOn (formats_of F.Formats) (lock_of store.now) (plan_of store.now) (step.Get parent.now ∷ []) (result ∷ []) handle.old working.old handle.new working.new }
+    requires { IsReady (lock_of store.now) (plan_of store.now) handle.old workspace.old }
+    ensures { GoesOn (formats_of F.Formats) (lock_of store.now) (plan_of store.now) (step.Get parent.now ∷ []) (result ∷ []) handle.old workspace.old handle.new workspace.new }
 {
     match handle.kdb_get(rt, alloc, store, parent) {
         Ok(got) => {
             let count = got.keys.len() as u64;
-            *working = got.keys;
+            workspace.keys = got.keys;
             Reply::Got {
                 front: got.front,
                 count,
@@ -78,12 +84,12 @@ fn set<D: Disk, F: Formats + Drop, P: Patterns + Drop, R: Wait>(
     store: &SharedStore<D, F, P>,
     parent: &KeyName,
     handle: &mut Handle,
-    working: &KeySet,
+    workspace: &Workspace,
 ) -> Reply
-    requires { IsHandle (lock_of store.now) (plan_of store.now) handle.old }
-    ensures { GoesOn (formats_of F.Formats) (lock_of store.now) (plan_of store.now) (step.Set parent.now ∷ []) (result ∷ []) handle.old working.now handle.new working.now }
+    requires { IsReady (lock_of store.now) (plan_of store.now) handle.old workspace.now }
+    ensures { GoesOn (formats_of F.Formats) (lock_of store.now) (plan_of store.now) (step.Set parent.now ∷ []) (result ∷ []) handle.old workspace.now handle.new workspace.now }
 {
-    match handle.kdb_set(rt, alloc, store, parent, working) {
+    match handle.kdb_set(rt, alloc, store, parent, &workspace.keys) {
         Ok(done) => Reply::SetDone(done),
         Err(why) => Reply::SetRefused(why),
     }
@@ -98,12 +104,13 @@ fn merge<D: Disk, F: Formats + Drop, P: Patterns + Drop, R: Wait>(
     strategy: Strategy,
     tries: &Tries,
     handle: &mut Handle,
-    working: &mut KeySet,
+    workspace: &mut Workspace,
 ) -> Reply
-    requires { IsHandle (lock_of store.now) (plan_of store.now) handle.old }
-    ensures { GoesOn (formats_of F.Formats) (lock_of store.now) (plan_of store.now) (step.Merge parent.now strategy tries.now ∷ []) (result ∷ []) handle.old working.old handle.new working.new }
+    requires { IsReady (lock_of store.now) (plan_of store.now) handle.old workspace.old }
+    ensures { GoesOn (formats_of F.Formats) (lock_of store.now) (plan_of store.now) (step.Merge parent.now strategy tries.now ∷ []) (result ∷ []) handle.old workspace.old handle.new workspace.new }
 {
-    match handle.kdb_set_merged(rt, alloc, store, parent, working, strategy, tries.get()) {
+    let keys = &mut workspace.keys;
+    match handle.kdb_set_merged(rt, alloc, store, parent, keys, strategy, tries.get()) {
         Ok(merging) => Reply::Merged(merging),
         Err(fault) => Reply::MergeRefused(fault),
     }

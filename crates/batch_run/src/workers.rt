@@ -4,6 +4,7 @@ ghost use Rattle.std.specs.Vec.{vec_capacity};
 ghost use Rattle.batch_run.specs.Workers.{AreSeated, handle_in};
 
 use crate::sessions::Session;
+use crate::workspaces::Workspace;
 use kdb_handle::{Handle, Reply};
 use key_set::KeySet;
 use std::alloc::Global;
@@ -15,7 +16,7 @@ pub struct Worker {
     pub told: Vec<Reply>,
 }
 
-/// Gives each session its handle, in order. No working set has a key yet.
+/// Gives each session its handle, in order. No working set has a key yet, and nothing is watched.
 pub fn seat_all(
     alloc: Global,
     handles: Vec<Handle>,
@@ -36,7 +37,10 @@ pub fn seat_all(
                 number: numbers[place],
                 passed: 0,
                 handle,
-                working: KeySet::new(alloc),
+                workspace: Workspace {
+                    keys: KeySet::new(alloc),
+                    watch: None,
+                },
             },
             told: Vec::new(alloc),
         });

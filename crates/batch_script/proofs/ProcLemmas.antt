@@ -11,16 +11,16 @@ use Rattle.model_lines.specs.Reading.{Leads}
 use Rattle.model_names.specs.Name.{Name}
 use Rattle.model_names.specs.NameOf.{name_of}
 use Rattle.model_names.specs.declared.namespaces.Namespace.TheVariants.{Proc as ProcNamespace}
-use Rattle.batch_script.specs.Counts.{tries_of}
+use Rattle.batch_script.specs.Counts.{tries_of, watch_room_of}
 use Rattle.batch_script.specs.MetaTests.{is_meta}
 use Rattle.batch_script.specs.Phases.{proc_of}
-use Rattle.batch_script.specs.Rows.{Row, is_cascading, on_merge, on_meta, on_name, on_none, on_one, on_plain_name, on_proc, on_three, on_two, plain_name_of, proc_name_of, rows, said, said_by, session_of, strategy_of}
+use Rattle.batch_script.specs.Rows.{Row, is_cascading, on_merge, on_meta, on_name, on_none, on_one, on_plain_name, on_proc, on_three, on_two, on_watch, plain_name_of, proc_name_of, rows, said, said_by, session_of, strategy_of}
 use Rattle.batch_script.specs.Scripts.{Adds, Means}
 use Rattle.batch_script.specs.declared.items.Item.{Item}
 use Rattle.batch_script.specs.declared.items.Item.TheVariants.{Proc, Session, Phase, Does}
 use Rattle.batch_script.specs.declared.steps.ProcLine.{ProcLine}
 use Rattle.batch_script.specs.declared.steps.Step.{Step}
-use Rattle.batch_script.specs.declared.steps.Step.TheVariants.{Get, Put, MetaStep, Del, Cut, Look, Set, Merge}
+use Rattle.batch_script.specs.declared.steps.Step.TheVariants.{Get, Put, MetaStep, Del, Cut, Look, Set, Merge, Watch, Poll}
 
 abbrev IsInProc : ProcLine → Type 0
 IsInProc line = line.key.namespace ≡ ProcNamespace
@@ -80,6 +80,14 @@ merge-in word strategy tries = by (name_of word) (strategy_of strategy) (tries_o
     by (Some parent) (Some strategy) None = tt
     by (Some parent) (Some strategy) (Some tries) = tt
 
+watch-in : (word room : List ℕ) → SaysInProc (on_watch word room)
+watch-in word room = by (name_of word) (watch_room_of room)
+  where
+    by : (parent : Option Name) (room : Option ℕ) → SaysInProc (option_and_then (λ parent. option_map (λ most. Does (Watch parent most)) room) parent)
+    by None room = tt
+    by (Some parent) None = tt
+    by (Some parent) (Some room) = tt
+
 -- a name that is one in `proc`
 proc-name : (found : Option Name) → IfSome (option_and_then (λ (name : Name). if is_cascading name then Some (record { namespace = ProcNamespace; parts = name.parts }) else None) found) (λ (name : Name). name.namespace ≡ ProcNamespace)
 proc-name None = tt
@@ -118,7 +126,8 @@ IsRowInProc row = (words : List (List ℕ)) → SaysInProc (row.says words)
 
 rows-in : AllByRecursion IsRowInProc rows
 rows-in =
-    let keys : AllByRecursion IsRowInProc (drop 7 rows) = (cut-row, (name-row Look, (name-row Set, ((λ words. three-in on_merge words merge-in), tt)))) in
+    let waits : AllByRecursion IsRowInProc (drop 11 rows) = ((λ words. two-in on_watch words watch-in), ((λ words. none-in (Some (Does Poll)) words tt), tt)) in
+    let keys : AllByRecursion IsRowInProc (drop 7 rows) = (cut-row, (name-row Look, (name-row Set, ((λ words. three-in on_merge words merge-in), waits)))) in
     let steps : AllByRecursion IsRowInProc (drop 3 rows) = (name-row Get, (put-row, (λ words. three-in on_meta words meta-in, (name-row Del, keys)))) in
     (λ words. three-in on_proc words proc-in, (session-row, (λ words. none-in (Some Phase) words tt, steps)))
 

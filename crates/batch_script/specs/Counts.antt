@@ -16,3 +16,11 @@ most_tries = 100000
 -- a word that says how often a merge is tried
 abbrev pub tries_of : List ℕ → Option ℕ
 tries_of word = count_of most_tries word
+
+-- the most changes that a watch has room for
+abbrev pub largest_watch_room : ℕ
+largest_watch_room = 4096
+
+-- a word that says how many changes a watch has room for
+abbrev pub watch_room_of : List ℕ → Option ℕ
+watch_room_of word = count_of largest_watch_room word

@@ -7,12 +7,12 @@ use Rattle.key_merge.specs.declared.strategies.Strategy.TheVariants.{Abort, Our,
 use Rattle.model_names.specs.declared.namespaces.Namespace.TheVariants.{Cascading, Proc as ProcNamespace}
 use Rattle.model_names.specs.Name.{Name, rank}
 use Rattle.model_names.specs.NameOf.{name_of}
-use Rattle.batch_script.specs.Counts.{count_of, tries_of}
+use Rattle.batch_script.specs.Counts.{count_of, tries_of, watch_room_of}
 use Rattle.batch_script.specs.MetaTests.{is_meta}
 use Rattle.batch_script.specs.declared.items.Item.{Item}
 use Rattle.batch_script.specs.declared.items.Item.TheVariants.{Proc, Session, Phase, Does}
 use Rattle.batch_script.specs.declared.steps.Step.{Step}
-use Rattle.batch_script.specs.declared.steps.Step.TheVariants.{Get, Put, MetaStep, Del, Cut, Look, Set, Merge}
+use Rattle.batch_script.specs.declared.steps.Step.TheVariants.{Get, Put, MetaStep, Del, Cut, Look, Set, Merge, Watch, Poll}
 
 -- the most sessions of a script
 abbrev pub most_sessions : ℕ
@@ -58,6 +58,13 @@ merge_of parent strategy tries = option_and_then (λ by. option_map (λ most. Do
 
 abbrev pub on_merge : List ℕ → List ℕ → List ℕ → Option Item
 on_merge word strategy tries = option_and_then (λ parent. merge_of parent strategy tries) (name_of word)
+
+-- one that watches what changes at or below a parent
+abbrev pub watch_of : Name → List ℕ → Option Item
+watch_of parent room = option_map (λ most. Does (Watch parent most)) (watch_room_of room)
+
+abbrev pub on_watch : List ℕ → List ℕ → Option Item
+on_watch word room = option_and_then (λ parent. watch_of parent room) (name_of word)
 
 -- the handle of a numbered session is opened with a key
 abbrev pub on_proc : List ℕ → List ℕ → List ℕ → Option Item
@@ -108,6 +115,8 @@ rows =
     ∷ row (codes "look") (on_one (on_name Look))
     ∷ row (codes "set") (on_one (on_name Set))
     ∷ row (codes "merge") (on_three on_merge)
+    ∷ row (codes "watch") (on_two on_watch)
+    ∷ row (codes "poll") (on_none (Some (Does Poll)))
     ∷ []
 
 -- what the words behind a first word say, if they say something

@@ -1,10 +1,11 @@
 //! Words that count.
 ghost use Rattle.std.specs.Prelude.{◌≡◌, ◌≤◌, IfSome};
 ghost use Rattle.model_names.specs.ArrayPart.{are_digits, has_leading_zero};
-ghost use Rattle.batch_script.specs.Counts.{count_of, tries_of};
+ghost use Rattle.batch_script.specs.Counts.{count_of, tries_of, watch_room_of};
 ghost use Rattle.batch_script.specs.Rows.{most_sessions, session_of};
 
 use crate::tries::{MOST_TRIES, Tries};
+use crate::watch_rooms::{LARGEST_WATCH_ROOM, WatchRoom};
 
 /// The most sessions of a script.
 pub const MOST_SESSIONS: u32 = 32;
@@ -23,6 +24,16 @@ pub fn tries_of(word: &str) -> Option<Tries>
 {
     match count_of(MOST_TRIES, word) {
         Some(count) => Tries::new(count),
+        None => None,
+    }
+}
+
+/// How many changes a watch has room for, by a word.
+pub fn watch_room_of(word: &str) -> Option<WatchRoom>
+    ensures { result ≡ watch_room_of word.now }
+{
+    match count_of(LARGEST_WATCH_ROOM, word) {
+        Some(count) => WatchRoom::new(count),
         None => None,
     }
 }

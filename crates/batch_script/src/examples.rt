@@ -2,11 +2,11 @@
 ghost use Rattle.std.specs.Prelude.{◌≡◌, [], ◌∷◌, codes, false, true, None, Some};
 ghost use Rattle.model_names.specs.declared.namespaces.Namespace.TheVariants.{Cascading, User, Proc as ProcNamespace};
 ghost use Rattle.batch_script.specs.declared.items.Item.TheVariants.{Proc, Session, Phase as PhaseEnd, Does};
-ghost use Rattle.batch_script.specs.declared.steps.Step.TheVariants.{Get, Set, Merge};
+ghost use Rattle.batch_script.specs.declared.steps.Step.TheVariants.{Get, Set, Merge, Poll, Watch};
 ghost use Rattle.key_merge.specs.declared.strategies.Strategy.TheVariants.{Our};
-ghost use Rattle.batch_script.specs.Counts.{tries_of};
+ghost use Rattle.batch_script.specs.Counts.{tries_of, watch_room_of};
 ghost use Rattle.batch_script.specs.Letters.{written_at};
-ghost use Rattle.batch_script.specs.Rows.{merge_of, said, session_of};
+ghost use Rattle.batch_script.specs.Rows.{merge_of, said, session_of, watch_of};
 ghost use Rattle.batch_script.specs.Places.{may_follow};
 ghost use Rattle.batch_script.specs.Phases.{script_of};
 
@@ -29,6 +29,15 @@ pub fn merges_are_tried_from_1_to_100000_times()
     ensures leading_zero { tries_of (codes "07") ≡ None }
 {}
 
+/// A watch has room for 1 to 4,096 changes.
+pub fn watches_have_room_for_1_to_4096_changes()
+    ensures one { watch_room_of (codes "1") ≡ Some 1 }
+    ensures largest { watch_room_of (codes "4096") ≡ Some 4096 }
+    ensures none { watch_room_of (codes "0") ≡ None }
+    ensures too_many { watch_room_of (codes "4097") ≡ None }
+    ensures leading_zero { watch_room_of (codes "01") ≡ None }
+{}
+
 /// Words say what their row says. A step that no row has says nothing.
 pub fn words_say_what_their_row_says()
     ensures session { said (codes "session" ∷ codes "3" ∷ []) ≡ Some (Session 3) }
@@ -41,6 +50,12 @@ pub fn words_say_what_their_row_says()
     ensures no_tries { said (codes "merge" ∷ codes "/" ∷ codes "our" ∷ codes "0" ∷ []) ≡ None }
     ensures too_many_tries { said (codes "merge" ∷ codes "/" ∷ codes "our" ∷ codes "100001" ∷ []) ≡ None }
     ensures leading_zero { said (codes "merge" ∷ codes "/" ∷ codes "our" ∷ codes "07" ∷ []) ≡ None }
+    ensures watch { watch_of (record { namespace = Cascading; parts = [] }) (codes "2") ≡ Some (Does (Watch (record { namespace = Cascading; parts = [] }) 2)) }
+    ensures no_room { said (codes "watch" ∷ codes "/" ∷ codes "0" ∷ []) ≡ None }
+    ensures too_much_room { said (codes "watch" ∷ codes "/" ∷ codes "4097" ∷ []) ≡ None }
+    ensures room_left_out { said (codes "watch" ∷ codes "/" ∷ []) ≡ None }
+    ensures poll { said (codes "poll" ∷ []) ≡ Some (Does Poll) }
+    ensures polled_parent { said (codes "poll" ∷ codes "/" ∷ []) ≡ None }
 {}
 
 /// In quotes a byte is written as it is or by an escape. A control byte is not.

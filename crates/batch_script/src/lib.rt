@@ -13,12 +13,14 @@ mod reading;
 mod rows;
 mod steps;
 mod tries;
+mod watch_rooms;
 mod words;
 
 pub use counts::count_of;
 pub use examples::{
     bytes_are_written_in_quotes, lines_have_their_places, merges_are_tried_from_1_to_100000_times,
-    sessions_are_numbered_from_1_to_32, sessions_ascend_in_a_phase, words_say_what_their_row_says,
+    sessions_are_numbered_from_1_to_32, sessions_ascend_in_a_phase,
+    watches_have_room_for_1_to_4096_changes, words_say_what_their_row_says,
 };
 pub use faults::ScriptFault;
 pub use laws::{
@@ -29,3 +31,4 @@ pub use meta_words::MetaWord;
 pub use reading::{is_too_long, parse_script};
 pub use steps::{Phase, ProcLine, Script, Step, Steps};
 pub use tries::{MOST_TRIES, Tries};
+pub use watch_rooms::{LARGEST_WATCH_ROOM, WatchRoom};

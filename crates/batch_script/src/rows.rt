@@ -2,11 +2,11 @@
 ghost use Rattle.std.specs.Prelude.{◌≡◌, Some, IfOk, IfSome};
 ghost use Rattle.std.specs.Option.{option_map};
 ghost use Rattle.model_names.specs.NameOf.{name_of};
-ghost use Rattle.batch_script.specs.Rows.{is_cascading, merge_of, on_merge, on_meta, on_name, on_none, on_one, on_plain_name, on_proc, on_three, on_two, plain_name_of, proc_name_of, rows, said, said_by, session_of, strategy_of, IsNumbered};
-ghost use Rattle.batch_script.specs.declared.items.Item.TheVariants.{Session, Phase as PhaseEnd};
+ghost use Rattle.batch_script.specs.Rows.{is_cascading, merge_of, on_merge, on_meta, on_name, on_none, on_one, on_plain_name, on_proc, on_three, on_two, on_watch, plain_name_of, proc_name_of, rows, said, said_by, session_of, strategy_of, watch_of, IsNumbered};
+ghost use Rattle.batch_script.specs.declared.items.Item.TheVariants.{Does, Session, Phase as PhaseEnd};
 ghost use Rattle.batch_script.specs.declared.steps.Step.TheVariants as steps;
 
-use crate::counts::{session_of, tries_of};
+use crate::counts::{session_of, tries_of, watch_room_of};
 use crate::items::Item;
 use crate::meta_words::MetaWord;
 use crate::steps::{ProcLine, Step};
@@ -44,6 +44,8 @@ fn said_behind(alloc: Global, first: &str, words: &[Text]) -> Result<Option<Item
         "look" => look(alloc, words),
         "set" => set(alloc, words),
         "merge" => merge(alloc, words),
+        "watch" => watch(alloc, words),
+        "poll" => Ok(poll(words)),
         _ => Ok(None),
     }
 }
@@ -229,6 +231,43 @@ fn merge_of(parent: KeyName, strategy: &str, tries: &str) -> Option<Item>
         strategy,
         tries,
     }))
+}
+
+/// The words behind `watch`.
+fn watch(alloc: Global, words: &[Text]) -> Result<Option<Item>, Memory>
+    ensures said { IfOk result (λ found. found ≡ on_two on_watch words.now) }
+    ensures numbered { IfOk result (λ found. IfSome found IsNumbered) }
+{
+    let [word, room] = words else {
+        return Ok(None);
+    };
+    let Some(parent) = name_of(alloc, word.as_str())? else {
+        return Ok(None);
+    };
+    Ok(watch_of(parent, room.as_str()))
+}
+
+/// A watch by the word behind its parent.
+fn watch_of(parent: KeyName, room: &str) -> Option<Item>
+    ensures said { result ≡ watch_of parent room.now }
+    ensures numbered { IfSome result IsNumbered }
+{
+    let Some(room) = watch_room_of(room) else {
+        return None;
+    };
+    Some(Item::Does(Step::Watch { parent, room }))
+}
+
+/// The words behind `poll`.
+fn poll(words: &[Text]) -> Option<Item>
+    ensures said { result ≡ on_none (Some (Does steps.Poll)) words.now }
+    ensures numbered { IfSome result IsNumbered }
+{
+    if words.is_empty() {
+        Some(Item::Does(Step::Poll))
+    } else {
+        None
+    }
 }
 
 /// The strategy of a word.

@@ -1,5 +1,5 @@
 //! What a script says: the keys that handles are opened with, and phase by phase the steps of the sessions that have some.
-use crate::{MetaWord, Tries};
+use crate::{MetaWord, Tries, WatchRoom};
 use key_merge::Strategy;
 use key_meta::{List, Text};
 use key_name::KeyName;
@@ -53,6 +53,13 @@ pub enum Step {
         strategy: Strategy,
         tries: Tries,
     },
+    /// Watches from now on what changes at or below a parent, with room for so many changes. The watch before it ends.
+    Watch {
+        parent: KeyName,
+        room: WatchRoom,
+    },
+    /// Asks what changed there since the watch began or was asked last.
+    Poll,
 }
 
 /// The steps of a session in a phase, at least one.

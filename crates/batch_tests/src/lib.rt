@@ -7,3 +7,5 @@ mod gates;
 mod merges;
 #[cfg(test)]
 mod sessions;
+#[cfg(test)]
+mod watches;

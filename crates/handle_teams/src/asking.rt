@@ -141,7 +141,7 @@ fn set<D: Disk, F: Formats + Drop, P: Patterns + Drop, R: Wait>(
 }
 
 /// What came of a set.
-fn answer_to(done: Result<Done, SetFault>) -> Answer {
+pub fn answer_to(done: Result<Done, SetFault>) -> Answer {
     match done {
         Ok(Done::Committed { number, .. }) => Answer::Committed { number },
         Ok(Done::Same { front, .. }) => Answer::Same { front },

@@ -7,6 +7,7 @@ mod mounts;
 mod opening;
 mod tallies;
 mod teams;
+mod watching;
 mod working;
 
 pub use asking::{Answer, Ask};

@@ -7,17 +7,20 @@ ghost use Rattle.kdb_handle.specs.Stores.{AreFree, IsHandle, IsStarted};
 use crate::asking::ask_at;
 use crate::meeting::meet_last;
 use crate::opening::open_handles;
+use crate::watching::{poll_at, store_at, watch_by};
 use crate::working::work_all;
 use crate::{Answer, Ask};
 use kdb_handle::{FreeSeats, Handle, NewStore, SharedStore};
 use kdb_outside::Disk;
 use key_name::KeyName;
+use key_set::KeySet;
 use regex_check::Patterns;
 use std::alloc::Global;
 use std::sync::Wait;
 use std::thread::Threads;
 use storage_api::Formats;
 use store_core::{Closed, Opened, open_store};
+use watch_feed::{News, Watch};
 
 /// The most handles that a store has.
 const MOST: usize = 32;
@@ -85,6 +88,61 @@ impl<D: Disk, F: Formats + Drop, P: Patterns + Drop> Team<D, F, P> {
             mut handles,
         } = self;
         let answer = ask_at(rt, alloc, &store, &mut handles, place, ask);
+        let team = Team {
+            store,
+            seats,
+            handles,
+        };
+        (team, answer)
+    }
+
+    /// A watch of the handle at a place, counted from 0, with room for so many changes.
+    pub fn watch(
+        &self,
+        alloc: Global,
+        place: usize,
+        parent: &KeyName,
+        room: usize,
+    ) -> Option<Watch> {
+        watch_by(alloc, self.handles.get(place)?, parent, room)
+    }
+
+    /// Has the handle at a place collect for a watch, and polls the watch.
+    pub fn poll<R: Wait>(
+        self,
+        rt: &R,
+        place: usize,
+        watch: &mut Watch,
+    ) -> (Team<D, F, P>, Option<News>) {
+        let Team {
+            store,
+            seats,
+            mut handles,
+        } = self;
+        let news = poll_at(rt, &store, &mut handles, place, watch);
+        let team = Team {
+            store,
+            seats,
+            handles,
+        };
+        (team, news)
+    }
+
+    /// Has the handle at a place get a parent and set these keys, and tells what it answered to the set.
+    pub fn store<R: Wait>(
+        self,
+        rt: &R,
+        alloc: Global,
+        place: usize,
+        parent: &KeyName,
+        keys: &KeySet,
+    ) -> (Team<D, F, P>, Answer) {
+        let Team {
+            store,
+            seats,
+            mut handles,
+        } = self;
+        let answer = store_at(rt, alloc, &store, &mut handles, place, parent, keys);
         let team = Team {
             store,
             seats,

@@ -5,3 +5,5 @@
 mod handles;
 #[cfg(test)]
 mod locks;
+#[cfg(test)]
+mod watches;

@@ -1,5 +1,5 @@
 -- A handle is one of its store's after each turn.
-use Rattle.std.proofs.Common.{◌≡◌, inl, inr, ℕ, ◌≤◌, nat_eq, Bool, true, false, cond, List, [], ◌∷◌, ◌++◌, length, Option, Some, None, Result, Ok, Err, IfOk, IfErr, refl, sym, ap, ap₂, subst, ◌∙◌, append-nil, eq-eqb}
+use Rattle.std.proofs.Common.{◌≡◌, inl, inr, ℕ, ◌+◌, ◌≤◌, nat_eq, Bool, true, false, cond, List, [], ◌∷◌, ◌++◌, length, map as over, Option, Some, None, Result, Ok, Err, IfOk, IfErr, refl, sym, ap, ap₂, subst, ◌∙◌, append-nil, length-append, arith, eq-eqb}
 use mathlib.Core.List.{IsPrefix}
 use Rattle.std.specs.Coded.{Coded}
 use Rattle.std.proofs.lemmas.Bool.{le-leb}
@@ -334,6 +334,28 @@ module _ {F : Type 0} (lock : Place Told) (plan : Plan F) (old : HandleValue) (s
     -- the commits of the seat that the turn found are those that its handle had seen
     covers_found : made_by maker_of seat.number found ≡ seat.own → Cover seat.number (commits_of found) (front_in (record_of rec))
     covers_found made = cover-seen seat.number seat.seen found (front_in (record_of rec)) seen (made ∙ taken_is.own) taken_is.covers
+
+    -- a turn that looks at the commits alone leaves the record
+    pub looked : (place : TableId) (number : ℕ) (own told : List Told) (left : Known Told) → left ≡ knowledge place number (found ++ told) (own ++ told) → (place ≡ seat.place) × (number ≡ seat.number) × (own ≡ seat.own)
+        → made_by maker_of seat.number found ≡ seat.own → told ≡ [] → IsHandle lock plan (handle_with (Some left) rec)
+    looked place number own told left left_is same made none =
+        let all : found ≡ found ++ told = sym (append-nil found) ∙ ap (λ (l : List Told). found ++ l) (sym none) in
+        ended rec place number found own told left left_is same seen made (inl none) refl
+        (subst (λ (l : List Told). IsRecord (store_at plan.mounted) (commits_of l) (front_in (record_of rec)) (record_of rec)) all
+        (record-seen (store_at plan.mounted) (commits_of seat.seen) (commits_of found) (record_of rec) (commits-prefix seat.seen found seen) taken_is.keeps))
+        (subst (λ (l : List Told). Cover seat.number (commits_of l) (front_in (record_of rec))) all (covers_found made))
+
+    -- and what it looks at are the commits that the handle has then seen, which begin with those that it had seen
+    pub looked_at : (now told : List Told) → now ≡ found ++ told → told ≡ [] → core.history.commits ≡ commits_of now
+    looked_at now told now_is none =
+        shared_history formats g code refused core entries found shared ∙ ap commits_of (sym (now_is ∙ ap (λ (l : List Told). found ++ l) none ∙ append-nil found))
+
+    pub looked_behind : (front : ℕ) → front ≤ length (commits_of old.seen) → front ≤ length core.history.commits
+    looked_behind front within =
+        let before = subst (λ (o : HandleValue). front ≤ length (commits_of o.seen)) (sym old_is) within in
+        let more = commits-prefix seat.seen found seen in
+        let long : length (commits_of seat.seen) + length more.0 ≡ length (commits_of found) = sym (length-append (commits_of seat.seen) more.0) ∙ ap (λ (cs : List past.Commit). length cs) more.1 in
+        omega (arith, before, long, ap (λ (cs : List past.Commit). length cs) (shared_history formats g code refused core entries found shared))
 
     pub got_covers : made_by maker_of seat.number found ≡ seat.own → (parent : Name) (new : Record) (result : Result Got GetFault) → GotClause parent new result → (told : List Told) → told ≡ []
         → Cover seat.number (commits_of (found ++ told)) (front_in (record_of new))

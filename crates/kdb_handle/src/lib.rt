@@ -14,6 +14,7 @@ mod setting;
 mod shared;
 mod stores;
 mod turns;
+mod watching;
 
 pub use deals::{FreeSeats, NoHandle};
 pub use entries::StoryEntry;

@@ -5,6 +5,7 @@ use key_meta::{List, Text};
 use key_name::KeyName;
 use mounted_files::GetFault;
 use store_core::Done;
+use watch_feed::News;
 
 /// What one step of a session answers.
 #[derive(Debug, Drop)]
@@ -20,6 +21,12 @@ pub enum Reply {
     SetRefused(SetFault),
     Merged(Merging),
     MergeRefused(MergeFault),
+    /// A watch: how many commits there were when it began.
+    Watching { front: u64 },
+    /// What a watch was asked for.
+    News(News),
+    /// Nothing is watched that could be asked.
+    NoWatch,
     /// Want of memory. The step did nothing.
     Memory,
 }

@@ -1,5 +1,5 @@
 //! What the core of an open store does in one turn.
-ghost use Rattle.std.specs.Prelude.{◌≡◌, ◌≤◌, ◌<◌, ◌+◌, ◌-◌, ◌^◌, ℕ, [], List, Option, length};
+ghost use Rattle.std.specs.Prelude.{◌≡◌, ◌≤◌, ◌<◌, ◌+◌, ◌-◌, ◌^◌, ℕ, [], List, OnErr, OnOk, Option, length};
 ghost use Rattle.kdb_handle.specs.Shares.{told_now};
 ghost use Rattle.kdb_handle.specs.Story.{Told};
 ghost use Rattle.kdb_handle.specs.Turns.{Commits, MayCommit, told_by, told_of_refusal};
@@ -10,10 +10,12 @@ ghost use Rattle.model_store.specs.Store.{store_of, formats_of};
 ghost use Rattle.store_core.specs.Gets.{HasGot};
 ghost use Rattle.store_verdict.specs.PreparedView.{prepared_of};
 ghost use Rattle.store_verdict.specs.RecordView.{handle_of, places_of, proc_of, record_of};
+ghost use Rattle.watch_feed.specs.Watches.{collected};
 
 use crate::Shared;
 use crate::shared::Fresh;
 use kdb_outside::Disk;
+use key_meta::Memory;
 use key_name::KeyName;
 use mounted_files::GetFault;
 use plugin_chain::Violation;
@@ -23,6 +25,7 @@ use std::snapshot::Snapshot;
 use storage_api::Formats;
 use store_core::{CommitFault, Done, Got, Plan};
 use store_verdict::{Prepared, Record};
+use watch_feed::Watch;
 
 /// The most bytes of a pattern.
 const LONGEST_PATTERN: usize = 1024;
@@ -55,6 +58,19 @@ impl<D: Disk, F: Formats + Drop, P: Patterns + Drop> Shared<D, F, P> {
     {
         self.fresh = Fresh::Nothing;
         self.core.get(alloc, plan, rec, parent)
+    }
+
+    /// A look of a watch at the commits, of which the story tells nothing.
+    pub(crate) fn collect(&mut self, watch: &mut Watch) -> Result<(), Memory>
+        requires { watch.old.front ≤ length self.old.core.history.commits }
+        ensures ok { OnOk result (watch.new ≡ collected watch.old self.old.core.history.commits) }
+        ensures err { OnErr result (watch.new ≡ watch.old) }
+        ensures core { self.new.core ≡ self.old.core }
+        ensures entries { self.new.entries ≡ self.old.entries }
+        ensures told { told_now self.new.fresh ≡ [] }
+    {
+        self.fresh = Fresh::Nothing;
+        watch.collect(self.core.history())
     }
 
     /// A commit. The story tells of it where it was made, or begun; so there has to be room for one more entry before the disk is touched.

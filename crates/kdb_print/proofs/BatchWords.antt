@@ -11,14 +11,15 @@ use Rattle.kdb_handle.specs.declared.merging.MergeEnd.{MergeEnd}
 use Rattle.kdb_handle.specs.declared.merging.MergeEnd.TheVariants as merge_end
 use Rattle.kdb_handle.specs.declared.merging.Tried.{Tried}
 use Rattle.kdb_handle.specs.declared.replies.Reply.{Reply}
-use Rattle.kdb_handle.specs.declared.replies.Reply.TheVariants.{Got, GetRefused, Quiet, LookFound, LookNone, SetDone, SetRefused, Merged, MergeRefused, Memory}
-use Rattle.kdb_print.proofs.OnceLemmas.{reply-once, try-once}
-use Rattle.kdb_print.proofs.ReplyWords.{end_kind, kind, kind_of, reply-HasWords, reply-kind, reply-spells, words_of, words_of_lines, words_of_try}
+use Rattle.kdb_handle.specs.declared.replies.Reply.TheVariants.{Got, GetRefused, Quiet, LookFound, LookNone, SetDone, SetRefused, Merged, MergeRefused, Watching, News, NoWatch, Memory}
+use Rattle.kdb_print.proofs.OnceLemmas.{changed-once, reply-once, try-once}
+use Rattle.kdb_print.proofs.ReplyWords.{changes_of, end_kind, kind, kind_of, reply-HasWords, reply-kind, reply-spells, words_of, words_of_changed, words_of_lines, words_of_try}
 use Rattle.kdb_print.proofs.Words.{AllSpell, AllSpell-append, HasWords, Line, line_at, number-IsWord, numbers_test, words-append}
 use Rattle.kdb_print.specs.Printed.{lines_of_phases, lines_of_sessions}
 use Rattle.kdb_print.specs.Replies.{lines_of_reply}
-use Rattle.kdb_print.specs.Reading.{AreOfPhases, AreOfSessions, AreOfSteps, IsReply, IsTry, is_quiet, told, told_of, tries_of}
+use Rattle.kdb_print.specs.Reading.{AreOfPhases, AreOfSessions, AreOfSteps, IsChanged, IsReply, IsTry, is_quiet, told, told_of, tries_of}
 use Rattle.model_quoting.proofs.CutLemmas.{Plain}
+use Rattle.watch_feed.specs.declared.news.Changed.{Changed}
 
 -- the replies that have lines
 abbrev pub loud : List Reply → List Reply
@@ -72,15 +73,15 @@ phases-HasWords number (phase ∷ phases) (replies ∷ rest) =
 -- lines of which the first begins a session, a phase or the history
 abbrev pub Begins : List Line → Type 0
 Begins [] = Unit {0}
-Begins (line ∷ lines) = kind_of line ≡ 7
+Begins (line ∷ lines) = kind_of line ≡ 10
 
-end_small : (end : MergeEnd) → end_kind end ≤ 6
+end_small : (end : MergeEnd) → end_kind end ≤ 9
 end_small (merge_end.MergeConflicts names) = omega arith
 end_small (merge_end.TriesSpent mount by front) = omega arith
 end_small (merge_end.Set fault) = omega arith
 end_small merge_end.Memory = omega arith
 
-kind_small : (reply : Reply) → kind reply ≤ 6
+kind_small : (reply : Reply) → kind reply ≤ 9
 kind_small (Got front count) = omega arith
 kind_small (LookFound name value) = omega arith
 kind_small LookNone = omega arith
@@ -89,35 +90,41 @@ kind_small (GetRefused fault) = omega arith
 kind_small (SetRefused fault) = omega arith
 kind_small (Merged merging) = omega arith
 kind_small (MergeRefused fault) = end_small fault.end
+kind_small (Watching front) = omega arith
+kind_small (News news) = omega arith
+kind_small NoWatch = omega arith
 kind_small Memory = omega arith
 kind_small Quiet = omega arith
 
--- a last line of a reply begins nothing, and is no try
-last_small : (reply : Reply) → kind_of (words_of reply) ≤ 6
+-- a last line of a reply begins nothing, and is no try and no change
+last_small : (reply : Reply) → kind_of (words_of reply) ≤ 9
 last_small reply = let is = reply-kind reply in let small = kind_small reply in omega arith
 
-not_begun : (tried : List Tried) (last : Line) (lines : List Line) → kind_of last ≤ 6 → Begins (over words_of_try tried ++ last ∷ lines) → ⊥
+not_begun : (tried : List Tried) (last : Line) (lines : List Line) → kind_of last ≤ 9 → Begins (over words_of_try tried ++ last ∷ lines) → ⊥
 not_begun [] last lines small begins = omega arith
-not_begun (item ∷ tried) last lines small begins = numbers_test 8 7 begins
+not_begun (item ∷ tried) last lines small begins = numbers_test 11 10 begins
 
--- the lines of a reply and what stands behind them: its tries, its last line, and the others
-lines-behind : (reply : Reply) (others rest : List Line) → (words_of_lines reply ++ others) ++ rest ≡ over words_of_try (tries_of reply) ++ words_of reply ∷ (others ++ rest)
-lines-behind reply others rest = append_assoc (words_of_lines reply) others rest ∙ append_assoc (over words_of_try (tries_of reply)) (words_of reply ∷ []) (others ++ rest)
+-- the lines of a reply and what stands behind them: its tries, its last line, its changes, and the others
+lines-behind : (reply : Reply) (others rest : List Line)
+    → (words_of_lines reply ++ others) ++ rest ≡ over words_of_try (tries_of reply) ++ words_of reply ∷ (over words_of_changed (changes_of reply) ++ (others ++ rest))
+lines-behind reply others rest =
+    append_assoc (words_of_lines reply) others rest
+    ∙ append_assoc (over words_of_try (tries_of reply)) (words_of reply ∷ over words_of_changed (changes_of reply)) (others ++ rest)
 
 -- no reply goes on where lines begin another session
 no_reply : (reply : Reply) (replies : List Reply) (s t : List Line) → Begins s → s ≢ (words_of_lines reply ++ flat_map words_of_lines replies) ++ t
 no_reply reply replies s t begins e =
-    not_begun (tries_of reply) (words_of reply) (flat_map words_of_lines replies ++ t) (last_small reply) (subst Begins (e ∙ lines-behind reply (flat_map words_of_lines replies) t) begins)
+    not_begun (tries_of reply) (words_of reply) (over words_of_changed (changes_of reply) ++ (flat_map words_of_lines replies ++ t)) (last_small reply) (subst Begins (e ∙ lines-behind reply (flat_map words_of_lines replies) t) begins)
 
 -- where the tries of a merge end
-tries-cut : (xs ys : List Tried) (l m : Line) (s t : List Line) → AllByRecursion IsTry xs → AllByRecursion IsTry ys → kind_of l ≤ 6 → kind_of m ≤ 6 → over words_of_try xs ++ l ∷ s ≡ over words_of_try ys ++ m ∷ t → (xs ≡ ys) × (l ≡ m) × (s ≡ t)
+tries-cut : (xs ys : List Tried) (l m : Line) (s t : List Line) → AllByRecursion IsTry xs → AllByRecursion IsTry ys → kind_of l ≤ 9 → kind_of m ≤ 9 → over words_of_try xs ++ l ∷ s ≡ over words_of_try ys ++ m ∷ t → (xs ≡ ys) × (l ≡ m) × (s ≡ t)
 tries-cut [] [] l m s t hs ks p q e = (refl, ap (line_at 0) e, ap (drop 1) e)
 tries-cut [] (y ∷ ys) l m s t hs ks p q e =
     let first : l ≡ words_of_try y = ap (line_at 0) e in
-    let tried : kind_of l ≡ 8 = ap kind_of first in absurd (omega arith)
+    let tried : kind_of l ≡ 11 = ap kind_of first in absurd (omega arith)
 tries-cut (x ∷ xs) [] l m s t hs ks p q e =
     let first : m ≡ words_of_try x = ap (line_at 0) (sym e) in
-    let tried : kind_of m ≡ 8 = ap kind_of first in absurd (omega arith)
+    let tried : kind_of m ≡ 11 = ap kind_of first in absurd (omega arith)
 tries-cut (x ∷ xs) (y ∷ ys) l m s t hs ks p q e =
     let first = try-once x y hs.0 ks.0 (ap (line_at 0) e) in
     let rest = tries-cut xs ys l m s t hs.1 ks.1 p q (ap (drop 1) e) in
@@ -128,6 +135,43 @@ tries-all (Merged merging) is = is.0
 tries-all (MergeRefused fault) is = is.0
 tries-all reply is = tt
 
+-- lines of which the first is no change
+abbrev NoChanged : List Line → Type 0
+NoChanged [] = Unit {0}
+NoChanged (line ∷ lines) = kind_of line ≤ 11
+
+-- where the changes of a poll end
+changes-cut : (xs ys : List Changed) (s t : List Line) → AllByRecursion IsChanged xs → AllByRecursion IsChanged ys → NoChanged s → NoChanged t → over words_of_changed xs ++ s ≡ over words_of_changed ys ++ t → (xs ≡ ys) × (s ≡ t)
+changes-cut [] [] s t hs ks p q e = (refl, e)
+changes-cut [] (y ∷ ys) [] t hs ks p q e = absurd cc
+changes-cut [] (y ∷ ys) (line ∷ s) t hs ks p q e =
+    let first : line ≡ words_of_changed y = ap (line_at 0) e in
+    let told : kind_of line ≡ 12 = ap kind_of first in absurd (omega arith)
+changes-cut (x ∷ xs) [] s [] hs ks p q e = absurd cc
+changes-cut (x ∷ xs) [] s (line ∷ t) hs ks p q e =
+    let first : line ≡ words_of_changed x = ap (line_at 0) (sym e) in
+    let told : kind_of line ≡ 12 = ap kind_of first in absurd (omega arith)
+changes-cut (x ∷ xs) (y ∷ ys) s t hs ks p q e =
+    let first = changed-once x y hs.0 ks.0 (ap (line_at 0) e) in
+    let rest = changes-cut xs ys s t hs.1 ks.1 p q (ap (drop 1) e) in
+    (ap₂ (λ item items. item ∷ items) first rest.0, rest.1)
+
+changes-all : (reply : Reply) → IsReply reply → AllByRecursion IsChanged (changes_of reply)
+changes-all (News news) is = is.2
+changes-all reply is = tt
+
+-- neither a reply nor what begins something begins with a change
+tries-first : (tried : List Tried) (last : Line) (lines : List Line) → kind_of last ≤ 9 → NoChanged (over words_of_try tried ++ last ∷ lines)
+tries-first [] last lines small = omega (arith, small)
+tries-first (item ∷ tried) last lines small = let is : kind_of (words_of_try item) ≡ 11 = refl in omega (arith, is)
+
+replies-first : (replies : List Reply) (s : List Line) → Begins s → NoChanged (flat_map words_of_lines replies ++ s)
+replies-first [] [] begins = tt
+replies-first [] (line ∷ s) begins = omega (arith, begins)
+replies-first (reply ∷ replies) s begins =
+    subst NoChanged (sym (lines-behind reply (flat_map words_of_lines replies) s))
+    (tries-first (tries_of reply) (words_of reply) (over words_of_changed (changes_of reply) ++ (flat_map words_of_lines replies ++ s)) (last_small reply))
+
 replies-cut : (xs ys : List Reply) (s t : List Line) → AllByRecursion IsReply xs → AllByRecursion IsReply ys → Begins s → Begins t → flat_map words_of_lines xs ++ s ≡ flat_map words_of_lines ys ++ t → (over told_of xs ≡ over told_of ys) × (s ≡ t)
 replies-cut [] [] s t hs ks p q e = (refl, e)
 replies-cut [] (y ∷ ys) s t hs ks p q e = absurd (no_reply y ys s t p e)
@@ -136,9 +180,12 @@ replies-cut (x ∷ xs) (y ∷ ys) s t hs ks p q e =
     let behind_x = flat_map words_of_lines xs in
     let behind_y = flat_map words_of_lines ys in
     let there = sym (lines-behind x behind_x s) ∙ (e ∙ lines-behind y behind_y t) in
-    let first = tries-cut (tries_of x) (tries_of y) (words_of x) (words_of y) (behind_x ++ s) (behind_y ++ t) (tries-all x hs.0) (tries-all y ks.0) (last_small x) (last_small y) there in
-    let rest = replies-cut xs ys s t hs.1 ks.1 p q first.2 in
-    let one : told_of x ≡ told_of y = ap₂ (λ tried last. (tried, last)) first.0 (reply-once x y hs.0 ks.0 first.1) in
+    let told_x = over words_of_changed (changes_of x) in
+    let told_y = over words_of_changed (changes_of y) in
+    let first = tries-cut (tries_of x) (tries_of y) (words_of x) (words_of y) (told_x ++ (behind_x ++ s)) (told_y ++ (behind_y ++ t)) (tries-all x hs.0) (tries-all y ks.0) (last_small x) (last_small y) there in
+    let changes = changes-cut (changes_of x) (changes_of y) (behind_x ++ s) (behind_y ++ t) (changes-all x hs.0) (changes-all y ks.0) (replies-first xs s p) (replies-first ys t q) first.2 in
+    let rest = replies-cut xs ys s t hs.1 ks.1 p q changes.1 in
+    let one : told_of x ≡ told_of y = ap₂ (λ tried last. (tried, last)) first.0 (reply-once x y hs.0 ks.0 first.1 changes.0) in
     (ap₂ (λ reply replies. reply ∷ replies) one rest.0, rest.1)
 
 steps-all : (steps : List Step) (replies : List Reply) → AreOfSteps steps replies → AllByRecursion IsReply replies

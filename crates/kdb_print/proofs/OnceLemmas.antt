@@ -1,17 +1,17 @@
--- Replies whose last lines have the same words are told alike, and tries with the same words are the same.
-use Rattle.std.specs.Prelude.{◌≡◌, T, ℕ, nat_eq, nat_le, false, ◌||◌, if◌then◌else◌}
+-- Replies whose last lines have the same words are told alike, and tries and changes with the same words are the same.
+use Rattle.std.specs.Prelude.{◌≡◌, T, ℕ, nat_eq, nat_le, Bool, true, false, ◌||◌, if◌then◌else◌, [], slice_index_or}
 use Rattle.std.proofs.Common.{refl, sym, ap, ◌∙◌, subst}
 use Rattle.std.proofs.lemmas.Fmt.{decimal_injective}
 use Rattle.kdb_handle.specs.declared.merging.MergeEnd.{MergeEnd}
 use Rattle.kdb_handle.specs.declared.merging.MergeEnd.TheVariants as merge_end
 use Rattle.kdb_handle.specs.declared.merging.Tried.{Tried}
 use Rattle.kdb_handle.specs.declared.replies.Reply.{Reply}
-use Rattle.kdb_handle.specs.declared.replies.Reply.TheVariants.{Got, GetRefused, Quiet, LookFound, LookNone, SetDone, SetRefused, Merged, MergeRefused, Memory}
+use Rattle.kdb_handle.specs.declared.replies.Reply.TheVariants.{Got, GetRefused, Quiet, LookFound, LookNone, SetDone, SetRefused, Merged, MergeRefused, Watching, News, NoWatch, Memory}
 use Rattle.kdb_handle.specs.declared.setting.SetFault.TheVariants.{Prepare, Commit}
-use Rattle.kdb_print.proofs.ReplyWords.{kind, kind_of, reply-kind, tag_of, words_of, words_of_commit, words_of_done, words_of_end, words_of_get, words_of_prepare, words_of_table, words_of_try}
+use Rattle.kdb_print.proofs.ReplyWords.{changes_of, kind, kind_of, reply-kind, tag_of, words_of, words_of_changed, words_of_commit, words_of_done, words_of_end, words_of_get, words_of_prepare, words_of_table, words_of_try}
 use Rattle.kdb_print.proofs.Words.{names-once, numbers_test, word_at}
-use Rattle.kdb_print.specs.Replies.{end_wants_memory}
-use Rattle.kdb_print.specs.Reading.{IsCommitFault, IsDone, IsEnd, IsGetFault, IsPrepareFault, IsReply, IsTableFault, IsTry, is_merge, last_of_end, told_last}
+use Rattle.kdb_print.specs.Replies.{end_wants_memory, sign_of}
+use Rattle.kdb_print.specs.Reading.{IsChanged, IsCommitFault, IsDone, IsEnd, IsGetFault, IsPrepareFault, IsReply, IsTableFault, IsTry, is_merge, last_of_end, told_last}
 use Rattle.model_quoting.proofs.AlikeLemmas.{quoted-once, shown-once}
 use Rattle.mount_table.specs.declared.faults.TableFault.{TableFault}
 use Rattle.mount_table.specs.declared.faults.TableFault.TheVariants as table
@@ -23,6 +23,7 @@ use Rattle.store_core.specs.declared.committing.Done.{Done}
 use Rattle.store_core.specs.declared.committing.Done.TheVariants.{Committed, Same}
 use Rattle.store_verdict.specs.declared.faults.PrepareFault.{PrepareFault}
 use Rattle.store_verdict.specs.declared.faults.PrepareFault.TheVariants as preparing
+use Rattle.watch_feed.specs.declared.news.Changed.{Changed}
 
 get-same : (a b : GetFault) → IsGetFault a → IsGetFault b → words_of_get a ≡ words_of_get b → tag_of (words_of_get a) ≡ tag_of (words_of_get b) → a ≡ b
 get-same (getting.BadFile mount number) (getting.BadFile mount' number') h k e _ =
@@ -197,42 +198,48 @@ commit_or_memory a same = absurd (numbers_test (tag_of (words_of_commit a)) 0 sa
 
 -- ---- replies to other steps than merges
 
-of_kind : (a b : Reply) → is_merge a ≡ false → is_merge b ≡ false → IsReply a → IsReply b → words_of a ≡ words_of b → kind a ≡ kind b → told_last a ≡ told_last b
-of_kind (Got front count) (Got front' count') plain plain' h k e _ =
+of_kind : (a b : Reply) → is_merge a ≡ false → is_merge b ≡ false → IsReply a → IsReply b → words_of a ≡ words_of b → changes_of a ≡ changes_of b → kind a ≡ kind b → told_last a ≡ told_last b
+of_kind (Got front count) (Got front' count') plain plain' h k e _ _ =
     let same_front = decimal_injective front front' h.0 k.0 (ap (word_at 1) e) in
     let same_count = decimal_injective count count' h.1 k.1 (ap (word_at 2) e) in
     λ i. Got (same_front i) (same_count i)
-of_kind (LookFound name value) (LookFound name' value') plain plain' h k e _ =
+of_kind (LookFound name value) (LookFound name' value') plain plain' h k e _ _ =
     let same_name = shown-once name name' h k (ap (word_at 1) e) in
     let same_value = quoted-once value value' (ap (word_at 2) e) in
     λ i. LookFound (same_name i) (same_value i)
-of_kind (GetRefused fault) (GetRefused fault') plain plain' h k e _ = ap (λ f. told_last (GetRefused f)) (get-once fault fault' h k e)
-of_kind (GetRefused fault) (SetRefused (Prepare other)) plain plain' h k e _ = get_or_prepare fault other (ap tag_of e)
-of_kind (GetRefused fault) (SetRefused (Commit other)) plain plain' h k e _ = get_or_commit fault other (ap tag_of e)
-of_kind (GetRefused fault) Memory plain plain' h k e _ = get_or_memory fault (ap tag_of e)
-of_kind (SetRefused (Prepare fault)) (GetRefused other) plain plain' h k e _ = sym (get_or_prepare other fault (ap tag_of (sym e)))
-of_kind (SetRefused (Prepare fault)) (SetRefused (Prepare fault')) plain plain' h k e _ = prepare-once fault fault' h k e
-of_kind (SetRefused (Prepare fault)) (SetRefused (Commit other)) plain plain' h k e _ = prepare_or_commit fault other (ap tag_of e)
-of_kind (SetRefused (Prepare fault)) Memory plain plain' h k e _ = prepare_or_memory fault (ap tag_of e)
-of_kind (SetRefused (Commit fault)) (GetRefused other) plain plain' h k e _ = sym (get_or_commit other fault (ap tag_of (sym e)))
-of_kind (SetRefused (Commit fault)) (SetRefused (Prepare other)) plain plain' h k e _ = sym (prepare_or_commit other fault (ap tag_of (sym e)))
-of_kind (SetRefused (Commit fault)) (SetRefused (Commit fault')) plain plain' h k e _ = ap (λ f. told_last (SetRefused (Commit f))) (commit-once fault fault' h k e)
-of_kind (SetRefused (Commit fault)) Memory plain plain' h k e _ = commit_or_memory fault (ap tag_of e)
-of_kind (SetDone done) (SetDone done') plain plain' h k e _ = ap (λ d. told_last (SetDone d)) (done-once done done' h k e)
-of_kind Memory (GetRefused fault) plain plain' h k e _ = sym (get_or_memory fault (ap tag_of (sym e)))
-of_kind Memory (SetRefused (Prepare fault)) plain plain' h k e _ = sym (prepare_or_memory fault (ap tag_of (sym e)))
-of_kind Memory (SetRefused (Commit fault)) plain plain' h k e _ = sym (commit_or_memory fault (ap tag_of (sym e)))
-of_kind Quiet Quiet plain plain' h k e _ = refl
-of_kind LookNone LookNone plain plain' h k e _ = refl
-of_kind Memory Memory plain plain' h k e _ = refl
-of_kind (Merged merging) b plain plain' h k e _ = absurd cc
-of_kind (MergeRefused fault) b plain plain' h k e _ = absurd cc
-of_kind a (Merged merging) plain plain' h k e _ = absurd cc
-of_kind a (MergeRefused fault) plain plain' h k e _ = absurd cc
-of_kind a b _ _ _ _ _ same = absurd (numbers_test (kind a) (kind b) same)
+of_kind (GetRefused fault) (GetRefused fault') plain plain' h k e _ _ = ap (λ f. told_last (GetRefused f)) (get-once fault fault' h k e)
+of_kind (GetRefused fault) (SetRefused (Prepare other)) plain plain' h k e _ _ = get_or_prepare fault other (ap tag_of e)
+of_kind (GetRefused fault) (SetRefused (Commit other)) plain plain' h k e _ _ = get_or_commit fault other (ap tag_of e)
+of_kind (GetRefused fault) Memory plain plain' h k e _ _ = get_or_memory fault (ap tag_of e)
+of_kind (SetRefused (Prepare fault)) (GetRefused other) plain plain' h k e _ _ = sym (get_or_prepare other fault (ap tag_of (sym e)))
+of_kind (SetRefused (Prepare fault)) (SetRefused (Prepare fault')) plain plain' h k e _ _ = prepare-once fault fault' h k e
+of_kind (SetRefused (Prepare fault)) (SetRefused (Commit other)) plain plain' h k e _ _ = prepare_or_commit fault other (ap tag_of e)
+of_kind (SetRefused (Prepare fault)) Memory plain plain' h k e _ _ = prepare_or_memory fault (ap tag_of e)
+of_kind (SetRefused (Commit fault)) (GetRefused other) plain plain' h k e _ _ = sym (get_or_commit other fault (ap tag_of (sym e)))
+of_kind (SetRefused (Commit fault)) (SetRefused (Prepare other)) plain plain' h k e _ _ = sym (prepare_or_commit other fault (ap tag_of (sym e)))
+of_kind (SetRefused (Commit fault)) (SetRefused (Commit fault')) plain plain' h k e _ _ = ap (λ f. told_last (SetRefused (Commit f))) (commit-once fault fault' h k e)
+of_kind (SetRefused (Commit fault)) Memory plain plain' h k e _ _ = commit_or_memory fault (ap tag_of e)
+of_kind (SetDone done) (SetDone done') plain plain' h k e _ _ = ap (λ d. told_last (SetDone d)) (done-once done done' h k e)
+of_kind Memory (GetRefused fault) plain plain' h k e _ _ = sym (get_or_memory fault (ap tag_of (sym e)))
+of_kind Memory (SetRefused (Prepare fault)) plain plain' h k e _ _ = sym (prepare_or_memory fault (ap tag_of (sym e)))
+of_kind Memory (SetRefused (Commit fault)) plain plain' h k e _ _ = sym (commit_or_memory fault (ap tag_of (sym e)))
+of_kind Quiet Quiet plain plain' h k e _ _ = refl
+of_kind LookNone LookNone plain plain' h k e _ _ = refl
+of_kind Memory Memory plain plain' h k e _ _ = refl
+of_kind NoWatch NoWatch plain plain' h k e _ _ = refl
+of_kind (Watching front) (Watching front') plain plain' h k e _ _ = ap (λ f. Watching f) (decimal_injective front front' h k (ap (word_at 1) e))
+of_kind (News news) (News other) plain plain' h k e changes _ =
+    let same_front = decimal_injective news.front other.front h.0 k.0 (ap (word_at 1) e) in
+    let same_missed = decimal_injective news.missed other.missed h.1 k.1 (ap (word_at 3) e) in
+    λ i. News (record { front = same_front i; missed = same_missed i; changes = changes i })
+of_kind (Merged merging) b plain plain' h k e _ _ = absurd cc
+of_kind (MergeRefused fault) b plain plain' h k e _ _ = absurd cc
+of_kind a (Merged merging) plain plain' h k e _ _ = absurd cc
+of_kind a (MergeRefused fault) plain plain' h k e _ _ = absurd cc
+of_kind a b _ _ _ _ _ _ same = absurd (numbers_test (kind a) (kind b) same)
 
-plain-once : (a b : Reply) → is_merge a ≡ false → is_merge b ≡ false → IsReply a → IsReply b → words_of a ≡ words_of b → told_last a ≡ told_last b
-plain-once a b plain plain' h k e = of_kind a b plain plain' h k e (sym (reply-kind a) ∙ (ap kind_of e ∙ reply-kind b))
+plain-once : (a b : Reply) → is_merge a ≡ false → is_merge b ≡ false → IsReply a → IsReply b → words_of a ≡ words_of b → changes_of a ≡ changes_of b → told_last a ≡ told_last b
+plain-once a b plain plain' h k e changes = of_kind a b plain plain' h k e changes (sym (reply-kind a) ∙ (ap kind_of e ∙ reply-kind b))
 
 -- ---- merges
 
@@ -246,17 +253,17 @@ no_merge (Merged merging) none same = absurd cc
 no_merge (MergeRefused fault) none same = absurd cc
 no_merge b none same = absurd (numbers_test 6 (kind b) same)
 
-end-once : (end : MergeEnd) (b : Reply) → is_merge b ≡ false → IsEnd end → IsReply b → words_of_end end ≡ words_of b → told_end end ≡ told_last b
-end-once (merge_end.MergeConflicts names) b none h k e = absurd (no_merge b none (ap kind_of e ∙ reply-kind b))
-end-once (merge_end.TriesSpent mount by front) b none h k e = absurd (no_merge b none (ap kind_of e ∙ reply-kind b))
-end-once (merge_end.Set fault) b none h k e = plain-once (SetRefused fault) b refl none h k e
-end-once merge_end.Memory b none h k e = plain-once Memory b refl none h k e
+end-once : (end : MergeEnd) (b : Reply) → is_merge b ≡ false → IsEnd end → IsReply b → words_of_end end ≡ words_of b → [] ≡ changes_of b → told_end end ≡ told_last b
+end-once (merge_end.MergeConflicts names) b none h k e bare = absurd (no_merge b none (ap kind_of e ∙ reply-kind b))
+end-once (merge_end.TriesSpent mount by front) b none h k e bare = absurd (no_merge b none (ap kind_of e ∙ reply-kind b))
+end-once (merge_end.Set fault) b none h k e bare = plain-once (SetRefused fault) b refl none h k e bare
+end-once merge_end.Memory b none h k e bare = plain-once Memory b refl none h k e bare
 
 ends-same : (a b : MergeEnd) → IsEnd a → IsEnd b → words_of_end a ≡ words_of_end b → tag_of (words_of_end a) ≡ tag_of (words_of_end b) → told_end a ≡ told_end b
-ends-same (merge_end.Set fault) b h k e _ = sym (end-once b (SetRefused fault) refl k h (sym e))
-ends-same merge_end.Memory b h k e _ = sym (end-once b Memory refl k h (sym e))
-ends-same a (merge_end.Set fault) h k e _ = end-once a (SetRefused fault) refl h k e
-ends-same a merge_end.Memory h k e _ = end-once a Memory refl h k e
+ends-same (merge_end.Set fault) b h k e _ = sym (end-once b (SetRefused fault) refl k h (sym e) refl)
+ends-same merge_end.Memory b h k e _ = sym (end-once b Memory refl k h (sym e) refl)
+ends-same a (merge_end.Set fault) h k e _ = end-once a (SetRefused fault) refl h k e refl
+ends-same a merge_end.Memory h k e _ = end-once a Memory refl h k e refl
 ends-same (merge_end.MergeConflicts names) (merge_end.MergeConflicts names') h k e _ = ap (λ all. told_end (merge_end.MergeConflicts all)) (names-once names names' h k (ap (λ line. line.1) e))
 ends-same (merge_end.TriesSpent mount by front) (merge_end.TriesSpent mount' by' front') h k e _ =
     let same_mount = shown-once mount mount' h.0 k.0 (ap (word_at 1) e) in
@@ -268,16 +275,16 @@ ends-same a b _ _ _ same = absurd (numbers_test (tag_of (words_of_end a)) (tag_o
 ends-once : (a b : MergeEnd) → IsEnd a → IsEnd b → words_of_end a ≡ words_of_end b → told_end a ≡ told_end b
 ends-once a b h k e = ends-same a b h k e (ap tag_of e)
 
-pub reply-once : (a b : Reply) → IsReply a → IsReply b → words_of a ≡ words_of b → told_last a ≡ told_last b
-reply-once (Merged one) (Merged other) h k e = plain-once (SetDone one.done) (SetDone other.done) refl refl h.1 k.1 e
-reply-once (Merged one) (MergeRefused fault) h k e = sym (end-once fault.end (SetDone one.done) refl k.1 h.1 (sym e))
-reply-once (Merged one) b h k e = plain-once (SetDone one.done) b refl refl h.1 k e
-reply-once (MergeRefused fault) (Merged other) h k e = end-once fault.end (SetDone other.done) refl h.1 k.1 e
-reply-once (MergeRefused fault) (MergeRefused other) h k e = ends-once fault.end other.end h.1 k.1 e
-reply-once (MergeRefused fault) b h k e = end-once fault.end b refl h.1 k e
-reply-once a (Merged other) h k e = plain-once a (SetDone other.done) refl refl h k.1 e
-reply-once a (MergeRefused fault) h k e = sym (end-once fault.end a refl k.1 h (sym e))
-reply-once a b h k e = plain-once a b refl refl h k e
+pub reply-once : (a b : Reply) → IsReply a → IsReply b → words_of a ≡ words_of b → changes_of a ≡ changes_of b → told_last a ≡ told_last b
+reply-once (Merged one) (Merged other) h k e _ = plain-once (SetDone one.done) (SetDone other.done) refl refl h.1 k.1 e refl
+reply-once (Merged one) (MergeRefused fault) h k e _ = sym (end-once fault.end (SetDone one.done) refl k.1 h.1 (sym e) refl)
+reply-once (Merged one) b h k e bare = plain-once (SetDone one.done) b refl refl h.1 k e bare
+reply-once (MergeRefused fault) (Merged other) h k e _ = end-once fault.end (SetDone other.done) refl h.1 k.1 e refl
+reply-once (MergeRefused fault) (MergeRefused other) h k e _ = ends-once fault.end other.end h.1 k.1 e
+reply-once (MergeRefused fault) b h k e bare = end-once fault.end b refl h.1 k e bare
+reply-once a (Merged other) h k e bare = plain-once a (SetDone other.done) refl refl h k.1 e bare
+reply-once a (MergeRefused fault) h k e bare = sym (end-once fault.end a refl k.1 h (sym e) (sym bare))
+reply-once a b h k e changes = plain-once a b refl refl h k e changes
 
 pub try-once : (a b : Tried) → IsTry a → IsTry b → words_of_try a ≡ words_of_try b → a ≡ b
 try-once a b h k e =
@@ -286,3 +293,16 @@ try-once a b h k e =
     let same_front = decimal_injective a.front b.front h.2 k.2 (ap (word_at 5) e) in
     let same_again = decimal_injective a.again b.again h.3 k.3 (ap (word_at 7) e) in
     λ i. record { mount = same_mount i; by = same_by i; front = same_front i; again = same_again i }
+
+sign-once : (p q : Bool) → sign_of p ≡ sign_of q → p ≡ q
+sign-once true true e = refl
+sign-once true false e = absurd (numbers_test 45 43 (ap (λ word. slice_index_or word 0 0) e))
+sign-once false true e = absurd (numbers_test 43 45 (ap (λ word. slice_index_or word 0 0) e))
+sign-once false false e = refl
+
+pub changed-once : (a b : Changed) → IsChanged a → IsChanged b → words_of_changed a ≡ words_of_changed b → a ≡ b
+changed-once a b h k e =
+    let same_number = decimal_injective a.number b.number h.1 k.1 (ap (word_at 1) e) in
+    let same_sign = sign-once a.removed b.removed (ap (word_at 2) e) in
+    let same_name = shown-once a.name b.name h.0 k.0 (ap (word_at 3) e) in
+    λ i. record { number = same_number i; name = same_name i; removed = same_sign i }

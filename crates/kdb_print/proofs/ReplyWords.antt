@@ -1,5 +1,5 @@
 -- The words of the line of each reply.
-use Rattle.std.specs.Prelude.{◌≡◌, ℕ, false, ◌||◌, if◌then◌else◌, List, [], ◌∷◌, ◌++◌, map as over, codes}
+use Rattle.std.specs.Prelude.{◌≡◌, ℕ, Bool, true, false, ◌||◌, if◌then◌else◌, List, [], ◌∷◌, ◌++◌, map as over, codes}
 use Rattle.std.proofs.Common.{refl, ap, append_assoc}
 use Rattle.std.specs.Fmt.{decimal}
 use Rattle.std.specs.List.{AllByRecursion}
@@ -8,13 +8,13 @@ use Rattle.kdb_handle.specs.declared.merging.MergeEnd.{MergeEnd}
 use Rattle.kdb_handle.specs.declared.merging.MergeEnd.TheVariants as merge_end
 use Rattle.kdb_handle.specs.declared.merging.Tried.{Tried}
 use Rattle.kdb_handle.specs.declared.replies.Reply.{Reply}
-use Rattle.kdb_handle.specs.declared.replies.Reply.TheVariants.{Got, GetRefused, Quiet, LookFound, LookNone, SetDone, SetRefused, Merged, MergeRefused, Memory}
+use Rattle.kdb_handle.specs.declared.replies.Reply.TheVariants.{Got, GetRefused, Quiet, LookFound, LookNone, SetDone, SetRefused, Merged, MergeRefused, Watching, News, NoWatch, Memory}
 use Rattle.kdb_handle.specs.declared.setting.SetFault.{SetFault}
 use Rattle.kdb_handle.specs.declared.setting.SetFault.TheVariants.{Prepare, Commit}
 use Rattle.kdb_print.proofs.Words.{AllSpell, HasWords, Line, Spells, name-IsWord, names-HasWords, names-spell, number-IsWord, word_at, words-append}
-use Rattle.kdb_print.specs.Replies.{line_of_commit, line_of_done, line_of_end, line_of_get, line_of_prepare, line_of_set, line_of_table, line_of_try, lines_of_reply}
+use Rattle.kdb_print.specs.Replies.{line_of_changed, line_of_commit, line_of_done, line_of_end, line_of_get, line_of_prepare, line_of_set, line_of_table, line_of_try, lines_of_reply, sign_of}
 use Rattle.kdb_print.specs.Reading.{is_quiet, tries_of}
-use Rattle.model_quoting.proofs.CutLemmas.{Plain, quoted-IsWord}
+use Rattle.model_quoting.proofs.CutLemmas.{IsWord, Plain, quoted-IsWord}
 use Rattle.model_quoting.specs.Quoted.{quoted, shown}
 use Rattle.mount_table.specs.declared.faults.TableFault.{TableFault}
 use Rattle.mount_table.specs.declared.faults.TableFault.TheVariants as table
@@ -26,9 +26,11 @@ use Rattle.store_core.specs.declared.committing.Done.{Done}
 use Rattle.store_core.specs.declared.committing.Done.TheVariants.{Committed, Same}
 use Rattle.store_verdict.specs.declared.faults.PrepareFault.{PrepareFault}
 use Rattle.store_verdict.specs.declared.faults.PrepareFault.TheVariants as preparing
+use Rattle.watch_feed.specs.declared.news.Changed.{Changed}
 
--- what kind of line begins with a word: the answers of a get, a look and a set, refusals, those of a merge alone, the
--- lines that begin a session, a phase or the history, and the tries of a merge; 0 is any other
+-- what kind of line begins with a word: the answers of a get, a look and a set, refusals, those of a merge alone, those
+-- of a watch and a poll, the lines that begin a session, a phase or the history, the tries of a merge, and the changes
+-- that a poll tells; 0 is any other
 abbrev pub kind_of : Line → ℕ
 kind_of (first, words) =
     if is_text first (codes "got") then 1 else
@@ -37,8 +39,12 @@ kind_of (first, words) =
     (if is_text first (codes "commit") || is_text first (codes "same") then 4 else
     (if is_text first (codes "refused") || (is_text first (codes "memory") || is_text first (codes "conflict")) then 5 else
     (if is_text first (codes "merge-conflict") || is_text first (codes "spent") then 6 else
-    (if is_text first (codes "session") || (is_text first (codes "phase") || is_text first (codes "history")) then 7 else
-    (if is_text first (codes "tried") then 8 else 0)))))))
+    (if is_text first (codes "watch") then 7 else
+    (if is_text first (codes "news") then 8 else
+    (if is_text first (codes "no-watch") then 9 else
+    (if is_text first (codes "session") || (is_text first (codes "phase") || is_text first (codes "history")) then 10 else
+    (if is_text first (codes "tried") then 11 else
+    (if is_text first (codes "~") then 12 else 0)))))))))))
 
 -- which refusal of a mount table a line tells, by its fourth word
 abbrev pub table_tag_of : List ℕ → ℕ
@@ -129,7 +135,11 @@ words_of_done (Same front aside) = (codes "same", decimal front ∷ codes "aside
 abbrev pub words_of_try : Tried → Line
 words_of_try item = (codes "tried", shown item.mount ∷ codes "by" ∷ decimal item.by ∷ codes "front" ∷ decimal item.front ∷ codes "again" ∷ decimal item.again ∷ [])
 
--- the last line of a reply. One to an edit has none; it is given one that no other reply has
+abbrev pub words_of_changed : Changed → Line
+words_of_changed item = (codes "~", decimal item.number ∷ sign_of item.removed ∷ shown item.name ∷ [])
+
+-- the last line of a reply, before that of the changes that a poll tells. One to an edit has none; it is given one that
+-- no other reply has
 abbrev pub words_of : Reply → Line
 words_of (Got front count) = (codes "got", decimal front ∷ decimal count ∷ [])
 words_of (GetRefused fault) = words_of_get fault
@@ -140,11 +150,19 @@ words_of (SetDone done) = words_of_done done
 words_of (SetRefused fault) = words_of_set fault
 words_of (Merged merging) = words_of_done merging.done
 words_of (MergeRefused fault) = words_of_end fault.end
+words_of (Watching front) = (codes "watch", decimal front ∷ [])
+words_of (News news) = (codes "news", decimal news.front ∷ codes "missed" ∷ decimal news.missed ∷ [])
+words_of NoWatch = (codes "no-watch", [])
 words_of Memory = (codes "memory", [])
+
+-- the changes that a reply tells behind its last line: those of a poll
+abbrev pub changes_of : Reply → List Changed
+changes_of (News news) = news.changes
+changes_of reply = []
 
 -- all lines of a reply that has some
 abbrev pub words_of_lines : Reply → List Line
-words_of_lines reply = over words_of_try (tries_of reply) ++ words_of reply ∷ []
+words_of_lines reply = over words_of_try (tries_of reply) ++ words_of reply ∷ over words_of_changed (changes_of reply)
 
 get-kind : (fault : GetFault) → kind_of (words_of_get fault) ≡ 5
 get-kind (getting.BadFile mount number) = refl
@@ -209,6 +227,9 @@ kind (GetRefused fault) = 5
 kind (SetRefused fault) = 5
 kind (Merged merging) = 4
 kind (MergeRefused fault) = end_kind fault.end
+kind (Watching front) = 7
+kind (News news) = 8
+kind NoWatch = 9
 kind Memory = 5
 kind Quiet = 0
 
@@ -222,6 +243,9 @@ reply-kind (SetDone done) = done-kind done
 reply-kind (SetRefused fault) = set-kind fault
 reply-kind (Merged merging) = done-kind merging.done
 reply-kind (MergeRefused fault) = end-kind fault.end
+reply-kind (Watching front) = refl
+reply-kind (News news) = refl
+reply-kind NoWatch = refl
 reply-kind Memory = refl
 
 get-spells : (fault : GetFault) → Spells (words_of_get fault) (line_of_get fault)
@@ -276,6 +300,10 @@ merge-spells : (tried : List Tried) (last : Line) (line : List ℕ) → Spells l
 merge-spells [] last line spells = (spells, tt)
 merge-spells (item ∷ tried) last line spells = (λ rest. simp append_assoc, merge-spells tried last line spells)
 
+changed-spells : (changes : List Changed) → AllSpell (over words_of_changed changes) (over line_of_changed changes)
+changed-spells [] = tt
+changed-spells (item ∷ changes) = (λ rest. simp append_assoc, changed-spells changes)
+
 pub reply-spells : (reply : Reply) → is_quiet reply ≡ false → AllSpell (words_of_lines reply) (lines_of_reply reply)
 reply-spells (Got front count) loud = (λ rest. simp append_assoc, tt)
 reply-spells (GetRefused fault) loud = (get-spells fault, tt)
@@ -286,6 +314,9 @@ reply-spells (SetDone done) loud = (done-spells done, tt)
 reply-spells (SetRefused fault) loud = (set-spells fault, tt)
 reply-spells (Merged merging) loud = merge-spells merging.tried (words_of_done merging.done) (line_of_done merging.done) (done-spells merging.done)
 reply-spells (MergeRefused fault) loud = merge-spells fault.tried (words_of_end fault.end) (line_of_end fault.end) (end-spells fault.end)
+reply-spells (Watching front) loud = (λ rest. simp append_assoc, tt)
+reply-spells (News news) loud = (λ rest. simp append_assoc, changed-spells news.changes)
+reply-spells NoWatch loud = (λ rest. refl, tt)
 reply-spells Memory loud = (λ rest. refl, tt)
 
 get-HasWords : (fault : GetFault) → HasWords (words_of_get fault)
@@ -350,7 +381,19 @@ last-HasWords (SetDone done) = done-HasWords done
 last-HasWords (SetRefused fault) = set-HasWords fault
 last-HasWords (Merged merging) = done-HasWords merging.done
 last-HasWords (MergeRefused fault) = end-HasWords fault.end
+last-HasWords (Watching front) = (Plain refl, (number-IsWord front, tt))
+last-HasWords (News news) = (Plain refl, (number-IsWord news.front, (Plain refl, (number-IsWord news.missed, tt))))
+last-HasWords NoWatch = (Plain refl, tt)
 last-HasWords Memory = (Plain refl, tt)
 
+sign-IsWord : (removed : Bool) → IsWord (sign_of removed)
+sign-IsWord true = Plain refl
+sign-IsWord false = Plain refl
+
+changed-HasWords : (changes : List Changed) → AllByRecursion HasWords (over words_of_changed changes)
+changed-HasWords [] = tt
+changed-HasWords (item ∷ changes) = ((Plain refl, (number-IsWord item.number, (sign-IsWord item.removed, (name-IsWord item.name, tt)))), changed-HasWords changes)
+
 pub reply-HasWords : (reply : Reply) → AllByRecursion HasWords (words_of_lines reply)
-reply-HasWords reply = words-append (over words_of_try (tries_of reply)) (words_of reply ∷ []) (tries-HasWords (tries_of reply)) (last-HasWords reply, tt)
+reply-HasWords reply =
+    words-append (over words_of_try (tries_of reply)) (words_of reply ∷ over words_of_changed (changes_of reply)) (tries-HasWords (tries_of reply)) (last-HasWords reply, changed-HasWords (changes_of reply))

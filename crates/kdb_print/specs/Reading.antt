@@ -10,7 +10,7 @@ use Rattle.kdb_handle.specs.declared.merging.MergeEnd.{MergeEnd}
 use Rattle.kdb_handle.specs.declared.merging.MergeEnd.TheVariants as merge_end
 use Rattle.kdb_handle.specs.declared.merging.Tried.{Tried}
 use Rattle.kdb_handle.specs.declared.replies.Reply.{Reply}
-use Rattle.kdb_handle.specs.declared.replies.Reply.TheVariants.{Got, GetRefused, Quiet, LookFound, LookNone, SetDone, SetRefused, Merged, MergeRefused, Memory}
+use Rattle.kdb_handle.specs.declared.replies.Reply.TheVariants.{Got, GetRefused, Quiet, LookFound, LookNone, SetDone, SetRefused, Merged, MergeRefused, Watching, News, NoWatch, Memory}
 use Rattle.kdb_handle.specs.declared.setting.SetFault.{SetFault}
 use Rattle.kdb_handle.specs.declared.setting.SetFault.TheVariants.{Prepare, Commit}
 use Rattle.kdb_print.specs.Replies.{is_memory}
@@ -28,6 +28,7 @@ use Rattle.store_core.specs.declared.committing.Done.{Done}
 use Rattle.store_core.specs.declared.committing.Done.TheVariants.{Committed, Same}
 use Rattle.store_verdict.specs.declared.faults.PrepareFault.{PrepareFault}
 use Rattle.store_verdict.specs.declared.faults.PrepareFault.TheVariants as preparing
+use Rattle.watch_feed.specs.declared.news.Changed.{Changed}
 
 -- a number as the code has it
 abbrev pub IsNumber : ℕ → Type 0
@@ -87,6 +88,9 @@ abbrev pub IsDone : Done → Type 0
 IsDone (Committed number aside) = IsNumber number × IsNumber aside
 IsDone (Same front aside) = IsNumber front × IsNumber aside
 
+abbrev pub IsChanged : Changed → Type 0
+IsChanged item = IsName item.name × IsNumber item.number
+
 abbrev pub IsReply : Reply → Type 0
 IsReply (Got front count) = IsNumber front × IsNumber count
 IsReply (GetRefused fault) = IsGetFault fault
@@ -97,6 +101,9 @@ IsReply (SetDone done) = IsDone done
 IsReply (SetRefused fault) = IsSetFault fault
 IsReply (Merged merging) = AllByRecursion IsTry merging.tried × IsDone merging.done
 IsReply (MergeRefused fault) = AllByRecursion IsTry fault.tried × IsEnd fault.end
+IsReply (Watching front) = IsNumber front
+IsReply (News news) = IsNumber news.front × IsNumber news.missed × AllByRecursion IsChanged news.changes
+IsReply NoWatch = Unit {0}
 IsReply Memory = Unit {0}
 
 abbrev pub is_quiet : Reply → Bool
@@ -124,7 +131,7 @@ last_of reply = reply
 abbrev pub told_last : Reply → Reply
 told_last reply = if is_memory reply then Memory else last_of reply
 
--- what the lines of a reply tell: its tries, and its last line
+-- what the lines of a reply tell: its tries, and its last line, with the changes behind it where it is that of a poll
 abbrev pub told_of : Reply → List Tried × Reply
 told_of reply = (tries_of reply, told_last reply)
 

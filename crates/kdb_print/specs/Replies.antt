@@ -6,7 +6,7 @@ use Rattle.kdb_handle.specs.declared.merging.MergeEnd.{MergeEnd}
 use Rattle.kdb_handle.specs.declared.merging.MergeEnd.TheVariants as merge_end
 use Rattle.kdb_handle.specs.declared.merging.Tried.{Tried}
 use Rattle.kdb_handle.specs.declared.replies.Reply.{Reply}
-use Rattle.kdb_handle.specs.declared.replies.Reply.TheVariants.{Got, GetRefused, Quiet, LookFound, LookNone, SetDone, SetRefused, Merged, MergeRefused, Memory}
+use Rattle.kdb_handle.specs.declared.replies.Reply.TheVariants.{Got, GetRefused, Quiet, LookFound, LookNone, SetDone, SetRefused, Merged, MergeRefused, Watching, News, NoWatch, Memory}
 use Rattle.kdb_handle.specs.declared.setting.SetFault.{SetFault}
 use Rattle.kdb_handle.specs.declared.setting.SetFault.TheVariants.{Prepare, Commit}
 use Rattle.model_names.specs.Name.{Name}
@@ -22,6 +22,8 @@ use Rattle.store_core.specs.declared.committing.Done.TheVariants.{Committed, Sam
 use Rattle.store_lines.specs.Lines as store
 use Rattle.store_verdict.specs.declared.faults.PrepareFault.{PrepareFault}
 use Rattle.store_verdict.specs.declared.faults.PrepareFault.TheVariants as preparing
+use Rattle.watch_feed.specs.declared.news.Changed.{Changed}
+use Rattle.watch_feed.specs.declared.news.News as feed
 
 -- a want of memory, alone or inside a refusal
 abbrev pub memory : List ℕ
@@ -93,7 +95,22 @@ line_of_end (merge_end.TriesSpent mount by front) =
 line_of_end (merge_end.Set fault) = line_of_set fault
 line_of_end merge_end.Memory = memory
 
--- the lines of a reply: none of an edit of the working set, else one; before that of a merge those of its tries
+-- a change that a watch tells: the number of its commit, and whether the key went or has a new entry
+abbrev pub sign_of : Bool → List ℕ
+sign_of removed = if removed then codes "-" else codes "+"
+
+abbrev pub line_of_changed : Changed → List ℕ
+line_of_changed item = codes "~ " ++ (decimal item.number ++ (32 ∷ (sign_of item.removed ++ (32 ∷ shown item.name))))
+
+-- what a watch tells: how many commits it has looked at and how many changes it left out; and the others
+abbrev pub line_of_news : feed.News → List ℕ
+line_of_news news = codes "news " ++ (decimal news.front ++ (codes " missed " ++ decimal news.missed))
+
+abbrev pub lines_of_news : feed.News → List (List ℕ)
+lines_of_news news = line_of_news news ∷ over line_of_changed news.changes
+
+-- the lines of a reply: none of an edit of the working set, else one; before that of a merge those of its tries, and
+-- behind that of a poll those of the changes
 abbrev pub lines_of_reply : Reply → List (List ℕ)
 lines_of_reply (Got front count) = (codes "got " ++ (decimal front ++ (32 ∷ decimal count))) ∷ []
 lines_of_reply (GetRefused fault) = line_of_get fault ∷ []
@@ -104,6 +121,9 @@ lines_of_reply (SetDone done) = line_of_done done ∷ []
 lines_of_reply (SetRefused fault) = line_of_set fault ∷ []
 lines_of_reply (Merged merging) = over line_of_try merging.tried ++ line_of_done merging.done ∷ []
 lines_of_reply (MergeRefused fault) = over line_of_try fault.tried ++ line_of_end fault.end ∷ []
+lines_of_reply (Watching front) = (codes "watch " ++ decimal front) ∷ []
+lines_of_reply (News news) = lines_of_news news
+lines_of_reply NoWatch = codes "no-watch" ∷ []
 lines_of_reply Memory = memory ∷ []
 
 -- a set, or the last of a merge, was refused for want of memory

@@ -1,12 +1,12 @@
 -- The parts of the worked examples.
-use Rattle.std.specs.Prelude.{ℕ, List, [], ◌∷◌, Some, None, codes}
+use Rattle.std.specs.Prelude.{ℕ, true, false, List, [], ◌∷◌, Some, None, codes}
 use Rattle.batch_script.specs.declared.steps.Phase.{Phase}
 use Rattle.batch_script.specs.declared.steps.Script.{Script}
 use Rattle.batch_script.specs.declared.steps.Steps.{Steps}
 use Rattle.kdb_handle.specs.declared.merging.MergeEnd.{MergeEnd}
 use Rattle.kdb_handle.specs.declared.merging.Tried.{Tried}
 use Rattle.kdb_handle.specs.declared.replies.Reply.{Reply}
-use Rattle.kdb_handle.specs.declared.replies.Reply.TheVariants.{Merged, MergeRefused}
+use Rattle.kdb_handle.specs.declared.replies.Reply.TheVariants.{Merged, MergeRefused, News}
 use Rattle.kdb_outside.specs.declared.kinds.Kind.TheVariants.{Dump}
 use Rattle.model_history.specs.Changes.{Change}
 use Rattle.model_maps.specs.Entry.{plain_entry, with_meta}
@@ -15,6 +15,7 @@ use Rattle.model_names.specs.declared.namespaces.Namespace.TheVariants.{System, 
 use Rattle.model_names.specs.Name.{Name}
 use Rattle.mount_table.specs.declared.mounts.Mount.{Mount}
 use Rattle.store_core.specs.declared.committing.Done.{Done}
+use Rattle.watch_feed.specs.declared.news.Changed.{Changed}
 
 abbrev pub name : Namespace → List (List ℕ) → Name
 name namespace parts = record { namespace = namespace; parts = parts }
@@ -56,3 +57,13 @@ merged items done = Merged (record { tried = items; done = done })
 
 abbrev pub unmerged : List Tried → MergeEnd → Reply
 unmerged items end = MergeRefused (record { tried = items; end = end })
+
+-- what a watch tells: a key with a new entry, or one that went
+abbrev pub new : ℕ → Name → Changed
+new number key = record { number = number; name = key; removed = false }
+
+abbrev pub gone : ℕ → Name → Changed
+gone number key = record { number = number; name = key; removed = true }
+
+abbrev pub asked : ℕ → ℕ → List Changed → Reply
+asked front missed changes = News (record { front = front; missed = missed; changes = changes })

@@ -1,11 +1,11 @@
 //! Worked examples.
 ghost use Rattle.std.specs.Prelude.{◌≡◌, ◌++◌, [], ◌∷◌, codes};
 ghost use Rattle.kdb_handle.specs.declared.merging.MergeEnd.TheVariants as merge_end;
-ghost use Rattle.kdb_handle.specs.declared.replies.Reply.TheVariants.{Got, LookFound, LookNone, Memory, Quiet, SetDone, SetRefused};
+ghost use Rattle.kdb_handle.specs.declared.replies.Reply.TheVariants.{Got, LookFound, LookNone, Memory, NoWatch, Quiet, SetDone, SetRefused, Watching};
 ghost use Rattle.kdb_handle.specs.declared.setting.SetFault.TheVariants.{Commit, Prepare};
 ghost use Rattle.kdb_print.specs.Printed.{printed};
 ghost use Rattle.kdb_print.specs.Replies.{status_of};
-ghost use Rattle.kdb_print.specs.Worked.{merged, mounts, name, phase_of, removes, script_of, sets, sets_with, steps_of, tried, unmerged};
+ghost use Rattle.kdb_print.specs.Worked.{asked, gone, merged, mounts, name, new, phase_of, removes, script_of, sets, sets_with, steps_of, tried, unmerged};
 ghost use Rattle.model_names.specs.declared.namespaces.Namespace.TheVariants.{System, User};
 ghost use Rattle.store_core.specs.declared.committing.CommitFault.TheVariants.{Conflict, DiskFault};
 ghost use Rattle.store_core.specs.declared.committing.Done.TheVariants.{Committed, Same};
@@ -51,6 +51,15 @@ pub fn a_merge_tells_its_tries_and_its_end()
         ++ codes "tried user:/ by 1 front 2 again 4\nmemory\nrefused C01100 disk-fault front 0\nhistory 0\nend\n") }
 {}
 
+/// A poll tells how many changes its watch left out, and behind that the last ones, each with the number of its commit.
+pub fn a_poll_tells_the_last_changes_and_how_many_it_left_out()
+    ensures { printed mounts (1 ∷ 2 ∷ []) (script_of (phase_of (steps_of 1 ∷ steps_of 2 ∷ []) ∷ []))
+        (((NoWatch ∷ Watching 2 ∷ asked 2 0 [] ∷ [])
+        ∷ (asked 5 1 (new 4 (name User (codes "b" ∷ [])) ∷ gone 5 (name System (codes "a b" ∷ [])) ∷ []) ∷ []) ∷ []) ∷ []) []
+        ≡ codes "phase 1\nsession 1\nno-watch\nwatch 2\nnews 2 missed 0\n"
+        ++ codes "session 2\nnews 5 missed 1\n~ 4 + user:/b\n~ 5 - \"system:/a b\"\nhistory 0\nend\n" }
+{}
+
 /// A want of memory comes before a fault of the disk, wherever each stands.
 pub fn a_status_tells_the_worst_reply()
     ensures well { status_of (((Got 0 0 ∷ Quiet ∷ []) ∷ []) ∷ []) ≡ 0 }
@@ -59,5 +68,6 @@ pub fn a_status_tells_the_worst_reply()
     ensures merge { status_of (((unmerged (tried 1 2 4 ∷ []) (merge_end.Set (Commit (DiskFault 4))) ∷ []) ∷ []) ∷ []) ≡ 74 }
     ensures memory { status_of (((SetRefused (Commit (DiskFault 0)) ∷ []) ∷ []) ∷ ((SetRefused (Prepare Unprepared) ∷ []) ∷ []) ∷ []) ≡ 70 }
     ensures cut { status_of (((unmerged (tried 1 2 4 ∷ []) merge_end.Memory ∷ []) ∷ []) ∷ []) ≡ 70 }
+    ensures polls { status_of (((NoWatch ∷ Watching 0 ∷ asked 5 1 (new 4 (name User []) ∷ []) ∷ []) ∷ []) ∷ []) ≡ 0 }
     ensures alone { status_of (((Memory ∷ []) ∷ []) ∷ []) ≡ 70 }
 {}

@@ -6,6 +6,7 @@ ghost use Rattle.model_lines.specs.Lines.{ended};
 ghost use Rattle.model_quoting.specs.Quoted.{shown};
 
 use crate::lines::push_line;
+use crate::news_lines::push_news;
 use kdb_handle::{MergeEnd, Reply, SetFault, Tried};
 use kdb_text::{quoted, shown};
 use key_meta::Memory;
@@ -69,6 +70,12 @@ fn push_reply(alloc: Global, text: &mut String, reply: &Reply) -> Result<(), Mem
             let line = line_of_end(alloc, &fault.end)?;
             push_line(text, line.as_str())
         }
+        Reply::Watching { front } => {
+            let line = format!(in alloc; "watch {front}")?;
+            push_line(text, line.as_str())
+        }
+        Reply::News(news) => push_news(alloc, text, news),
+        Reply::NoWatch => push_line(text, "no-watch"),
         Reply::Memory => push_line(text, "memory"),
     }
 }

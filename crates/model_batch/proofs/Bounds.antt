@@ -3,7 +3,7 @@ use Rattle.std.proofs.Common.{◌≡◌, ◌⊎◌, inl, inr, ℕ, zero, suc, �
 use Rattle.std.specs.FinMap as map
 use Rattle.std.specs.List.{AllByRecursion, flat_map}
 use Rattle.batch_script.specs.declared.steps.Step.{Step}
-use Rattle.batch_script.specs.declared.steps.Step.TheVariants.{Get, Put, MetaStep, Del, Cut, Look, Set, Merge}
+use Rattle.batch_script.specs.declared.steps.Step.TheVariants.{Get, Put, MetaStep, Del, Cut, Look, Set, Merge, Watch, Poll}
 use Rattle.general_words.proofs.Lists.{all_append, all_from_places, some_is}
 use Rattle.key_edits.specs.Edits.{put_meta, put_value}
 use Rattle.key_merge.specs.declared.strategies.Strategy.{Strategy}
@@ -19,7 +19,8 @@ use Rattle.model_batch.specs.Sessions.{Session, first_session}
 use Rattle.model_batch.specs.Sets.{Lacks, kept_then}
 use Rattle.model_batch.specs.Steps.{Edits, Means, got_then}
 use Rattle.model_batch.specs.Told.{IsAtLeast, Tells, count_of_others}
-use Rattle.model_batch.proofs.Covering.{AreTold, Covers, Leaves, covers-kept, lacks-covers, leaves, leaves-same, none-behind, set-covers}
+use Rattle.model_batch.specs.Watches.{news_then}
+use Rattle.model_batch.proofs.Covering.{AreTold, Covers, Leaves, covers-kept, covers-later, lacks-covers, leaves, leaves-same, none-behind, set-covers}
 use Rattle.model_batch.proofs.MergesCover.{merges-cover, merges-spent}
 use Rattle.model_batch.proofs.OwnLemmas.{own-among}
 use Rattle.model_batch.proofs.Telling.{means-later, means-numbers, numbers-behind, tells-later}
@@ -65,7 +66,7 @@ module _ (formats : Formats) (files : List MountedFile) (procs : KeyMap) (number
       let store = store_at files in
       let involved = involved_in (points_of store) parent in
       let keys : KeyMap = got_then files procs number h.past parent in
-      let made : Session = record { working = keys; rec = kept_then store h.past involved old.rec; told = length h.past } in
+      let made : Session = record old { working = keys; rec = kept_then store h.past involved old.rec; told = length h.past } in
       leaves number history old.told (reply.Got (length h.past) (length (map.entries keys))) answer made new h.reply_is h.new_is
       (λ told. (covers-kept number history store h.past involved old.rec old.told h.begins (none-behind number history old.told (length h.past) (length h.past) [] tt (omega arith) told) covers, tt)) told
   step-covers old new (Get parent) answer (inr (inl h)) covers told = same-covers (reply.GetRefused h.why) old new old answer refl h.reply_is h.new_is refl refl covers
@@ -82,6 +83,17 @@ module _ (formats : Formats) (files : List MountedFile) (procs : KeyMap) (number
   step-covers old new (Set parent) answer h covers told = set-covers number history (store_at files) parent formats old.working old new answer h covers told
   step-covers old new (Merge parent strategy tries) answer (inl h) covers told = merges-cover number history formats files parent strategy tries old new answer h covers told
   step-covers old new (Merge parent strategy tries) answer (inr h) covers told = lacks-covers number history reply.Memory old new answer refl h covers
+  step-covers old new (Watch parent room) answer (inl h) covers told =
+      let made : Session = record old { told = length h.past; watching = Some (record { parent = parent; room = room; from = length h.past }) } in
+      leaves number history old.told (reply.Watching (length h.past)) answer made new h.reply_is h.new_is
+      (λ told. (covers-later number history h.past old.rec old.told h.begins told covers, tt)) told
+  step-covers old new (Watch parent room) answer (inr h) covers told = lacks-covers number history reply.Memory old new answer refl h covers
+  step-covers old new Poll answer (inl h) covers told = same-covers reply.NoWatch old new old answer refl h.reply_is h.new_is refl refl covers
+  step-covers old new Poll answer (inr (inl h)) covers told =
+      let made : Session = record old { told = length h.past; watching = Some (record h.watched { from = length h.past }) } in
+      leaves number history old.told (reply.News (news_then h.watched h.past)) answer made new h.reply_is h.new_is
+      (λ told. (covers-later number history h.past old.rec old.told h.begins told covers, tt)) told
+  step-covers old new Poll answer (inr (inr h)) covers told = lacks-covers number history reply.Memory old new answer refl h covers
 
   -- ---- step by step
 

@@ -76,6 +76,11 @@ module _ (number : ℕ) (history : List Commit) where
       covers-past past (kept_then store past mounts rec) (length past) p refl
       (cover-keeping number past mounts (length past) (wants (points_of store) (replay store.start past)) rec (omega arith) (past-cover past rec told p none covers))
 
+  -- a record that stays, where more was told and none of it is own
+  pub covers-later : (past : List Commit) (rec : Record) (told : ℕ) → IsPrefix past history → AreTold told [] (length past) → Covers rec told → Covers rec (length past)
+  covers-later past rec told p none covers =
+      covers-past past rec (length past) p refl (past-cover past rec told p (none-behind told (length past) (length past) [] tt (omega arith) none) covers)
+
   -- ---- a step
 
   -- the fronts cover what was told, and each commit in the way is another's

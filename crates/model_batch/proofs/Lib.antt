@@ -4,3 +4,4 @@ mod OwnLemmas
 mod Covering
 mod MergesCover
 mod Bounds
+mod Polling

@@ -5,7 +5,7 @@ use Rattle.std.specs.List.{AllByRecursion, flat_map}
 use Rattle.std.proofs.lemmas.List.Concat.{flat_map-append}
 use mathlib.Core.List.{IsPrefix}
 use Rattle.batch_script.specs.declared.steps.Step.{Step}
-use Rattle.batch_script.specs.declared.steps.Step.TheVariants.{Get, Put, MetaStep, Del, Cut, Look, Set, Merge}
+use Rattle.batch_script.specs.declared.steps.Step.TheVariants.{Get, Put, MetaStep, Del, Cut, Look, Set, Merge, Watch, Poll}
 use Rattle.general_words.proofs.Lists.{all_append, all_back}
 use Rattle.key_merge.specs.declared.strategies.Strategy.{Strategy}
 use Rattle.kdb_handle.specs.Opened.{store_at}
@@ -25,6 +25,7 @@ use Rattle.model_batch.specs.Sessions.{Session}
 use Rattle.model_batch.specs.Sets.{IsJudgedThen, Lacks, MeansSet, StandsNext, set_by, told_then}
 use Rattle.model_batch.specs.Steps.{Edits, Gets, Means, got_then}
 use Rattle.model_batch.specs.Told.{IsAtLeast, Tells}
+use Rattle.model_batch.specs.Watches.{Polls, Watches, news_then}
 use Rattle.model_batch.proofs.TriesLemmas.{cut-keeps, merged-too, tries-keep}
 use Rattle.model_history.specs.History.{Commit, replay}
 use Rattle.model_maps.specs.KeyMap.{KeyMap, not_below}
@@ -122,6 +123,22 @@ gets-more : (files : List MountedFile) (procs : KeyMap) (number : ℕ) (history 
 gets-more files procs number history longer parent old new answer p h =
     record { past = h.past; begins = prefix-trans h.past history longer h.begins p; no_less = h.no_less; good = h.good; reply_is = h.reply_is; new_is = h.new_is }
 
+watches-more : (history longer : List Commit) (parent : Name) (room : ℕ) (old new : Session) (answer : Reply) → IsPrefix history longer
+    → Watches history parent room old answer new → Watches longer parent room old answer new
+watches-more history longer parent room old new answer p h =
+    record { past = h.past; begins = prefix-trans h.past history longer h.begins p; no_less = h.no_less; reply_is = h.reply_is; new_is = h.new_is }
+
+polls-more : (history longer : List Commit) (old new : Session) (answer : Reply) → IsPrefix history longer → Polls history old answer new → Polls longer old answer new
+polls-more history longer old new answer p h = record {
+  watched = h.watched;
+  is_watched = h.is_watched;
+  past = h.past;
+  begins = prefix-trans h.past history longer h.begins p;
+  no_less = h.no_less;
+  reply_is = h.reply_is;
+  new_is = h.new_is;
+}
+
 module _ (formats : Formats) (files : List MountedFile) (procs : KeyMap) (number : ℕ) where
   means-more : (history longer : List Commit) (old new : Session) (step : Step) (answer : Reply) → IsPrefix history longer
       → Means formats files procs number history old step answer new → Means formats files procs number longer old step answer new
@@ -135,6 +152,11 @@ module _ (formats : Formats) (files : List MountedFile) (procs : KeyMap) (number
   means-more history longer old new (Set parent) answer p h = sets-more formats (store_at files) number history longer parent old.working old new answer p h
   means-more history longer old new (Merge parent strategy tries) answer p (inl merges) = inl (merges-more formats files number history longer parent p strategy tries old new answer merges)
   means-more history longer old new (Merge parent strategy tries) answer p (inr other) = inr other
+  means-more history longer old new (Watch parent room) answer p (inl watches) = inl (watches-more history longer parent room old new answer p watches)
+  means-more history longer old new (Watch parent room) answer p (inr other) = inr other
+  means-more history longer old new Poll answer p (inl none) = inl none
+  means-more history longer old new Poll answer p (inr (inl polls)) = inr (inl (polls-more history longer old new answer p polls))
+  means-more history longer old new Poll answer p (inr (inr other)) = inr (inr other)
 
   pub tells-more : (history longer : List Commit) (old new : Session) (steps : List Step) (answers : List Reply) → IsPrefix history longer
       → Tells formats files procs number history old steps answers new → Tells formats files procs number longer old steps answers new
@@ -181,6 +203,14 @@ gets-later : (files : List MountedFile) (procs : KeyMap) (number : ℕ) (history
 gets-later files procs number history parent old new answer h =
     (omega (arith, ap (λ (s : Session). s.told) h.new_is, h.no_less), subst (IsAtLeast old.told) (sym h.reply_is) (h.no_less, tt))
 
+watches-later : (history : List Commit) (parent : Name) (room : ℕ) (old new : Session) (answer : Reply) → Watches history parent room old answer new → IsLater old answer new
+watches-later history parent room old new answer h =
+    (omega (arith, ap (λ (s : Session). s.told) h.new_is, h.no_less), subst (IsAtLeast old.told) (sym h.reply_is) (h.no_less, tt))
+
+polls-later : (history : List Commit) (old new : Session) (answer : Reply) → Polls history old answer new → IsLater old answer new
+polls-later history old new answer h =
+    (omega (arith, ap (λ (s : Session). s.told) h.new_is, h.no_less), subst (IsAtLeast old.told) (sym h.reply_is) (h.no_less, tt))
+
 -- a judged set tells of the commits by which it was judged
 judged-front : (formats : Formats) (store : Store) (risen : Bool) (past : List Commit) (keys : KeyMap) (set : Prepared) (floor : ℕ) (result : Result Done CommitFault) → floor ≤ length past → IsJudged formats store risen past keys set result
     → (floor ≤ told_then result floor) × IsAtLeast floor (set_reply result)
@@ -219,6 +249,9 @@ numbers-behind floor (reply.SetRefused why) h = tt
 numbers-behind floor (reply.Merged merging) h =
     done-behind floor merging.done (all_back (λ front. floor ≤ front) (flat_map fronts_of_try merging.tried) (fronts_of_done merging.done) h)
 numbers-behind floor (reply.MergeRefused fault) h = tt
+numbers-behind floor (reply.Watching front) h = tt
+numbers-behind floor (reply.News told) h = tt
+numbers-behind floor reply.NoWatch h = tt
 numbers-behind floor reply.Memory h = tt
 
 -- a merged set tells of no fewer with each try, and with its end
@@ -336,6 +369,11 @@ module _ (formats : Formats) (files : List MountedFile) (procs : KeyMap) (number
   means-later history old new (Set parent) answer h = set-later formats (store_at files) number history parent old.working old new answer h
   means-later history old new (Merge parent strategy tries) answer (inl merges) = merges-later formats files number history parent strategy tries old new answer merges
   means-later history old new (Merge parent strategy tries) answer (inr h) = lacks reply.Memory old new answer (λ floor. tt) h
+  means-later history old new (Watch parent room) answer (inl h) = watches-later history parent room old new answer h
+  means-later history old new (Watch parent room) answer (inr h) = lacks reply.Memory old new answer (λ floor. tt) h
+  means-later history old new Poll answer (inl h) = (omega (arith, ap (λ (s : Session). s.told) h.new_is), subst (IsAtLeast old.told) (sym h.reply_is) tt)
+  means-later history old new Poll answer (inr (inl h)) = polls-later history old new answer h
+  means-later history old new Poll answer (inr (inr h)) = lacks reply.Memory old new answer (λ floor. tt) h
 
   -- a reply that tells no number
   unnumbered : (said : Reply) (told : ℕ) (answer : Reply) → numbers_told said ≡ [] → answer ≡ said → IsAtMost told answer
@@ -361,6 +399,11 @@ module _ (formats : Formats) (files : List MountedFile) (procs : KeyMap) (number
   means-numbers history old new (Set parent) answer h = set-numbers formats (store_at files) number history parent old.working old new answer h
   means-numbers history old new (Merge parent strategy tries) answer (inl h) = merges-numbers formats files number history parent strategy tries old new answer h
   means-numbers history old new (Merge parent strategy tries) answer (inr h) = unnumbered reply.Memory new.told answer refl h.reply_is
+  means-numbers history old new (Watch parent room) answer (inl h) = unnumbered (reply.Watching (length h.past)) new.told answer refl h.reply_is
+  means-numbers history old new (Watch parent room) answer (inr h) = unnumbered reply.Memory new.told answer refl h.reply_is
+  means-numbers history old new Poll answer (inl h) = unnumbered reply.NoWatch new.told answer refl h.reply_is
+  means-numbers history old new Poll answer (inr (inl h)) = unnumbered (reply.News (news_then h.watched h.past)) new.told answer refl h.reply_is
+  means-numbers history old new Poll answer (inr (inr h)) = unnumbered reply.Memory new.told answer refl h.reply_is
 
   pub tells-later : (history : List Commit) (old new : Session) (steps : List Step) (answers : List Reply) → Tells formats files procs number history old steps answers new
       → (old.told ≤ new.told) × AllByRecursion (IsAtLeast old.told) answers

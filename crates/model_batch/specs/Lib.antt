@@ -3,6 +3,7 @@ pub mod Replies
 pub mod Sessions
 pub mod Sets
 pub mod Merges
+pub mod Watches
 pub mod Steps
 pub mod Told
 pub mod Fair

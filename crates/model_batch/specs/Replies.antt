@@ -6,7 +6,7 @@ use Rattle.kdb_handle.specs.declared.merging.MergeEnd.{MergeEnd}
 use Rattle.kdb_handle.specs.declared.merging.MergeEnd.TheVariants as merge_end
 use Rattle.kdb_handle.specs.declared.merging.Tried.{Tried}
 use Rattle.kdb_handle.specs.declared.replies.Reply.{Reply}
-use Rattle.kdb_handle.specs.declared.replies.Reply.TheVariants.{Got, LookFound, LookNone, SetDone, SetRefused, Merged, MergeRefused}
+use Rattle.kdb_handle.specs.declared.replies.Reply.TheVariants.{Got, LookFound, LookNone, SetDone, SetRefused, Merged, MergeRefused, Watching, News}
 use Rattle.kdb_handle.specs.declared.setting.SetFault.{SetFault}
 use Rattle.kdb_handle.specs.declared.setting.SetFault.TheVariants.{Commit}
 use Rattle.spec_cascade.specs.declared.founds.Found.{Found}
@@ -68,13 +68,15 @@ fronts_of_end (merge_end.TriesSpent mount by front) = front ∷ []
 fronts_of_end (merge_end.Set why) = fronts_of_fault why
 fronts_of_end other = []
 
--- the fronts that a reply tells: how many commits a get found, and how many stood before what was judged
+-- the fronts that a reply tells: how many commits a get, a watch or a poll found, and how many stood before what was judged
 abbrev pub fronts_told : Reply → List ℕ
 fronts_told (Got front count) = front ∷ []
 fronts_told (SetDone done) = fronts_of_done done
 fronts_told (SetRefused why) = fronts_of_fault why
 fronts_told (Merged merging) = flat_map fronts_of_try merging.tried ++ fronts_of_done merging.done
 fronts_told (MergeRefused fault) = flat_map fronts_of_try fault.tried ++ fronts_of_end fault.end
+fronts_told (Watching front) = front ∷ []
+fronts_told (News news) = news.front ∷ []
 fronts_told other = []
 
 -- the number of the commit in the way of a set, where a refusal tells it

@@ -1,14 +1,22 @@
 -- What a session of a batch has between its steps. (This project's own.)
-use Rattle.std.specs.Prelude.{ℕ, None}
+use Rattle.std.specs.Prelude.{ℕ, Option, None}
 use Rattle.model_maps.specs.KeyMap.{KeyMap, no_keys}
+use Rattle.model_names.specs.Name.{Name}
 use Rattle.model_store.specs.Records.{Record}
 
--- the working set, what its handle's record keeps, and how many commits its replies have told of
+-- what a session watches: a parent, how many changes it is told of at once, and how many commits it was told of when it last asked
+pub record Watching : Type 0 where
+  pub parent : Name
+  pub room : ℕ
+  pub from : ℕ
+
+-- the working set, what its handle's record keeps, how many commits its replies have told of, and what it watches
 pub record Session : Type 0 where
   pub working : KeyMap
   pub rec : Record
   pub told : ℕ
+  pub watching : Option Watching
 
 -- one that has made no step
 abbrev pub first_session : Session
-first_session = record { working = no_keys; rec = λ m. None; told = 0 }
+first_session = record { working = no_keys; rec = λ m. None; told = 0; watching = None }

@@ -4,7 +4,7 @@ use Rattle.std.specs.Prelude.{◌≡◌, ◌⊎◌, ℕ, ◌≤◌, List, length
 use Rattle.std.specs.FinMap as map
 use mathlib.Core.List.{IsPrefix}
 use Rattle.batch_script.specs.declared.steps.Step.{Step}
-use Rattle.batch_script.specs.declared.steps.Step.TheVariants.{Get, Put, MetaStep, Del, Cut, Look, Set, Merge}
+use Rattle.batch_script.specs.declared.steps.Step.TheVariants.{Get, Put, MetaStep, Del, Cut, Look, Set, Merge, Watch, Poll}
 use Rattle.kdb_handle.specs.Opened.{store_at}
 use Rattle.kdb_handle.specs.declared.replies.Reply.{Reply}
 use Rattle.kdb_handle.specs.declared.replies.Reply.TheVariants as reply
@@ -13,6 +13,7 @@ use Rattle.model_batch.specs.Merges.{Merges}
 use Rattle.model_batch.specs.Replies.{look_reply}
 use Rattle.model_batch.specs.Sessions.{Session}
 use Rattle.model_batch.specs.Sets.{Lacks, MeansSet, kept_then}
+use Rattle.model_batch.specs.Watches.{IsUnwatched, Polls, Watches}
 use Rattle.model_history.specs.History.{Commit, replay}
 use Rattle.model_maps.specs.KeyMap.{KeyMap, not_below}
 use Rattle.model_names.specs.Name.{Name}
@@ -37,7 +38,7 @@ pub record Gets (files : List MountedFile) (procs : KeyMap) (number : ℕ) (hist
   pub no_less : old.told ≤ length past
   pub good : first_bad (store_at files) parent ≡ None
   pub reply_is : answer ≡ reply.Got (length past) (length (map.entries (got_then files procs number past parent)))
-  pub new_is : new ≡ record {
+  pub new_is : new ≡ record old {
     working = got_then files procs number past parent;
     rec = kept_then (store_at files) past (involved_in (points_of (store_at files)) parent) old.rec;
     told = length past;
@@ -74,3 +75,5 @@ Means formats files procs number history old (Cut name) answer new = Edits (not_
 Means formats files procs number history old (Look name) answer new = Looks name old answer new ⊎ Lacks reply.Memory old answer new
 Means formats files procs number history old (Set parent) answer new = MeansSet formats (store_at files) number history parent old.working old answer new
 Means formats files procs number history old (Merge parent strategy tries) answer new = Merges formats files number history parent strategy tries old answer new ⊎ Lacks reply.Memory old answer new
+Means formats files procs number history old (Watch parent room) answer new = Watches history parent room old answer new ⊎ Lacks reply.Memory old answer new
+Means formats files procs number history old Poll answer new = IsUnwatched old answer new ⊎ (Polls history old answer new ⊎ Lacks reply.Memory old answer new)

@@ -22,6 +22,7 @@ pub use examples::{
 };
 pub use laws::{
     a_conflict_is_with_the_commit_of_another, a_merge_is_not_spent_by_fewer_commits_than_its_tries,
+    a_session_is_told_each_change_once,
 };
 use storage_api::Formats;
 

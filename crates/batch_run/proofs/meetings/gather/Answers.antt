@@ -24,10 +24,10 @@ loop-other-preserved g c =
         own = met.own ∙ was.first.own;
         rec = met.rec ∙ was.first.rec;
         session = was.first.session;
-        working = was.first.working;
+        workspace = was.first.workspace;
         told = was.first.told;
       };
-      others = ap (λ (h : HandleValue). set others k (record { session = record { number = other.session.number; passed = other.session.passed; handle = h; working = other.session.working }; told = other.told })) met.other
+      others = ap (λ (h : HandleValue). set others k (record { session = record { number = other.session.number; passed = other.session.passed; handle = h; workspace = other.session.workspace }; told = other.told })) met.other
           ∙ set-get_or others k c.other-item.result ∙ was.others;
       all = all-next (λ (w : Worker). IsPrefix w.session.handle.seen c.meet.new.self.seen) others c.args.others.now k c.other-item.result (omega arith) was.others
           (λ i d lt. prefix-trans (get_or c.args.others.now i d).session.handle.seen first.session.handle.seen c.meet.new.self.seen (was.all i d lt) met.seen.0) met.seen.1;

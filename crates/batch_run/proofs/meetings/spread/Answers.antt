@@ -17,7 +17,7 @@ loop-other-preserved g c =
     let other : Worker = get_or others k c.other-item.result in
     let first : Worker = c.loop-other.first in
     let met = c.meet.ensures in
-    let new : Worker = record { session = record { number = other.session.number; passed = other.session.passed; handle = c.meet.new.self; working = other.session.working }; told = other.told } in
+    let new : Worker = record { session = record { number = other.session.number; passed = other.session.passed; handle = c.meet.new.self; workspace = other.session.workspace }; told = other.told } in
     let meets : Meets (lock_of c.args.store.now) (plan_of c.args.store.now) other new = record {
       handle = met.handle;
       number = met.number;
@@ -25,11 +25,11 @@ loop-other-preserved g c =
       own = met.own;
       rec = met.rec;
       session = refl;
-      working = refl;
+      workspace = refl;
       told = refl;
     } in
     record {
-      first = ap (λ (h : HandleValue). record { session = record { number = first.session.number; passed = first.session.passed; handle = h; working = first.session.working }; told = first.told }) met.other ∙ was.first;
+      first = ap (λ (h : HandleValue). record { session = record { number = first.session.number; passed = first.session.passed; handle = h; workspace = first.session.workspace }; told = first.told }) met.other ∙ was.first;
       met = done-next (λ i d w. Meets (lock_of c.args.store.now) (plan_of c.args.store.now) (get_or c.args.others.now i d) w) others k new (omega arith) was.met (λ d.
           subst (λ (w : Worker). Meets (lock_of c.args.store.now) (plan_of c.args.store.now) w new) (get_or_default others k c.other-item.result d (omega arith) ∙ was.left k d (omega arith)) meets);
       all = done-next (λ i d w. IsPrefix c.args.first.now.session.handle.seen w.session.handle.seen) others k new (omega arith) was.all (λ d.

@@ -2,7 +2,7 @@
 use Rattle.std.proofs.Common.{◌∙◌, arith}
 use Rattle.std.proofs.lemmas.List.{length-map}
 use Rattle.batch_run.specs.Workers.{number_in}
-use Rattle.batch_run.proofs.Through.{home-handles, ready-handles, ready-rooms, through}
+use Rattle.batch_run.proofs.Through.{home-handles, ready-all, ready-rooms, through}
 use Rattle.kdb_handle.specs.Views.{lock_of, plan_of}
 use Rattle.batch_run.proofs.phases.one_phase.Goals as goal
 use Rattle.model_store.specs.Store.{formats_of}
@@ -10,9 +10,9 @@ use Rattle.model_store.specs.Store.{formats_of}
 pub exchange-requires : goal.exchange-requires
 exchange-requires g c = c.requires.rooms.many ∙ length-map c.args.workers.now number_in
 
-pub take_all-requires-clause-handles : goal.take_all-requires-clause-handles
-take_all-requires-clause-handles g c κs within = λ i d lt.
-    ready-handles (lock_of c.args.store.now) (plan_of c.args.store.now) c.args.workers.now c.exchange.new.workers c.args.rooms.now c.exchange.new.rooms (c.requires.rooms.many ∙ length-map c.args.workers.now number_in) c.requires.resting c.exchange.ensures i d (omega arith)
+pub take_all-requires-clause-ready : goal.take_all-requires-clause-ready
+take_all-requires-clause-ready g c κs within = λ i d lt.
+    ready-all (lock_of c.args.store.now) (plan_of c.args.store.now) c.args.workers.now c.exchange.new.workers c.args.rooms.now c.exchange.new.rooms (c.requires.rooms.many ∙ length-map c.args.workers.now number_in) c.requires.resting c.exchange.ensures i d (omega arith)
 
 pub take_all-requires-clause-rooms : goal.take_all-requires-clause-rooms
 take_all-requires-clause-rooms g c κs within = λ i d lt. ready-rooms c.args.phase.now c.args.workers.now c.exchange.new.workers c.args.rooms.now c.exchange.new.rooms c.requires.rooms c.exchange.ensures i d (omega arith)

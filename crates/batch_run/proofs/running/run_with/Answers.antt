@@ -10,7 +10,7 @@ use Rattle.batch_run.specs.declared.workers.Worker.{Worker}
 use Rattle.batch_run.proofs.Fairness.{Ended, ended-back, ended-counts, ended-fair, fresh-each, named-all}
 use Rattle.batch_run.proofs.RoomLemmas.{wide-still}
 use Rattle.batch_run.proofs.ShownLemmas.{named-apart}
-use Rattle.batch_run.proofs.Standing.{stand-first}
+use Rattle.batch_run.proofs.Standing.{rests, stand-first}
 use Rattle.batch_script.specs.declared.steps.Phase.{Phase}
 use Rattle.model_store.specs.Store.{Formats, formats_of}
 use Rattle.kdb_handle.specs.Views.{lock_of, plan_of}
@@ -25,7 +25,7 @@ all_phases-requires-clause-resting g c κs within =
     let plan = plan_of c.args.store.now in
     let seats = c.seat_all-workers in
     let taken = fresh-each formats lock plan (procs_of c.args.script.now) c.args.handles.items seats.result.items seats.ensures.handles c.requires.fresh seats.ensures.seated.each in
-    let rest : (i : ℕ) (d : Worker) → i < length seats.result.items → IsResting lock plan (get_or seats.result.items i d) = λ i d lt. record { handle = (taken i d lt).handle; none = (taken i d lt).idle } in
+    let rest : (i : ℕ) (d : Worker) → i < length seats.result.items → IsResting lock plan (get_or seats.result.items i d) = λ i d lt. rests formats lock plan _ (i + 1) [] [] (get_or seats.result.items i d) (taken i d lt) in
     subst (λ (ws : List Worker). (i : ℕ) (d : Worker) → i < length ws → IsResting lock plan (get_or ws i d)) (sym c.as_mut_slice.ensures.value) rest
 
 pub all_phases-requires-clause-rooms : goal.all_phases-requires-clause-rooms

@@ -11,8 +11,8 @@ returns-in-Ok g c =
     let store = c.args.store.now in
     let call = c.kdb_set_merged in
     let done = call.ensures in
-    let merged = subst (λ (n : ℕ). IsMergedSet formats store.plan.mounted c.args.parent.now c.args.strategy n c.args.handle.now c.args.working.now call.new.self call.new.keys (tried_in call.result) (end_of call.result)) c.get.ensures.count done.merged in
-    merged-goes formats store.lock store.plan c.args.parent.now c.args.strategy c.args.tries.now c.args.handle.now call.new.self c.requires done.handle done.number done.proc c.args.working.now call.new.keys call.result c.in-Ok.merging c.in-Ok.is merged
+    let merged = subst (λ (n : ℕ). IsMergedSet formats store.plan.mounted c.args.parent.now c.args.strategy n c.args.handle.now c.args.workspace.now.keys call.new.self call.new.keys (tried_in call.result) (end_of call.result)) c.get.ensures.count done.merged in
+    merged-goes formats store.lock store.plan c.args.parent.now c.args.strategy c.args.tries.now c.args.handle.now call.new.self c.args.workspace.now c.requires done.handle done.number done.proc call.new.keys call.result c.in-Ok.merging c.in-Ok.is merged
 
 pub returns-in-Err : goal.returns-in-Err
 returns-in-Err g c =
@@ -20,5 +20,5 @@ returns-in-Err g c =
     let store = c.args.store.now in
     let call = c.kdb_set_merged in
     let done = call.ensures in
-    let merged = subst (λ (n : ℕ). IsMergedSet formats store.plan.mounted c.args.parent.now c.args.strategy n c.args.handle.now c.args.working.now call.new.self call.new.keys (tried_in call.result) (end_of call.result)) c.get.ensures.count done.merged in
-    unmerged-goes formats store.lock store.plan c.args.parent.now c.args.strategy c.args.tries.now c.args.handle.now call.new.self c.requires done.handle done.number done.proc c.args.working.now call.new.keys call.result c.in-Err.fault c.in-Err.is merged
+    let merged = subst (λ (n : ℕ). IsMergedSet formats store.plan.mounted c.args.parent.now c.args.strategy n c.args.handle.now c.args.workspace.now.keys call.new.self call.new.keys (tried_in call.result) (end_of call.result)) c.get.ensures.count done.merged in
+    unmerged-goes formats store.lock store.plan c.args.parent.now c.args.strategy c.args.tries.now c.args.handle.now call.new.self c.args.workspace.now c.requires done.handle done.number done.proc call.new.keys call.result c.in-Err.fault c.in-Err.is merged

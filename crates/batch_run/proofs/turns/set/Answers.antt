@@ -8,11 +8,11 @@ returns-in-Ok g c =
     let formats : Formats = formats_of g.F.Formats in
     let store = c.args.store.now in
     let done = c.kdb_set.ensures in
-    set-goes formats store.lock store.plan c.args.parent.now c.args.working.now c.args.handle.now c.kdb_set.new.self c.requires done.handle done.number done.proc c.kdb_set.result c.in-Ok.done c.in-Ok.is done.set
+    set-goes formats store.lock store.plan c.args.parent.now c.args.workspace.now c.args.handle.now c.kdb_set.new.self c.requires done.handle done.number done.proc c.kdb_set.result c.in-Ok.done c.in-Ok.is done.set
 
 pub returns-in-Err : goal.returns-in-Err
 returns-in-Err g c =
     let formats : Formats = formats_of g.F.Formats in
     let store = c.args.store.now in
     let done = c.kdb_set.ensures in
-    unset-goes formats store.lock store.plan c.args.parent.now c.args.working.now c.args.handle.now c.kdb_set.new.self c.requires done.handle done.number done.proc c.kdb_set.result c.in-Err.why c.in-Err.is done.set
+    unset-goes formats store.lock store.plan c.args.parent.now c.args.workspace.now c.args.handle.now c.kdb_set.new.self c.requires done.handle done.number done.proc c.kdb_set.result c.in-Err.why c.in-Err.is done.set

@@ -11,5 +11,5 @@ invariant-loop-step g l = record {
   number : l.self.number ≡ l.initial.self.number;
   passed : l.initial.self.passed + length l.steps < 2 ^ 32 → l.self.passed ≡ l.initial.self.passed + l.step-index;
   goes : GoesOn (formats_of g.F.Formats) l.store.lock l.store.plan (take l.step-index l.steps) l.replies.items
-      l.initial.self.handle l.initial.self.working l.self.handle l.self.working;
+      l.initial.self.handle l.initial.self.workspace l.self.handle l.self.workspace;
 }

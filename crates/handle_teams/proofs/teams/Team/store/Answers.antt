@@ -1,0 +1,11 @@
+-- The handles stay those of the store, and as many.
+use Rattle.std.proofs.Common.{◌+◌, ◌∙◌, ap, length}
+use Rattle.handle_teams.proofs.teams.Team.store.Goals as goal
+
+pub invariant_of-team : goal.invariant_of-team
+invariant_of-team g c = record {
+  started = c.args.self.started;
+  free = c.args.self.free;
+  each = c.store_at-answer.ensures.each;
+  all = ap (λ n. n + length c.args.self.seats.seats.items) c.store_at-answer.ensures.len ∙ c.args.self.all;
+}
