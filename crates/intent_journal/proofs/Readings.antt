@@ -156,9 +156,6 @@ IsOpen-open_entry image entry is =
     let parts = open_of image entry (gate (image journal_name) == 1) is in
     record { gate_is = eqb-true (gate (image journal_name)) 1 parts.0; body = parts.1 }
 
-pub open_entry-IsOpen : (image : Image) (entry : List FileText) → IsOpen entry (image journal_name) → open_entry image ≡ Some entry
-open_entry-IsOpen image entry opened = ap first_entry (open_reads image entry opened)
-
 -- and it is what the opening brings in
 pub opened_with : (image : Image) (entry : List FileText) → open_entry image ≡ Some entry → opened_files image ≡ with_entry image entry
 opened_with image entry is =

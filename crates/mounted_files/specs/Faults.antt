@@ -1,6 +1,5 @@
 -- Why the keys of a mount are not got: its file is bad. (This project's own.)
 use Rattle.std.specs.Prelude.{◌≡◌, Option, Some, None}
-use Rattle.general_words.specs.Memory.{UnlessMemory}
 use Rattle.model_names.specs.Name.{Name}
 use Rattle.mounted_files.specs.declared.causes.Cause.{Cause}
 use Rattle.mounted_files.specs.declared.causes.Cause.TheVariants.{TooLong, BadFile, TooHeavy}
@@ -23,7 +22,3 @@ fault_in file = by_state file.state
     by_state : FileState → Option GetFault
     by_state (Good visible shadow) = None
     by_state (Bad cause) = Some (fault_of file.mount.at cause)
-
--- a fault is that of a file; want of memory tells nothing
-abbrev pub IsFaultIn : MountedFile → GetFault → Type 0
-IsFaultIn file why = UnlessMemory fault.Memory (fault_in file ≡ Some why) why

@@ -21,4 +21,3 @@ pub use laws::{files_have_one_opening, opened_files_have_a_table};
 pub use mounted::Mounted;
 pub use opening::Opening;
 pub use refusals::{GetFault, OpenRefusal, fault_of};
-pub use weighing::is_own_point;

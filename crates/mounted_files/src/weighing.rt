@@ -1,17 +1,15 @@
 //! The visible keys of all mounts together have a limit: a mount that goes over it is bad.
 ghost use Rattle.std.specs.Prelude.{◌≡◌, ◌+◌, ◌≤◌};
 ghost use Rattle.general_words.specs.Saturated.{saturated};
-ghost use Rattle.model_names.specs.Order.{name_eq};
 ghost use Rattle.model_maps.specs.KeyMap.{heaviest_map};
-ghost use Rattle.mount_table.specs.Points.{own_point};
 ghost use Rattle.mounted_files.specs.Weighed.{added_weight, visible_weight, weighed_behind, weighed_file};
 
 use crate::{Cause, FileState, MountedFile};
-use key_name::{KeyName, Namespace};
 use key_set::HEAVIEST_MAP;
+use mount_table::is_own_point;
 
-/// Makes a file bad that is too heavy behind others, and answers what it and the others weigh. The table's own file is weighed behind none, and
-/// has been counted before.
+/// Makes a file bad that is too heavy behind others, and answers what it and the others weigh. The table's own file is
+/// weighed behind none, and has been counted before.
 pub fn weigh(file: &mut MountedFile, sum: u64) -> u64
     requires { sum ≤ heaviest_map }
     ensures file { file.new ≡ weighed_file sum file.old }
@@ -53,11 +51,4 @@ pub fn visible_weight(state: &FileState) -> u64
         FileState::Good { visible, .. } => visible.weight(),
         FileState::Bad { .. } => 0,
     }
-}
-
-/// Whether a mountpoint is that of the table's own keys.
-pub fn is_own_point(point: &KeyName) -> bool
-    ensures { result ≡ name_eq point.now own_point }
-{
-    point.namespace() == Namespace::System && point.len() == 1 && point.part(0) == Some("elektra")
 }

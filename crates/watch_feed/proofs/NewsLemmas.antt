@@ -1,6 +1,6 @@
 -- News of more changes, of more commits, and between fronts.
 use Rattle.std.proofs.Common.{◌≡◌, ℕ, ◌+◌, ◌<◌, ◌≤◌, List, [], ◌∷◌, ◌++◌, length, drop, get_or, take, map, sym, ap, ◌∙◌, arith, append_assoc, append-nil, length-drop, length-take, take-append-drop}
-use Rattle.std.proofs.lemmas.List.{drop-append-le, drop_all, length-map, map-append, map_more, take-append-le, take-take, take_all}
+use Rattle.std.proofs.lemmas.List.{drop-append-le, drop_all, length-map, map-append, map_more, take-append-le, take-take}
 use Rattle.std.proofs.lemmas.List.Elements.{filter-append}
 use Rattle.commit_log.specs.CommitView.{change_of, commit_of}
 use Rattle.commit_log.specs.declared.commits.Change as code
@@ -50,10 +50,6 @@ module _ (parent : Name) where
 
   pub news-none : (history : List Commit) (front : ℕ) → news history front front parent ≡ []
   news-none history front = ap (news_from parent (front + 1)) (drop_all front (take front history) (omega (arith, length-take front history)))
-
-  -- the commits behind a front, up to the last
-  pub news-last : (history : List Commit) (front : ℕ) → news_from parent (front + 1) (drop front history) ≡ news history front (length history) parent
-  news-last history front = ap (λ l. news_from parent (front + 1) (drop front l)) (sym (take_all (length history) history (omega arith)))
 
   -- what comes behind the second front is none of them
   pub news-longer : (history more : List Commit) (from to : ℕ) → to ≤ length history → news (history ++ more) from to parent ≡ news history from to parent

@@ -1,5 +1,5 @@
 -- The last of a list.
-use Rattle.std.proofs.Common.{◌≡◌, ℕ, ◌+◌, ◌-◌, ◌≤◌, List, [], ◌∷◌, ◌++◌, length, drop, sym, ap, ◌∙◌, arith, length-append, length-drop, append_assoc, append-nil}
+use Rattle.std.proofs.Common.{◌≡◌, ℕ, ◌+◌, ◌-◌, ◌≤◌, List, [], ◌∷◌, ◌++◌, length, drop, sym, ap, ◌∙◌, arith, length-append, length-drop, append_assoc}
 use Rattle.std.proofs.lemmas.List.{drop-append-le, drop-drop}
 use Rattle.circular_buffer.specs.Buffer.{keep_last}
 
@@ -14,10 +14,6 @@ module _ {X : Type 0} where
       ∙ drop-drop (length (drop (length xs - n) (xs ++ ys)) - n) (length xs - n) (xs ++ ys)
       ∙ ap (λ k. drop k (xs ++ ys)) sum
 
-  -- a list that is no longer is kept whole
-  pub keep_last-all : (n : ℕ) (xs : List X) → length xs ≤ n → keep_last n xs ≡ xs
-  keep_last-all n xs le = let none : length xs - n ≡ 0 = omega arith in ap (λ k. drop k xs) none
-
   -- what is left out and what is kept are all
   pub length-keep_last : (n : ℕ) (xs : List X) → length xs - n + length (keep_last n xs) ≡ length xs
   length-keep_last n xs = omega (arith, length-drop (length xs - n) xs)
@@ -31,6 +27,3 @@ module _ {X : Type 0} where
       ap (λ l. keep_last n (l ++ rest)) is
       ∙ keep_last-again n (xs ++ x ∷ []) rest
       ∙ ap (keep_last n) (append_assoc xs (x ∷ []) rest)
-
-  pub keep_last-done : (n : ℕ) (xs all : List X) → length xs ≤ n → keep_last n (xs ++ []) ≡ all → xs ≡ all
-  keep_last-done n xs all le is = sym (keep_last-all n xs le) ∙ ap (keep_last n) (sym (append-nil xs)) ∙ is

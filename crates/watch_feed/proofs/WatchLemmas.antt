@@ -1,11 +1,11 @@
 -- What becomes of a watch that looks at a history.
-use Rattle.std.proofs.Common.{◌≡◌, ℕ, ◌+◌, ◌-◌, ◌≤◌, List, ◌++◌, length, drop, sym, ap, subst, ◌∙◌, arith, length-append, append_assoc}
+use Rattle.std.proofs.Common.{◌≡◌, ◌+◌, ◌-◌, ◌≤◌, List, ◌++◌, length, sym, ap, subst, ◌∙◌, arith, length-append, append_assoc}
 use mathlib.Core.List.{IsPrefix}
-use Rattle.circular_buffer.specs.Buffer.{Buffer, buffer, keep_last}
+use Rattle.circular_buffer.specs.Buffer.{keep_last}
 use Rattle.model_history.specs.History.{Commit}
-use Rattle.watch_feed.proofs.NewsLemmas.{news-goes_on, news-last, news-longer}
+use Rattle.watch_feed.proofs.NewsLemmas.{news-goes_on, news-longer}
 use Rattle.watch_feed.proofs.RingLemmas.{keep_last-again, length-keep_last}
-use Rattle.watch_feed.specs.News.{news, news_from}
+use Rattle.watch_feed.specs.News.{news}
 use Rattle.watch_feed.specs.Watches.{WatchValue, collected, with_told}
 use Rattle.watch_feed.specs.declared.news.Changed.{Changed}
 
@@ -37,15 +37,3 @@ collected-twice watch before after le prefix = subst (λ l. collected (collected
         let told = with_told-twice watch (news before watch.front (length before) watch.parent) (news (before ++ prefix.0) (length before) (length (before ++ prefix.0)) watch.parent)
         ∙ ap (with_told watch) joined in
         ap (λ (w : WatchValue). record w { front = length (before ++ prefix.0) }) told
-
--- a watch whose ring took the news of the commits behind its front has collected them
-pub collects : (watch : WatchValue) (history : List Commit) (told : List Changed) (ring : Buffer Changed) (missed left_out front : ℕ)
-    → told ≡ news_from watch.parent (watch.front + 1) (drop watch.front history)
-    → ring ≡ buffer (keep_last watch.room (watch.ring ++ told)) watch.room → left_out ≡ length (watch.ring ++ told) - watch.room → missed ≡ watch.missed + left_out → front ≡ length history
-    → record { parent = watch.parent; room = ring.capacity; front = front; ring = ring.items; missed = missed } ≡ collected watch history
-collects watch history told ring missed left_out front told_is ring_is left_out_is missed_is front_is =
-    let all : told ≡ news history watch.front (length history) watch.parent =
-    told_is ∙ news-last watch.parent history watch.front in
-    let count : missed ≡ watch.missed + (length (watch.ring ++ told) - watch.room) = missed_is ∙ ap (λ n. watch.missed + n) left_out_is in
-    (λ i. record { parent = watch.parent; room = (ring_is i).capacity; front = front_is i; ring = (ring_is i).items; missed = count i })
-    ∙ ap (λ (l : List Changed). record (with_told watch l) { front = length history }) all
