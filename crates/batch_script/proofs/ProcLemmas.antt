@@ -5,6 +5,7 @@ use Rattle.std.specs.Option.{option_map}
 use Rattle.std.proofs.Common.{drop, refl, sym, subst, inl, inr}
 use Rattle.general_words.proofs.Lists.{all_append}
 use Rattle.general_words.specs.Texts.{is_text}
+use Rattle.key_merge.specs.Strategies.{strategy_of}
 use Rattle.key_merge.specs.declared.strategies.Strategy.{Strategy}
 use Rattle.model_lines.specs.Lines.{without_return}
 use Rattle.model_lines.specs.Reading.{Leads}
@@ -14,7 +15,7 @@ use Rattle.model_names.specs.declared.namespaces.Namespace.TheVariants.{Proc as 
 use Rattle.batch_script.specs.Counts.{tries_of, watch_room_of}
 use Rattle.batch_script.specs.MetaTests.{is_meta}
 use Rattle.batch_script.specs.Phases.{proc_of}
-use Rattle.batch_script.specs.Rows.{Row, is_cascading, on_merge, on_meta, on_name, on_none, on_one, on_plain_name, on_proc, on_three, on_two, on_watch, plain_name_of, proc_name_of, rows, said, said_by, session_of, strategy_of}
+use Rattle.batch_script.specs.Rows.{Row, is_cascading, on_merge, on_meta, on_name, on_none, on_one, on_plain_name, on_proc, on_three, on_two, on_watch, plain_name_of, proc_name_of, rows, said, said_by, session_of}
 use Rattle.batch_script.specs.Scripts.{Adds, Means}
 use Rattle.batch_script.specs.declared.items.Item.{Item}
 use Rattle.batch_script.specs.declared.items.Item.TheVariants.{Proc, Session, Phase, Does}

@@ -2,8 +2,7 @@
 use Rattle.std.specs.Prelude.{ℕ, ◌≤◌, nat_eq, Bool, if◌then◌else◌, List, [], ◌∷◌, Option, Some, None, option_and_then, codes}
 use Rattle.std.specs.Option.{option_map}
 use Rattle.general_words.specs.Texts.{is_text}
-use Rattle.key_merge.specs.declared.strategies.Strategy.{Strategy}
-use Rattle.key_merge.specs.declared.strategies.Strategy.TheVariants.{Abort, Our, Their}
+use Rattle.key_merge.specs.Strategies.{strategy_of}
 use Rattle.model_names.specs.declared.namespaces.Namespace.TheVariants.{Cascading, Proc as ProcNamespace}
 use Rattle.model_names.specs.Name.{Name, rank}
 use Rattle.model_names.specs.NameOf.{name_of}
@@ -21,13 +20,6 @@ most_sessions = 32
 -- a word that numbers a session
 abbrev pub session_of : List ℕ → Option ℕ
 session_of word = count_of most_sessions word
-
--- a word that names a strategy
-abbrev pub strategy_of : List ℕ → Option Strategy
-strategy_of word =
-    if is_text word (codes "abort") then Some Abort else
-    (if is_text word (codes "our") then Some Our else
-    (if is_text word (codes "their") then Some Their else None))
 
 abbrev pub is_cascading : Name → Bool
 is_cascading name = nat_eq (rank name.namespace) (rank Cascading)

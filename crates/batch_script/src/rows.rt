@@ -2,7 +2,7 @@
 ghost use Rattle.std.specs.Prelude.{◌≡◌, Some, IfOk, IfSome};
 ghost use Rattle.std.specs.Option.{option_map};
 ghost use Rattle.model_names.specs.NameOf.{name_of};
-ghost use Rattle.batch_script.specs.Rows.{is_cascading, merge_of, on_merge, on_meta, on_name, on_none, on_one, on_plain_name, on_proc, on_three, on_two, on_watch, plain_name_of, proc_name_of, rows, said, said_by, session_of, strategy_of, watch_of, IsNumbered};
+ghost use Rattle.batch_script.specs.Rows.{is_cascading, merge_of, on_merge, on_meta, on_name, on_none, on_one, on_plain_name, on_proc, on_three, on_two, on_watch, plain_name_of, proc_name_of, rows, said, said_by, session_of, watch_of, IsNumbered};
 ghost use Rattle.batch_script.specs.declared.items.Item.TheVariants.{Does, Session, Phase as PhaseEnd};
 ghost use Rattle.batch_script.specs.declared.steps.Step.TheVariants as steps;
 
@@ -10,7 +10,7 @@ use crate::counts::{session_of, tries_of, watch_room_of};
 use crate::items::Item;
 use crate::meta_words::MetaWord;
 use crate::steps::{ProcLine, Step};
-use key_merge::Strategy;
+use key_merge::strategy_of;
 use key_meta::{Memory, Text};
 use key_name::{KeyName, NameFault};
 use model_names::Namespace;
@@ -267,18 +267,6 @@ fn poll(words: &[Text]) -> Option<Item>
         Some(Item::Does(Step::Poll))
     } else {
         None
-    }
-}
-
-/// The strategy of a word.
-fn strategy_of(word: &str) -> Option<Strategy>
-    ensures { result ≡ strategy_of word.now }
-{
-    match word {
-        "abort" => Some(Strategy::Abort),
-        "our" => Some(Strategy::Our),
-        "their" => Some(Strategy::Their),
-        _ => None,
     }
 }
 

@@ -2,7 +2,7 @@
 
 use crate::notation::text_of;
 use crate::sets::{name_of, written_of};
-use key_merge::{Merge3Fault, Strategy, merge3};
+use key_merge::{Merge3Fault, Strategy, merge3, strategy_of};
 use key_meta::{LONGEST_META_NAME, List, Memory, Meta, Text};
 use key_name::KeyName;
 use key_set::{Entry, KeySet};
@@ -34,15 +34,6 @@ fn told(alloc: Global, outcome: Result<KeySet, Merge3Fault>) -> Result<String, M
         Ok(keys) => written_of(alloc, &keys),
         Err(Merge3Fault::Conflicts { names }) => conflicts_of(alloc, &names),
         Err(Merge3Fault::Memory) => Err(AllocError),
-    }
-}
-
-fn strategy_of(word: &str) -> Option<Strategy> {
-    match word {
-        "abort" => Some(Strategy::Abort),
-        "our" => Some(Strategy::Our),
-        "their" => Some(Strategy::Their),
-        _ => None,
     }
 }
 

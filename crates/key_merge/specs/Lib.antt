@@ -1,3 +1,4 @@
+pub mod Strategies
 pub mod Merging
 pub mod Refusing
 pub mod Front

@@ -10,4 +10,4 @@ mod walks;
 
 pub use laws::the_side_that_changed_a_name_gives_it;
 pub use merging::{Merge3Fault, merge3};
-pub use strategies::Strategy;
+pub use strategies::{Strategy, strategy_of};

@@ -25,7 +25,7 @@ use Rattle.tool_words.specs.CommandLines.{no_arguments, one_argument, two_argume
 use Rattle.tool_words.specs.Lines.{argument, no_name, options_refused}
 use Rattle.tool_words.specs.Rows.{Row, asked_by, request, rows}
 use Rattle.key_merge.specs.declared.strategies.Strategy.{Strategy}
-use Rattle.tool_words.specs.Strategies.{strategy_of}
+use Rattle.key_merge.specs.Strategies.{strategy_of}
 use Rattle.tool_words.specs.Uses.{bars}
 
 -- what is asked for names files

@@ -1,4 +1,3 @@
-pub mod Strategies
 pub mod CommandLines
 pub mod Lines
 pub mod Uses

@@ -20,7 +20,7 @@ use Rattle.kdb_outside.specs.declared.kinds.Kind.{Kind}
 use Rattle.kdb_outside.specs.declared.kinds.Kind.TheVariants.{Dump}
 use Rattle.tool_words.specs.CommandLines.{no_arguments, one_argument, two_arguments, three_arguments, two_or_three_arguments, one_extended, two_extended, four_by_strategy, given_value, refuses, value, values}
 use Rattle.key_merge.specs.declared.strategies.Strategy.{Strategy}
-use Rattle.tool_words.specs.Strategies.{strategy_of}
+use Rattle.key_merge.specs.Strategies.{strategy_of}
 use Rattle.tool_words.specs.Uses.{bars}
 use Rattle.tool_words.specs.Lines.{argument, options_refused, no_name}
 

@@ -9,7 +9,6 @@ mod flows;
 mod laws;
 mod meta_names;
 mod requests;
-mod strategies;
 mod uses;
 mod values;
 mod ways;
