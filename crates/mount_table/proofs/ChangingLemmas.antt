@@ -1,10 +1,10 @@
 -- What an entry that is added or removed changes.
-use Rattle.std.proofs.Common.{◌≡◌, ℕ, ◌+◌, ◌*◌, ◌≤◌, Bool, true, false, cond, not, ◌&&◌, T, List, [], ◌∷◌, ◌++◌, length, drop, is_some, unwrap_or, Option, Some, None, Ok, Err, refl, sym, ap, ap₂, subst, ◌∙◌, inl, inr, ◌⊎◌, codes, arith, length-append, Bor}
+use Rattle.std.proofs.Common.{◌≡◌, ℕ, ◌+◌, ◌*◌, ◌≤◌, Bool, true, false, cond, not, ◌&&◌, T, List, [], ◌∷◌, ◌++◌, length, drop, slice_get, is_some, Option, Some, None, Ok, Err, refl, sym, ap, ap₂, subst, ◌∙◌, inl, inr, ◌⊎◌, codes, arith, length-append, Bor}
 use Rattle.std.specs.FinMap as map
 use Rattle.std.specs.FinMap.{find, is_sorted}
 use Rattle.std.specs.FinMap.Entries.{put}
 use Rattle.std.specs.List.{AllByRecursion}
-use Rattle.std.specs.Option.{option_copied}
+use Rattle.std.specs.Option.{option_copied, option_map}
 use Rattle.std.proofs.lemmas.Bool.{cond-true, cond-false, cases_Bool}
 use Rattle.std.proofs.lemmas.Cmp.{nat_list_cmp_total}
 use Rattle.general_words.proofs.Texts.{text_cmp-IsAntisymmetric}
@@ -17,6 +17,7 @@ use Rattle.model_names.specs.Spelling.{spelling, spelled, path, word_of, path_of
 use Rattle.model_names.specs.Spells.{Spells, longest_path}
 use Rattle.model_names.specs.WellFormed.{IsName, IsPart}
 use Rattle.model_names.proofs.BelowLemmas.{at_or_below-rest}
+use Rattle.model_names.proofs.OrderLemmas.{name_cmp_total, name_cmp-IsAntisymmetric}
 use Rattle.model_names.proofs.RefusesLemmas.{position-no_nul}
 use Rattle.general_words.specs.Texts.{text_cmp}
 use Rattle.model_maps.specs.Entry.{plain_entry}
@@ -28,7 +29,6 @@ use Rattle.key_name.proofs.ChildLemmas.{child_refusal-none}
 use Rattle.key_name.proofs.WellFormedLemmas.{length-slashed-append}
 use Rattle.mount_table.specs.Changing.{added, HasNames}
 use Rattle.mount_table.specs.Entries.{entries_of, has_entry, said_by, with_entry}
-use Rattle.mount_table.specs.Noting.{nothing_said}
 use Rattle.mount_table.specs.Places.{mountpoints, entry_name, child_name, path_word, plugin_word}
 use Rattle.mount_table.specs.Points.{longest_point}
 use Rattle.mount_table.specs.Reading.{◌>>=◌}
@@ -37,9 +37,10 @@ use Rattle.mount_table.specs.declared.entries.MountEntry.{MountEntry}
 use Rattle.mount_table.specs.declared.faults.TableFault.{TableFault}
 use Rattle.mount_table.specs.declared.faults.TableFault.TheVariants.{AlreadyMounted}
 use Rattle.mount_table.specs.declared.mounts.Mount.{Mount}
-use Rattle.mount_table.proofs.NotingLemmas.{get-entries_of, entries_of-insert}
+use Rattle.mount_table.proofs.EntryLemmas.{get-entries_of, entries_of-child}
 use Rattle.mount_table.proofs.TableLemmas.{is_some-copied, entry-brings, table-is}
-use Rattle.general_words.proofs.Maps.{insert-insert, from_sorted-put}
+use Rattle.general_words.proofs.Maps.{get-insert_same, insert-insert, from_sorted-put}
+use Rattle.general_words.proofs.Lookups.{get-elsewhere}
 use Rattle.general_words.proofs.Orders.{itself}
 use Rattle.key_name.proofs.MeasureLemmas.{length-spelled}
 
@@ -58,20 +59,24 @@ has_entry-found entries keys text found sorted is copied =
     by true = refl
     by false = refl
 
+-- what an entry says that is added
+said_by-with : (keys : KeyMap) (text : Part) (file : List ℕ) (kind : Kind) → said_by (with_entry keys text file kind) text ≡ record { path = Some file; plugin = Some (kind_word kind) }
+said_by-with keys text file kind =
+    let one = map.insert keys (child_name text path_word) (plain_entry file) in
+    let path = get-elsewhere name_cmp_total name_cmp-IsAntisymmetric one (child_name text plugin_word) (plain_entry (kind_word kind)) (child_name text path_word) (λ e. path_apart (ap (λ name. slice_get name.parts 3) e)) ∙ get-insert_same name_cmp_total keys (child_name text path_word) (plain_entry file) in
+    let plugin = get-insert_same name_cmp_total one (child_name text plugin_word) (plain_entry (kind_word kind)) in
+    λ i. record { path = option_map (λ e. e.value) (path i); plugin = option_map (λ e. e.value) (plugin i) }
+  where
+    path_apart : Some path_word ≡ Some plugin_word → ⊥
+    path_apart e = absurd cc
+
 -- the entries of keys to which one is added
-pub entries_of-with : (keys : KeyMap) (text : Part) (file : List ℕ) (kind : Kind) → has_entry keys text ≡ false → entries_of (with_entry keys text file kind) ≡ map.insert (entries_of keys) text (record { path = Some file; plugin = Some (kind_word kind) })
-entries_of-with keys text file kind new =
-    let es = entries_of keys in
-    let none : map.get es text ≡ None = get-entries_of keys text ∙ cond-false _ _ _ new in
-    let said : MountEntry = record { path = Some file; plugin = None } in
-    let all : MountEntry = record { path = Some file; plugin = Some (kind_word kind) } in
-    let first : entries_of (map.insert keys (child_name text path_word) (plain_entry file)) ≡ map.insert es text said =
-    entries_of-insert keys (child_name text path_word) (plain_entry file) ∙ ap (λ o. map.insert es text (record (unwrap_or o nothing_said) { path = Some file })) none in
-    let there : map.get (map.insert es text said) text ≡ Some said = map.get-insert nat_list_cmp_total es text said text ∙ cond-true _ _ _ (itself nat_list_cmp_total text) in
-    entries_of-insert (map.insert keys (child_name text path_word) (plain_entry file)) (child_name text plugin_word) (plain_entry (kind_word kind))
-    ∙ ap (λ m. map.insert m text (record (unwrap_or (map.get m text) nothing_said) { plugin = Some (kind_word kind) })) first
-    ∙ ap (λ o. map.insert (map.insert es text said) text (record (unwrap_or o nothing_said) { plugin = Some (kind_word kind) })) there
-    ∙ insert-insert nat_list_cmp_total text_cmp-IsAntisymmetric es text said all
+pub entries_of-with : (keys : KeyMap) (text : Part) (file : List ℕ) (kind : Kind) → entries_of (with_entry keys text file kind) ≡ map.insert (entries_of keys) text (record { path = Some file; plugin = Some (kind_word kind) })
+entries_of-with keys text file kind =
+    let one = map.insert keys (child_name text path_word) (plain_entry file) in
+    entries_of-child one text plugin_word (plain_entry (kind_word kind))
+    ∙ ap₂ (λ es said. map.insert es text said) (entries_of-child keys text path_word (plain_entry file)) (said_by-with keys text file kind)
+    ∙ insert-insert nat_list_cmp_total text_cmp-IsAntisymmetric (entries_of keys) text (said_by one text) _
 
 -- ---- what is looked at before an entry is added
 
@@ -85,20 +90,20 @@ pub added-ok : (keys : KeyMap) (text : Part) (file : List ℕ) (kind : Kind) (ta
 added-ok keys text file kind table free h = cond-false _ _ _ free ∙ ap (λ r. r >>= (λ _. Ok (with_entry keys text file kind))) h
 
 -- the entries that were collected, with the one that is added
-pub entries-with : (before after : List (Part × MountEntry)) (keys : KeyMap) (text t : Part) (file : List ℕ) (kind : Kind) (said : MountEntry) → T (is_sorted text_cmp before) → map.from_sorted {R = text_cmp} before ≡ entries_of keys → has_entry keys text ≡ false → t ≡ text → said ≡ record { path = Some file; plugin = Some (kind_word kind) } → after ≡ put text_cmp t said before → map.from_sorted {R = text_cmp} after ≡ entries_of (with_entry keys text file kind)
-entries-with before after keys text t file kind said sorted is free same whole more =
+pub entries-with : (before after : List (Part × MountEntry)) (keys : KeyMap) (text t : Part) (file : List ℕ) (kind : Kind) (said : MountEntry) → T (is_sorted text_cmp before) → map.from_sorted {R = text_cmp} before ≡ entries_of keys → t ≡ text → said ≡ record { path = Some file; plugin = Some (kind_word kind) } → after ≡ put text_cmp t said before → map.from_sorted {R = text_cmp} after ≡ entries_of (with_entry keys text file kind)
+entries-with before after keys text t file kind said sorted is same whole more =
     let all : MountEntry = record { path = Some file; plugin = Some (kind_word kind) } in
     ap map.from_sorted (more ∙ ap₂ (λ u s. put text_cmp u s before) same whole)
     ∙ from_sorted-put text_cmp nat_list_cmp_total before text all sorted
     ∙ ap (λ m. map.insert m text all) is
-    ∙ sym (entries_of-with keys text file kind free)
+    ∙ sym (entries_of-with keys text file kind)
 
 -- an entry that a table takes has a short mountpoint
-pub short_entry : (keys : KeyMap) (text : Part) (file : List ℕ) (kind : Kind) (table : List Mount) → has_entry keys text ≡ false → table_of (with_entry keys text file kind) ≡ Ok table → length text ≤ longest_point
-short_entry keys text file kind table free ok =
+pub short_entry : (keys : KeyMap) (text : Part) (file : List ℕ) (kind : Kind) (table : List Mount) → table_of (with_entry keys text file kind) ≡ Ok table → length text ≤ longest_point
+short_entry keys text file kind table ok =
     let es = entries_of (with_entry keys text file kind) in
     let all : MountEntry = record { path = Some file; plugin = Some (kind_word kind) } in
-    let there : map.get es text ≡ Some all = ap (λ m. map.get m text) (entries_of-with keys text file kind free) ∙ map.get-insert nat_list_cmp_total (entries_of keys) text all text ∙ cond-true _ _ _ (itself nat_list_cmp_total text) in
+    let there : map.get es text ≡ Some all = ap (λ m. map.get m text) (entries_of-with keys text file kind) ∙ map.get-insert nat_list_cmp_total (entries_of keys) text all text ∙ cond-true _ _ _ (itself nat_list_cmp_total text) in
     let read = table-is (with_entry keys text file kind) table ok in
     entry-brings (λ _. length text ≤ longest_point) text (λ mounts mount short. short) (λ mounts mount next. next.short) es read.all read.made (inr (ap is_some there))
 

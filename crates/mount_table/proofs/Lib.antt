@@ -1,6 +1,6 @@
 pub mod FileLemmas
 pub mod PlaceLemmas
-pub mod NotingLemmas
+pub mod EntryLemmas
 pub mod ReadingLemmas
 pub mod TableLemmas
 pub mod ChangingLemmas

@@ -1,11 +1,12 @@
 -- The entries of a mount table. (After Elektra's page on mounting; the layout is this project's own.)
-use Rattle.std.specs.Prelude.{ℕ, Bool, List, Option, filter_map}
+use Rattle.std.specs.Prelude.{◌≡◌, ℕ, Bool, if◌then◌else◌, List, Option, Some, None, filter_map}
 use Rattle.std.specs.FinMap as map
 use Rattle.std.specs.FinMap.{FinMap}
-use Rattle.std.specs.List.{list_any}
-use Rattle.std.specs.Option.{option_map}
+use Rattle.std.specs.List.{list_any, AllByRecursion}
+use Rattle.std.specs.Option.{option_map, option_or}
 use Rattle.model_names.specs.Below.{is_at_or_below}
 use Rattle.model_names.specs.Name.{Name, Part}
+use Rattle.model_names.specs.WellFormed.{IsName}
 use Rattle.general_words.specs.Texts.{text_cmp}
 use Rattle.model_maps.specs.Entry.{plain_entry}
 use Rattle.model_maps.specs.KeyMap.{KeyMap}
@@ -33,6 +34,15 @@ entries_of keys = map.from_entries (filter_map (λ key. option_map (λ text. (te
 -- the entry of a text is there: some key is it or stands below it
 abbrev pub has_entry : KeyMap → Part → Bool
 has_entry keys text = list_any (λ key. is_at_or_below (entry_name text) key.0) (map.entries keys)
+
+-- every key has a name. Each key tells so of its own when it is looked at, and a set of keys tells it of none
+abbrev pub AreNames : KeyMap → Type 0
+AreNames keys = AllByRecursion (λ key. IsName key.0) (map.entries keys)
+
+-- some entries with that of a name noted among them: what was noted stays
+abbrev pub Notes : KeyMap → Name → Entries → Entries → Type 0
+Notes keys name before after =
+    (text : Part) → map.get after text ≡ option_or (map.get before text) (if is_at_or_below (entry_name text) name then Some (said_by keys text) else None)
 
 -- the keys with the two keys of an entry added
 abbrev pub with_entry : KeyMap → Part → List ℕ → Kind → KeyMap

@@ -1,6 +1,5 @@
 pub mod Places
 pub mod Entries
-pub mod Noting
 pub mod Points
 pub mod Reading
 pub mod Table

@@ -15,7 +15,7 @@ ghost use Rattle.mount_table.specs.Points.{longest_point};
 ghost use Rattle.mount_table.specs.Places.{mountpoints, entry_name, child_name, path_word};
 
 use crate::TableFault;
-use crate::children::{child_of, entry_name};
+use crate::children::{child_of, entry_name, mountpoints};
 use crate::entries::{MountEntry, entries_of, text_of_entry};
 use crate::tables::table_from;
 use kdb_outside::Kind;
@@ -54,10 +54,11 @@ pub fn remove(alloc: Global, keys: &mut KeySet, at: &KeyName) -> Result<(), Tabl
     ensures same { OnErr result (keys.new ≡ keys.old) }
 {
     let text = Text::new(alloc, &at.text()?)?;
-    if !has_entry(keys, text.as_str()) {
+    let above = mountpoints(alloc)?;
+    if !has_entry(keys, &above, text.as_str()) {
         return Err(TableFault::NotMounted { entry: text });
     }
-    let name = entry_name(alloc, text.as_str())?;
+    let name = child_of(&above, text.as_str())?;
     keys.cut(&name)?;
     Ok(())
 }
@@ -71,7 +72,6 @@ fn check_addition(
     kind: Kind,
 ) -> Result<(), TableFault>
     ensures ok { OnOk result (added keys.now text.now file.now kind ≡ Ok (with_entry keys.now text.now file.now kind)) }
-    ensures free { OnOk result (has_entry keys.now text.now ≡ false) }
     ensures short { OnOk result (length text.now ≤ longest_point) }
     ensures err { IfErr result (IsFault (added keys.now text.now file.now kind)) }
 {
@@ -87,12 +87,13 @@ fn check_addition(
 }
 
 /// Whether some key is the entry of a text or stands below it.
-fn has_entry(keys: &KeySet, text: &str) -> bool
+fn has_entry(keys: &KeySet, above: &KeyName, text: &str) -> bool
+    requires { above.now ≡ mountpoints }
     ensures has { result ≡ has_entry keys.now text.now }
     ensures name { result ≡ true → child_refusal mountpoints text.now ≡ None }
 {
     for (name, _) in keys.iter() {
-        if belongs_to(name, text) {
+        if belongs_to(above, name, text) {
             return true;
         }
     }
@@ -100,15 +101,12 @@ fn has_entry(keys: &KeySet, text: &str) -> bool
 }
 
 /// Whether a name belongs to the entry of a text.
-fn belongs_to(name: &KeyName, text: &str) -> bool
+fn belongs_to(above: &KeyName, name: &KeyName, text: &str) -> bool
+    requires { above.now ≡ mountpoints }
     ensures belongs { result ≡ is_at_or_below (entry_name text.now) name.now }
     ensures well_formed { IsName name.now }
 {
-    // The mountpoints' name has two parts, and those below it have more.
-    if name.len() < 3 {
-        return false;
-    }
-    match text_of_entry(name) {
+    match text_of_entry(above, name) {
         Some(other) => text == other,
         None => false,
     }
@@ -132,8 +130,7 @@ fn insert_children(
     file: &str,
     kind: Kind,
 ) -> Result<(), Memory>
-    requires names { HasNames text.now }
-    requires free { map.get keys.old (child_name text.now path_word) ≡ None }
+    requires { HasNames text.now }
     ensures ok { OnOk result (keys.new ≡ with_entry keys.old text.now file.now kind) }
     ensures err { OnErr result (keys.new ≡ keys.old) }
 {

@@ -11,13 +11,20 @@ use key_meta::Memory;
 use key_name::{KeyName, NameFault};
 use std::alloc::{AllocError, Global};
 
+/// The name below which all entries stand.
+pub fn mountpoints(alloc: Global) -> Result<KeyName, Memory>
+    ensures { IfOk result (λ name. name ≡ mountpoints) }
+{
+    let own = own_point(alloc)?;
+    child_of(&own, "mountpoints")
+}
+
 /// The name of an entry's keys, by its text.
 pub fn entry_name(alloc: Global, text: &str) -> Result<KeyName, Memory>
     requires { child_refusal mountpoints text.now ≡ None }
     ensures { IfOk result (λ name. name ≡ entry_name text.now) }
 {
-    let own = own_point(alloc)?;
-    let above = child_of(&own, "mountpoints")?;
+    let above = mountpoints(alloc)?;
     child_of(&above, text)
 }
 

@@ -1,21 +1,20 @@
 //! The entries of a mount table, collected from the keys below `system:/elektra/mountpoints`.
-ghost use Rattle.std.specs.Prelude.{◌≡◌, nat_eq, IfOk, OnOk, slice_get};
+ghost use Rattle.std.specs.Prelude.{◌≡◌, None, IfOk, OnOk};
 ghost use Rattle.std.specs.Option.{option_map};
 ghost use Rattle.std.specs.FinMap as map;
-ghost use Rattle.model_names.specs.declared.namespaces.Namespace.TheVariants.{System};
-ghost use Rattle.model_names.specs.Name.{rank};
-ghost use Rattle.model_names.specs.Below.{is_at_or_below};
+ghost use Rattle.key_name.specs.Children as names;
+ghost use Rattle.key_name.specs.Children.{child_refusal};
+ghost use Rattle.model_names.specs.WellFormed.{IsName};
 ghost use Rattle.general_words.specs.Texts.{text_cmp};
-ghost use Rattle.mount_table.specs.Entries.{entries_of};
-ghost use Rattle.mount_table.specs.Noting.{noted, noted_in, child_word, is_word};
+ghost use Rattle.mount_table.specs.Entries.{AreNames, Notes, entries_of, said_by, value_at};
 ghost use Rattle.mount_table.specs.Places.{mountpoints, text_of_entry};
 
+use crate::children::{child_of, mountpoints};
 use key_meta::{Memory, Text};
-use key_name::KeyName;
+use key_name::{KeyName, NameFault};
 use key_set::KeySet;
-use model_names::Namespace;
 use sorted_map::SortedMap;
-use std::alloc::Global;
+use std::alloc::{AllocError, Global};
 
 /// What an entry says: the values of its children `path` and `plugin`.
 #[derive(Debug, Drop)]
@@ -28,94 +27,80 @@ pub struct MountEntry {
 pub fn entries_of(alloc: Global, keys: &KeySet) -> Result<SortedMap<Text, MountEntry>, Memory>
     ensures { IfOk result (λ entries. map.from_sorted {R = text_cmp} entries ≡ entries_of keys.now) }
 {
+    let above = mountpoints(alloc)?;
     let mut entries = SortedMap::new(alloc);
-    for (name, entry) in keys.iter() {
-        note(alloc, &mut entries, name, &entry.value)?;
+    for (name, _) in keys.iter() {
+        note(&mut entries, keys, &above, name)?;
     }
     Ok(entries)
 }
 
-/// Notes what a key says of its entry, where it belongs to one.
+/// Notes the entry that a name belongs to, with what it says, unless it is noted.
 fn note(
-    alloc: Global,
     entries: &mut SortedMap<Text, MountEntry>,
+    keys: &KeySet,
+    above: &KeyName,
     name: &KeyName,
-    value: &Text,
 ) -> Result<(), Memory>
-    ensures { OnOk result (map.from_sorted {R = text_cmp} entries.new ≡ noted (map.from_sorted entries.old) name.now value.now) }
+    requires { above.now ≡ mountpoints }
+    ensures noted { OnOk result (AreNames keys.now → Notes keys.now name.now (map.from_sorted entries.old) (map.from_sorted entries.new)) }
+    ensures well_formed { IsName name.now }
 {
-    let Some(text) = text_of_entry(name) else {
-        return Ok(());
+    let text = match text_of_entry(above, name) {
+        Some(text) => text,
+        None => return Ok(()),
     };
-    let text = Text::new(alloc, text)?;
-    let before = entries.remove(&text).unwrap_or(MountEntry {
-        path: None,
-        plugin: None,
-    });
-    let said = noted_in(before, name, value)?;
+    let text = Text::new(keys.allocator(), text)?;
+    if entries.get(&text).is_some() {
+        return Ok(());
+    }
+    let said = said_by(keys, above, text.as_str())?;
     entries.insert(text, said)?;
     Ok(())
 }
 
-/// What an entry says with one more of its keys.
-fn noted_in(before: MountEntry, name: &KeyName, value: &Text) -> Result<MountEntry, Memory>
-    ensures { IfOk result (λ said. said ≡ noted_in before name.now value.now) }
+/// What the entry of a text says.
+fn said_by(keys: &KeySet, above: &KeyName, text: &str) -> Result<MountEntry, Memory>
+    requires above { above.now ≡ mountpoints }
+    requires name { child_refusal mountpoints text.now ≡ None }
+    ensures { IfOk result (λ said. AreNames keys.now → said ≡ said_by keys.now text.now) }
 {
-    match child_word(name) {
-        Some("path") => Ok(MountEntry {
-            path: Some(value.copy()?),
-            plugin: before.plugin,
-        }),
-        Some("plugin") => Ok(MountEntry {
-            path: before.path,
-            plugin: Some(value.copy()?),
-        }),
-        _ => Ok(before),
+    let entry = child_of(above, text)?;
+    Ok(MountEntry {
+        path: value_of(keys, &entry, "path")?,
+        plugin: value_of(keys, &entry, "plugin")?,
+    })
+}
+
+/// The value of a child. Where its name would be too long, there is none.
+fn value_of(keys: &KeySet, above: &KeyName, part: &str) -> Result<Option<Text>, Memory>
+    ensures { IfOk result (λ value. AreNames keys.now → value ≡ value_at keys.now (names.child_of above.now part.now)) }
+{
+    match above.child(part) {
+        Ok(name) => match keys.lookup(&name) {
+            Some(entry) => Ok(Some(entry.value.copy()?)),
+            None => Ok(None),
+        },
+        Err(fault) => match fault {
+            NameFault::Memory => Err(AllocError),
+            _ => Ok(None),
+        },
     }
 }
 
 /// The text of the entry that a name belongs to.
-pub fn text_of_entry(name: &KeyName) -> Option<&str>
-    ensures { option_map (λ text. text.now) result ≡ text_of_entry name.now }
+pub fn text_of_entry<'a>(above: &KeyName, name: &'a KeyName) -> Option<&'a str>
+    requires { above.now ≡ mountpoints }
+    ensures text { option_map (λ text. text.now) result ≡ text_of_entry name.now }
+    ensures well_formed { IsName name.now }
 {
-    if is_below_mountpoints(name) {
+    // The mountpoints' name has two parts, and those below it have more.
+    if name.len() < 3 {
+        return None;
+    }
+    if name.is_below_or_same(above) {
         name.part(2)
     } else {
         None
     }
-}
-
-fn is_below_mountpoints(name: &KeyName) -> bool
-    ensures { result ≡ is_at_or_below mountpoints name.now }
-{
-    if !is_in_system(name) {
-        return false;
-    }
-    if !has_part(name, 0, "elektra") {
-        return false;
-    }
-    has_part(name, 1, "mountpoints")
-}
-
-fn is_in_system(name: &KeyName) -> bool
-    ensures { result ≡ nat_eq (rank name.now.namespace) (rank System) }
-{
-    name.namespace() == Namespace::System
-}
-
-/// Whether a part of a name is this word.
-fn has_part(name: &KeyName, i: usize, word: &str) -> bool
-    ensures { result ≡ is_word word.now (slice_get name.now.parts i) }
-{
-    match name.part(i) {
-        Some(part) => part == word,
-        None => false,
-    }
-}
-
-/// The last part of a name that has as many parts as a child of an entry.
-fn child_word(name: &KeyName) -> Option<&str>
-    ensures { option_map (λ word. word.now) result ≡ child_word name.now }
-{
-    if name.len() == 4 { name.part(3) } else { None }
 }

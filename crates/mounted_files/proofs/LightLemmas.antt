@@ -36,7 +36,7 @@ use Rattle.mounted_files.specs.Begun.{number_of}
 use Rattle.mounted_files.proofs.ChangeLemmas.{short-relative, short-with_all}
 use Rattle.mounted_files.proofs.LimitLemmas.{limited-from}
 use Rattle.mounted_files.proofs.MapLemmas.{each-none}
-use Rattle.mounted_files.proofs.PlaceLemmas.{one_place}
+use Rattle.mount_table.proofs.OwnFileLemmas.{one_place}
 
 abbrev weighs : Name × Entry → ℕ
 weighs key = weight_of_key key.0 key.1

@@ -24,7 +24,8 @@ use Rattle.mounted_files.specs.declared.files.FileState.{FileState}
 use Rattle.mounted_files.specs.declared.files.MountedFile.{MountedFile}
 use Rattle.mounted_files.proofs.BegunLemmas.{insert-remove, length-remove, length-weighed, number_of-other, over-insert, own_weight-insert, slice_get-insert, slice_get-remove, weighed_from-append, weighed_from-insert}
 use Rattle.model_names.proofs.OrderLemmas.{name_decides}
-use Rattle.mounted_files.proofs.PlaceLemmas.{one_place, own-name_eq}
+use Rattle.mount_table.proofs.OwnFileLemmas.{one_place}
+use Rattle.mounted_files.proofs.PlaceLemmas.{own-name_eq}
 use Rattle.mounted_files.proofs.PointLemmas.{points-of_mounts}
 use Rattle.general_words.proofs.Places.{last_or_before}
 use Rattle.mounted_files.proofs.WeighLemmas.{mounts-from}

@@ -1,16 +1,12 @@
 -- The table's own mount is one of its mounts, at one place.
 use Rattle.std.proofs.Common.{◌≡◌, ◌≢◌, ◌⊎◌, ℕ, suc, ◌+◌, ◌<◌, ◌≤◌, Bool, true, false, not, ◌&&◌, nat_le, cond, List, [], ◌∷◌, ◌++◌, length, get_or, map as over, filter, slice_get, Some, Ok, Err, inl, inr, sym, ap, subst, ◌∙◌, arith}
 use Rattle.std.specs.FinMap as map
-use Rattle.std.specs.FinMap.{FinMap}
 use Rattle.std.specs.FinMap.Entries.{find}
 use Rattle.std.specs.List.Sorted.{IsStrictlySortedBy}
 use Rattle.std.specs.Option.{option_map}
-use Rattle.std.specs.Ordering.{eq_by_cmp, is_eq}
+use Rattle.std.specs.Ordering.{eq_by_cmp}
 use Rattle.std.proofs.lemmas.Bool.{and_parts, cases_lt}
-use Rattle.std.proofs.lemmas.Cmp.{eq_by_cmp_equiv}
-use Rattle.std.proofs.lemmas.List.Sums.{fold-append}
-use Rattle.std.proofs.lemmas.Map.Keys.{Less-from_sorted}
-use Rattle.std.proofs.lemmas.Option.{slice_get_within, slice_get-map, get_or_from_slice_get, same_Some}
+use Rattle.std.proofs.lemmas.Option.{slice_get-map, same_Some}
 use Rattle.general_words.proofs.Lists.{at_place}
 use Rattle.general_words.proofs.Lookups.{get-elsewhere}
 use Rattle.general_words.proofs.Maps.{get-insert_same}
@@ -29,29 +25,12 @@ use Rattle.mount_table.specs.Table.{by_point, in_order, limited, own_mount, rema
 use Rattle.mount_table.specs.declared.entries.MountEntry.{MountEntry}
 use Rattle.mount_table.specs.declared.faults.TableFault.TheVariants.{TooMany}
 use Rattle.mount_table.specs.declared.mounts.Mount.{Mount}
-use Rattle.mount_table.proofs.TableLemmas.{IsPoint-from, from_then, mount_of-next, ok_is, point_of-mount}
+use Rattle.mount_table.proofs.OwnFileLemmas.{one_place}
+use Rattle.mount_table.proofs.TableLemmas.{IsPoint-from, by_point-snoc, from_then, mount_of-next, ok_is, point_of-mount}
 use Rattle.mounted_files.specs.OwnPlace.{HasOwn}
 
 pub own-name_eq : (point : Name) → point ≡ own_point → name_eq point own_point ≡ true
 own-name_eq point is = (name_decides point own_point).1 is
-
--- a point stands at one place
-pub one_place : (points : List Name) (point : Name) (i j : ℕ) → IsStrictlySortedBy name_cmp points → slice_get points i ≡ Some point → slice_get points j ≡ Some point → i ≡ j
-one_place points point i j sorted at_i at_j = by (cases_lt i j) (cases_lt j i)
-  where
-    apart : (k n : ℕ) → k < n → slice_get points k ≡ Some point → slice_get points n ≡ Some point → ⊥
-    apart k n lt at_k at_n =
-        let less = Less-from_sorted name_cmp points k n point sorted lt (slice_get_within points n point at_n) in
-        let itself = (eq_by_cmp_equiv name_cmp_total).refl point in
-        let one = get_or_from_slice_get points k point point at_k in
-        let other = get_or_from_slice_get points n point point at_n in
-        let told = ap is_eq (sym less ∙ (ap (λ p. name_cmp p (get_or points n point)) one ∙ ap (name_cmp point) other)) in
-        absurd (let both = told ∙ itself in cc)
-
-    by : (i < j) ⊎ (j ≤ i) → (j < i) ⊎ (i ≤ j) → i ≡ j
-    by (inl lt) other = absurd (apart i j lt at_i at_j)
-    by (inr le) (inl lt) = absurd (apart j i lt at_j at_i)
-    by (inr le) (inr ge) = omega (arith, le, ge)
 
 -- what is found among entries stands among them
 find-place : {X : Type 0} (q : Name) (es : List (Name × X)) (v : X) → find name_cmp q es ≡ Some v → (i : ℕ) × (slice_get (over (λ e. e.1) es) i ≡ Some v)
@@ -65,9 +44,6 @@ find-place q (e ∷ es) v found = by (find-place q es v) (eq_by_cmp name_cmp q e
 -- the own mount is found under its point
 abbrev IsFound : List Mount → Type 0
 IsFound mounts = map.get (by_point mounts) own_point ≡ Some own_mount
-
-by_point-snoc : (mounts : List Mount) (mount : Mount) → by_point (mounts ++ mount ∷ []) ≡ map.insert (by_point mounts) mount.at mount
-by_point-snoc mounts mount = fold-append (λ (table : FinMap name_cmp Mount) (m : Mount). map.insert table m.at m) map.empty mounts (mount ∷ [])
 
 found-more : (mounts : List Mount) (mount : Mount) → IsFound mounts → own_point ≢ mount.at → IsFound (mounts ++ mount ∷ [])
 found-more mounts mount found other =
