@@ -7,11 +7,13 @@ mod choosing;
 mod defaults;
 mod laying;
 mod listing;
+mod one_name;
 mod spec_metas;
 mod specifying;
 
 pub use choosing::is_within;
 pub use listing::{first_violation, violations};
 pub use model_specified::Violation;
+pub use one_name::specified_at;
 pub use spec_metas::spec_meta;
 pub use specifying::specified;

@@ -1,2 +1,2 @@
 pub mod CandidateLemmas
-pub mod NeededLemmas
+pub mod SaidLemmas

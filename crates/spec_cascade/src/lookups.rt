@@ -70,7 +70,7 @@ fn present(
 }
 
 /// A name with the default that a specification says, if it is the default's.
-fn if_default(
+pub fn if_default(
     keys: &KeySet,
     said: &Meta,
     is_default: bool,

@@ -1,59 +1,82 @@
-//! The key that is found for a name in a specified set, of which no more is made than the lookup needs.
-ghost use Rattle.std.specs.Prelude.{◌≡◌, IfOk, OnOk};
+//! The key that is found for a name in a specified set, of which nothing is made but what the lookup finds.
+ghost use Rattle.std.specs.Prelude.{◌≡◌, IfOk};
 ghost use Rattle.std.specs.FinMap as finite;
-ghost use Rattle.std.specs.Option.{option_map_or};
+ghost use Rattle.std.specs.Option.{option_map};
+ghost use Rattle.general_words.specs.Searches.{first_some};
+ghost use Rattle.model_specified.specs.SpecMeta.{spec_meta};
 ghost use Rattle.model_specified.specs.Specified.{specified};
-ghost use Rattle.spec_cascade.specs.Found.{found};
-ghost use Rattle.spec_cascade.specs.Needed.{AreKeysFor, sought};
+ghost use Rattle.spec_cascade.specs.Found.{first_present, found, found_at, present};
 
 use crate::candidates::{candidates, is_cascading};
 use crate::founds::Found;
-use crate::lookups::lookup;
-use key_meta::Memory;
+use crate::lookups::if_default;
+use key_meta::{Memory, Meta};
 use key_name::{KeyName, Namespace};
-use key_set::KeySet;
-use plugin_chain::{spec_meta, specified};
+use key_set::{Entry, KeySet};
+use plugin_chain::{spec_meta, specified_at};
 
-/// What is found for a name in what keys come to under their specifications. Of the keys outside `spec:` the candidates alone are specified.
+/// What is found for a name in what keys come to under their specifications. Only the key that is found is specified.
 pub fn lookup_specified(keys: &KeySet, path: &KeyName) -> Result<Option<Found>, Memory>
     ensures { IfOk result (λ answer. answer ≡ found (specified keys.now) path.now) }
 {
-    let names = sought(keys, path)?;
-    let few = keys_for(keys, names.as_slice())?;
-    let set = specified(&few)?;
-    lookup(&set, path)
-}
-
-/// The names at which the lookup looks.
-fn sought(keys: &KeySet, path: &KeyName) -> Result<Vec<KeyName>, Memory>
-    ensures { IfOk result (λ names. names.items ≡ sought keys.now path.now) }
-{
     if is_cascading(path.namespace()) {
-        let said = spec_meta(keys, path)?;
-        return candidates(keys.allocator(), path, &said);
+        return search(keys, path);
     }
-    let mut names = Vec::new(keys.allocator());
-    names.push(path.copy()?)?;
-    Ok(names)
+    own(keys, path)
 }
 
-/// The keys of `spec:`, and those of some names.
-fn keys_for(keys: &KeySet, names: &[KeyName]) -> Result<KeySet, Memory>
-    ensures { IfOk result (λ few. AreKeysFor keys.now names.now few) }
+/// A name with its specified entry, if it has one.
+fn own(keys: &KeySet, name: &KeyName) -> Result<Option<Found>, Memory>
+    ensures { IfOk result (λ found. found ≡ option_map (found_at name.now) (finite.get (specified keys.now) name.now)) }
 {
-    let mut few = keys.below(&KeyName::root(keys.allocator(), Namespace::Spec))?;
+    match specified_at(keys, name)? {
+        Some(Entry { value, meta }) => Ok(Some(Found {
+            name: name.copy()?,
+            value,
+            meta,
+        })),
+        None => Ok(None),
+    }
+}
+
+/// What is found for a path in any namespace. What the specification says of it, it says in the specified set too.
+fn search(keys: &KeySet, path: &KeyName) -> Result<Option<Found>, Memory>
+    ensures { IfOk result (λ found. found ≡ first_present (specified keys.now) path.now.parts (spec_meta (specified keys.now) path.now.parts)) }
+{
+    let said = spec_meta(keys, path)?;
+    let default = path.with_namespace(Namespace::Default)?;
+    let names = candidates(keys.allocator(), path, &said)?;
+    first_present(keys, &said, &default, names.as_slice())
+}
+
+/// The first of some candidates that is present.
+fn first_present(
+    keys: &KeySet,
+    said: &Meta,
+    default: &KeyName,
+    names: &[KeyName],
+) -> Result<Option<Found>, Memory>
+    ensures { IfOk result (λ found. found ≡ first_some (present (specified keys.now) said.now default.now) names.now) }
+{
     for name in names {
-        bring(&mut few, keys, name)?;
+        if let Some(found) = present(keys, said, default, name)? {
+            return Ok(Some(found));
+        }
     }
-    Ok(few)
+    Ok(None)
 }
 
-/// Brings in the key of a name, if there is one.
-fn bring(few: &mut KeySet, keys: &KeySet, name: &KeyName) -> Result<(), Memory>
-    ensures ok { OnOk result (few.new ≡ option_map_or (λ entry. finite.insert few.old name.now entry) (finite.get keys.now name.now) few.old) }
+/// A candidate, if it is present.
+fn present(
+    keys: &KeySet,
+    said: &Meta,
+    default: &KeyName,
+    name: &KeyName,
+) -> Result<Option<Found>, Memory>
+    ensures { IfOk result (λ found. found ≡ present (specified keys.now) said.now default.now name.now) }
 {
-    if let Some(entry) = keys.lookup(name) {
-        few.append(name.copy()?, entry.copy()?)?;
+    match own(keys, name)? {
+        Some(found) => Ok(Some(found)),
+        None => if_default(keys, said, name == default, name),
     }
-    Ok(())
 }
