@@ -9,4 +9,5 @@ mod weighing;
 
 pub use commits::{Change, Commit};
 pub use histories::History;
+pub use replaying::make_changes;
 pub use weighing::HEAVIEST_HISTORY;

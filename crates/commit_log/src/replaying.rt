@@ -1,5 +1,5 @@
-//! Makes the changes of commits.
-ghost use Rattle.std.specs.Prelude.{◌≡◌, OnOk, map};
+//! Makes changes of keys: those of commits, or some.
+ghost use Rattle.std.specs.Prelude.{◌≡◌, ◌<◌, ℕ, OnErr, OnOk, length, map, take};
 ghost use Rattle.model_history.specs.Changes.{changed, changed_by};
 ghost use Rattle.model_history.specs.History.{replay};
 ghost use Rattle.commit_log.specs.CommitView.{change_of, commit_of};
@@ -13,14 +13,15 @@ pub fn make_commits(keys: &mut KeySet, commits: &[Commit]) -> Result<(), Memory>
     ensures { OnOk result (keys.new ≡ replay keys.old (map commit_of commits.now)) }
 {
     for commit in commits {
-        make_all(keys, commit.changes.as_slice())?;
+        make_changes(keys, commit.changes.as_slice())?;
     }
     Ok(())
 }
 
-/// Makes some changes, one after the other.
-fn make_all(keys: &mut KeySet, changes: &[Change]) -> Result<(), Memory>
-    ensures { OnOk result (keys.new ≡ changed_by (map change_of changes.now) keys.old) }
+/// Makes some changes, one after the other. Where memory is wanting, those before the one that wanted it have been made.
+pub fn make_changes(keys: &mut KeySet, changes: &[Change]) -> Result<(), Memory>
+    ensures ok { OnOk result (keys.new ≡ changed_by (map change_of changes.now) keys.old) }
+    ensures err { OnErr result ((made : ℕ) × (made < length changes.now) × (keys.new ≡ changed_by (map change_of (take made changes.now)) keys.old)) }
 {
     for change in changes {
         make(keys, change)?;
@@ -30,7 +31,8 @@ fn make_all(keys: &mut KeySet, changes: &[Change]) -> Result<(), Memory>
 
 /// Makes one change.
 fn make(keys: &mut KeySet, change: &Change) -> Result<(), Memory>
-    ensures { OnOk result (keys.new ≡ changed keys.old (change_of change.now)) }
+    ensures ok { OnOk result (keys.new ≡ changed keys.old (change_of change.now)) }
+    ensures err { OnErr result (keys.new ≡ keys.old) }
 {
     match &change.entry {
         Some(entry) => {

@@ -53,7 +53,7 @@ put-same r x records is n = elim (nat_eq n r) as (λ b. nat_eq n r ≡ b → con
 
 -- where the matcher alone moves, nothing else does
 pub matched : {D P : Type 0} (core : Core D P) (patterns : P) → IsUnwritten core (record core { patterns = patterns })
-matched core patterns = record { journal = refl; history = refl; keys = refl; wrote = refl }
+matched core patterns = record { journal = refl; history = refl; start = refl; keys = refl; wrote = refl }
 
 module _ (formats : Formats) {D P : Type 0} (store : Store) (core : Core D P) (records : ℕ → model.Record) (made : ℕ → Option sets.Prepared) (world : World) (p : ℕ) (rec : Record) (prepared : Prepared)
     (b : BelongsIn formats store core records made world p rec prepared) where
@@ -160,7 +160,7 @@ module _ (formats : Formats) {D P : Type 0} (store : Store) (core : Core D P) (r
 
   -- ---- and on the disk
 
-  module _ (g : Ghosts D) (opened : D) (run : Run) (on_disk : IsStore g opened core.journal run) (next : Core D P) (new : Record) (risen : Bool) where
+  module _ (g : Ghosts D) (opened : D) (run : Run) (on_disk : IsStore g opened core.journal run) (next : Core D P) (start : next.start ≡ core.start) (new : Record) (risen : Bool) where
     on_run : (result : Result Done CommitFault) (later : Run) → HasMade formats store core next records made p rec new prepared risen result
         → ((answer : Answer) → IsAnswer store.mounts risen found set result answer → RunsOn formats store core.keys run (made p) answer later) → IsStore g opened next.journal later
         → HasAnswered formats g store opened core next records made run p rec new prepared risen result
@@ -168,7 +168,7 @@ module _ (formats : Formats) {D P : Type 0} (store : Store) (core : Core D P) (r
       later = later;
       answer = has.answer;
       is_answer = has.is_answer;
-      committed = record { made = has.is_made; runs_on = goes has.answer has.is_answer; on_disk = stored };
+      committed = record { made = has.is_made; start = start; runs_on = goes has.answer has.is_answer; on_disk = stored };
     }
 
     -- an answer told of nothing written leaves the run
@@ -197,7 +197,7 @@ module _ (formats : Formats) {D P : Type 0} (store : Store) (core : Core D P) (r
           (λ made_of. on_run (Ok (done.Committed (found + 1) aside)) (after_commit run prepared.texts) made_of
           (λ answer told. subst (λ (a : Answer). RunsOn formats store core.keys run (made p) a (after_commit run prepared.texts)) (sym told.1) (ap (after_commit run) texts))
           (is.1.stored opened run on_disk)) has
-      answered_entered (Err fault.Memory) is has = answered_unwritten (record { journal = is.1.journal; history = is.1.history; keys = is.1.keys; wrote = is.1.wrote }) (Err fault.Memory) refl has
+      answered_entered (Err fault.Memory) is has = answered_unwritten (record { journal = is.1.journal; history = is.1.history; start = is.1.start; keys = is.1.keys; wrote = is.1.wrote }) (Err fault.Memory) refl has
       answered_entered (Err (fault.DiskFault front)) is has =
           let begun = is.1.begun opened run on_disk in
           let later : Run = after_begun run prepared.texts begun.0 in

@@ -43,6 +43,7 @@ enters_nothing {D} g commit aside keys set old new rec result memory still patte
   entered = subst (IsEntered g commit aside keys set old new rec rec) (sym memory) (refl, still);
   any_moment = λ opened run store.
       subst (λ (j : JournalValue D). LeavesOnly g old.journal.disk j.disk (IsAmid (files_of run) run.doubt set.texts)) (sym still.journal) (nothing_stored g opened old.journal run set.texts store);
+  start = still.start;
   patterns = patterns;
   goes = subst (λ (j : JournalValue D). GoesOn g old.journal.disk j.disk) (sym still.journal) (OnlyReads-goes_on g old.journal.disk old.journal.disk (OnlyReads-none g old.journal.disk));
   handle = refl;
@@ -79,9 +80,10 @@ module _ (formats : Formats) {D P : Type 0} (g : Ghosts D) (refusals : P → ℕ
         judged = judged;
         made = λ procs records made world p b. made_unwritten formats (store_of files procs) core records made world p rec prepared b moved still risen result none (judged procs);
         committed = λ procs opened records made world run p b.
-            answered_unwritten formats (store_of files procs) core records made world p rec prepared b.here g opened run b.on_disk moved rec risen still result none
+            answered_unwritten formats (store_of files procs) core records made world p rec prepared b.here g opened run b.on_disk moved refl rec risen still result none
             (made_unwritten formats (store_of files procs) core records made world p rec prepared b.here moved still risen result none (judged procs));
         any_moment = λ procs opened records made world run p b. nothing_stored g opened core.journal run (entry_of formats (store_of files procs) core.keys (commit_of set)) b.on_disk;
+        start = refl;
         goes = OnlyReads-goes_on g core.journal.disk core.journal.disk (OnlyReads-none g core.journal.disk);
         cause = λ front is. absurd (true≢false (sym (ap has_written is) ∙ none));
         refused = λ violation front is six short.
@@ -131,7 +133,7 @@ module _ (formats : Formats) {D P : Type 0} (g : Ghosts D) (refusals : P → ℕ
       judged = λ rose procs. tt;
       cause = λ front e. absurd cc;
       valid = λ rule front e. cc;
-      unwritten = λ none. record { journal = has.1.journal; history = has.1.history; keys = has.1.keys; wrote = has.1.wrote };
+      unwritten = λ none. record { journal = has.1.journal; history = has.1.history; start = has.1.start; keys = has.1.keys; wrote = has.1.wrote };
       wrote = λ yes. absurd cc;
     }
     ends (Err (fault.DiskFault front)) has = record {
@@ -155,11 +157,12 @@ module _ (formats : Formats) {D P : Type 0} (g : Ghosts D) (refusals : P → ℕ
           made = λ procs records made world p b.
               made_entered formats (store_of files procs) core records made world p rec prepared b commit aside (is procs) g keys keys_are patterns next new rose result enters.entered;
           committed = λ procs opened records made world run p b.
-              answered_entered formats (store_of files procs) core records made world p rec prepared b.here g opened run b.on_disk next new rose commit aside (is procs) keys patterns result enters.entered
+              answered_entered formats (store_of files procs) core records made world p rec prepared b.here g opened run b.on_disk next enters.start new rose commit aside (is procs) keys patterns result enters.entered
               (made_entered formats (store_of files procs) core records made world p rec prepared b.here commit aside (is procs) g keys keys_are patterns next new rose result enters.entered);
           any_moment = λ procs opened records made world run p b.
               subst (λ (entry : List FileText). LeavesOnly g core.journal.disk next.journal.disk (IsAmid (files_of run) run.doubt entry))
               (texts_are formats (store_of files procs) core records made world p rec prepared b.here commit aside (is procs)) (enters.any_moment opened run b.on_disk);
+          start = enters.start;
           goes = enters.goes;
           cause = end.cause;
           refused = λ violation front e six short. absurd (end.valid violation front e);

@@ -80,7 +80,7 @@ module _ (formats : Formats) (store : Store) where
         → (then_world : World) × Meant formats store world (Commit r p) answer then_world × StandsFor formats g store opened after next sets then_world later
     stands_committed answer committed =
         let goes = follows formats store world old (Commit r p) answer new st.here.stands committed.made in
-        (goes.after, goes.meant, record { here = record { files = st.here.files; stands = goes.stands }; on_disk = committed.on_disk; entries = entries-are answer committed.made committed.runs_on })
+        (goes.after, goes.meant, record { here = record { files = st.here.files; start = committed.start ∙ st.here.start; stands = goes.stands }; on_disk = committed.on_disk; entries = entries-are answer committed.made committed.runs_on })
 
 -- ---- without a call
 

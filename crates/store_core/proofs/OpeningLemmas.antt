@@ -141,17 +141,18 @@ journal_broken place journal_fault.Memory here = tt
 -- ---- the first core
 
 -- the first core stands for the first world, whatever the disk tells
-pub first_core_in : (formats : Formats) {D P : Type 0} (store : Store) (core : Core D P) → HaveFiles store.mounts → core.history.commits ≡ [] → core.keys ≡ store.start → StandsIn formats store core (λ r m. None) (λ p. None) first_world
-first_core_in formats store core files none keys = record {
+pub first_core_in : (formats : Formats) {D P : Type 0} (store : Store) (core : Core D P) → HaveFiles store.mounts → core.history.commits ≡ [] → core.start ≡ store.start → core.keys ≡ store.start → StandsIn formats store core (λ r m. None) (λ p. None) first_world
+first_core_in formats store core files none start keys = record {
   files = files;
+  start = start;
   stands = subst (λ c. Stands formats store first_world c) (sym (ap₂ (λ (h : List Commit) (k : KeyMap). record { history = h; keys = k; records = λ r m. None; sets = λ p. None }) none keys)) (first_stands formats store);
 }
 
 -- and, with its journal, for a run without a commit
-pub first_core_stands : (formats : Formats) {D P : Type 0} (g : Ghosts D) (store : Store) (core : Core D P) (run : Run) → HaveFiles store.mounts → core.history.commits ≡ [] → core.keys ≡ store.start → IsStore g core.journal.disk core.journal run → run.commits ≡ []
+pub first_core_stands : (formats : Formats) {D P : Type 0} (g : Ghosts D) (store : Store) (core : Core D P) (run : Run) → HaveFiles store.mounts → core.history.commits ≡ [] → core.start ≡ store.start → core.keys ≡ store.start → IsStore g core.journal.disk core.journal run → run.commits ≡ []
     → StandsFor formats g store core.journal.disk core (λ r m. None) (λ p. None) first_world run
-first_core_stands formats g store core run files none keys on_disk empty = record {
-  here = first_core_in formats store core files none keys;
+first_core_stands formats g store core run files none start keys on_disk empty = record {
+  here = first_core_in formats store core files none start keys;
   on_disk = on_disk;
   entries = empty ∙ sym (ap (entries_of formats store) none);
 }
@@ -159,11 +160,11 @@ first_core_stands formats g store core run files none keys on_disk empty = recor
 -- and so does that of an opening
 pub stands_opened : (formats : Formats) {D F P : Type 0} (g : Ghosts D) (Reads : Reading) (IsBad : Badness) (journal : JournalValue D) (run : Run) (result : Result (Opened D F P) (OpenRefused D P)) → run.commits ≡ [] → IsStore g journal.disk journal run
     → MatchResult result (λ o. IsOpened Reads IsBad (g.seen journal.disk) o.plan.mounted) (λ r. RefusesStore Reads IsBad (g.seen journal.disk own_mount.file) r.fault)
-    → IfOk result (λ o. o.core.keys ≡ visible_keys o.plan.mounted) → IfOk result (λ o. o.core.history.commits ≡ []) → IfOk result (λ o. OnlyReadsFiles g journal o.core.journal)
+    → IfOk result (λ o. o.core.start ≡ visible_keys o.plan.mounted) → IfOk result (λ o. o.core.keys ≡ visible_keys o.plan.mounted) → IfOk result (λ o. o.core.history.commits ≡ []) → IfOk result (λ o. OnlyReadsFiles g journal o.core.journal)
     → IfOk result (λ o. (procs : ℕ → KeyMap) → StandsFor formats g (store_of o.plan.mounted procs) o.core.journal.disk o.core (λ r m. None) (λ p. None) first_world run)
-stands_opened formats g Reads IsBad journal run (Ok o) empty store told keys none reads = λ procs.
-    first_core_stands formats g (store_of o.plan.mounted procs) o.core run (opened_mounts Reads IsBad (g.seen journal.disk) o.plan.mounted told) none keys (store_read g journal.disk journal o.core.journal run reads store) empty
-stands_opened formats g Reads IsBad journal run (Err r) empty store told keys none reads = tt
+stands_opened formats g Reads IsBad journal run (Ok o) empty store told start keys none reads = λ procs.
+    first_core_stands formats g (store_of o.plan.mounted procs) o.core run (opened_mounts Reads IsBad (g.seen journal.disk) o.plan.mounted told) none start keys (store_read g journal.disk journal o.core.journal run reads store) empty
+stands_opened formats g Reads IsBad journal run (Err r) empty store told start keys none reads = tt
 
 pub whatever : {O R : Type 0} (result : Result O R) (P : Type 0) → P → IfOk result (λ o. P)
 whatever (Ok o) P is = is

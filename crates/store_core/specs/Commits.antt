@@ -42,6 +42,8 @@ pub record CommitsSet (formats : Formats) {D P : Type 0} (g : Ghosts D) (refusal
   pub any_moment : (procs : ℕ → KeyMap) (opened : D) (records : ℕ → model.Record) (made : ℕ → Option sets.Prepared) (world : World) (run : Run) (p : ℕ)
       → Belongs formats g (store_of files procs) opened old records made world run p before set
       → LeavesOnly g old.journal.disk new.journal.disk (IsAmid (files_of run) run.doubt (entry_of formats (store_of files procs) old.keys (commit_of (prepared_of set))))
+  -- whatever is answered, the keys that the opening found stay
+  pub start : new.start ≡ old.start
   pub goes : GoesOn g old.journal.disk new.journal.disk
   pub cause : (front : ℕ) → result ≡ Err (DiskFault front) → HasRisen (g.faults old.journal.disk) (g.faults new.journal.disk)
   -- a pattern that is not too long breaks rule 6 only where the matcher refused one

@@ -36,5 +36,6 @@ RunsOn formats store keys run set answer later = later ≡ run
 -- a handle committed its set of a number, with this answer
 pub record IsCommitted (formats : Formats) {D P : Type 0} (g : Ghosts D) (store : Store) (opened : D) (before after : Core D P) (records next : ℕ → Record) (sets : ℕ → Option Prepared) (run later : Run) (r p : ℕ) (answer : Answer) : Type 0 where
   pub made : Made formats store (core_with before records sets) (Commit r p) answer (core_with after next sets)
+  pub start : after.start ≡ before.start
   pub runs_on : RunsOn formats store before.keys run (sets p) answer later
   pub on_disk : IsStore g opened after.journal later

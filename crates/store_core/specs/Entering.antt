@@ -51,6 +51,7 @@ IsEntered g commit aside keys set old new before after (Err why) = ⊥
 pub record EntersHistory {D P : Type 0} (g : Ghosts D) (commit : Commit) (aside : ℕ) (keys : KeyMap) (set : Prepared) (old new : Core D P) (before after : Record) (result : Result Done CommitFault) : Type 0 where
   pub entered : IsEntered g commit aside keys set old new before after result
   pub any_moment : (opened : D) (run : Run) → IsStore g opened old.journal run → LeavesOnly g old.journal.disk new.journal.disk (IsAmid (files_of run) run.doubt set.texts)
+  pub start : new.start ≡ old.start
   pub patterns : new.patterns ≡ old.patterns
   pub goes : GoesOn g old.journal.disk new.journal.disk
   pub handle : handle_of after ≡ handle_of before

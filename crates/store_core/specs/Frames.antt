@@ -15,5 +15,6 @@ pub record OnlyReadsFiles {D : Type 0} (g : Ghosts D) (old new : JournalValue D)
 pub record IsUnwritten {D P : Type 0} (old new : Core D P) : Type 0 where
   pub journal : new.journal ≡ old.journal
   pub history : new.history.commits ≡ old.history.commits
+  pub start : new.start ≡ old.start
   pub keys : new.keys ≡ old.keys
   pub wrote : new.wrote ≡ old.wrote

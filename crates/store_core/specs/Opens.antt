@@ -42,6 +42,7 @@ pub record OpensStore (formats : Formats) (Reads : Reading) (IsBad : Badness) {D
   -- whatever the disk tells, the core is a first one
   pub world : IfOk result (λ opened. (procs : ℕ → KeyMap) → StandsIn formats (store_of opened.plan.mounted procs) opened.core (λ r m. None) (λ p. None) first_world)
   pub keys : IfOk result (λ opened. opened.core.keys ≡ visible_keys opened.plan.mounted)
+  pub start : IfOk result (λ opened. opened.core.start ≡ visible_keys opened.plan.mounted)
   pub none : IfOk result (λ opened. opened.core.history.commits ≡ [])
   pub wrote : g.tells disk ≡ true → IfOk result (λ opened. opened.core.wrote ≡ is_some (open_entry (g.seen disk)))
   pub doubt : IfOk result (λ opened. opened.core.journal.state ≡ Doubt)
@@ -69,6 +70,7 @@ pub record OpensFiles (formats : Formats) (Reads : Reading) (IsBad : Badness) {D
       → MatchResult result (λ opened. IsOpened Reads IsBad (g.seen before.disk) opened.plan.mounted) (λ refused. RefusesStore Reads IsBad (g.seen before.disk own_mount.file) refused.fault)
   pub world : IfOk result (λ opened. (procs : ℕ → KeyMap) → StandsIn formats (store_of opened.plan.mounted procs) opened.core (λ r m. None) (λ p. None) first_world)
   pub keys : IfOk result (λ opened. opened.core.keys ≡ visible_keys opened.plan.mounted)
+  pub start : IfOk result (λ opened. opened.core.start ≡ visible_keys opened.plan.mounted)
   pub none : IfOk result (λ opened. opened.core.history.commits ≡ [])
   pub wrote : IfOk result (λ opened. opened.core.wrote ≡ before.recovered)
   pub journal : IfOk result (λ opened. OnlyReadsFiles g before opened.core.journal)

@@ -34,11 +34,13 @@ impl<F: Formats + Drop> Plan<F> {
 }
 
 /// What changes: the journal over the disk, the commits since the opening, the keys of all mounts after them, whether anything was written to the
-/// disk since the opening began, and what matches the patterns of the rules.
+/// disk since the opening began, and what matches the patterns of the rules. The keys that the opening found stay beside them: the history leads
+/// from these to those after it.
 #[derive(Drop)]
 pub struct Core<D: Disk, P: Patterns + Drop> {
     pub(crate) journal: Journal<D>,
     pub(crate) history: History,
+    pub(crate) start: KeySet,
     pub(crate) keys: KeySet,
     pub(crate) wrote: bool,
     pub(crate) patterns: P,
@@ -50,5 +52,12 @@ impl<D: Disk, P: Patterns + Drop> Core<D, P> {
         ensures { result.now ≡ self.now.history }
     {
         &self.history
+    }
+
+    /// The keys that the opening found.
+    pub fn start(&self) -> &KeySet
+        ensures { result.now ≡ self.now.start }
+    {
+        &self.start
     }
 }

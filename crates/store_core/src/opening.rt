@@ -66,6 +66,7 @@ fn open_files<D: Disk, F: Formats + Drop, P: Patterns + Drop>(
             FirstState {
                 mounted,
                 history,
+                start,
                 keys,
             },
         ) => Ok(Opened {
@@ -73,6 +74,7 @@ fn open_files<D: Disk, F: Formats + Drop, P: Patterns + Drop>(
             core: Core {
                 journal,
                 history,
+                start,
                 keys,
                 wrote,
                 patterns,
@@ -86,11 +88,12 @@ fn open_files<D: Disk, F: Formats + Drop, P: Patterns + Drop>(
     }
 }
 
-/// The files of all mounts, no commits, and the keys of all mounts.
+/// The files of all mounts, no commits, and the keys of all mounts, now and at the start.
 #[derive(Drop)]
 struct FirstState {
     mounted: Mounted,
     history: History,
+    start: KeySet,
     keys: KeySet,
 }
 
@@ -105,6 +108,7 @@ fn first_state<D: Disk, F: Formats>(
         (RefusesStore F.reads F.is_bad_at (D.seen journal.old.disk own_mount.file)) }
     ensures files { IfOk result (λ first. HaveFiles (over (λ file. file.mount) first.mounted)) }
     ensures keys { IfOk result (λ first. first.keys ≡ visible_keys first.mounted) }
+    ensures start { IfOk result (λ first. first.start ≡ visible_keys first.mounted) }
     ensures none { IfOk result (λ first. first.history.commits ≡ []) }
     ensures own { (at : ℕ) → result ≡ Err (OpenFault.BadJournal at) → ⊥ }
     ensures cause { result ≡ Err OpenFault.DiskFault → HasRisen (D.faults journal.old.disk) (D.faults journal.new.disk) }
@@ -112,10 +116,12 @@ fn first_state<D: Disk, F: Formats>(
 {
     let mounted = mount_files(alloc, journal, formats)?;
     let history = History::new(alloc, mounted.table().len())?;
-    let keys = visible_keys(alloc, mounted.files())?;
+    let start = visible_keys(alloc, mounted.files())?;
+    let keys = start.copy()?;
     Ok(FirstState {
         mounted,
         history,
+        start,
         keys,
     })
 }

@@ -128,7 +128,7 @@ module _ (formats : Formats) {D P : Type 0} (g : Ghosts D) (files : List Mounted
           places = refl;
         };
         holds = record {
-          stands = record { here = record { files = h.stands.here.files; stands = goes.stands }; on_disk = h.stands.on_disk; entries = h.stands.entries };
+          stands = record { here = record { files = h.stands.here.files; start = h.stands.here.start; stands = goes.stands }; on_disk = h.stands.on_disk; entries = h.stands.entries };
           handles = moved r old new there lt moves;
           held = h.held;
         };
@@ -166,7 +166,7 @@ module _ (formats : Formats) {D P : Type 0} (g : Ghosts D) (files : List Mounted
             places = length-set places p (Some new);
           };
           holds = record {
-            stands = record { here = record { files = h.stands.here.files; stands = goes.stands }; on_disk = h.stands.on_disk; entries = h.stands.entries };
+            stands = record { here = record { files = h.stands.here.files; start = h.stands.here.start; stands = goes.stands }; on_disk = h.stands.on_disk; entries = h.stands.entries };
             handles = h.handles;
             held = held_with new lt is_made;
           };

@@ -1,13 +1,14 @@
 -- What is kept of mounts, part by part.
-use Rattle.std.proofs.Common.{◌≡◌, ℕ, ◌<◌, Bool, true, false, cond, ◌||◌, nat_eq, List, [], ◌∷◌, ◌++◌, map as over, length, Option, Some, option_and_then, refl, sym, ap, ◌∙◌, eqb-true, eq-eqb}
+use Rattle.std.proofs.Common.{◌≡◌, ℕ, ◌<◌, Bool, true, false, cond, ◌||◌, nat_eq, List, [], ◌∷◌, ◌++◌, map as over, length, Option, Some, None, option_and_then, slice_get, refl, sym, ap, ◌∙◌, eqb-true, eq-eqb}
 use Rattle.std.proofs.Math.ListN.{set}
+use Rattle.std.proofs.lemmas.Option.{slice_get-map}
 use Rattle.std.specs.Option.{option_map}
 use Rattle.general_words.proofs.Places.{set-same, set-other}
 use Rattle.store_verdict.specs.RecordView.{fetched_at, fetched_of}
 use Rattle.store_verdict.specs.declared.records.Fetched as code
 use Rattle.model_maps.specs.KeyMap.{KeyMap}
 use Rattle.model_history.specs.History.{is_among}
-use Rattle.model_store.specs.Records.{Record}
+use Rattle.model_store.specs.Records.{Fetched, Record}
 use Rattle.model_store.specs.Cores.{keeping}
 use Rattle.store_verdict.specs.Kept.{with_part, kept_parts}
 
@@ -37,3 +38,16 @@ fetched_at-set places i x m lt = by (nat_eq m i) refl
     by : (b : Bool) → nat_eq m i ≡ b → fetched_at (set places i (Some x)) m ≡ cond b (Some (fetched_of x)) (fetched_at places m)
     by true is = ap (fetched_at (set places i (Some x))) (eqb-true m i is) ∙ ap (option_and_then (option_map fetched_of)) (set-same places i (Some x) lt)
     by false is = ap (option_and_then (option_map fetched_of)) (set-other places i m (Some x) (λ e. let same : nat_eq m i ≡ true = eq-eqb m i e in absurd cc))
+
+-- ---- a copy
+
+-- what stands in the place of a mount is in the list of what stands in each
+seen-at : (places : List (Option code.Fetched)) (m : ℕ) → fetched_at places m ≡ option_and_then (λ place. place) (slice_get (over (option_map fetched_of) places) m)
+seen-at places m = by (slice_get places m) ∙ ap (option_and_then (λ (place : Option Fetched). place)) (sym (slice_get-map (option_map fetched_of) places m))
+  where
+    by : (o : Option (Option code.Fetched)) → option_and_then (option_map fetched_of) o ≡ option_and_then (λ place. place) (option_map (option_map fetched_of) o)
+    by None = refl
+    by (Some place) = refl
+
+pub fetched_at-same : (places others : List (Option code.Fetched)) → over (option_map fetched_of) places ≡ over (option_map fetched_of) others → (m : ℕ) → fetched_at places m ≡ fetched_at others m
+fetched_at-same places others same m = seen-at places m ∙ ap (λ all. option_and_then (λ (place : Option Fetched). place) (slice_get all m)) same ∙ sym (seen-at others m)

@@ -7,7 +7,7 @@ ghost use Rattle.model_store.specs.Sets.{front_in};
 ghost use Rattle.set_split.specs.Seen.{numbered};
 ghost use Rattle.store_verdict.specs.Kept.{kept_parts, with_part};
 ghost use Rattle.store_verdict.specs.ProcKeys.{AreProc};
-ghost use Rattle.store_verdict.specs.RecordView.{fetched_at, handle_of, places_of, proc_of, record_of};
+ghost use Rattle.store_verdict.specs.RecordView.{fetched_at, fetched_of, handle_of, places_of, proc_of, record_of};
 
 use key_meta::{List, Memory};
 use key_set::KeySet;
@@ -41,6 +41,22 @@ impl Record {
         let fetched = no_places(alloc, mounts)?;
         Ok(Record {
             handle,
+            fetched,
+            proc,
+        })
+    }
+
+    /// The same record again. The two share the kept keys until one of them changes.
+    pub fn copy(&self) -> Result<Record, Memory>
+        ensures handle { IfOk result (λ copied. handle_of copied ≡ handle_of self.now) }
+        ensures places { IfOk result (λ copied. places_of copied ≡ places_of self.now) }
+        ensures proc { IfOk result (λ copied. proc_of copied ≡ proc_of self.now) }
+        ensures kept { IfOk result (λ copied. record_of copied ≡ record_of self.now) }
+    {
+        let fetched = copy_all(*self.fetched.allocator(), &self.fetched)?;
+        let proc = self.proc.copy()?;
+        Ok(Record {
+            handle: self.handle,
             fetched,
             proc,
         })
@@ -103,6 +119,30 @@ fn no_places(alloc: Global, mounts: usize) -> Result<Vec<Option<Fetched>>, Memor
         places.push(None)?;
     }
     Ok(places)
+}
+
+/// The same places again.
+fn copy_all(alloc: Global, places: &[Option<Fetched>]) -> Result<Vec<Option<Fetched>>, Memory>
+    ensures { IfOk result (λ copied. over (option_map fetched_of) copied.items ≡ over (option_map fetched_of) places.now) }
+{
+    let mut copied = Vec::with_capacity(alloc, places.len())?;
+    for place in places {
+        copied.push(copy_of(place)?)?;
+    }
+    Ok(copied)
+}
+
+/// What stands in a place, again.
+fn copy_of(place: &Option<Fetched>) -> Result<Option<Fetched>, Memory>
+    ensures { IfOk result (λ copied. option_map fetched_of copied ≡ option_map fetched_of place.now) }
+{
+    match place {
+        Some(Fetched { front, kept }) => Ok(Some(Fetched {
+            front: *front,
+            kept: kept.copy()?,
+        })),
+        None => Ok(None),
+    }
 }
 
 /// Puts the keys of each part in the place of its mount.

@@ -117,7 +117,7 @@ module _ {D P : Type 0} (g : Ghosts D) (files : List MountedFile) (core : Core D
 
   pub belongs : BelongsIn formats store core records made world 0 rec set
   belongs = belongs_made formats store core records made world 0 rec set the_handle (record_of rec) parent keys
-      (record { files = here.files; stands = subst (λ (c : cores.Core). Stands formats store world c) core_is after_prepare.stands })
+      (record { files = here.files; start = here.start; stands = subst (λ (c : cores.Core). Stands formats store world c) core_is after_prepare.stands })
       (ap (λ h. put the_handle (record_of rec) no_records h) fetched.handle)
       (omega (arith, fetched.places, length-map files (λ (file : MountedFile). file.mount)))
       refl

@@ -240,7 +240,7 @@ module _ {D P : Type 0} (g : Ghosts D) (disk end : D) (files : Image) (doubt : O
 -- ---- what is told of an open store, which stays as it is
 
 pub unwritten_itself : {D P : Type 0} (core : Core D P) → IsUnwritten core core
-unwritten_itself core = record { journal = refl; history = refl; keys = refl; wrote = refl }
+unwritten_itself core = record { journal = refl; history = refl; start = refl; keys = refl; wrote = refl }
 
 -- what is told of one that wasn't written to, whatever its matcher did
 pub quiet_serves : {D P : Type 0} (g : Ghosts D) (Answered : Answer → Type 0) (report : Report) (before after : Core D P) → IsUnwritten before after → Answered (tells report) → Serves g Answered report before after

@@ -27,18 +27,19 @@ returns-in-Ok g c = record {
       let store = c.in-Ok.ensures.opened tells files doubt calm in
       stands_opened (formats_of g.F.Formats) g.D.Disk g.F.Formats.reads g.F.Formats.is_bad_at c.in-Ok.journal
       (new_run (opened_files (g.D.Disk.seen c.args.disk)) (g.D.Disk.faults c.args.disk) (opened_doubt (g.D.Disk.seen c.args.disk))) c.open_files.result refl store
-      (c.open_files.ensures.told store.rests.tells) c.open_files.ensures.keys c.open_files.ensures.none c.open_files.ensures.journal;
+      (c.open_files.ensures.told store.rests.tells) c.open_files.ensures.start c.open_files.ensures.keys c.open_files.ensures.none c.open_files.ensures.journal;
   own = λ tells files doubt calm same.
       let store = c.in-Ok.ensures.own tells files doubt calm same in
       stands_opened (formats_of g.F.Formats) g.D.Disk g.F.Formats.reads g.F.Formats.is_bad_at c.in-Ok.journal
       (new_run files (g.D.Disk.faults c.args.disk) doubt) c.open_files.result refl store
-      (c.open_files.ensures.told store.rests.tells) c.open_files.ensures.keys c.open_files.ensures.none c.open_files.ensures.journal;
+      (c.open_files.ensures.told store.rests.tells) c.open_files.ensures.start c.open_files.ensures.keys c.open_files.ensures.none c.open_files.ensures.journal;
   shown = λ tells files doubt calm of_files.
       let store = c.in-Ok.ensures.opened tells files doubt calm in
       subst (λ (seen : Image). SameFiles seen (opened_files (g.D.Disk.seen c.args.disk))) (sym (c.open_files.ensures.reads.same store.rests.tells)) (c.in-Ok.ensures.shown tells files doubt calm);
   files = λ tells files doubt calm. whatever c.open_files.result (IsEither files doubt (opened_files (g.D.Disk.seen c.args.disk))) (c.in-Ok.ensures.files tells files doubt calm);
   world = search rules;
   keys = search rules;
+  start = search rules;
   none = search rules;
   wrote = search rules;
   doubt = in_doubt g.D.Disk c.in-Ok.journal c.open_files.result c.in-Ok.ensures.doubt c.open_files.ensures.journal;
@@ -81,6 +82,7 @@ returns-in-Err g c = record {
   files = search rules;
   world = search rules;
   keys = search rules;
+  start = search rules;
   none = search rules;
   wrote = search rules;
   doubt = search rules;

@@ -12,13 +12,13 @@ pub returns-in_err-encoded : goal.returns-in_err-encoded
 returns-in_err-encoded g c =
     let memory : c.from_residual.result ≡ Err fault.Memory = search rules in
     enters_nothing g.D.Disk (commit_of c.args.entering) c.args.left_aside c.args.keys c.args.prepared c.args.self.now _ c.args.rec.now c.from_residual.result memory
-    (record { journal = refl; history = refl; keys = refl; wrote = refl }) refl
+    (record { journal = refl; history = refl; start = refl; keys = refl; wrote = refl }) refl
 
 pub returns-in_err-reserve : goal.returns-in_err-reserve
 returns-in_err-reserve g c =
     let memory : c.from_residual-in_err-reserve.result ≡ Err fault.Memory = search rules in
     enters_nothing g.D.Disk (commit_of c.args.entering) c.args.left_aside c.args.keys c.args.prepared c.args.self.now _ c.args.rec.now c.from_residual-in_err-reserve.result memory
-    (record { journal = refl; history = c.in_err-reserve.ensures.same; keys = refl; wrote = refl }) refl
+    (record { journal = refl; history = c.in_err-reserve.ensures.same; start = refl; keys = refl; wrote = refl }) refl
 
 pub returns : goal.returns
 returns g c =
@@ -37,6 +37,7 @@ returns g c =
         },
       );
       any_moment = search rules;
+      start = refl;
       patterns = refl;
       goes = search rules;
       handle = search rules;
