@@ -1,11 +1,11 @@
 //! Commits of handles on threads over a disk in memory, and turns at a bare lock, to be timed from outside by bench/handles.sh. The words are what is done (0
-//! commits of handles, each at a mount of its own, 1 commits at one mount, 2 turns of two seats), how many handles there are, and how many commits they make between
+//! commits of handles, each at a mount of its own, 1 commits at one mount, 2 turns of seats), how many handles or seats there are, and how many commits they make between
 //! them, or turns each seat takes.
 #![tactic(auto)]
 
 use all_formats::AllFormats;
 use disk_memory::MemDisk;
-use handle_teams::{Team, count_by_two, disk_with_mounts, points_of};
+use handle_teams::{Team, count_by, disk_with_mounts, points_of};
 use key_name::{KeyName, Namespace};
 use regex_check::RegexPatterns;
 use std::alloc::Global;
@@ -40,7 +40,7 @@ fn main(rt: HostRuntime) -> ExitCode {
     let done = match number(&words, 0) {
         0 => apart(&rt, rt.alloc(), handles, count),
         1 => at_one(&rt, rt.alloc(), handles, count),
-        _ => turns(&rt, rt.alloc(), count),
+        _ => turns(&rt, rt.alloc(), handles, count),
     };
     if done == Some(true) {
         ExitCode::from(0)
@@ -90,8 +90,8 @@ fn committed<R: Threads + Wait + Sync>(
     Some(closed.history.len() == commits)
 }
 
-/// Two seats take so many turns each; whether all of them were counted.
-fn turns<R: Threads + Wait + Sync>(rt: &R, alloc: Global, turns: u32) -> Option<bool> {
-    let tally = count_by_two(rt, alloc, turns)?;
-    Some(tally.total() == (turns as u64).saturating_mul(2))
+/// Seats take so many turns each, and one before; whether all of them were counted.
+fn turns<R: Threads + Wait + Sync>(rt: &R, alloc: Global, seats: u32, turns: u32) -> Option<bool> {
+    let tally = count_by(rt, alloc, seats, turns)?;
+    Some(tally.total() == (turns as u64 + 1) * seats as u64)
 }

@@ -12,5 +12,5 @@ mod working;
 
 pub use asking::{Answer, Ask};
 pub use mounts::{disk_with_mounts, points_of};
-pub use tallies::{Tally, count_by_two, take_turn, take_turns};
+pub use tallies::{Tally, count_by, take_turn, take_turns};
 pub use teams::Team;

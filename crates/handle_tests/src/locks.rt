@@ -1,12 +1,14 @@
-use handle_teams::{Tally, count_by_two, take_turn};
+use handle_teams::{Tally, count_by, take_turn};
 use seat_lock::{Lock, NewLock};
 use std::test::*;
 
 #[test]
-fn two_threads_count_each_of_their_turns(rt: HostRuntime) -> Result<(), Fail> {
-    match count_by_two(&rt, rt.alloc(), 2000) {
-        Some(tally) => assert_eq!(rt; tally.total(), 4000),
-        None => assert_eq!(rt; 0, 1),
+fn threads_count_each_of_their_turns(rt: HostRuntime) -> Result<(), Fail> {
+    for (seats, turns) in [(1, 2000), (2, 2000), (33, 100)] {
+        match count_by(&rt, rt.alloc(), seats, turns) {
+            Some(tally) => assert_eq!(rt; tally.total(), (seats * (turns + 1)) as u64),
+            None => assert_eq!(rt; 0, 1),
+        }
     }
     Ok(())
 }
