@@ -10,7 +10,7 @@ use Rattle.journal_codec.specs.Reading.{Reading, Reads, Fails, read_body}
 use Rattle.intent_journal.specs.JournalBytes.{longest_body, body_or_place, entry_or_place, one_entry, length_at, entries_of, entries_behind, first_entry, entry_in}
 
 -- a body that isn't too long is judged by its bytes
-few : (size : ℕ) (there : List ℕ) → size ≤ longest_body → entry_or_place size there ≡ body_or_place (read_body there) size (length there)
+pub few : (size : ℕ) (there : List ℕ) → size ≤ longest_body → entry_or_place size there ≡ body_or_place (read_body there) size (length there)
 unfolding entry_or_place
 few size there small =
     ap (λ (b : Bool). cond b (Err 0) (body_or_place (read_body there) size (length there)))

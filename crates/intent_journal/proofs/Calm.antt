@@ -58,14 +58,14 @@ calm_kept seen now old new files doubt same kept calm =
     })
 
 -- another journal in the place of the one that is read
-abbrev put_journal : Image → List ℕ → Image
+abbrev pub put_journal : Image → List ℕ → Image
 put_journal seen c file = cond (bytes_eq file journal_name) c (seen file)
 
-put_leaves : (leaves : List ℕ → List ℕ → Type 0) (seen : Image) (c file : List ℕ) (b : Bool) → bytes_eq file journal_name ≡ b → IsImage leaves seen → leaves journal_name c → leaves file (cond b c (seen file))
+pub put_leaves : (leaves : List ℕ → List ℕ → Type 0) (seen : Image) (c file : List ℕ) (b : Bool) → bytes_eq file journal_name ≡ b → IsImage leaves seen → leaves journal_name c → leaves file (cond b c (seen file))
 put_leaves leaves seen c file true here is left = subst (λ (n : List ℕ). leaves n c) (sym ((bytes_eq-Decides file journal_name).0 here)) left
 put_leaves leaves seen c file false other is left = is file
 
-put_same : (seen : Image) (c file : List ℕ) (b : Bool) → bytes_eq file journal_name ≡ b → ¬ IsOwnFile file → cond b c (seen file) ≡ seen file
+pub put_same : (seen : Image) (c file : List ℕ) (b : Bool) → bytes_eq file journal_name ≡ b → ¬ IsOwnFile file → cond b c (seen file) ≡ seen file
 put_same seen c file true here own = absurd (own ((bytes_eq-Decides file journal_name).0 here))
 put_same seen c file false other own = refl
 

@@ -13,11 +13,11 @@ use Rattle.journal_codec.specs.Entry.{IsEntry, names_of, journal_name, begins_wi
 use Rattle.intent_journal.specs.Outcomes.{content_in}
 use Rattle.intent_journal.specs.States.{HasApplied, HasAppliedAll}
 
-cond_some : (b : Bool) (x y : List ℕ) (other : Option (List ℕ)) → cond b (Some x) other ≡ Some y → ((b ≡ true) × (x ≡ y)) ⊎ ((b ≡ false) × (other ≡ Some y))
+pub cond_some : (b : Bool) (x y : List ℕ) (other : Option (List ℕ)) → cond b (Some x) other ≡ Some y → ((b ≡ true) × (x ≡ y)) ⊎ ((b ≡ false) × (other ≡ Some y))
 cond_some true x y other is = inl (refl, cc)
 cond_some false x y other is = inr (refl, is)
 
-cond_none : (b : Bool) (x : List ℕ) (other : Option (List ℕ)) → cond b (Some x) other ≡ None → (b ≡ false) × (other ≡ None)
+pub cond_none : (b : Bool) (x : List ℕ) (other : Option (List ℕ)) → cond b (Some x) other ≡ None → (b ≡ false) × (other ≡ None)
 cond_none true x other is = absurd (cc)
 cond_none false x other is = (refl, is)
 
@@ -54,7 +54,7 @@ content_in-None (text ∷ texts) other none (suc i) d lt same =
     content_in-None texts other (cond_none (bytes_eq text.file other) text.bytes (content_in texts other) none).1 i d (omega arith) same
 
 -- a file that is none of the files has no content
-none_from_apart : (entry : List FileText) (other : List ℕ) → ((i : ℕ) (d : FileText) → i < length entry → other ≢ (slice_index_or entry i d).file) → content_in entry other ≡ None
+pub none_from_apart : (entry : List FileText) (other : List ℕ) → ((i : ℕ) (d : FileText) → i < length entry → other ≢ (slice_index_or entry i d).file) → content_in entry other ≡ None
 none_from_apart [] other apart = refl
 none_from_apart (text ∷ texts) other apart =
     let differs : bytes_eq text.file other ≡ false = false_from_ne_true (bytes_eq text.file other) (λ same. apart 0 text (omega arith) (sym ((bytes_eq-Decides text.file other).0 same))) in

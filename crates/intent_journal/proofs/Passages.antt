@@ -15,7 +15,7 @@ use Rattle.intent_journal.proofs.GateBytes.{gate_of_shut, entry_in-kept, IsShut-
 use Rattle.intent_journal.proofs.Contents.{HasAppliedAll-content}
 use Rattle.intent_journal.proofs.Readings.{IsReadIn, only_open, reads_cases, shut_not_broken, shut_or_holds, whole_not_broken}
 
-unwrap_same : (o : Option (List ℕ)) (x y : List ℕ) → (o ≡ None → x ≡ y) → unwrap_or o x ≡ unwrap_or o y
+pub unwrap_same : (o : Option (List ℕ)) (x y : List ℕ) → (o ≡ None → x ≡ y) → unwrap_or o x ≡ unwrap_or o y
 unwrap_same None x y same = same refl
 unwrap_same (Some z) x y same = refl
 
@@ -23,7 +23,7 @@ unwrap_same (Some z) x y same = refl
 pub with_entry-same : (entry : List FileText) (files others : Image) (file : List ℕ) → (content_in entry file ≡ None → files file ≡ others file) → with_entry files entry file ≡ with_entry others entry file
 with_entry-same entry files others file same = unwrap_same (content_in entry file) (files file) (others file) same
 
-same_entry : (c : List ℕ) (e entry : List FileText) → entry_in c ≡ Some e → entry_in c ≡ Some entry → e ≡ entry
+pub same_entry : (c : List ℕ) (e entry : List FileText) → entry_in c ≡ Some e → entry_in c ≡ Some entry → e ≡ entry
 same_entry c e entry first second = cc
 
 -- files are the same with entries where they were the same before
@@ -102,7 +102,7 @@ IsDoubtful-only leaves files doubt state image is = record {
 pub IsSettled-doubt : (leaves : List ℕ → List ℕ → Type 0) (files : Image) (doubt : Option (List FileText)) → IsSettled leaves files → IsDoubtful leaves files doubt
 IsSettled-doubt leaves files doubt state = IsDoubtful-from leaves files doubt state.same (λ c is. inl (inr (state.closed c is).gate_is))
 
-either_none : (files outcome : Image) → IsEither files None outcome → IsOutcome files outcome
+pub either_none : (files outcome : Image) → IsEither files None outcome → IsOutcome files outcome
 either_none files outcome (inl same) = same
 either_none files outcome (inr brings) = let none = brings.1 in absurd (cc)
 

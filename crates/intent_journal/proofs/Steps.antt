@@ -24,12 +24,12 @@ pub on_ok : {X E : Type 0} (P : Type 0) (r : Result X E) → P → OnOk r P
 on_ok P (Ok x) p = p
 on_ok P (Err e) p = tt
 
-on_err : {X E : Type 0} (P : Type 0) (r : Result X E) → P → OnErr r P
+pub on_err : {X E : Type 0} (P : Type 0) (r : Result X E) → P → OnErr r P
 on_err P (Ok x) p = tt
 on_err P (Err e) p = p
 
 -- what one image leaves
-abbrev only_image : Image → List ℕ → List ℕ → Type 0
+abbrev pub only_image : Image → List ℕ → List ℕ → Type 0
 only_image image file c = c ≡ image file
 
 -- on a disk that was left alone nothing else happened
@@ -37,15 +37,15 @@ pub still : (before : ℕ) (past : ℕ → Image → Type 0) (P : Image → Type
 still before past P held = record { each = held; earlier = λ moment image le left. inl left }
 
 -- a step of the journal's file
-record IsJournalStep (Step : List ℕ → List ℕ → Type 0) (old new : List ℕ → List ℕ → Type 0) : Type 0 where
-  others : (other : List ℕ) → other ≢ journal_name → (c : List ℕ) → new other c → old other c
-  this : (c : List ℕ) → new journal_name c → (former : List ℕ) × old journal_name former × Step former c
+pub record IsJournalStep (Step : List ℕ → List ℕ → Type 0) (old new : List ℕ → List ℕ → Type 0) : Type 0 where
+  pub others : (other : List ℕ) → other ≢ journal_name → (c : List ℕ) → new other c → old other c
+  pub this : (c : List ℕ) → new journal_name c → (former : List ℕ) × old journal_name former × Step former c
 
-journal_step : (Step : List ℕ → List ℕ → Type 0) (old new : List ℕ → List ℕ → Type 0) → Touches journal_name Step old new → IsJournalStep Step old new
+pub journal_step : (Step : List ℕ → List ℕ → Type 0) (old new : List ℕ → List ℕ → Type 0) → Touches journal_name Step old new → IsJournalStep Step old new
 journal_step Step old new touches = record { others = λ other ne c is. (touches.others other ne).no_more c is; this = touches.this }
 
 -- and one of its image
-image_step : (Step : List ℕ → List ℕ → Type 0) (old : List ℕ → List ℕ → Type 0) (image : Image) → IsStepOf journal_name Step old image → IsJournalStep Step old (only_image image)
+pub image_step : (Step : List ℕ → List ℕ → Type 0) (old : List ℕ → List ℕ → Type 0) (image : Image) → IsStepOf journal_name Step old image → IsJournalStep Step old (only_image image)
 image_step Step old image step = record {
   others = λ other ne c is. subst (old other) (sym is) (step.others other ne);
   this = λ c is. let was = step.this in (was.0, was.1, subst (Step was.0) (sym is) was.2);

@@ -11,8 +11,9 @@ ghost use Rattle.intent_journal.specs.Moments.{AddsOnly, KeepsElse, KeepsUnnamed
 use journal_codec::FileText;
 use kdb_outside::{Disk, Failed};
 
-/// Gives a file its content: a write at its start, a cut behind it, and a sync.
-pub(crate) fn put_file<D: Disk>(disk: &mut D, text: &FileText) -> Result<(), Failed>
+/// Gives a file its content: a write at its start, a cut behind it, and a sync. Err where the disk failed: the file may then be
+/// whole or torn, and no other file changed.
+pub fn put_file<D: Disk>(disk: &mut D, text: &FileText) -> Result<(), Failed>
     ensures durable { D.tells disk.old ≡ true → OnOk result (Only text.now.bytes (D.may_leave disk.new text.now.file)) }
     ensures others { D.tells disk.old ≡ true → KeepsOtherImages text.now.file (D.may_leave disk.old) (D.may_leave disk.new) }
     ensures time { D.tells disk.old ≡ true → AddsOnly D.Disk disk.old disk.new (KeepsElse text.now.file (D.may_leave disk.old)) }

@@ -20,6 +20,7 @@ use backend_files::{FileFault, FileRead};
 use journal_codec::FileText;
 use kdb_outside::{Disk, Failed, FileName};
 use key_meta::List;
+pub use opening::name_of_journal;
 use std::alloc::Global;
 use std::marker::Model;
 

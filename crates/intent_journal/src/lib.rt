@@ -10,10 +10,13 @@ mod reading;
 mod states;
 mod writing;
 
+pub use applying::put_file;
 pub use faults::{JournalFault, JournalRefused};
-pub use journal::Journal;
+pub use journal::{Journal, name_of_journal};
 pub use laws::{
     a_broken_journal_has_no_reading, a_settled_disk_is_calm, an_unbroken_image_is_calm_alone,
     one_image_is_calm,
 };
+pub use reading::{entry_of, length_in};
 pub use states::State;
+pub use writing::write_through;

@@ -69,8 +69,9 @@ fn read_length<D: Disk>(disk: &mut D, journal: &FileName) -> Result<Option<u32>,
     Ok(length_in(&head[..count]))
 }
 
-/// The length in the first bytes of a journal, where the gate is open.
-fn length_in(head: &[u8]) -> Option<u32>
+/// The length in bytes of the body that the first five bytes of a journal tell of. None where there are fewer of them, or the
+/// gate isn't open.
+pub fn length_in(head: &[u8]) -> Option<u32>
     requires { length head.now ≤ 5 }
     ensures { result ≡ open_length head.now }
 {
@@ -98,8 +99,9 @@ fn read_body<D: Disk>(
     Ok(there)
 }
 
-/// The entry that a body of this size spells, given the bytes that are there.
-fn entry_of(alloc: Global, size: u32, there: &[u8]) -> Result<List<FileText>, JournalFault>
+/// The entry that a body of this size spells, given the bytes that are there. BadJournal with the place in the body where it isn't
+/// whole; Memory where memory is out.
+pub fn entry_of(alloc: Global, size: u32, there: &[u8]) -> Result<List<FileText>, JournalFault>
     requires { size ≤ longest_body }
     ensures told { TellsBody size there.now result }
     ensures entry { IfOk result IsEntry }

@@ -6,8 +6,9 @@ ghost use Rattle.intent_journal.specs.Steps.{WritesThrough};
 
 use kdb_outside::{Disk, Failed, FileName};
 
-/// Writes the bytes at this place, and syncs the file.
-pub(crate) fn write_through<D: Disk>(
+/// Writes the bytes at this place, at the file's end or before it, and syncs the file. Err where the disk failed: the bytes may
+/// then be there whole or in part.
+pub fn write_through<D: Disk>(
     disk: &mut D,
     file: &FileName,
     at: u64,

@@ -120,7 +120,8 @@ fn find<D: Disk>(alloc: Global, disk: &mut D) -> Result<Found, JournalFault>
     Ok(Found { name, entry })
 }
 
-fn name_of_journal(alloc: Global) -> Result<FileName, Memory>
+/// The journal's name. Err where memory is out.
+pub fn name_of_journal(alloc: Global) -> Result<FileName, Memory>
     ensures { IfOk result (λ name. name ≡ journal_name) }
 {
     match FileName::new(alloc, "journal")? {

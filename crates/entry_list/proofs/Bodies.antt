@@ -1,0 +1,78 @@
+-- The body of an entry that stands behind a gate, where another gate follows.
+use Rattle.std.proofs.Common.{◌≡◌, ℕ, ◌+◌, ◌-◌, ◌<◌, ◌≤◌, Bool, true, cond, List, ◌∷◌, ◌++◌, length, take, drop, Result, Ok, Err, refl, sym, ap, ◌∙◌, subst, arith}
+use Rattle.std.specs.List.{flat_map}
+use Rattle.std.proofs.lemmas.Bool.{lt-ltb, eq-eqb}
+use Rattle.std.proofs.lemmas.Nat.{from_le_bytes-to_le_bytes_4}
+use Rattle.std.proofs.Math.Seq.{take-append_seam, drop-append_seam}
+use Rattle.journal_codec.specs.declared.files.FileText.{FileText}
+use Rattle.journal_codec.specs.Entry.{spelled, spelled_file, IsEntry}
+use Rattle.journal_codec.specs.Reading.{Reading, read_body}
+use Rattle.journal_codec.proofs.BodyLemmas.{is_read_again}
+use Rattle.intent_journal.specs.JournalBytes.{body_or_place}
+use Rattle.intent_journal.proofs.Bodies.{length-spelled}
+use Rattle.entry_list.specs.Grammar.{over, is_over, number_in, followed, uncounted, spelled_on, behind_gate, size_of, body_of, rest_of, body_in, most_entries, head_size, last_place, IsWhole}
+
+-- both forms of a body have as many bytes
+pub length-spelled_on : (entry : List FileText) → IsEntry entry → length (spelled_on entry) ≤ 67200000
+length-spelled_on entry is = let short = length-spelled entry is in omega arith
+
+over_is : (n : ℕ) → 1 ≤ n → is_over (over + n) ≡ true
+over_is n some = lt-ltb over (over + n) (omega arith)
+
+-- the count tells that a gate follows
+pub followed-spelled_on : (entry : List FileText) → IsEntry entry → followed (spelled_on entry) ≡ true
+followed-spelled_on entry is = over_is (length entry) is.not_empty
+
+-- and with its plain count it is the body of an entry alone
+pub uncounted-spelled_on : (entry : List FileText) → IsEntry entry → uncounted (spelled_on entry) ≡ spelled entry
+uncounted-spelled_on entry is =
+    let plain : number_in (over + length entry) ≡ length entry =
+    ap (λ (b : Bool). cond b (over + length entry - over) (over + length entry)) (over_is (length entry) is.not_empty) ∙ omega arith in
+    ap (λ (n : ℕ). n ∷ flat_map spelled_file entry) plain
+
+same_entry : (other entry : List FileText) → ◌≡◌ {A = Result (List FileText) ℕ} (Ok other) (Ok entry) → other ≡ entry
+same_entry other entry is = cc
+
+-- what stands behind the gate of an entry
+module _ (entry : List FileText) (is : IsEntry entry) (more : List ℕ) where
+  size_there : size_of (behind_gate entry ++ more) ≡ length (spelled_on entry)
+  size_there = let short = length-spelled_on entry is in from_le_bytes-to_le_bytes_4 (length (spelled_on entry)) (omega arith)
+
+  body_there : body_of (behind_gate entry ++ more) ≡ spelled_on entry
+  body_there = ap (λ (n : ℕ). take n (spelled_on entry ++ more)) size_there ∙ take-append_seam (spelled_on entry) more
+
+  rest_there : rest_of (behind_gate entry ++ more) ≡ more
+  rest_there = ap (λ (n : ℕ). drop n (spelled_on entry ++ more)) size_there ∙ drop-append_seam (spelled_on entry) more
+
+  whole_there : body_in (size_of (behind_gate entry ++ more)) (body_of (behind_gate entry ++ more)) ≡ Ok entry
+  whole_there =
+      let n = length (spelled_on entry) in
+      ap (λ (body : List ℕ). body_or_place (read_body (uncounted body)) (size_of (behind_gate entry ++ more)) (length body)) body_there
+      ∙ ap (λ (size : ℕ). body_or_place (read_body (uncounted (spelled_on entry))) size n) size_there
+      ∙ ap (λ (body : List ℕ). body_or_place (read_body body) n n) (uncounted-spelled_on entry is)
+      ∙ ap (λ (r : Reading). body_or_place r n n) (is_read_again entry is)
+      ∙ ap (λ (b : Bool). cond b (Ok entry) (Err n)) (eq-eqb n n refl)
+
+  -- the entry alone is whole there, another gate follows, and what holds from that gate on holds of what stands there
+  module _ (tail : List ℕ) (there : tail ≡ behind_gate entry ++ more) where
+    pub whole_is : (number place : ℕ) (other : List FileText) → IsWhole number place tail other → other ≡ entry
+    whole_is number place other whole =
+        same_entry other entry (sym whole.body ∙ subst (λ (t : List ℕ). body_in (size_of t) (body_of t) ≡ Ok entry) (sym there) whole_there)
+
+    pub is_whole : (number place : ℕ) → number < most_entries → place + head_size + length (spelled_on entry) ≤ last_place → IsWhole number place tail entry
+    is_whole number place few within =
+        let size = ap size_of there ∙ size_there in
+        record {
+          few = few;
+          within = omega arith;
+          body = subst (λ (t : List ℕ). body_in (size_of t) (body_of t) ≡ Ok entry) (sym there) whole_there;
+        }
+
+    pub goes_on : followed (body_of tail) ≡ true
+    goes_on = ap (λ (t : List ℕ). followed (body_of t)) there ∙ ap followed body_there ∙ followed-spelled_on entry is
+
+    pub next_gate : (P : ℕ → ℕ → List ℕ → Type 0) (number place : ℕ) → P (number + 1) (place + head_size + size_of tail) (rest_of tail)
+        → P (number + 1) (place + head_size + length (spelled_on entry)) more
+    next_gate P number place holds =
+        subst (λ (size : ℕ). P (number + 1) (place + head_size + size) more) (ap size_of there ∙ size_there)
+        (subst (λ (rest : List ℕ). P (number + 1) (place + head_size + size_of tail) rest) (ap rest_of there ∙ rest_there) holds)

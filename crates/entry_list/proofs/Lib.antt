@@ -1,0 +1,17 @@
+pub mod Bytes
+pub mod Contents
+pub mod Bodies
+pub mod ListReads
+pub mod Entries
+pub mod Images
+pub mod Passages
+pub mod Steps
+pub mod BringSteps
+pub mod OpenReads
+pub mod RecoverSteps
+pub mod OpenSteps
+pub mod WrittenLists
+pub mod OldForm
+pub mod Sound
+pub mod ListCalm
+pub mod LeastNames

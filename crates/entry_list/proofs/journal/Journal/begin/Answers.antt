@@ -1,0 +1,10 @@
+use Rattle.std.proofs.Common.{◌≤◌, arith}
+use Rattle.std.specs.Vec.{vec_capacity}
+use Rattle.entry_list.specs.Grammar.{most_entries}
+use Rattle.entry_list.proofs.Sound.{sound_none}
+use Rattle.entry_list.proofs.journal.Journal.begin.Goals as goal
+
+pub invariant_of-result : goal.invariant_of-result
+invariant_of-result g c =
+    let spare : most_entries ≤ vec_capacity c.clear.new.self = omega arith in
+    sound_none (g.D.Disk.tells c.args.disk) (g.D.Disk.may_leave c.args.disk) c.args.name c.clear.new.self.items (vec_capacity c.clear.new.self) c.requires.name c.clear.ensures.items spare

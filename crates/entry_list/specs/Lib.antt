@@ -1,0 +1,13 @@
+pub mod Grammar
+pub mod Lists
+pub mod Readings
+pub mod Outcomes
+pub mod States
+pub mod Steps
+pub mod Journal
+pub mod Pending
+pub mod Worked
+pub mod Bringing
+pub mod Openings
+pub mod OldForm
+pub mod Opens

@@ -1,0 +1,123 @@
+//! Two entries on their way into the list of a journal, and the list on its way into its files.
+ghost use Rattle.std.specs.Prelude.{◌≡◌, ◌++◌, ◌∷◌, [], false, IfOk, OnOk};
+ghost use Rattle.journal_codec.specs.Entry.{IsEntry};
+ghost use Rattle.entry_list.specs.Grammar.{behind_gate};
+
+use disk_memory::MemDisk;
+use entry_list::{Journal, encode};
+use intent_journal::State;
+use journal_codec::{FileText, decode, spells_what_is_read};
+use kdb_outside::{Disk, Failed, FileName};
+use key_meta::List;
+use std::alloc::Global;
+use std::test::Fail;
+
+/// The body of an entry with `1` for two files, and of one with `2` for the second of them.
+const FIRST: &[u8] = b"\x02\x05a.ecf\x01\x00\x00\x001\x05b.ecf\x01\x00\x00\x001";
+
+const SECOND: &[u8] = b"\x01\x05b.ecf\x01\x00\x00\x002";
+
+/// The journal that had both, behind its closing.
+const CLOSED: &[u8] =
+    b"\x00\x17\x00\x00\x00\x82\x05a.ecf\x01\x00\x00\x001\x05b.ecf\x01\x00\x00\x001\x01\x0c\x00\x00\x00\x81\x05b.ecf\x01\x00\x00\x002\x00";
+
+fn name(alloc: Global, text: &str) -> Result<FileName, Fail> {
+    Ok(FileName::new(alloc, text)?.ok_or("it is a name")?)
+}
+
+fn entry_of(alloc: Global, body: &[u8]) -> Result<List<FileText>, Fail>
+    ensures { IfOk result IsEntry }
+{
+    spells_what_is_read();
+    match decode(alloc, body) {
+        Ok(files) => Ok(files),
+        Err(_) => Err("it is a body")?,
+    }
+}
+
+/// Adds an entry to the list, if it fits.
+fn add<D: Disk>(
+    journal: &mut Journal<D>,
+    encoded: &[u8],
+    files: List<FileText>,
+) -> Result<bool, Failed>
+    requires sure { journal.old.in_doubt ≡ false }
+    requires entry { IsEntry files }
+    requires encoded { encoded.now ≡ behind_gate files ++ 0 ∷ [] }
+    ensures { OnOk result (journal.new.in_doubt ≡ false) }
+{
+    if !journal.fits(encoded.len() - 5) {
+        return Ok(false);
+    }
+    journal.put_body(encoded)?;
+    journal.open_gate(files)?;
+    Ok(true)
+}
+
+/// Gives each file of the list its content by its number, and closes the list.
+fn bring_in<D: Disk>(journal: &mut Journal<D>) -> Result<(), Failed>
+    requires { journal.old.in_doubt ≡ false }
+    ensures { OnOk result (journal.new.in_doubt ≡ false) }
+{
+    let count = journal.pending();
+    for i in 0..count {
+        journal.apply(i)?;
+    }
+    journal.close_gate()
+}
+
+/// What a disk holds of both files and of the journal.
+fn holds(
+    alloc: Global,
+    disk: &MemDisk,
+    first: &[u8],
+    second: &[u8],
+    journal: &[u8],
+) -> Result<bool, Fail> {
+    Ok(
+        disk.bytes(&name(alloc, "a.ecf")?) == first
+            && disk.bytes(&name(alloc, "b.ecf")?) == second
+            && disk.bytes(&name(alloc, "journal")?) == journal,
+    )
+}
+
+/// Whether the files are listed, but not in their places yet, while the list stands; and whether they are behind it.
+fn goes_through(alloc: Global, by_number: bool) -> Result<bool, Fail> {
+    let first = entry_of(alloc, FIRST)?;
+    let second = entry_of(alloc, SECOND)?;
+    let first_encoded = encode(alloc, first.as_slice())?;
+    let second_encoded = encode(alloc, second.as_slice())?;
+    let disk = MemDisk::new(alloc, Vec::new(alloc), Vec::new(alloc), None)?;
+    let Ok(journal) = Journal::open(alloc, disk) else {
+        return Err("it opens")?;
+    };
+    let mut journal = journal;
+    let doubt = journal.state() == State::Doubt;
+    let Ok(()) = journal.settle() else {
+        return Err("it settles")?;
+    };
+    let clean = journal.state() == State::Clean;
+    let Ok(_) = add(&mut journal, &first_encoded, first) else {
+        return Err("it is added")?;
+    };
+    let Ok(_) = add(&mut journal, &second_encoded, second) else {
+        return Err("it is added")?;
+    };
+    let lags = journal.state() == State::Lag && journal.pending() == 2;
+    let brought = if by_number {
+        bring_in(&mut journal)
+    } else {
+        journal.finish()
+    };
+    let ends = brought.is_ok() && journal.state() == State::Clean && journal.pending() == 0;
+    let disk = journal.into_disk();
+    Ok(doubt && clean && lags && ends && holds(alloc, &disk, b"1", b"2", CLOSED)?)
+}
+
+#[test]
+fn a_list_goes_into_its_files(rt: HostRuntime) -> Result<(), Fail> {
+    let alloc = rt.alloc();
+    assert!(rt; goes_through(alloc, true)?);
+    assert!(rt; goes_through(alloc, false)?);
+    Ok(())
+}
