@@ -15,7 +15,7 @@ script, the files before and behind, and the text, and has no code in common wit
         file, and again with a kill there: the text is fair, and the files are those of the history or of a front of it
     bench/fair.py make SEED FOLDER   writes a script, FOLDER/script, and the files before it, FOLDER/.kdb
     bench/fair.py selftest           looks whether this checker can fail: fair texts are turned unfair in many ways, and
-                                     stores that merge or watch in a wrong way are played
+                                     stores that merge, watch or take back in a wrong way are played
     bench/fair.py batch              plays the script of its input on .kdb, as the program does: for trying the rest
 
 The program is the one that KDB names, else build/kdb. The text's replies are judged each at the front that it tells:

@@ -230,6 +230,11 @@ class Trial:
                         state = state._replace(working=edited(state.working, step))
                         continue
                     end = self.end_of(step, lines, line)
+                    if step.word == "undo":
+                        state, *others = self.undo(number, state, step, lines[line], made)
+                        line = end + 1
+                        tries += [(at, line, it) for it in reversed(others)]
+                        continue
                     state = self.reply(number, state, step, lines[line : end + 1], made)
                     line = end + 1
                 if line < len(lines):
@@ -311,6 +316,49 @@ class Trial:
         if front >= len(self.history) or self.history.commits[front] != commit:
             raise Unfair("commit", f"commit {front + 1} of the history is not the one of session {number}")
         return self.judge.stored(state, commit, front + 1)
+
+    # ---- what is taken back
+
+    def undo(self, number, state, step, line, made):
+        """What a session may be behind an undoing that has this line. One that tells no front is judged at each that it
+        may have had."""
+        if line == "memory":
+            return [state]
+        front = self.placed(front_of(line), state.told, line, made)
+        least, most = max(state.told, made[0]), min(len(self.history), made[1])
+        found, why = [], None
+        for it in range(least, most + 1) if front is None else [front]:
+            try:
+                found.append(self.undone(number, state, step, line, it))
+            except Unfair as one:
+                why = why or one
+        if not found:
+            raise why
+        return found
+
+    def undone(self, number, state, step, line, front):
+        refusal = self.judge.barred(step.number, front)
+        if refusal:
+            self.want(line, f"refused {refusal}", "undo")
+            return state._replace(told=front)
+        procs = self.script.procs.get(number, {})
+        got, back, parent = self.judge.taken_back(state, step.number, procs, front)
+        refusal, wanted = self.judge.early(back, parent)
+        if refusal:
+            self.want(line, f"refused {refusal}", "undo")
+            return got
+        verdict, commit = self.judge.verdict(number, back, wanted, front)
+        if verdict.startswith(("same ", "conflict ")):
+            raise Unfair("undo", f"{verdict!r} is no answer to an undoing")
+        if commit and line == f"refused {DISK_FAULT} front {front}":
+            self.failed.append((front, wanted))
+            return got
+        self.want(line, verdict, "undo")
+        if not commit:
+            return got
+        if front >= len(self.history) or self.history.commits[front] != commit:
+            raise Unfair("commit", f"commit {front + 1} of the history is not the one of session {number}")
+        return self.judge.stored(back, commit, front + 1)
 
     # ---- watches
 

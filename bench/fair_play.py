@@ -55,6 +55,8 @@ class Play:
             return f"got {front} {len(self.states[number].working)}"
         if step.word == "watch":
             return self.watch(number, step)
+        if step.word == "undo":
+            return self.undo(number, step)
         return self.set(number, state, step.name, front)
 
     def watch(self, number, step):
@@ -68,6 +70,20 @@ class Play:
             return ["no-watch"]
         lines, self.states[number] = self.judge.polled(self.states[number], len(self.history))
         return lines
+
+    def undo(self, number, step):
+        """Takes a commit back. What its get gave stays where its set is refused."""
+        state, front = self.states[number], len(self.history)
+        refusal = self.judge.barred(step.number, front)
+        if refusal:
+            self.states[number] = state._replace(told=front)
+            return f"refused {refusal}"
+        procs = self.script.procs.get(number, {})
+        got, back, parent = self.judge.taken_back(state, step.number, procs, front)
+        line = self.set(number, back, parent, front)
+        if not line.startswith("commit "):
+            self.states[number] = got
+        return line
 
     def set(self, number, state, parent, front):
         refusal, wanted = self.judge.early(state, parent)

@@ -7,6 +7,7 @@ from fair_formats import dump_of
 from fair_keys import (CASCADING, LONGEST_META, PROC, name_of, plain, quoted, size, spelling, unquoted_at)
 
 MOST_SESSIONS, LONGEST_SCRIPT, MOST_LINES, MOST_TRIES, LARGEST_ROOM = 32, 4 * 2**20, 100_000, 100_000, 4096
+LARGEST_NUMBER = 1_000_000_000
 STRATEGIES = ("abort", "our", "their")
 
 
@@ -16,7 +17,7 @@ class BadScript(Exception):
 
 # ---- scripts
 
-Step = collections.namedtuple("Step", "word name meta value strategy tries room", defaults=(None,) * 5)
+Step = collections.namedtuple("Step", "word name meta value strategy tries room number", defaults=(None,) * 6)
 Script = collections.namedtuple("Script", "procs phases sessions")
 
 
@@ -41,7 +42,7 @@ def words_of(line):
 
 def count_of(word, most):
     """A number from 1 to another, None where a word is none."""
-    return int(word) if re.fullmatch("[1-9][0-9]{0,5}", word) and int(word) <= most else None
+    return int(word) if re.fullmatch("[1-9][0-9]{0,9}", word) and int(word) <= most else None
 
 
 def session_of(word):
@@ -52,6 +53,9 @@ def step_of(words):
     """The step of a line's words, or None."""
     if words == ["poll"]:
         return Step("poll", None)
+    if words[0] == "undo":
+        is_one = len(words) == 2 and count_of(words[1], LARGEST_NUMBER)
+        return Step("undo", None, number=int(words[1])) if is_one else None
     word, names = words[0], [name_of(it) for it in words[1:2]]
     if not names or names[0] is None:
         return None
@@ -175,7 +179,7 @@ class Making:
 
     def __init__(self, seed, most=2000):
         self.chance, self.seed = random.Random(seed), seed
-        self.lines, self.left, self.longs = [], most, 0
+        self.lines, self.left, self.longs, self.stores = [], most, 0, 0
 
     def line(self, *words):
         gap = self.chance.choice([" ", " ", " ", "  ", "\t"])
@@ -221,6 +225,7 @@ class Making:
 
     def store(self, parent):
         """Stores a working set, with or without merging."""
+        self.stores += 1
         if self.chance.random() < 0.4:
             self.step("merge", parent, self.chance.choice(STRATEGIES), self.chance.choice(TRIES))
         else:
@@ -243,10 +248,13 @@ class Making:
             self.edit()
         elif turn < 0.86:
             self.step("look", pick(LOOKS))
-        elif turn < 0.9:
+        elif turn < 0.89:
             self.step("watch", parent, pick(ROOMS))
-        else:
+        elif turn < 0.94:
             self.step("poll")
+        else:
+            number = self.chance.randint(1, self.stores // 2 + 1) if self.chance.random() < 0.9 else LARGEST_NUMBER
+            self.step("undo", str(number))
         if self.chance.random() < 0.05:
             self.lines.append(pick(["", "# a comment", "   ", "\t#"]))
 

@@ -243,6 +243,34 @@ class Judge:
         return [f"news {front} missed {missed}", *heard[missed:]], session._replace(
             told=front, watch=session.watch._replace(front=front))
 
+    def barred(self, number, front):
+        """Why a commit can't be taken back behind so many commits, before its set; or None."""
+        if not 1 <= number <= front:
+            return f"C01320 no-commit {number} front {front}"
+        commit = self.history.commits[number - 1]
+        names = {name for name, _ in commit.changes}
+        for by in range(number + 1, front + 1):
+            name = next((name for name, _ in self.history.commits[by - 1].changes if name in names), None)
+            if name:
+                return f"C02000 overtaken {shown(name)} by {by} front {front}"
+        return self.bad(self.parent_over(commit.touched))
+
+    def parent_over(self, touched):
+        """What is got to take back a commit of these mounts: all keys, or those of the one."""
+        return self.store.points[touched[0]] if len(touched) == 1 else (CASCADING, ())
+
+    def taken_back(self, session, number, procs, front):
+        """A session that has got what it takes to take a commit back; one that has made that; and the parent."""
+        commit = self.history.commits[number - 1]
+        parent = self.parent_over(commit.touched)
+        got = self.fetched(session, parent, procs, front)
+        keys = dict(got.working)
+        for name, _ in commit.changes:
+            keys.pop(name, None)
+            entry = self.history.owned(self.store.owner(name), number - 1).get(name)
+            keys.update({name: entry} if entry else {})
+        return got, got._replace(working=keys), parent
+
     def kept(self, session, parent):
         """What a session's record keeps of the mounts that a parent involves."""
         keys = {}

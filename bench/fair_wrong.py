@@ -1,5 +1,5 @@
-"""Stores that merge or watch in a wrong way, for bench/fair.py selftest: what each of them prints of made-up scripts
-has to be refused. Each gets one thing wrong.
+"""Stores that merge, watch or take back in a wrong way, for bench/fair.py selftest: what each of them prints of made-up
+scripts has to be refused. Each gets one thing wrong.
 """
 import random
 import re
@@ -9,7 +9,7 @@ from fair_judge import Trial, Unfair, rendered, text_of
 from fair_keys import CASCADING, USER
 from fair_play import Play
 from fair_scripts import Making, files_of, script_of
-from fair_steps import merged
+from fair_steps import Judge, merged
 
 SCRIPTS = 40
 
@@ -237,9 +237,105 @@ class TellsKeysAlone(Play):
         return [line for line in super().poll(number) if not re.match("~ [0-9]+ - ", line)]
 
 
+class Backwards(Play):
+    """One that takes commits back in another way."""
+
+    def __init__(self, *given):
+        super().__init__(*given)
+        self.judge.barred, self.judge.taken_back = self.barred, self.taken_back
+
+    def barred(self, number, front):
+        return Judge.barred(self.judge, number, front)
+
+    def taken_back(self, session, number, procs, front):
+        return Judge.taken_back(self.judge, session, number, procs, front)
+
+
+class IsNotOvertaken(Backwards):
+    """A later commit is in nobody's way."""
+
+    def barred(self, number, front):
+        why = super().barred(number, front)
+        return None if why and " overtaken " in why else why
+
+
+class TellsTheLastOvertaking(Backwards):
+    """The last commit that overtakes is told, and not the first."""
+
+    def barred(self, number, front):
+        why = super().barred(number, front)
+        if not why or " overtaken " not in why:
+            return why
+        names = {name for name, _ in self.history.commits[number - 1].changes}
+        later = enumerate(self.history.commits[number:front], number + 1)
+        by = max(n for n, commit in later if names & {*dict(commit.changes)})
+        return re.sub(" by [0-9]+ ", f" by {by} ", why)
+
+
+class RemovesAll(Backwards):
+    """What a commit changed is removed."""
+
+    def taken_back(self, session, number, procs, front):
+        got, back, parent = super().taken_back(session, number, procs, front)
+        gone = dict(self.history.commits[number - 1].changes)
+        return got, back._replace(working={n: it for n, it in got.working.items() if n not in gone}), parent
+
+
+class GoesBackToTheStart(Backwards):
+    """Each name gets what the opening found."""
+
+    def taken_back(self, session, number, procs, front):
+        got, back, parent = super().taken_back(session, number, procs, front)
+        keys = dict(got.working)
+        for name, _ in self.history.commits[number - 1].changes:
+            keys.pop(name, None)
+            entry = self.history.owned(self.store.owner(name), 0).get(name)
+            keys.update({name: entry} if entry else {})
+        return got, back._replace(working=keys), parent
+
+
+class GetsAll(Backwards):
+    """All keys are got for a commit of one mount, too."""
+
+    def taken_back(self, session, number, procs, front):
+        self.judge.parent_over = lambda touched: (CASCADING, ())
+        made = super().taken_back(session, number, procs, front)
+        del self.judge.parent_over
+        return made
+
+
+class WorksBehind(Play):
+    """The working set stays when a commit is taken back."""
+
+    def undo(self, number, step):
+        working = self.states[number].working
+        line = super().undo(number, step)
+        self.states[number] = self.holding(number, working)
+        return line
+
+
+class UndoesItsEdits(Backwards):
+    """The commit is taken back in the working set, and not in what is there."""
+
+    def taken_back(self, session, number, procs, front):
+        got, back, parent = super().taken_back(session, number, procs, front)
+        changes = {name: back.working.get(name) for name, _ in self.history.commits[number - 1].changes}
+        keys = {name: entry for name, entry in {**session.working, **changes}.items() if entry}
+        return got, back._replace(working=keys), parent
+
+
+class NumbersFromZero(Play):
+    """The commit behind the one that is named is taken back."""
+
+    def undo(self, number, step):
+        return super().undo(number, step._replace(number=step.number + 1))
+
+
 WRONG = [Exchanges, HasNoBase, KeepsOurs, TakesTheirs, DropsAside, GetsProc, NeverAborts, Removes, MergesFiles,
          ForgetsItsGet, TellsNoTry, WorksOn, StoresAlone, TriesOnce, GivesUp, StaysAtItsFront, KeepsTheFirst,
-         CountsNothing, IsDeafToItself, HearsAll, HearsOneSpace, KeepsItsWatch, TellsKeysAlone]
+         CountsNothing, IsDeafToItself, HearsAll, HearsOneSpace, KeepsItsWatch, TellsKeysAlone,
+         IsNotOvertaken, TellsTheLastOvertaking, RemovesAll, GoesBackToTheStart, GetsAll, WorksBehind,
+         UndoesItsEdits, NumbersFromZero]
 
 
 def is_refused(kind, seed):

@@ -38,11 +38,11 @@ named-all handles workers numbers are many named =
 module _ (formats : Formats) {F : Type 0} (lock : Place Told) (plan : Plan F) where
   -- sessions that just got their handles have taken no step
   pub fresh-each : (procs : ℕ → KeyMap) (handles : List HandleValue) (workers : List Worker) → map handle_in workers ≡ handles → AreFresh lock plan procs handles → All IsSeated workers
-      → (i : ℕ) (d : Worker) → i < length workers → HasTaken formats lock plan (procs (i + 1)) (i + 1) [] [] (get_or workers i d)
+      → (i : ℕ) (d : Worker) → i < length workers → HasTaken formats lock plan (procs (i + 1)) (length workers) i [] [] (get_or workers i d)
   fresh-each procs handles workers are fresh seated i d lt =
       let within : i < length handles = omega (arith, ap length are, length-map workers handle_in) in
       let there : get_or handles i d.session.handle ≡ (get_or workers i d).session.handle = ap (λ (hs : List HandleValue). get_or hs i d.session.handle) (sym are) ∙ get_or-map handle_in workers i d d.session.handle lt in
-      taken-first formats lock plan (procs (i + 1)) (i + 1) (get_or workers i d) (subst (IsFresh lock plan (i + 1) (procs (i + 1))) there (fresh i d.session.handle within)) (seated i d lt)
+      taken-first formats lock plan (procs (i + 1)) (length workers) i (get_or workers i d) (subst (IsFresh lock plan (i + 1) (procs (i + 1))) there (fresh i d.session.handle within)) (seated i d lt)
 
   module _ (script : Script) (rows : List (List (List Reply))) (workers : List Worker) (transcripts : Transcripts) where
     abbrev Stands : Type 0

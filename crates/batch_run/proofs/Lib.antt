@@ -7,6 +7,7 @@ mod GetTurns
 mod SetTurns
 mod MergeTurns
 mod WatchTurns
+mod UndoTurns
 mod Growing
 mod Hearing
 mod Rising

@@ -80,7 +80,7 @@ memory-or (Err (HistoryFull weight front)) = inr (λ e. absurd cc)
 memory-or (Err (DiskFault front)) = inr (λ e. absurd cc)
 
 -- what an answer adds to the story is what its reply tells
-told-failures : (set : sets.Prepared) (result : Result Done CommitFault) → failures_in (told_by set result) ≡ failures_told (set_reply result)
+pub told-failures : (set : sets.Prepared) (result : Result Done CommitFault) → failures_in (told_by set result) ≡ failures_told (set_reply result)
 told-failures set (Ok (done.Committed number aside)) = refl
 told-failures set (Ok (done.Same front aside)) = refl
 told-failures set (Err Memory) = refl
@@ -90,7 +90,7 @@ told-failures set (Err (DatabaseFull weight front)) = refl
 told-failures set (Err (HistoryFull weight front)) = refl
 told-failures set (Err (DiskFault front)) = refl
 
-told-refusals : (set : sets.Prepared) (result : Result Done CommitFault) → refusals_in (told_by set result) ≡ refusals_told (set_reply result)
+pub told-refusals : (set : sets.Prepared) (result : Result Done CommitFault) → refusals_in (told_by set result) ≡ refusals_told (set_reply result)
 told-refusals set (Ok (done.Committed number aside)) = refl
 told-refusals set (Ok (done.Same front aside)) = refl
 told-refusals set (Err Memory) = refl
@@ -106,7 +106,7 @@ told-commits set true = refl
 told-commits set false = refl
 
 -- the history after an answer begins with what was found, and with the commit
-stands : (found later : List Commit) (set : sets.Prepared) (result : Result Done CommitFault) → later ≡ found ++ commits_of (told_by set result) → StandsNext later found set result
+pub stands : (found later : List Commit) (set : sets.Prepared) (result : Result Done CommitFault) → later ≡ found ++ commits_of (told_by set result) → StandsNext later found set result
 stands found later set (Ok (done.Committed number aside)) is = ([], append-nil (found ++ commit_of set ∷ []) ∙ sym is)
 stands found later set (Ok (done.Same front aside)) is = ([], sym is)
 stands found later set (Err why) is = (commits_of (told_by set (Err why)), sym is)
@@ -135,7 +135,7 @@ records-then store found later set other (Ok (done.Same front aside)) rec new sa
 records-then store found later set other (Err why) rec new same is keeps kept = kept
 
 -- the commits of its handle are those that it told
-new-numbers : (formats : Formats) (store : Store) (risen : Bool) (number : ℕ) (found : List Commit) (keys : KeyMap) (set : sets.Prepared) (result : Result Done CommitFault) → set.handle ≡ number → IsJudged formats store risen found keys set result
+pub new-numbers : (formats : Formats) (store : Store) (risen : Bool) (number : ℕ) (found : List Commit) (keys : KeyMap) (set : sets.Prepared) (result : Result Done CommitFault) → set.handle ≡ number → IsJudged formats store risen found keys set result
     → numbers_from number (1 + length found) (commits_of (told_by set result)) ≡ numbers_told (set_reply result)
 new-numbers formats store risen number found keys set (Ok (done.Committed n aside)) own judged =
     numbers-one number (1 + length found) (commit_of set) own ∙ ap (λ (k : ℕ). k ∷ []) (omega (arith, judged.0))

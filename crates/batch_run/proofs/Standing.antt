@@ -11,7 +11,7 @@ use Rattle.general_words.proofs.Places.{last_or_before, there_is}
 use Rattle.batch_script.specs.declared.steps.Step.{Step}
 use Rattle.batch_run.specs.Closes.{Closes, IsFresh}
 use Rattle.batch_run.specs.Going.{IsThrough, count_seen}
-use Rattle.batch_run.specs.Stands.{HasTaken, IsFull, Stand}
+use Rattle.batch_run.specs.Stands.{HasTaken, IsFull, LeadsThrough, Stand}
 use Rattle.batch_run.specs.Workers.{IsResting, IsSeated, handle_in}
 use Rattle.batch_run.specs.declared.workers.Worker.{Worker}
 use Rattle.batch_run.proofs.Counting.{covered}
@@ -25,7 +25,8 @@ use Rattle.model_batch.specs.Fair.{IsFair, in_row, of_session, commits_told, cou
 use Rattle.model_batch.specs.Replies.{failures_told, numbers_told, refusals_told}
 use Rattle.model_batch.specs.Sessions.{Session, Watching, first_session}
 use Rattle.model_batch.specs.Told.{IsAtLeast, Tells, numbers_by}
-use Rattle.model_batch.proofs.Telling.{all-less, tells-append, tells-later, tells-more}
+use Rattle.model_batch.proofs.Knowing.{phases-more, phases-next}
+use Rattle.model_batch.proofs.Telling.{all-less, tells-later}
 use Rattle.model_history.specs.History.{Commit}
 use Rattle.model_maps.specs.KeyMap.{KeyMap}
 use Rattle.model_store.specs.Store.{Formats}
@@ -65,8 +66,8 @@ module _ (formats : Formats) {F : Type 0} (lock : Place Told) (plan : Plan F) wh
   -- ---- one session
 
   -- one that has a handle that was just opened
-  pub taken-first : (procs : KeyMap) (number : ℕ) (worker : Worker) → IsFresh lock plan number procs worker.session.handle → IsSeated worker → HasTaken formats lock plan procs number [] [] worker
-  taken-first procs number worker fresh seated =
+  pub taken-first : (procs : KeyMap) (sessions i : ℕ) (worker : Worker) → IsFresh lock plan (i + 1) procs worker.session.handle → IsSeated worker → HasTaken formats lock plan procs sessions i [] [] worker
+  taken-first procs sessions i worker fresh seated =
       let none : commits_of worker.session.handle.seen ≡ [] = ap commits_of (fresh.seen ∙ fresh.handle_is.started.start) in record {
         handle = fresh.handle_is;
         number_is = fresh.number_is;
@@ -78,7 +79,7 @@ module _ (formats : Formats) {F : Type 0} (lock : Place Told) (plan : Plan F) wh
           watches = subst (λ (watch : Option WatchValue). StandsFor (commits_of worker.session.handle.seen) watch None) (sym seated.watch) tt;
           tells = λ i. record { working = seated.keys i; rec = λ m. fresh.rec m i; told = 0; watching = None };
         };
-        own = ap (numbers_by number) none;
+        own = ap (numbers_by (i + 1)) none;
         failures = ap failures_in fresh.own;
         refusals = ap refusals_in fresh.own;
         idle = seated.told;
@@ -93,15 +94,25 @@ module _ (formats : Formats) {F : Type 0} (lock : Place Told) (plan : Plan F) wh
       let Says : KeyMap → ℕ → Type 0 = λ p n. Leads formats plan.mounted p n (session_of old.session.handle (held old.session.workspace watching) told) steps replies new.session.handle new.session.workspace in
       subst (λ (p : KeyMap). Says p number) procs_are (subst (λ (n : ℕ). Says (proc_of old.session.handle.rec) n) number_is (goes.tells told watching le stands))
 
-  taken-next : (procs : KeyMap) (number : ℕ) (steps more : List Step) (replies told : List Reply) (old new : Worker) → HasTaken formats lock plan procs number steps replies old
-      → GoesOn formats lock plan more told old.session.handle old.session.workspace new.session.handle new.session.workspace → new.told.items ≡ [] → HasTaken formats lock plan procs number (steps ++ more) (replies ++ told) new
-  taken-next procs number steps more replies told old new was goes idle =
+  -- One that goes through one phase more. When it begins the session knows of all commits that its handle has seen
+  taken-next : (procs : KeyMap) (sessions i : ℕ) (steps : List (List (List Step))) (replies : List (List (List Reply))) (made : List (List Step)) (row : List (List Reply)) (old new : Worker)
+      → HasTaken formats lock plan procs sessions i steps replies old → count_told sessions replies ≤ length (commits_of old.session.handle.seen)
+      → GoesOn formats lock plan (in_row i made) (in_row i row) old.session.handle old.session.workspace new.session.handle new.session.workspace
+      → new.told.items ≡ [] → HasTaken formats lock plan procs sessions i (steps ++ made ∷ []) (replies ++ row ∷ []) new
+  taken-next procs sessions i steps replies made row old new was knows goes idle =
+      let number : ℕ = i + 1 in
+      let told : List Reply = in_row i row in
       let history = commits_of new.session.handle.seen in
+      let seen : ℕ = length (commits_of old.session.handle.seen) in
       let led = was.leads in
-      let on = goes-as procs number more told old new led.told led.watching goes was.number_is was.procs_are led.within led.watches in
-      let before = tells-more formats plan.mounted procs number (commits_of old.session.handle.seen) history first_session (session_of old.session.handle (held old.session.workspace led.watching) led.told) steps replies (commits-prefix old.session.handle.seen new.session.handle.seen goes.seen) led.tells in
+      let on = goes-as procs number (in_row i made) told old new seen led.watching goes was.number_is was.procs_are (omega arith) led.watches in
+      let middle : Session = session_of old.session.handle (held old.session.workspace led.watching) led.told in
+      let last : Session = session_of new.session.handle (held new.session.workspace on.watching) on.told in
+      let before = phases-more formats plan.mounted procs number (commits_of old.session.handle.seen) history sessions i first_session middle [] steps replies
+      (commits-prefix old.session.handle.seen new.session.handle.seen goes.seen) led.tells in
       let own : numbers_by number history ≡ numbers_by number (commits_of old.session.handle.seen) ++ flat_map numbers_told told =
       subst (λ (n : ℕ). numbers_by n history ≡ numbers_by n (commits_of old.session.handle.seen) ++ flat_map numbers_told told) was.number_is goes.own in
+      let more : of_session i (replies ++ row ∷ []) ≡ of_session i replies ++ told = session-snoc i replies row in
       record {
         handle = goes.ready.handle_is;
         number_is = goes.number ∙ was.number_is;
@@ -111,12 +122,12 @@ module _ (formats : Formats) {F : Type 0} (lock : Place Told) (plan : Plan F) wh
           within = on.within;
           watching = on.watching;
           watches = on.watches;
-          tells = tells-append formats plan.mounted procs number history first_session (session_of old.session.handle (held old.session.workspace led.watching) led.told)
-              (session_of new.session.handle (held new.session.workspace on.watching) on.told) steps more replies told before on.tells;
+          tells = phases-next formats plan.mounted procs number history sessions i first_session middle last [] steps replies made row before
+              (record { told = seen; no_less = led.within; knows = knows; mid = last; tells = on.tells; rest = refl });
         };
-        own = own ∙ ap (λ (l : List ℕ). l ++ flat_map numbers_told told) was.own ∙ sym (flat_map-append numbers_told replies told);
-        failures = goes.failures ∙ ap (λ k. k + sum_by failures_told told) was.failures ∙ sym (sum_by-append failures_told replies told);
-        refusals = goes.refusals ∙ ap (λ k. k + sum_by refusals_told told) was.refusals ∙ sym (sum_by-append refusals_told replies told);
+        own = own ∙ ap (λ (l : List ℕ). l ++ flat_map numbers_told told) was.own ∙ sym (ap (flat_map numbers_told) more ∙ flat_map-append numbers_told (of_session i replies) told);
+        failures = goes.failures ∙ ap (λ k. k + sum_by failures_told told) was.failures ∙ sym (ap (sum_by failures_told) more ∙ sum_by-append failures_told (of_session i replies) told);
+        refusals = goes.refusals ∙ ap (λ k. k + sum_by refusals_told told) was.refusals ∙ sym (ap (sum_by refusals_told) more ∙ sum_by-append refusals_told (of_session i replies) told);
         idle = idle;
       }
 
@@ -137,15 +148,15 @@ module _ (formats : Formats) {F : Type 0} (lock : Place Told) (plan : Plan F) wh
         (session_of new.session.handle (held new.session.workspace on.watching) on.told) steps replies on.tells
 
   -- one that has no replies in its present phase can take steps
-  pub rests : (procs : KeyMap) (number : ℕ) (steps : List Step) (replies : List Reply) (worker : Worker) → HasTaken formats lock plan procs number steps replies worker → IsResting lock plan worker
-  rests procs number steps replies worker taken = record {
+  pub rests : (procs : KeyMap) (sessions i : ℕ) (steps : List (List (List Step))) (replies : List (List (List Reply))) (worker : Worker) → HasTaken formats lock plan procs sessions i steps replies worker → IsResting lock plan worker
+  rests procs sessions i steps replies worker taken = record {
     ready = record { handle_is = taken.handle; watch = stands-within worker.session.handle.seen worker.session.workspace.watch taken.leads.watching taken.leads.watches };
     none = taken.idle;
   }
 
   -- ---- all sessions
 
-  pub stand-first : (procs : ℕ → KeyMap) (workers : List Worker) → ((i : ℕ) (d : Worker) → i < length workers → HasTaken formats lock plan (procs (i + 1)) (i + 1) [] [] (get_or workers i d)) → Stand formats lock plan procs [] [] workers
+  pub stand-first : (procs : ℕ → KeyMap) (workers : List Worker) → ((i : ℕ) (d : Worker) → i < length workers → HasTaken formats lock plan (procs (i + 1)) (length workers) i [] [] (get_or workers i d)) → Stand formats lock plan procs [] [] workers
   stand-first procs workers each = record {
     long = refl;
     full = λ p made row at there. absurd cc;
@@ -156,12 +167,11 @@ module _ (formats : Formats) {F : Type 0} (lock : Place Told) (plan : Plan F) wh
 
   module _ (procs : ℕ → KeyMap) (steps : List (List (List Step))) (replies : List (List (List Reply))) (row : List (List Step)) (told : List (List Reply)) (old new : List Worker) where
     next-each : Stand formats lock plan procs steps replies old → IsThrough formats lock plan row told old new → (i : ℕ) (d : Worker) → i < length new
-        → HasTaken formats lock plan (procs (i + 1)) (i + 1) (of_session i (steps ++ row ∷ [])) (of_session i (replies ++ told ∷ [])) (get_or new i d)
+        → HasTaken formats lock plan (procs (i + 1)) (length new) i (steps ++ row ∷ []) (replies ++ told ∷ []) (get_or new i d)
     next-each stand through i d lt =
         let lt' : i < length old = omega (arith, through.many) in
-        let next = taken-next (procs (i + 1)) (i + 1) (of_session i steps) (in_row i row) (of_session i replies) (in_row i told) (get_or old i d) (get_or new i d) (stand.each i d lt') (through.goes i d lt') (through.idle i d lt') in
-        subst (λ (s : List Step). HasTaken formats lock plan (procs (i + 1)) (i + 1) s (of_session i (replies ++ told ∷ [])) (get_or new i d)) (sym (session-snoc i steps row))
-        (subst (λ (r : List Reply). HasTaken formats lock plan (procs (i + 1)) (i + 1) (of_session i steps ++ in_row i row) r (get_or new i d)) (sym (session-snoc i replies told)) next)
+        subst (λ (n : ℕ). HasTaken formats lock plan (procs (i + 1)) n i (steps ++ row ∷ []) (replies ++ told ∷ []) (get_or new i d)) (sym through.many)
+        (taken-next (procs (i + 1)) (length old) i steps replies row told (get_or old i d) (get_or new i d) (stand.each i d lt') (stand.covers i d lt') (through.goes i d lt') (through.idle i d lt'))
 
     next-covers : Stand formats lock plan procs steps replies old → IsThrough formats lock plan row told old new → (i : ℕ) (d : Worker) → i < length new
         → count_told (length new) (replies ++ told ∷ []) ≤ length (commits_of (get_or new i d).session.handle.seen)
@@ -183,7 +193,7 @@ module _ (formats : Formats) {F : Type 0} (lock : Place Told) (plan : Plan F) wh
         some : (d : Worker) × (slice_get old k ≡ Some d)
         some = there_is old k lt'
 
-        led : Leads formats plan.mounted (procs (k + 1)) (k + 1) first_session (of_session k steps) (of_session k replies) (get_or old k some.0).session.handle (get_or old k some.0).session.workspace
+        led : LeadsThrough formats plan.mounted (procs (k + 1)) (length old) k steps replies (get_or old k some.0).session.handle (get_or old k some.0).session.workspace
         led = (stand.each k some.0 lt').leads
 
         each : All (IsAtLeast (count_told (length old) replies)) (in_row k told)
@@ -245,8 +255,8 @@ module _ (formats : Formats) {F : Type 0} (lock : Place Told) (plan : Plan F) wh
         let led = (stand.each i some.0 lt).leads in
         let last : Session = session_of (get_or workers i some.0).session.handle (held (get_or workers i some.0).session.workspace led.watching) led.told in (
           last,
-          tells-more formats plan.mounted (procs (i + 1)) (i + 1) (commits_of (get_or workers i some.0).session.handle.seen) history first_session
-              last (of_session i steps) (of_session i replies) (begins i some.0 lt) led.tells,
+          phases-more formats plan.mounted (procs (i + 1)) (i + 1) (commits_of (get_or workers i some.0).session.handle.seen) history (length workers) i first_session
+              last [] steps replies (begins i some.0 lt) led.tells,
         );
     own = λ i lt.
         let some = there_is workers i lt in

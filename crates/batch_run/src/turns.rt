@@ -8,7 +8,7 @@ ghost use Rattle.model_store.specs.Store.{formats_of};
 use crate::editing::{cut, delete, look, put, set_meta};
 use crate::watching::{poll, watch};
 use crate::workspaces::Workspace;
-use batch_script::{Step, Tries};
+use batch_script::{CommitNumber, Step, Tries};
 use kdb_handle::{Handle, Reply, SharedStore};
 use kdb_outside::Disk;
 use key_merge::Strategy;
@@ -49,6 +49,7 @@ pub(crate) fn take_step<D: Disk, F: Formats + Drop, P: Patterns + Drop, R: Wait>
         ),
         Step::Watch { parent, room } => watch(alloc, parent, room, handle, workspace),
         Step::Poll => poll(rt, store, handle, workspace),
+        Step::Undo { number } => undo(rt, alloc, store, number, handle, workspace),
     }
 }
 
@@ -113,5 +114,23 @@ fn merge<D: Disk, F: Formats + Drop, P: Patterns + Drop, R: Wait>(
     match handle.kdb_set_merged(rt, alloc, store, parent, keys, strategy, tries.get()) {
         Ok(merging) => Reply::Merged(merging),
         Err(fault) => Reply::MergeRefused(fault),
+    }
+}
+
+/// Takes a commit back. The working set becomes what was set, or what the get before it gave.
+fn undo<D: Disk, F: Formats + Drop, P: Patterns + Drop, R: Wait>(
+    rt: &R,
+    alloc: Global,
+    store: &SharedStore<D, F, P>,
+    number: &CommitNumber,
+    handle: &mut Handle,
+    workspace: &mut Workspace,
+) -> Reply
+    requires { IsReady (lock_of store.now) (plan_of store.now) handle.old workspace.old }
+    ensures { GoesOn (formats_of F.Formats) (lock_of store.now) (plan_of store.now) (step.Undo number.now ∷ []) (result ∷ []) handle.old workspace.old handle.new workspace.new }
+{
+    match handle.kdb_undo(rt, alloc, store, number.get(), &mut workspace.keys) {
+        Ok(done) => Reply::Undone(done),
+        Err(why) => Reply::UndoRefused(why),
     }
 }

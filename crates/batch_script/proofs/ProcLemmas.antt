@@ -12,16 +12,16 @@ use Rattle.model_lines.specs.Reading.{Leads}
 use Rattle.model_names.specs.Name.{Name}
 use Rattle.model_names.specs.NameOf.{name_of}
 use Rattle.model_names.specs.declared.namespaces.Namespace.TheVariants.{Proc as ProcNamespace}
-use Rattle.batch_script.specs.Counts.{tries_of, watch_room_of}
+use Rattle.batch_script.specs.Counts.{commit_number_of, tries_of, watch_room_of}
 use Rattle.batch_script.specs.MetaTests.{is_meta}
 use Rattle.batch_script.specs.Phases.{proc_of}
-use Rattle.batch_script.specs.Rows.{Row, is_cascading, on_merge, on_meta, on_name, on_none, on_one, on_plain_name, on_proc, on_three, on_two, on_watch, plain_name_of, proc_name_of, rows, said, said_by, session_of}
+use Rattle.batch_script.specs.Rows.{Row, is_cascading, on_merge, on_meta, on_name, on_none, on_one, on_plain_name, on_proc, on_three, on_two, on_undo, on_watch, plain_name_of, proc_name_of, rows, said, said_by, session_of}
 use Rattle.batch_script.specs.Scripts.{Adds, Means}
 use Rattle.batch_script.specs.declared.items.Item.{Item}
 use Rattle.batch_script.specs.declared.items.Item.TheVariants.{Proc, Session, Phase, Does}
 use Rattle.batch_script.specs.declared.steps.ProcLine.{ProcLine}
 use Rattle.batch_script.specs.declared.steps.Step.{Step}
-use Rattle.batch_script.specs.declared.steps.Step.TheVariants.{Get, Put, MetaStep, Del, Cut, Look, Set, Merge, Watch, Poll}
+use Rattle.batch_script.specs.declared.steps.Step.TheVariants.{Get, Put, MetaStep, Del, Cut, Look, Set, Merge, Watch, Poll, Undo}
 
 abbrev IsInProc : ProcLine → Type 0
 IsInProc line = line.key.namespace ≡ ProcNamespace
@@ -119,6 +119,9 @@ session-row words = one-in (λ number. option_map Session (session_of number)) w
 put-row : (words : List (List ℕ)) → SaysInProc (on_two (λ word value. on_name (λ name. Put name value) word) words)
 put-row words = two-in (λ word value. on_name (λ name. Put name value) word) words (λ one two. map-in (λ name. Does (Put name two)) (name_of one) (λ name. tt))
 
+undo-row : (words : List (List ℕ)) → SaysInProc (on_one on_undo words)
+undo-row words = one-in on_undo words (λ one. map-in (λ number. Does (Undo number)) (commit_number_of one) (λ number. tt))
+
 cut-row : (words : List (List ℕ)) → SaysInProc (on_one (on_plain_name Cut) words)
 cut-row words = one-in (on_plain_name Cut) words (λ one. map-in (λ name. Does (Cut name)) (plain_name_of one) (λ name. tt))
 
@@ -127,7 +130,7 @@ IsRowInProc row = (words : List (List ℕ)) → SaysInProc (row.says words)
 
 rows-in : AllByRecursion IsRowInProc rows
 rows-in =
-    let waits : AllByRecursion IsRowInProc (drop 11 rows) = ((λ words. two-in on_watch words watch-in), ((λ words. none-in (Some (Does Poll)) words tt), tt)) in
+    let waits : AllByRecursion IsRowInProc (drop 11 rows) = ((λ words. two-in on_watch words watch-in), ((λ words. none-in (Some (Does Poll)) words tt), (undo-row, tt))) in
     let keys : AllByRecursion IsRowInProc (drop 7 rows) = (cut-row, (name-row Look, (name-row Set, ((λ words. three-in on_merge words merge-in), waits)))) in
     let steps : AllByRecursion IsRowInProc (drop 3 rows) = (name-row Get, (put-row, (λ words. three-in on_meta words meta-in, (name-row Del, keys)))) in
     (λ words. three-in on_proc words proc-in, (session-row, (λ words. none-in (Some Phase) words tt, steps)))

@@ -24,3 +24,11 @@ largest_watch_room = 4096
 -- a word that says how many changes a watch has room for
 abbrev pub watch_room_of : List ℕ → Option ℕ
 watch_room_of word = count_of largest_watch_room word
+
+-- the largest number of a commit that a script can say
+abbrev pub largest_commit_number : ℕ
+largest_commit_number = 1000000000
+
+-- a word that numbers a commit
+abbrev pub commit_number_of : List ℕ → Option ℕ
+commit_number_of word = count_of largest_commit_number word

@@ -6,12 +6,12 @@ use Rattle.key_merge.specs.Strategies.{strategy_of}
 use Rattle.model_names.specs.declared.namespaces.Namespace.TheVariants.{Cascading, Proc as ProcNamespace}
 use Rattle.model_names.specs.Name.{Name, rank}
 use Rattle.model_names.specs.NameOf.{name_of}
-use Rattle.batch_script.specs.Counts.{count_of, tries_of, watch_room_of}
+use Rattle.batch_script.specs.Counts.{commit_number_of, count_of, tries_of, watch_room_of}
 use Rattle.batch_script.specs.MetaTests.{is_meta}
 use Rattle.batch_script.specs.declared.items.Item.{Item}
 use Rattle.batch_script.specs.declared.items.Item.TheVariants.{Proc, Session, Phase, Does}
 use Rattle.batch_script.specs.declared.steps.Step.{Step}
-use Rattle.batch_script.specs.declared.steps.Step.TheVariants.{Get, Put, MetaStep, Del, Cut, Look, Set, Merge, Watch, Poll}
+use Rattle.batch_script.specs.declared.steps.Step.TheVariants.{Get, Put, MetaStep, Del, Cut, Look, Set, Merge, Watch, Poll, Undo}
 
 -- the most sessions of a script
 abbrev pub most_sessions : ℕ
@@ -57,6 +57,10 @@ watch_of parent room = option_map (λ most. Does (Watch parent most)) (watch_roo
 
 abbrev pub on_watch : List ℕ → List ℕ → Option Item
 on_watch word room = option_and_then (λ parent. watch_of parent room) (name_of word)
+
+-- one that takes a numbered commit back
+abbrev pub on_undo : List ℕ → Option Item
+on_undo word = option_map (λ number. Does (Undo number)) (commit_number_of word)
 
 -- the handle of a numbered session is opened with a key
 abbrev pub on_proc : List ℕ → List ℕ → List ℕ → Option Item
@@ -109,6 +113,7 @@ rows =
     ∷ row (codes "merge") (on_three on_merge)
     ∷ row (codes "watch") (on_two on_watch)
     ∷ row (codes "poll") (on_none (Some (Does Poll)))
+    ∷ row (codes "undo") (on_one on_undo)
     ∷ []
 
 -- what the words behind a first word say, if they say something

@@ -1,9 +1,10 @@
 //! Words that count.
 ghost use Rattle.std.specs.Prelude.{◌≡◌, ◌≤◌, IfSome};
 ghost use Rattle.model_names.specs.ArrayPart.{are_digits, has_leading_zero};
-ghost use Rattle.batch_script.specs.Counts.{count_of, tries_of, watch_room_of};
+ghost use Rattle.batch_script.specs.Counts.{commit_number_of, count_of, tries_of, watch_room_of};
 ghost use Rattle.batch_script.specs.Rows.{most_sessions, session_of};
 
+use crate::commit_numbers::{CommitNumber, LARGEST_COMMIT_NUMBER};
 use crate::tries::{MOST_TRIES, Tries};
 use crate::watch_rooms::{LARGEST_WATCH_ROOM, WatchRoom};
 
@@ -34,6 +35,16 @@ pub fn watch_room_of(word: &str) -> Option<WatchRoom>
 {
     match count_of(LARGEST_WATCH_ROOM, word) {
         Some(count) => WatchRoom::new(count),
+        None => None,
+    }
+}
+
+/// The number of a commit, by a word.
+pub fn commit_number_of(word: &str) -> Option<CommitNumber>
+    ensures { result ≡ commit_number_of word.now }
+{
+    match count_of(LARGEST_COMMIT_NUMBER, word) {
+        Some(count) => CommitNumber::new(count),
         None => None,
     }
 }

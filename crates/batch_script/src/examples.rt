@@ -2,9 +2,9 @@
 ghost use Rattle.std.specs.Prelude.{◌≡◌, [], ◌∷◌, codes, false, true, None, Some};
 ghost use Rattle.model_names.specs.declared.namespaces.Namespace.TheVariants.{Cascading, User, Proc as ProcNamespace};
 ghost use Rattle.batch_script.specs.declared.items.Item.TheVariants.{Proc, Session, Phase as PhaseEnd, Does};
-ghost use Rattle.batch_script.specs.declared.steps.Step.TheVariants.{Get, Set, Merge, Poll, Watch};
+ghost use Rattle.batch_script.specs.declared.steps.Step.TheVariants.{Get, Set, Merge, Poll, Undo, Watch};
 ghost use Rattle.key_merge.specs.declared.strategies.Strategy.TheVariants.{Our};
-ghost use Rattle.batch_script.specs.Counts.{tries_of, watch_room_of};
+ghost use Rattle.batch_script.specs.Counts.{commit_number_of, tries_of, watch_room_of};
 ghost use Rattle.batch_script.specs.Letters.{written_at};
 ghost use Rattle.batch_script.specs.Rows.{merge_of, said, session_of, watch_of};
 ghost use Rattle.batch_script.specs.Places.{may_follow};
@@ -38,6 +38,15 @@ pub fn watches_have_room_for_1_to_4096_changes()
     ensures leading_zero { watch_room_of (codes "01") ≡ None }
 {}
 
+/// A commit that is taken back is numbered from 1 to 1,000,000,000.
+pub fn commits_are_numbered_from_1_to_1000000000()
+    ensures first { commit_number_of (codes "1") ≡ Some 1 }
+    ensures largest { commit_number_of (codes "1000000000") ≡ Some 1000000000 }
+    ensures none { commit_number_of (codes "0") ≡ None }
+    ensures too_large { commit_number_of (codes "1000000001") ≡ None }
+    ensures leading_zero { commit_number_of (codes "01") ≡ None }
+{}
+
 /// Words say what their row says. A step that no row has says nothing.
 pub fn words_say_what_their_row_says()
     ensures session { said (codes "session" ∷ codes "3" ∷ []) ≡ Some (Session 3) }
@@ -56,6 +65,9 @@ pub fn words_say_what_their_row_says()
     ensures room_left_out { said (codes "watch" ∷ codes "/" ∷ []) ≡ None }
     ensures poll { said (codes "poll" ∷ []) ≡ Some (Does Poll) }
     ensures polled_parent { said (codes "poll" ∷ codes "/" ∷ []) ≡ None }
+    ensures undo { said (codes "undo" ∷ codes "7" ∷ []) ≡ Some (Does (Undo 7)) }
+    ensures undo_left_out { said (codes "undo" ∷ []) ≡ None }
+    ensures undo_of_two { said (codes "undo" ∷ codes "1" ∷ codes "2" ∷ []) ≡ None }
 {}
 
 /// In quotes a byte is written as it is or by an escape. A control byte is not.

@@ -1,6 +1,7 @@
 //! Scripts of a batch: which sessions take which steps in which phase.
 #![tactic(auto)]
 
+mod commit_numbers;
 mod counts;
 mod examples;
 mod faults;
@@ -16,9 +17,11 @@ mod tries;
 mod watch_rooms;
 mod words;
 
+pub use commit_numbers::{CommitNumber, LARGEST_COMMIT_NUMBER};
 pub use counts::count_of;
 pub use examples::{
-    bytes_are_written_in_quotes, lines_have_their_places, merges_are_tried_from_1_to_100000_times,
+    bytes_are_written_in_quotes, commits_are_numbered_from_1_to_1000000000,
+    lines_have_their_places, merges_are_tried_from_1_to_100000_times,
     sessions_are_numbered_from_1_to_32, sessions_ascend_in_a_phase,
     watches_have_room_for_1_to_4096_changes, words_say_what_their_row_says,
 };

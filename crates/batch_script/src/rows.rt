@@ -2,11 +2,11 @@
 ghost use Rattle.std.specs.Prelude.{◌≡◌, Some, IfOk, IfSome};
 ghost use Rattle.std.specs.Option.{option_map};
 ghost use Rattle.model_names.specs.NameOf.{name_of};
-ghost use Rattle.batch_script.specs.Rows.{is_cascading, merge_of, on_merge, on_meta, on_name, on_none, on_one, on_plain_name, on_proc, on_three, on_two, on_watch, plain_name_of, proc_name_of, rows, said, said_by, session_of, watch_of, IsNumbered};
+ghost use Rattle.batch_script.specs.Rows.{is_cascading, merge_of, on_merge, on_meta, on_name, on_none, on_one, on_plain_name, on_proc, on_three, on_two, on_undo, on_watch, plain_name_of, proc_name_of, rows, said, said_by, session_of, watch_of, IsNumbered};
 ghost use Rattle.batch_script.specs.declared.items.Item.TheVariants.{Does, Session, Phase as PhaseEnd};
 ghost use Rattle.batch_script.specs.declared.steps.Step.TheVariants as steps;
 
-use crate::counts::{session_of, tries_of, watch_room_of};
+use crate::counts::{commit_number_of, session_of, tries_of, watch_room_of};
 use crate::items::Item;
 use crate::meta_words::MetaWord;
 use crate::steps::{ProcLine, Step};
@@ -46,6 +46,7 @@ fn said_behind(alloc: Global, first: &str, words: &[Text]) -> Result<Option<Item
         "merge" => merge(alloc, words),
         "watch" => watch(alloc, words),
         "poll" => Ok(poll(words)),
+        "undo" => Ok(undo(words)),
         _ => Ok(None),
     }
 }
@@ -267,6 +268,20 @@ fn poll(words: &[Text]) -> Option<Item>
         Some(Item::Does(Step::Poll))
     } else {
         None
+    }
+}
+
+/// The words behind `undo`.
+fn undo(words: &[Text]) -> Option<Item>
+    ensures said { result ≡ on_one on_undo words.now }
+    ensures numbered { IfSome result IsNumbered }
+{
+    let [word] = words else {
+        return None;
+    };
+    match commit_number_of(word.as_str()) {
+        Some(number) => Some(Item::Does(Step::Undo { number })),
+        None => None,
     }
 }
 

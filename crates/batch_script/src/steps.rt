@@ -1,5 +1,5 @@
 //! What a script says: the keys that handles are opened with, and phase by phase the steps of the sessions that have some.
-use crate::{MetaWord, Tries, WatchRoom};
+use crate::{CommitNumber, MetaWord, Tries, WatchRoom};
 use key_merge::Strategy;
 use key_meta::{List, Text};
 use key_name::KeyName;
@@ -60,6 +60,10 @@ pub enum Step {
     },
     /// Asks what changed there since the watch began or was asked last.
     Poll,
+    /// Takes a commit back, by a commit of its own. The working set becomes what was set.
+    Undo {
+        number: CommitNumber,
+    },
 }
 
 /// The steps of a session in a phase, at least one.

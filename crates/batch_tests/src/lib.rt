@@ -8,4 +8,6 @@ mod merges;
 #[cfg(test)]
 mod sessions;
 #[cfg(test)]
+mod undos;
+#[cfg(test)]
 mod watches;

@@ -59,6 +59,7 @@ module _ (formats : Formats) {D P : Type 0} (g : Ghosts D) (code : Coded D) (ref
   pub stands_in : StandsIn formats (store_at files) core records known world
   stands_in = record {
     files = subst (λ (fs : List MountedFile). HaveFiles (over (λ file. file.mount) fs)) may.opening may.shared.files;
+    start = may.shared.start ∙ ap visible_keys may.opening;
     stands = record {
       history = may.shared.history ∙ rest_is;
       keys = may.shared.keys ∙ ap₂ (λ (fs : List MountedFile) (cs : List Commit). replay (visible_keys fs) cs) may.opening rest_is;

@@ -102,7 +102,7 @@ cover-got store files history number handle parent old new (Ok got) gives covers
 cover-got store files history number handle parent old new (Err why) refused covers = subst (λ (r : Record). Cover number history (front_in r)) (sym refused.1) covers
 
 -- a turn without a commit
-same-history : (number : ℕ) (history more : List Commit) (fronts : Fronts) → more ≡ [] → Cover number history fronts → Cover number (history ++ more) fronts
+pub same-history : (number : ℕ) (history more : List Commit) (fronts : Fronts) → more ≡ [] → Cover number history fronts → Cover number (history ++ more) fronts
 same-history number history more fronts none covers = subst (λ (l : List Commit). Cover number l fronts) (sym (append-nil history) ∙ ap (λ (l : List Commit). history ++ l) (sym none)) covers
 
 pub cover-judged : (store : Store) (history : List Commit) (number : ℕ) (set : sets.Prepared) (rec : Record) (result : Result Done CommitFault) → Cover number history (front_in rec)

@@ -15,6 +15,7 @@ use Rattle.kdb_handle.specs.Story.{Told, Opening, Committed, Failed, Refused, ma
 use Rattle.kdb_handle.specs.Stores.{IsHandle}
 use Rattle.kdb_handle.specs.Sets.{IsDone, tells_refusal}
 use Rattle.kdb_handle.specs.Turns.{IsPrepared, MayCommit, told_by, is_refusal, record_by}
+use Rattle.kdb_handle.specs.UndoTurns.{MayUndo}
 use Rattle.model_store.proofs.Accepting.{put-here}
 use Rattle.kdb_handle.proofs.CoverLemmas.{cover-got, cover-judged, cover-seen}
 use Rattle.kdb_handle.proofs.RecordLemmas.{own_fronts, record-seen}
@@ -61,6 +62,7 @@ use Rattle.store_verdict.specs.Preparing.{IsMade, IsRefused as IsSetRefused}
 use Rattle.store_verdict.specs.declared.faults.PrepareFault.{PrepareFault}
 use Rattle.store_verdict.specs.declared.faults.PrepareFault.TheVariants as prepare_fault
 use Rattle.store_verdict.specs.PreparedView.{prepared_of}
+use Rattle.store_verdict.specs.ProcKeys.{AreProc}
 use Rattle.store_verdict.specs.RecordView.{handle_of, places_of, proc_of, record_of}
 use Rattle.store_verdict.specs.declared.prepared.Prepared.{Prepared}
 use Rattle.store_verdict.specs.declared.records.Record.{Record}
@@ -179,9 +181,9 @@ made-turn number told (inr one) = subst (λ (l : List Told). made_by maker_of nu
 
 -- a handle is one of its store's after a turn
 pub handle_moved : {F : Type 0} (lock : Place Told) (plan : Plan F) (old new : HandleValue) (found told : List Told) → IsHandle lock plan old → new.place ≡ old.place → new.number ≡ old.number → IsPrefix old.seen found
-    → made_by maker_of old.number found ≡ old.own → new.seen ≡ found ++ told → new.own ≡ old.own ++ told → IsOneTurn maker_of old.number told → places_of new.rec ≡ places_of old.rec
+    → made_by maker_of old.number found ≡ old.own → new.seen ≡ found ++ told → new.own ≡ old.own ++ told → IsOneTurn maker_of old.number told → places_of new.rec ≡ places_of old.rec → proc_of new.rec ≡ proc_of old.rec
     → IsRecord (store_at plan.mounted) (commits_of (found ++ told)) (front_in (record_of new.rec)) (record_of new.rec) → Cover old.number (commits_of (found ++ told)) (front_in (record_of new.rec)) → IsHandle lock plan new
-handle_moved lock plan old new found told is place number seen own sees gains one places keeps covers = record {
+handle_moved lock plan old new found told is place number seen own sees gains one places procs keeps covers = record {
   started = is.started;
   place = place ∙ is.place;
   begins = subst (λ (l : List Told). IsPrefix lock.start l) (sym sees) (prefix-more lock.start found told (prefix-trans lock.start old.seen found is.begins seen));
@@ -193,10 +195,11 @@ handle_moved lock plan old new found told is place number seen own sees gains on
   covers =
       subst (λ n. Cover n (commits_of new.seen) (front_in (record_of new.rec))) (sym number)
       (subst (λ (l : List Told). Cover old.number (commits_of l) (front_in (record_of new.rec))) (sym sees) covers);
+  procs = subst AreProc (sym procs) is.procs;
 }
 
 -- of an answer it matters alone whether the pattern was refused that it tells
-judged-as : (formats : Formats) (store : Store) (risen : Bool) (history : List past.Commit) (keys : KeyMap) (set : sets.Prepared) (result : Result Done CommitFault) → IsJudged formats store risen history keys set result → IsJudged formats store (tells_refusal result) history keys set result
+pub judged-as : (formats : Formats) (store : Store) (risen : Bool) (history : List past.Commit) (keys : KeyMap) (set : sets.Prepared) (result : Result Done CommitFault) → IsJudged formats store risen history keys set result → IsJudged formats store (tells_refusal result) history keys set result
 judged-as formats store risen history keys set (Ok (done.Committed number aside)) judged = judged
 judged-as formats store risen history keys set (Ok (done.Same front aside)) judged = judged
 judged-as formats store risen history keys set (Err (fault.Conflict mount by front)) judged = judged
@@ -236,6 +239,10 @@ module _ {D P : Type 0} (formats : Formats) (g : Ghosts D) (code : Coded D) (ref
   pub may_commit : (set : Prepared) → IsPrepared formats plan.mounted (handle_of old.rec) (record_of old.rec) set → MayCommit formats g code refused plan.mounted core entries found old.rec set
   may_commit set prepared = record { shared = shared; opening = opening; keeps = keeps; places = is.places; prepared = prepared }
 
+  -- and a commit may be taken back
+  pub may_undo : MayUndo formats g code refused plan.mounted core entries found old.rec
+  may_undo = record { shared = shared; opening = opening; keeps = keeps; places = is.places; procs = is.procs }
+
   -- what a commit did
   pub is_done : (new : HandleValue) (set : Prepared) (result : Result Done CommitFault) (told : List Told) → made_by maker_of old.number found ≡ old.own → told ≡ told_by (prepared_of set) result → new.seen ≡ found ++ told → new.own ≡ old.own ++ told
       → ((risen : Bool) × IsJudged formats (store_at plan.mounted) risen core.history.commits core.keys (prepared_of set) result)
@@ -273,6 +280,7 @@ handle_met lock plan old new is place number seen own rec within = record {
       subst (λ (r : Record). Cover new.number (commits_of new.seen) (front_in (record_of r))) (sym rec)
       (subst (λ n. Cover n (commits_of new.seen) (front_in (record_of old.rec))) (sym number)
       (cover-seen old.number old.seen new.seen (front_in (record_of old.rec)) seen (sym made ∙ is.own) is.covers));
+  procs = subst (λ (r : Record). AreProc (proc_of r)) (sym rec) is.procs;
 }
   where
     -- all that it made is seen
@@ -311,11 +319,11 @@ module _ {F : Type 0} (lock : Place Told) (plan : Plan F) (old : HandleValue) (s
 
   -- the handle behind its turn
   pub ended : (new : Record) (place : TableId) (number : ℕ) (found own told : List Told) (left : Known Told) → left ≡ knowledge place number (found ++ told) (own ++ told) → (place ≡ seat.place) × (number ≡ seat.number) × (own ≡ seat.own)
-      → IsPrefix seat.seen found → made_by maker_of seat.number found ≡ seat.own → IsOneTurn maker_of seat.number told → places_of new ≡ places_of rec
+      → IsPrefix seat.seen found → made_by maker_of seat.number found ≡ seat.own → IsOneTurn maker_of seat.number told → places_of new ≡ places_of rec → proc_of new ≡ proc_of rec
       → IsRecord (store_at plan.mounted) (commits_of (found ++ told)) (front_in (record_of new)) (record_of new) → Cover seat.number (commits_of (found ++ told)) (front_in (record_of new)) → IsHandle lock plan (handle_with (Some left) new)
-  ended new place number found own told left left_is same seen made one places kept covers =
+  ended new place number found own told left left_is same seen made one places procs kept covers =
       handle_moved lock plan taken (handle_with (Some left) new) found told taken_is (ap (λ (k : Known Told). k.place) left_is ∙ same.0) (ap (λ (k : Known Told). k.number) left_is ∙ same.1) seen made
-      (ap (λ (k : Known Told). k.seen) left_is) (ap (λ (k : Known Told). k.own) left_is ∙ ap (λ (l : List Told). l ++ told) same.2) one places kept covers
+      (ap (λ (k : Known Told). k.seen) left_is) (ap (λ (k : Known Told). k.own) left_is ∙ ap (λ (l : List Told). l ++ told) same.2) one places procs kept covers
 
   module _ {D P : Type 0} (formats : Formats) (g : Ghosts D) (code : Coded D) (refused : P → ℕ) (core : Core D P) (entries : ℕ) (found : List Told) (seen : IsPrefix seat.seen found) (shared : IsShared formats g code refused core entries found) where
     -- the clause of the core's get
@@ -332,7 +340,7 @@ module _ {F : Type 0} (lock : Place Told) (plan : Plan F) (old : HandleValue) (s
         get_keeps formats g code refused lock plan taken core entries found taken_is seen shared (λ r. proc_of rec) parent new result (has_got parent new result clause (λ r. proc_of rec) refl)
 
     -- the commits of the seat that the turn found are those that its handle had seen
-    covers_found : made_by maker_of seat.number found ≡ seat.own → Cover seat.number (commits_of found) (front_in (record_of rec))
+    pub covers_found : made_by maker_of seat.number found ≡ seat.own → Cover seat.number (commits_of found) (front_in (record_of rec))
     covers_found made = cover-seen seat.number seat.seen found (front_in (record_of rec)) seen (made ∙ taken_is.own) taken_is.covers
 
     -- a turn that looks at the commits alone leaves the record
@@ -340,7 +348,7 @@ module _ {F : Type 0} (lock : Place Told) (plan : Plan F) (old : HandleValue) (s
         → made_by maker_of seat.number found ≡ seat.own → told ≡ [] → IsHandle lock plan (handle_with (Some left) rec)
     looked place number own told left left_is same made none =
         let all : found ≡ found ++ told = sym (append-nil found) ∙ ap (λ (l : List Told). found ++ l) (sym none) in
-        ended rec place number found own told left left_is same seen made (inl none) refl
+        ended rec place number found own told left left_is same seen made (inl none) refl refl
         (subst (λ (l : List Told). IsRecord (store_at plan.mounted) (commits_of l) (front_in (record_of rec)) (record_of rec)) all
         (record-seen (store_at plan.mounted) (commits_of seat.seen) (commits_of found) (record_of rec) (commits-prefix seat.seen found seen) taken_is.keeps))
         (subst (λ (l : List Told). Cover seat.number (commits_of l) (front_in (record_of rec))) all (covers_found made))

@@ -6,7 +6,12 @@ pub mod CoverLemmas
 mod AcceptLemmas
 mod BelongLemmas
 mod SharedLemmas
+mod TurnLemmas
 mod HandleLemmas
+mod UndoLemmas
+mod UndoTurns
+mod UndoHandles
+mod UndoLaws
 pub mod BlockLemmas
 mod CloseLemmas
 mod RemakeLemmas

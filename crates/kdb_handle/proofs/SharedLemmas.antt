@@ -75,6 +75,7 @@ shared_first formats g code refused files held core same st =
       count = refl;
       files = st.files;
       history = st.stands.history;
+      start = st.start;
       keys = st.stands.keys;
       legal = st.stands.legal;
       journal = core.journal;
@@ -267,9 +268,9 @@ module _ (formats : Formats) {D P : Type 0} (g : Ghosts D) (code : Coded D) (ref
       → ((start : D) (run : Run) → Belongs formats g store start core recs sets_known (world formats g code refused files core entries log rec set may) run 0 rec set
       → HasAnswered formats g store start core after recs sets_known run 0 rec new set risen result)
       → GoesOn g core.journal.disk after.journal.disk → ((front : ℕ) → result ≡ Err (fault.DiskFault front) → HasRisen (g.faults core.journal.disk) (g.faults after.journal.disk))
-      → refused core.patterns ≤ refused after.patterns → RefusalClause result → UnwrittenClause result
+      → refused core.patterns ≤ refused after.patterns → RefusalClause result → UnwrittenClause result → after.start ≡ core.start
       → IsShared formats g code refused after count (log ++ told)
-  shared_next result told count told_is counted has answers goes cause more refusal unwritten =
+  shared_next result told count told_is counted has answers goes cause more refusal unwritten stays =
       let shared = may.shared in
       let w = world formats g code refused files core entries log rec set may in
       let on : Goes formats store w (event.Commit (handle_of rec) 0) has.answer next = follows formats store w old (event.Commit (handle_of rec) 0) has.answer next (stands_in formats g code refused files core entries log rec set may).stands has.is_made in
@@ -284,6 +285,7 @@ module _ (formats : Formats) {D P : Type 0} (g : Ghosts D) (code : Coded D) (ref
         count = omega (arith, counted, shared.count, length-append log told);
         files = shared.files;
         history = gained;
+        start = stays ∙ shared.start;
         keys = on.stands.keys ∙ ap₂ (λ (fs : List MountedFile) (cs : List past.Commit). replay (visible_keys fs) cs) (sym may.opening) past_is;
         legal = subst (λ (fs : List MountedFile). IsLegal formats (store_at fs) (commits_of (shared.rest ++ told))) (sym may.opening) (subst (λ (cs : List past.Commit). IsLegal formats store cs) past_is on.stands.legal);
         journal = shared.journal;
@@ -337,11 +339,11 @@ module _ (formats : Formats) {D P : Type 0} (g : Ghosts D) (code : Coded D) (ref
       → ((procs : ℕ → KeyMap) (start : D) (rs : ℕ → model.Record) (ss : ℕ → Option sets.Prepared) (w : World) (run : Run) (p : ℕ) → Belongs formats g (store_of files procs) start core rs ss w run p rec set
       → HasAnswered formats g (store_of files procs) start core after rs ss run p rec new set risen result)
       → GoesOn g core.journal.disk after.journal.disk → ((front : ℕ) → result ≡ Err (fault.DiskFault front) → HasRisen (g.faults core.journal.disk) (g.faults after.journal.disk))
-      → refused core.patterns ≤ refused after.patterns → RefusalClause result → UnwrittenClause result
+      → refused core.patterns ≤ refused after.patterns → RefusalClause result → UnwrittenClause result → after.start ≡ core.start
       → IsShared formats g code refused after count (log ++ told)
-  next_shared result told count told_is counted made answered goes cause more refusal unwritten =
+  next_shared result told count told_is counted made answered goes cause more refusal unwritten stays =
       shared_next result told count told_is (counted ∙ ap (λ (l : List Told). entries + length l) (sym told_is)) (made_here result made)
-      (λ start run b. answered (λ r. no_keys) start recs sets_known (world formats g code refused files core entries log rec set may) run 0 b) goes cause more refusal unwritten
+      (λ start run b. answered (λ r. no_keys) start recs sets_known (world formats g code refused files core entries log rec set may) run 0 b) goes cause more refusal unwritten stays
 
   pub next_kept : (result : Result Done CommitFault) (told : List Told) → told ≡ told_by now result → MadeClause result → IsRecord store (commits_of (log ++ told)) (front_in (record_of new)) (record_of new)
   next_kept result told told_is made = record_kept result told told_is (made_here result made)

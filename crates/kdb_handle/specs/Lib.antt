@@ -16,3 +16,5 @@ pub mod Sets
 pub mod Closing
 pub mod Remaking
 pub mod Merging
+pub mod Undoing
+pub mod UndoTurns

@@ -29,10 +29,10 @@ told_now (fresh.Committed set) = Committed (commit_of (prepared_of set.value)) �
 told_now (fresh.Failed set) = Failed (commit_of (prepared_of set.value)) ∷ []
 told_now (fresh.Refused set) = Refused (prepared_of set.value).handle ∷ []
 
--- A core with a count of entries stands for a story that begins with its opening. It has the history of the story, which is legal, and the keys
--- after it. The disk's count of faults rose by at least the sets that failed, and the matcher's count of refusals by at least those with a refused
--- pattern. Where no set was begun, the journal and its disk are as the opening left them. And for whatever run the journal stood at the opening, it
--- stands now for the run that went on by the story.
+-- A core with a count of entries stands for a story that begins with its opening. It has the history of the story, which is legal, the keys that the
+-- opening found, and the keys after the history. The disk's count of faults rose by at least the sets that failed, and the matcher's count of refusals
+-- by at least those with a refused pattern. Where no set was begun, the journal and its disk are as the opening left them. And for whatever run the
+-- journal stood at the opening, it stands now for the run that went on by the story.
 pub record IsShared (formats : Formats) {D P : Type 0} (g : Ghosts D) (code : Coded D) (refused : P → ℕ) (core : Core D P) (entries : ℕ) (log : List Told) : Type 0 where
   pub opening : Opening
   pub rest : List Told
@@ -40,6 +40,7 @@ pub record IsShared (formats : Formats) {D P : Type 0} (g : Ghosts D) (code : Co
   pub count : entries ≡ length log
   pub files : HaveFiles (over (λ file. file.mount) opening.files)
   pub history : core.history.commits ≡ commits_of rest
+  pub start : core.start ≡ visible_keys opening.files
   pub keys : core.keys ≡ replay (visible_keys opening.files) (commits_of rest)
   pub legal : IsLegal formats (store_at opening.files) (commits_of rest)
   pub journal : JournalValue D

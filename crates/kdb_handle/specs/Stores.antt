@@ -10,7 +10,8 @@ use Rattle.model_store.specs.Sets.{front_in}
 use Rattle.seat_lock.specs.Known.{Known, Place, knowledge}
 use Rattle.seat_lock.specs.Story.{made_by}
 use Rattle.store_core.specs.declared.cores.Plan.{Plan}
-use Rattle.store_verdict.specs.RecordView.{places_of, record_of}
+use Rattle.store_verdict.specs.ProcKeys.{AreProc}
+use Rattle.store_verdict.specs.RecordView.{places_of, proc_of, record_of}
 
 -- the story began with the opening of the plan's own files
 pub record IsStarted {F : Type 0} (lock : Place Told) (plan : Plan F) : Type 0 where
@@ -18,7 +19,7 @@ pub record IsStarted {F : Type 0} (lock : Place Told) (plan : Plan F) : Type 0 w
   pub files : (opening_in lock.start).files ≡ plan.mounted
 
 -- A handle of a store: it has seen the opening at least. What it made is what it has seen of its number. Its record is that of its fronts in the history that
--- it has seen, so it stays so when the handle sees more; and these fronts cover the handle's own commits
+-- it has seen, so it stays so when the handle sees more; and these fronts cover the handle's own commits. Its own keys are in `proc`
 pub record IsHandle {F : Type 0} (lock : Place Told) (plan : Plan F) (handle : HandleValue) : Type 0 where
   pub started : IsStarted lock plan
   pub place : handle.place ≡ lock.place
@@ -27,6 +28,7 @@ pub record IsHandle {F : Type 0} (lock : Place Told) (plan : Plan F) (handle : H
   pub places : length plan.mounted ≤ places_of handle.rec
   pub keeps : IsRecord (store_at plan.mounted) (commits_of handle.seen) (front_in (record_of handle.rec)) (record_of handle.rec)
   pub covers : Cover handle.number (commits_of handle.seen) (front_in (record_of handle.rec))
+  pub procs : AreProc (proc_of handle.rec)
 
 -- The seats that no handle has yet, by their numbers: the last ones of the lock, each of which has seen the opening and made nothing. Where they
 -- stand is room for all seats again

@@ -1,6 +1,6 @@
 //! What the steps of a batch's sessions answer.
 
-use crate::{MergeFault, Merging, SetFault};
+use crate::{MergeFault, Merging, SetFault, UndoFault};
 use key_meta::{List, Text};
 use key_name::KeyName;
 use mounted_files::GetFault;
@@ -27,6 +27,8 @@ pub enum Reply {
     News(News),
     /// Nothing is watched that could be asked.
     NoWatch,
+    Undone(Done),
+    UndoRefused(UndoFault),
     /// Want of memory. The step did nothing.
     Memory,
 }

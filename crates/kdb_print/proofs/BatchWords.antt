@@ -11,9 +11,11 @@ use Rattle.kdb_handle.specs.declared.merging.MergeEnd.{MergeEnd}
 use Rattle.kdb_handle.specs.declared.merging.MergeEnd.TheVariants as merge_end
 use Rattle.kdb_handle.specs.declared.merging.Tried.{Tried}
 use Rattle.kdb_handle.specs.declared.replies.Reply.{Reply}
-use Rattle.kdb_handle.specs.declared.replies.Reply.TheVariants.{Got, GetRefused, Quiet, LookFound, LookNone, SetDone, SetRefused, Merged, MergeRefused, Watching, News, NoWatch, Memory}
+use Rattle.kdb_handle.specs.declared.replies.Reply.TheVariants.{Got, GetRefused, Quiet, LookFound, LookNone, SetDone, SetRefused, Merged, MergeRefused, Watching, News, NoWatch, Undone, UndoRefused, Memory}
+use Rattle.kdb_handle.specs.declared.undoing.UndoFault.{UndoFault}
+use Rattle.kdb_handle.specs.declared.undoing.UndoFault.TheVariants as undoing
 use Rattle.kdb_print.proofs.OnceLemmas.{changed-once, reply-once, try-once}
-use Rattle.kdb_print.proofs.ReplyWords.{changes_of, end_kind, kind, kind_of, reply-HasWords, reply-kind, reply-spells, words_of, words_of_changed, words_of_lines, words_of_try}
+use Rattle.kdb_print.proofs.ReplyWords.{changes_of, end_kind, kind, kind_of, reply-HasWords, reply-kind, reply-spells, undo_kind, words_of, words_of_changed, words_of_lines, words_of_try}
 use Rattle.kdb_print.proofs.Words.{AllSpell, AllSpell-append, HasWords, Line, line_at, number-IsWord, numbers_test, words-append}
 use Rattle.kdb_print.specs.Printed.{lines_of_phases, lines_of_sessions}
 use Rattle.kdb_print.specs.Replies.{lines_of_reply}
@@ -73,15 +75,20 @@ phases-HasWords number (phase ∷ phases) (replies ∷ rest) =
 -- lines of which the first begins a session, a phase or the history
 abbrev pub Begins : List Line → Type 0
 Begins [] = Unit {0}
-Begins (line ∷ lines) = kind_of line ≡ 10
+Begins (line ∷ lines) = kind_of line ≡ 11
 
-end_small : (end : MergeEnd) → end_kind end ≤ 9
+end_small : (end : MergeEnd) → end_kind end ≤ 10
 end_small (merge_end.MergeConflicts names) = omega arith
 end_small (merge_end.TriesSpent mount by front) = omega arith
 end_small (merge_end.Set fault) = omega arith
 end_small merge_end.Memory = omega arith
 
-kind_small : (reply : Reply) → kind reply ≤ 9
+undo_small : (fault : UndoFault) → undo_kind fault ≤ 10
+undo_small (undoing.NoCommit number front) = omega arith
+undo_small (undoing.Overtaken name by front) = omega arith
+undo_small fault = omega arith
+
+kind_small : (reply : Reply) → kind reply ≤ 10
 kind_small (Got front count) = omega arith
 kind_small (LookFound name value) = omega arith
 kind_small LookNone = omega arith
@@ -93,16 +100,18 @@ kind_small (MergeRefused fault) = end_small fault.end
 kind_small (Watching front) = omega arith
 kind_small (News news) = omega arith
 kind_small NoWatch = omega arith
+kind_small (Undone done) = omega arith
+kind_small (UndoRefused fault) = undo_small fault
 kind_small Memory = omega arith
 kind_small Quiet = omega arith
 
 -- a last line of a reply begins nothing, and is no try and no change
-last_small : (reply : Reply) → kind_of (words_of reply) ≤ 9
+last_small : (reply : Reply) → kind_of (words_of reply) ≤ 10
 last_small reply = let is = reply-kind reply in let small = kind_small reply in omega arith
 
-not_begun : (tried : List Tried) (last : Line) (lines : List Line) → kind_of last ≤ 9 → Begins (over words_of_try tried ++ last ∷ lines) → ⊥
+not_begun : (tried : List Tried) (last : Line) (lines : List Line) → kind_of last ≤ 10 → Begins (over words_of_try tried ++ last ∷ lines) → ⊥
 not_begun [] last lines small begins = omega arith
-not_begun (item ∷ tried) last lines small begins = numbers_test 11 10 begins
+not_begun (item ∷ tried) last lines small begins = numbers_test 12 11 begins
 
 -- the lines of a reply and what stands behind them: its tries, its last line, its changes, and the others
 lines-behind : (reply : Reply) (others rest : List Line)
@@ -117,14 +126,14 @@ no_reply reply replies s t begins e =
     not_begun (tries_of reply) (words_of reply) (over words_of_changed (changes_of reply) ++ (flat_map words_of_lines replies ++ t)) (last_small reply) (subst Begins (e ∙ lines-behind reply (flat_map words_of_lines replies) t) begins)
 
 -- where the tries of a merge end
-tries-cut : (xs ys : List Tried) (l m : Line) (s t : List Line) → AllByRecursion IsTry xs → AllByRecursion IsTry ys → kind_of l ≤ 9 → kind_of m ≤ 9 → over words_of_try xs ++ l ∷ s ≡ over words_of_try ys ++ m ∷ t → (xs ≡ ys) × (l ≡ m) × (s ≡ t)
+tries-cut : (xs ys : List Tried) (l m : Line) (s t : List Line) → AllByRecursion IsTry xs → AllByRecursion IsTry ys → kind_of l ≤ 10 → kind_of m ≤ 10 → over words_of_try xs ++ l ∷ s ≡ over words_of_try ys ++ m ∷ t → (xs ≡ ys) × (l ≡ m) × (s ≡ t)
 tries-cut [] [] l m s t hs ks p q e = (refl, ap (line_at 0) e, ap (drop 1) e)
 tries-cut [] (y ∷ ys) l m s t hs ks p q e =
     let first : l ≡ words_of_try y = ap (line_at 0) e in
-    let tried : kind_of l ≡ 11 = ap kind_of first in absurd (omega arith)
+    let tried : kind_of l ≡ 12 = ap kind_of first in absurd (omega arith)
 tries-cut (x ∷ xs) [] l m s t hs ks p q e =
     let first : m ≡ words_of_try x = ap (line_at 0) (sym e) in
-    let tried : kind_of m ≡ 11 = ap kind_of first in absurd (omega arith)
+    let tried : kind_of m ≡ 12 = ap kind_of first in absurd (omega arith)
 tries-cut (x ∷ xs) (y ∷ ys) l m s t hs ks p q e =
     let first = try-once x y hs.0 ks.0 (ap (line_at 0) e) in
     let rest = tries-cut xs ys l m s t hs.1 ks.1 p q (ap (drop 1) e) in
@@ -138,7 +147,7 @@ tries-all reply is = tt
 -- lines of which the first is no change
 abbrev NoChanged : List Line → Type 0
 NoChanged [] = Unit {0}
-NoChanged (line ∷ lines) = kind_of line ≤ 11
+NoChanged (line ∷ lines) = kind_of line ≤ 12
 
 -- where the changes of a poll end
 changes-cut : (xs ys : List Changed) (s t : List Line) → AllByRecursion IsChanged xs → AllByRecursion IsChanged ys → NoChanged s → NoChanged t → over words_of_changed xs ++ s ≡ over words_of_changed ys ++ t → (xs ≡ ys) × (s ≡ t)
@@ -146,11 +155,11 @@ changes-cut [] [] s t hs ks p q e = (refl, e)
 changes-cut [] (y ∷ ys) [] t hs ks p q e = absurd cc
 changes-cut [] (y ∷ ys) (line ∷ s) t hs ks p q e =
     let first : line ≡ words_of_changed y = ap (line_at 0) e in
-    let told : kind_of line ≡ 12 = ap kind_of first in absurd (omega arith)
+    let told : kind_of line ≡ 13 = ap kind_of first in absurd (omega arith)
 changes-cut (x ∷ xs) [] s [] hs ks p q e = absurd cc
 changes-cut (x ∷ xs) [] s (line ∷ t) hs ks p q e =
     let first : line ≡ words_of_changed x = ap (line_at 0) (sym e) in
-    let told : kind_of line ≡ 12 = ap kind_of first in absurd (omega arith)
+    let told : kind_of line ≡ 13 = ap kind_of first in absurd (omega arith)
 changes-cut (x ∷ xs) (y ∷ ys) s t hs ks p q e =
     let first = changed-once x y hs.0 ks.0 (ap (line_at 0) e) in
     let rest = changes-cut xs ys s t hs.1 ks.1 p q (ap (drop 1) e) in
@@ -161,9 +170,9 @@ changes-all (News news) is = is.2
 changes-all reply is = tt
 
 -- neither a reply nor what begins something begins with a change
-tries-first : (tried : List Tried) (last : Line) (lines : List Line) → kind_of last ≤ 9 → NoChanged (over words_of_try tried ++ last ∷ lines)
+tries-first : (tried : List Tried) (last : Line) (lines : List Line) → kind_of last ≤ 10 → NoChanged (over words_of_try tried ++ last ∷ lines)
 tries-first [] last lines small = omega (arith, small)
-tries-first (item ∷ tried) last lines small = let is : kind_of (words_of_try item) ≡ 11 = refl in omega (arith, is)
+tries-first (item ∷ tried) last lines small = let is : kind_of (words_of_try item) ≡ 12 = refl in omega (arith, is)
 
 replies-first : (replies : List Reply) (s : List Line) → Begins s → NoChanged (flat_map words_of_lines replies ++ s)
 replies-first [] [] begins = tt

@@ -12,9 +12,9 @@ use Rattle.batch_script.specs.declared.steps.Steps.{Steps}
 use Rattle.kdb_handle.specs.declared.merging.Tried.{Tried}
 use Rattle.kdb_handle.specs.declared.replies.Reply.{Reply}
 use Rattle.kdb_handle.specs.declared.replies.Reply.TheVariants.{Memory}
-use Rattle.kdb_print.proofs.WholeLemmas.{memory-told_of, merge_where, quiet_is, reply-same, told-line, told-quiet, wants_memory}
+use Rattle.kdb_print.proofs.WholeLemmas.{memory-told_of, quiet_is, reply-same, told-line, told-quiet, wants_memory}
 use Rattle.kdb_print.specs.Replies.{is_memory}
-use Rattle.kdb_print.specs.Reading.{AreOfPhases, AreOfSessions, AreOfSteps, EditAll, IsReplyTo, StandAt, edits, is_quiet, last_of, merges, said_of, told, told_of, tries_of}
+use Rattle.kdb_print.specs.Reading.{AreOfPhases, AreOfSessions, AreOfSteps, EditAll, IsReplyTo, StandAt, edits, is_quiet, last_of, said_of, told, told_of, tries_of}
 
 -- ---- each line is known to be whose
 
@@ -103,7 +103,7 @@ said-same step x y of also same =
           let one = cond-false (is_memory x) Memory (last_of x) no_memory in
           let other = cond-false (is_memory y) Memory (last_of y) none in
           let last : last_of x ≡ last_of y = sym one ∙ (ap (λ said. said.1) same ∙ other) in
-          ap said_of (reply-same x y (merges step) (merge_where step x of no_memory) (merge_where step y also none) tries last)
+          ap said_of (reply-same step x y of also no_memory none tries last)
     ]
 
 steps-exact : (steps : List Step) (xs ys : List Reply) → AreOfSteps steps xs → AreOfSteps steps ys → EditAll steps xs → EditAll steps ys → told xs ≡ told ys → over said_of xs ≡ over said_of ys

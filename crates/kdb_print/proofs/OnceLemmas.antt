@@ -6,12 +6,14 @@ use Rattle.kdb_handle.specs.declared.merging.MergeEnd.{MergeEnd}
 use Rattle.kdb_handle.specs.declared.merging.MergeEnd.TheVariants as merge_end
 use Rattle.kdb_handle.specs.declared.merging.Tried.{Tried}
 use Rattle.kdb_handle.specs.declared.replies.Reply.{Reply}
-use Rattle.kdb_handle.specs.declared.replies.Reply.TheVariants.{Got, GetRefused, Quiet, LookFound, LookNone, SetDone, SetRefused, Merged, MergeRefused, Watching, News, NoWatch, Memory}
+use Rattle.kdb_handle.specs.declared.replies.Reply.TheVariants.{Got, GetRefused, Quiet, LookFound, LookNone, SetDone, SetRefused, Merged, MergeRefused, Watching, News, NoWatch, Undone, UndoRefused, Memory}
 use Rattle.kdb_handle.specs.declared.setting.SetFault.TheVariants.{Prepare, Commit}
-use Rattle.kdb_print.proofs.ReplyWords.{changes_of, kind, kind_of, reply-kind, tag_of, words_of, words_of_changed, words_of_commit, words_of_done, words_of_end, words_of_get, words_of_prepare, words_of_table, words_of_try}
+use Rattle.kdb_handle.specs.declared.undoing.UndoFault.{UndoFault}
+use Rattle.kdb_handle.specs.declared.undoing.UndoFault.TheVariants as undoing
+use Rattle.kdb_print.proofs.ReplyWords.{changes_of, kind, kind_of, reply-kind, tag_of, undo_kind, words_of, words_of_changed, words_of_commit, words_of_done, words_of_end, words_of_get, words_of_prepare, words_of_table, words_of_try}
 use Rattle.kdb_print.proofs.Words.{names-once, numbers_test, word_at}
 use Rattle.kdb_print.specs.Replies.{end_wants_memory, sign_of}
-use Rattle.kdb_print.specs.Reading.{IsChanged, IsCommitFault, IsDone, IsEnd, IsGetFault, IsPrepareFault, IsReply, IsTableFault, IsTry, is_merge, last_of_end, told_last}
+use Rattle.kdb_print.specs.Reading.{IsChanged, IsCommitFault, IsDone, IsEnd, IsGetFault, IsPrepareFault, IsReply, IsTableFault, IsTry, is_merge, last_of_end, last_of_undo, told_last}
 use Rattle.model_quoting.proofs.AlikeLemmas.{quoted-once, shown-once}
 use Rattle.mount_table.specs.declared.faults.TableFault.{TableFault}
 use Rattle.mount_table.specs.declared.faults.TableFault.TheVariants as table
@@ -198,7 +200,65 @@ commit_or_memory a same = absurd (numbers_test (tag_of (words_of_commit a)) 0 sa
 
 -- ---- replies to other steps than merges
 
-of_kind : (a b : Reply) → is_merge a ≡ false → is_merge b ≡ false → IsReply a → IsReply b → words_of a ≡ words_of b → changes_of a ≡ changes_of b → kind a ≡ kind b → told_last a ≡ told_last b
+-- what an undo answers, as the get or the set that its line tells where it tells one
+abbrev bare : Reply → Reply
+bare (Undone done) = SetDone done
+bare (UndoRefused fault) = last_of_undo fault
+bare reply = reply
+
+-- a reply that is none to a merge, and is so already
+abbrev is_bare : Reply → Bool
+is_bare (Merged merging) = false
+is_bare (MergeRefused fault) = false
+is_bare (Undone done) = false
+is_bare (UndoRefused (undoing.Get fault)) = false
+is_bare (UndoRefused (undoing.Set fault)) = false
+is_bare (UndoRefused undoing.Memory) = false
+is_bare reply = true
+
+bare-is_bare : (reply : Reply) → is_merge reply ≡ false → is_bare (bare reply) ≡ true
+bare-is_bare (Merged merging) plain = absurd cc
+bare-is_bare (MergeRefused fault) plain = absurd cc
+bare-is_bare (UndoRefused (undoing.NoCommit number front)) plain = refl
+bare-is_bare (UndoRefused (undoing.Overtaken name by front)) plain = refl
+bare-is_bare (UndoRefused (undoing.Get fault)) plain = refl
+bare-is_bare (UndoRefused (undoing.Set fault)) plain = refl
+bare-is_bare (UndoRefused undoing.Memory) plain = refl
+bare-is_bare reply plain = refl
+
+bare-is : (reply : Reply) → IsReply reply → IsReply (bare reply)
+bare-is (UndoRefused (undoing.NoCommit number front)) is = is
+bare-is (UndoRefused (undoing.Overtaken name by front)) is = is
+bare-is (UndoRefused (undoing.Get fault)) is = is
+bare-is (UndoRefused (undoing.Set fault)) is = is
+bare-is (UndoRefused undoing.Memory) is = is
+bare-is reply is = is
+
+bare-words : (reply : Reply) → words_of (bare reply) ≡ words_of reply
+bare-words (UndoRefused (undoing.NoCommit number front)) = refl
+bare-words (UndoRefused (undoing.Overtaken name by front)) = refl
+bare-words (UndoRefused (undoing.Get fault)) = refl
+bare-words (UndoRefused (undoing.Set fault)) = refl
+bare-words (UndoRefused undoing.Memory) = refl
+bare-words reply = refl
+
+bare-changes : (reply : Reply) → changes_of (bare reply) ≡ changes_of reply
+bare-changes (UndoRefused (undoing.NoCommit number front)) = refl
+bare-changes (UndoRefused (undoing.Overtaken name by front)) = refl
+bare-changes (UndoRefused (undoing.Get fault)) = refl
+bare-changes (UndoRefused (undoing.Set fault)) = refl
+bare-changes (UndoRefused undoing.Memory) = refl
+bare-changes reply = refl
+
+bare-told : (reply : Reply) → told_last (bare reply) ≡ told_last reply
+bare-told (UndoRefused (undoing.NoCommit number front)) = refl
+bare-told (UndoRefused (undoing.Overtaken name by front)) = refl
+bare-told (UndoRefused (undoing.Get fault)) = refl
+bare-told (UndoRefused (undoing.Set fault)) = refl
+bare-told (UndoRefused undoing.Memory) = refl
+bare-told reply = refl
+
+of_kind : (a b : Reply) → is_bare a ≡ true → is_bare b ≡ true → IsReply a → IsReply b → words_of a ≡ words_of b → changes_of a ≡ changes_of b → kind a ≡ kind b → told_last a ≡ told_last b
 of_kind (Got front count) (Got front' count') plain plain' h k e _ _ =
     let same_front = decimal_injective front front' h.0 k.0 (ap (word_at 1) e) in
     let same_count = decimal_injective count count' h.1 k.1 (ap (word_at 2) e) in
@@ -232,6 +292,25 @@ of_kind (News news) (News other) plain plain' h k e changes _ =
     let same_front = decimal_injective news.front other.front h.0 k.0 (ap (word_at 1) e) in
     let same_missed = decimal_injective news.missed other.missed h.1 k.1 (ap (word_at 3) e) in
     λ i. News (record { front = same_front i; missed = same_missed i; changes = changes i })
+of_kind (UndoRefused (undoing.NoCommit number front)) (UndoRefused (undoing.NoCommit number' front')) plain plain' h k e _ _ =
+    let same_number = decimal_injective number number' h.0 k.0 (ap (word_at 3) e) in
+    let same_front = decimal_injective front front' h.1 k.1 (ap (word_at 5) e) in
+    λ i. UndoRefused (undoing.NoCommit (same_number i) (same_front i))
+of_kind (UndoRefused (undoing.Overtaken name by front)) (UndoRefused (undoing.Overtaken name' by' front')) plain plain' h k e _ _ =
+    let same_name = shown-once name name' h.0 k.0 (ap (word_at 3) e) in
+    let same_by = decimal_injective by by' h.1 k.1 (ap (word_at 5) e) in
+    let same_front = decimal_injective front front' h.2 k.2 (ap (word_at 7) e) in
+    λ i. UndoRefused (undoing.Overtaken (same_name i) (same_by i) (same_front i))
+of_kind (UndoRefused (undoing.NoCommit number front)) (UndoRefused (undoing.Overtaken name by front')) plain plain' h k e _ _ = absurd (numbers_test 17 18 (ap tag_of e))
+of_kind (UndoRefused (undoing.Overtaken name by front)) (UndoRefused (undoing.NoCommit number front')) plain plain' h k e _ _ = absurd (numbers_test 18 17 (ap tag_of e))
+of_kind (UndoRefused (undoing.Get fault)) b plain plain' h k e _ _ = absurd cc
+of_kind (UndoRefused (undoing.Set fault)) b plain plain' h k e _ _ = absurd cc
+of_kind (UndoRefused undoing.Memory) b plain plain' h k e _ _ = absurd cc
+of_kind a (UndoRefused (undoing.Get fault)) plain plain' h k e _ _ = absurd cc
+of_kind a (UndoRefused (undoing.Set fault)) plain plain' h k e _ _ = absurd cc
+of_kind a (UndoRefused undoing.Memory) plain plain' h k e _ _ = absurd cc
+of_kind (Undone done) b plain plain' h k e _ _ = absurd cc
+of_kind a (Undone done) plain plain' h k e _ _ = absurd cc
 of_kind (Merged merging) b plain plain' h k e _ _ = absurd cc
 of_kind (MergeRefused fault) b plain plain' h k e _ _ = absurd cc
 of_kind a (Merged merging) plain plain' h k e _ _ = absurd cc
@@ -239,7 +318,11 @@ of_kind a (MergeRefused fault) plain plain' h k e _ _ = absurd cc
 of_kind a b _ _ _ _ _ _ same = absurd (numbers_test (kind a) (kind b) same)
 
 plain-once : (a b : Reply) → is_merge a ≡ false → is_merge b ≡ false → IsReply a → IsReply b → words_of a ≡ words_of b → changes_of a ≡ changes_of b → told_last a ≡ told_last b
-plain-once a b plain plain' h k e changes = of_kind a b plain plain' h k e changes (sym (reply-kind a) ∙ (ap kind_of e ∙ reply-kind b))
+plain-once a b plain plain' h k e changes =
+    let words : words_of (bare a) ≡ words_of (bare b) = bare-words a ∙ (e ∙ sym (bare-words b)) in
+    let kinds : kind (bare a) ≡ kind (bare b) = sym (reply-kind (bare a)) ∙ (ap kind_of words ∙ reply-kind (bare b)) in
+    let one = of_kind (bare a) (bare b) (bare-is_bare a plain) (bare-is_bare b plain') (bare-is a h) (bare-is b k) words (bare-changes a ∙ (changes ∙ sym (bare-changes b))) kinds in
+    sym (bare-told a) ∙ (one ∙ bare-told b)
 
 -- ---- merges
 
@@ -247,10 +330,16 @@ plain-once a b plain plain' h k e changes = of_kind a b plain plain' h k e chang
 abbrev told_end : MergeEnd → Reply
 told_end end = if end_wants_memory end then Memory else last_of_end end
 
+undo_apart : (fault : UndoFault) → 6 ≡ undo_kind fault → ⊥
+undo_apart (undoing.NoCommit number front) same = absurd (numbers_test 6 10 same)
+undo_apart (undoing.Overtaken name by front) same = absurd (numbers_test 6 10 same)
+undo_apart fault same = absurd (numbers_test 6 5 same)
+
 -- a line of a merge alone is none of another reply
 no_merge : (b : Reply) → is_merge b ≡ false → 6 ≡ kind b → ⊥
 no_merge (Merged merging) none same = absurd cc
 no_merge (MergeRefused fault) none same = absurd cc
+no_merge (UndoRefused fault) none same = undo_apart fault same
 no_merge b none same = absurd (numbers_test 6 (kind b) same)
 
 end-once : (end : MergeEnd) (b : Reply) → is_merge b ≡ false → IsEnd end → IsReply b → words_of_end end ≡ words_of b → [] ≡ changes_of b → told_end end ≡ told_last b

@@ -1,5 +1,5 @@
 -- The words of the line of each reply.
-use Rattle.std.specs.Prelude.{◌≡◌, ℕ, Bool, true, false, ◌||◌, if◌then◌else◌, List, [], ◌∷◌, ◌++◌, map as over, codes}
+use Rattle.std.specs.Prelude.{◌≡◌, ℕ, Bool, true, false, ◌&&◌, ◌||◌, if◌then◌else◌, List, [], ◌∷◌, ◌++◌, map as over, codes}
 use Rattle.std.proofs.Common.{refl, ap, append_assoc}
 use Rattle.std.specs.Fmt.{decimal}
 use Rattle.std.specs.List.{AllByRecursion}
@@ -8,11 +8,13 @@ use Rattle.kdb_handle.specs.declared.merging.MergeEnd.{MergeEnd}
 use Rattle.kdb_handle.specs.declared.merging.MergeEnd.TheVariants as merge_end
 use Rattle.kdb_handle.specs.declared.merging.Tried.{Tried}
 use Rattle.kdb_handle.specs.declared.replies.Reply.{Reply}
-use Rattle.kdb_handle.specs.declared.replies.Reply.TheVariants.{Got, GetRefused, Quiet, LookFound, LookNone, SetDone, SetRefused, Merged, MergeRefused, Watching, News, NoWatch, Memory}
+use Rattle.kdb_handle.specs.declared.replies.Reply.TheVariants.{Got, GetRefused, Quiet, LookFound, LookNone, SetDone, SetRefused, Merged, MergeRefused, Watching, News, NoWatch, Undone, UndoRefused, Memory}
 use Rattle.kdb_handle.specs.declared.setting.SetFault.{SetFault}
 use Rattle.kdb_handle.specs.declared.setting.SetFault.TheVariants.{Prepare, Commit}
+use Rattle.kdb_handle.specs.declared.undoing.UndoFault.{UndoFault}
+use Rattle.kdb_handle.specs.declared.undoing.UndoFault.TheVariants as undoing
 use Rattle.kdb_print.proofs.Words.{AllSpell, HasWords, Line, Spells, name-IsWord, names-HasWords, names-spell, number-IsWord, word_at, words-append}
-use Rattle.kdb_print.specs.Replies.{line_of_changed, line_of_commit, line_of_done, line_of_end, line_of_get, line_of_prepare, line_of_set, line_of_table, line_of_try, lines_of_reply, sign_of}
+use Rattle.kdb_print.specs.Replies.{line_of_changed, line_of_commit, line_of_done, line_of_end, line_of_get, line_of_prepare, line_of_set, line_of_table, line_of_try, line_of_undo, lines_of_reply, sign_of}
 use Rattle.kdb_print.specs.Reading.{is_quiet, tries_of}
 use Rattle.model_quoting.proofs.CutLemmas.{IsWord, Plain, quoted-IsWord}
 use Rattle.model_quoting.specs.Quoted.{quoted, shown}
@@ -28,23 +30,28 @@ use Rattle.store_verdict.specs.declared.faults.PrepareFault.{PrepareFault}
 use Rattle.store_verdict.specs.declared.faults.PrepareFault.TheVariants as preparing
 use Rattle.watch_feed.specs.declared.news.Changed.{Changed}
 
+-- a refusal that an undo alone has, by its third word
+abbrev is_of_undo : List ℕ → Bool
+is_of_undo word = is_text word (codes "no-commit") || is_text word (codes "overtaken")
+
 -- what kind of line begins with a word: the answers of a get, a look and a set, refusals, those of a merge alone, those
--- of a watch and a poll, the lines that begin a session, a phase or the history, the tries of a merge, and the changes
--- that a poll tells; 0 is any other
+-- of a watch and a poll, the refusals of an undo alone, the lines that begin a session, a phase or the history, the tries
+-- of a merge, and the changes that a poll tells; 0 is any other
 abbrev pub kind_of : Line → ℕ
 kind_of (first, words) =
     if is_text first (codes "got") then 1 else
     (if is_text first (codes "found") then 2 else
     (if is_text first (codes "none") then 3 else
     (if is_text first (codes "commit") || is_text first (codes "same") then 4 else
+    (if is_text first (codes "refused") && is_of_undo (word_at 2 (first, words)) then 10 else
     (if is_text first (codes "refused") || (is_text first (codes "memory") || is_text first (codes "conflict")) then 5 else
     (if is_text first (codes "merge-conflict") || is_text first (codes "spent") then 6 else
     (if is_text first (codes "watch") then 7 else
     (if is_text first (codes "news") then 8 else
     (if is_text first (codes "no-watch") then 9 else
-    (if is_text first (codes "session") || (is_text first (codes "phase") || is_text first (codes "history")) then 10 else
-    (if is_text first (codes "tried") then 11 else
-    (if is_text first (codes "~") then 12 else 0)))))))))))
+    (if is_text first (codes "session") || (is_text first (codes "phase") || is_text first (codes "history")) then 11 else
+    (if is_text first (codes "tried") then 12 else
+    (if is_text first (codes "~") then 13 else 0))))))))))))
 
 -- which refusal of a mount table a line tells, by its fourth word
 abbrev pub table_tag_of : List ℕ → ℕ
@@ -73,7 +80,9 @@ refusal_tag_of line =
     (if is_text (word_at 2 line) (codes "database-full") then 13 else
     (if is_text (word_at 2 line) (codes "history-full") then 14 else
     (if is_text (word_at 2 line) (codes "disk-fault") then 15 else
-    table_tag_of (word_at 3 line)))))))))))
+    (if is_text (word_at 2 line) (codes "no-commit") then 17 else
+    (if is_text (word_at 2 line) (codes "overtaken") then 18 else
+    table_tag_of (word_at 3 line)))))))))))))
 
 -- which refusal or set a line tells, 0 for a want of memory
 abbrev pub tag_of : Line → ℕ
@@ -128,6 +137,13 @@ words_of_end (merge_end.TriesSpent mount by front) = (codes "spent", shown mount
 words_of_end (merge_end.Set fault) = words_of_set fault
 words_of_end merge_end.Memory = (codes "memory", [])
 
+abbrev pub words_of_undo : UndoFault → Line
+words_of_undo (undoing.NoCommit number front) = (codes "refused", codes "C01320" ∷ codes "no-commit" ∷ decimal number ∷ codes "front" ∷ decimal front ∷ [])
+words_of_undo (undoing.Overtaken name by front) = (codes "refused", codes "C02000" ∷ codes "overtaken" ∷ shown name ∷ codes "by" ∷ decimal by ∷ codes "front" ∷ decimal front ∷ [])
+words_of_undo (undoing.Get fault) = words_of_get fault
+words_of_undo (undoing.Set fault) = words_of_set fault
+words_of_undo undoing.Memory = (codes "memory", [])
+
 abbrev pub words_of_done : Done → Line
 words_of_done (Committed number aside) = (codes "commit", decimal number ∷ codes "aside" ∷ decimal aside ∷ [])
 words_of_done (Same front aside) = (codes "same", decimal front ∷ codes "aside" ∷ decimal aside ∷ [])
@@ -153,6 +169,8 @@ words_of (MergeRefused fault) = words_of_end fault.end
 words_of (Watching front) = (codes "watch", decimal front ∷ [])
 words_of (News news) = (codes "news", decimal news.front ∷ codes "missed" ∷ decimal news.missed ∷ [])
 words_of NoWatch = (codes "no-watch", [])
+words_of (Undone done) = words_of_done done
+words_of (UndoRefused fault) = words_of_undo fault
 words_of Memory = (codes "memory", [])
 
 -- the changes that a reply tells behind its last line: those of a poll
@@ -217,6 +235,18 @@ end-kind (merge_end.TriesSpent mount by front) = refl
 end-kind (merge_end.Set fault) = set-kind fault
 end-kind merge_end.Memory = refl
 
+abbrev pub undo_kind : UndoFault → ℕ
+undo_kind (undoing.NoCommit number front) = 10
+undo_kind (undoing.Overtaken name by front) = 10
+undo_kind fault = 5
+
+undo-kind : (fault : UndoFault) → kind_of (words_of_undo fault) ≡ undo_kind fault
+undo-kind (undoing.NoCommit number front) = refl
+undo-kind (undoing.Overtaken name by front) = refl
+undo-kind (undoing.Get fault) = get-kind fault
+undo-kind (undoing.Set fault) = set-kind fault
+undo-kind undoing.Memory = refl
+
 -- the kind of the last line of a reply
 abbrev pub kind : Reply → ℕ
 kind (Got front count) = 1
@@ -230,6 +260,8 @@ kind (MergeRefused fault) = end_kind fault.end
 kind (Watching front) = 7
 kind (News news) = 8
 kind NoWatch = 9
+kind (Undone done) = 4
+kind (UndoRefused fault) = undo_kind fault
 kind Memory = 5
 kind Quiet = 0
 
@@ -246,6 +278,8 @@ reply-kind (MergeRefused fault) = end-kind fault.end
 reply-kind (Watching front) = refl
 reply-kind (News news) = refl
 reply-kind NoWatch = refl
+reply-kind (Undone done) = done-kind done
+reply-kind (UndoRefused fault) = undo-kind fault
 reply-kind Memory = refl
 
 get-spells : (fault : GetFault) → Spells (words_of_get fault) (line_of_get fault)
@@ -295,6 +329,13 @@ end-spells (merge_end.TriesSpent mount by front) rest = simp append_assoc
 end-spells (merge_end.Set fault) rest = set-spells fault rest
 end-spells merge_end.Memory rest = refl
 
+undo-spells : (fault : UndoFault) → Spells (words_of_undo fault) (line_of_undo fault)
+undo-spells (undoing.NoCommit number front) rest = simp append_assoc
+undo-spells (undoing.Overtaken name by front) rest = simp append_assoc
+undo-spells (undoing.Get fault) rest = get-spells fault rest
+undo-spells (undoing.Set fault) rest = set-spells fault rest
+undo-spells undoing.Memory rest = refl
+
 -- the lines of a merge: its tries, and its last
 merge-spells : (tried : List Tried) (last : Line) (line : List ℕ) → Spells last line → AllSpell (over words_of_try tried ++ last ∷ []) (over line_of_try tried ++ line ∷ [])
 merge-spells [] last line spells = (spells, tt)
@@ -317,6 +358,8 @@ reply-spells (MergeRefused fault) loud = merge-spells fault.tried (words_of_end 
 reply-spells (Watching front) loud = (λ rest. simp append_assoc, tt)
 reply-spells (News news) loud = (λ rest. simp append_assoc, changed-spells news.changes)
 reply-spells NoWatch loud = (λ rest. refl, tt)
+reply-spells (Undone done) loud = (done-spells done, tt)
+reply-spells (UndoRefused fault) loud = (undo-spells fault, tt)
 reply-spells Memory loud = (λ rest. refl, tt)
 
 get-HasWords : (fault : GetFault) → HasWords (words_of_get fault)
@@ -366,6 +409,13 @@ end-HasWords (merge_end.TriesSpent mount by front) = (Plain refl, (name-IsWord m
 end-HasWords (merge_end.Set fault) = set-HasWords fault
 end-HasWords merge_end.Memory = (Plain refl, tt)
 
+undo-HasWords : (fault : UndoFault) → HasWords (words_of_undo fault)
+undo-HasWords (undoing.NoCommit number front) = (Plain refl, (Plain refl, (Plain refl, (number-IsWord number, (Plain refl, (number-IsWord front, tt))))))
+undo-HasWords (undoing.Overtaken name by front) = (Plain refl, (Plain refl, (Plain refl, (name-IsWord name, (Plain refl, (number-IsWord by, (Plain refl, (number-IsWord front, tt))))))))
+undo-HasWords (undoing.Get fault) = get-HasWords fault
+undo-HasWords (undoing.Set fault) = set-HasWords fault
+undo-HasWords undoing.Memory = (Plain refl, tt)
+
 tries-HasWords : (tried : List Tried) → AllByRecursion HasWords (over words_of_try tried)
 tries-HasWords [] = tt
 tries-HasWords (item ∷ tried) =
@@ -384,6 +434,8 @@ last-HasWords (MergeRefused fault) = end-HasWords fault.end
 last-HasWords (Watching front) = (Plain refl, (number-IsWord front, tt))
 last-HasWords (News news) = (Plain refl, (number-IsWord news.front, (Plain refl, (number-IsWord news.missed, tt))))
 last-HasWords NoWatch = (Plain refl, tt)
+last-HasWords (Undone done) = done-HasWords done
+last-HasWords (UndoRefused fault) = undo-HasWords fault
 last-HasWords Memory = (Plain refl, tt)
 
 sign-IsWord : (removed : Bool) → IsWord (sign_of removed)

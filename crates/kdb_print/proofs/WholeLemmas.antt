@@ -11,10 +11,12 @@ use Rattle.kdb_handle.specs.declared.merging.MergeEnd.{MergeEnd}
 use Rattle.kdb_handle.specs.declared.merging.MergeEnd.TheVariants as merge_end
 use Rattle.kdb_handle.specs.declared.merging.Tried.{Tried}
 use Rattle.kdb_handle.specs.declared.replies.Reply.{Reply}
-use Rattle.kdb_handle.specs.declared.replies.Reply.TheVariants.{Quiet, SetDone, SetRefused, Merged, MergeRefused, Memory}
+use Rattle.kdb_handle.specs.declared.replies.Reply.TheVariants.{GetRefused, Quiet, SetDone, SetRefused, Merged, MergeRefused, Undone, UndoRefused, Memory}
+use Rattle.kdb_handle.specs.declared.undoing.UndoFault.{UndoFault}
+use Rattle.kdb_handle.specs.declared.undoing.UndoFault.TheVariants as undoing
 use Rattle.kdb_print.proofs.BatchWords.{loud}
-use Rattle.kdb_print.specs.Replies.{end_wants_memory, is_memory, some_reply}
-use Rattle.kdb_print.specs.Reading.{AreOfPhases, AreOfSessions, AreOfSteps, IsReplyTo, edits, is_merge, is_quiet, last_of, last_of_end, merges, told, told_of, tries_of}
+use Rattle.kdb_print.specs.Replies.{end_wants_memory, is_memory, some_reply, undo_wants_memory}
+use Rattle.kdb_print.specs.Reading.{AreOfPhases, AreOfSessions, AreOfSteps, IsReplyTo, edits, is_merge, is_quiet, is_undo, last_of, last_of_end, last_of_undo, merges, told, told_of, tries_of, undoes}
 use Rattle.store_core.specs.declared.committing.Done.{Done}
 
 -- a want of memory, among what is told
@@ -27,8 +29,16 @@ memory-end (merge_end.TriesSpent mount by front) = refl
 memory-end (merge_end.Set fault) = refl
 memory-end merge_end.Memory = refl
 
+memory-undo : (fault : UndoFault) → is_memory (last_of_undo fault) ≡ undo_wants_memory fault
+memory-undo (undoing.NoCommit number front) = refl
+memory-undo (undoing.Overtaken name by front) = refl
+memory-undo (undoing.Get fault) = refl
+memory-undo (undoing.Set fault) = refl
+memory-undo undoing.Memory = refl
+
 memory-last : (reply : Reply) → is_memory (last_of reply) ≡ is_memory reply
 memory-last (MergeRefused fault) = memory-end fault.end
+memory-last (UndoRefused fault) = memory-undo fault
 memory-last reply = refl
 
 pub memory-told_of : (reply : Reply) → wants_memory (told_of reply) ≡ is_memory reply
@@ -76,7 +86,14 @@ merge_where step reply of none =
       | inr is ↦ let wants : is_memory reply ≡ true = ap is_memory is in absurd cc
     ]
 
--- the last lines of merges tell their ends, and those of other replies the replies
+pub undo_where : (step : Step) (reply : Reply) → IsReplyTo step reply → is_memory reply ≡ false → is_undo reply ≡ undoes step
+undo_where step reply of none =
+    elim of.undo [
+      | inl same ↦ same
+      | inr is ↦ let wants : is_memory reply ≡ true = ap is_memory is in absurd cc
+    ]
+
+-- the last lines of merges tell their ends, those of undos their refusals, and those of other replies the replies
 abbrev end_in : Reply → MergeEnd
 end_in (MergeRefused fault) = fault.end
 end_in (SetRefused fault) = merge_end.Set fault
@@ -103,14 +120,53 @@ merge-same (MergeRefused fault) (MergeRefused other) is too tried last =
     let end : fault.end ≡ other.end = sym (end_back fault.end) ∙ (ap end_in last ∙ end_back other.end) in λ i. MergeRefused (record { tried = tried i; end = end i })
 merge-same a b is too tried last = absurd cc
 
-plain-last : (reply : Reply) → is_merge reply ≡ false → last_of reply ≡ reply
-plain-last (Merged merging) none = absurd cc
-plain-last (MergeRefused fault) none = absurd cc
-plain-last reply none = refl
+abbrev refusal_in : Reply → UndoFault
+refusal_in (GetRefused fault) = undoing.Get fault
+refusal_in (SetRefused fault) = undoing.Set fault
+refusal_in (UndoRefused fault) = fault
+refusal_in reply = undoing.Memory
 
-pub reply-same : (a b : Reply) (merge : Bool) → is_merge a ≡ merge → is_merge b ≡ merge → tries_of a ≡ tries_of b → last_of a ≡ last_of b → a ≡ b
-reply-same a b true is too tried last = merge-same a b is too tried last
-reply-same a b false is too tried last = sym (plain-last a is) ∙ (last ∙ plain-last b too)
+refusal_back : (fault : UndoFault) → refusal_in (last_of_undo fault) ≡ fault
+refusal_back (undoing.NoCommit number front) = refl
+refusal_back (undoing.Overtaken name by front) = refl
+refusal_back (undoing.Get fault) = refl
+refusal_back (undoing.Set fault) = refl
+refusal_back undoing.Memory = refl
+
+not_undone : (done : Done) (fault : UndoFault) → SetDone done ≡ last_of_undo fault → ⊥
+not_undone done (undoing.NoCommit number front) e = cc
+not_undone done (undoing.Overtaken name by front) e = cc
+not_undone done (undoing.Get fault) e = cc
+not_undone done (undoing.Set fault) e = cc
+not_undone done undoing.Memory e = cc
+
+undo-same : (a b : Reply) → is_undo a ≡ true → is_undo b ≡ true → last_of a ≡ last_of b → a ≡ b
+undo-same (Undone one) (Undone other) is too last =
+    let same : SetDone one ≡ SetDone other = last in let done : one ≡ other = cc in λ i. Undone (done i)
+undo-same (Undone one) (UndoRefused fault) is too last = absurd (not_undone one fault last)
+undo-same (UndoRefused fault) (Undone other) is too last = absurd (not_undone other fault (sym last))
+undo-same (UndoRefused fault) (UndoRefused other) is too last =
+    let same : fault ≡ other = sym (refusal_back fault) ∙ (ap refusal_in last ∙ refusal_back other) in λ i. UndoRefused (same i)
+undo-same a b is too last = absurd cc
+
+plain-last : (reply : Reply) → is_merge reply ≡ false → is_undo reply ≡ false → last_of reply ≡ reply
+plain-last (Merged merging) none no_undo = absurd cc
+plain-last (MergeRefused fault) none no_undo = absurd cc
+plain-last (Undone done) none no_undo = absurd cc
+plain-last (UndoRefused fault) none no_undo = absurd cc
+plain-last reply none no_undo = refl
+
+other-same : (a b : Reply) (undo : Bool) → is_merge a ≡ false → is_merge b ≡ false → is_undo a ≡ undo → is_undo b ≡ undo → last_of a ≡ last_of b → a ≡ b
+other-same a b true plain too is also last = undo-same a b is also last
+other-same a b false plain too is also last = sym (plain-last a plain is) ∙ (last ∙ plain-last b too also)
+
+-- two replies to a step that tell the same tries and have the same last line are the same
+pub reply-same : (step : Step) (a b : Reply) → IsReplyTo step a → IsReplyTo step b → is_memory a ≡ false → is_memory b ≡ false → tries_of a ≡ tries_of b → last_of a ≡ last_of b → a ≡ b
+reply-same step a b one other none no_memory tried last = by (merges step) (merge_where step a one none) (merge_where step b other no_memory)
+  where
+    by : (merge : Bool) → is_merge a ≡ merge → is_merge b ≡ merge → a ≡ b
+    by true is too = merge-same a b is too tried last
+    by false is too = other-same a b (undoes step) is too (undo_where step a one none) (undo_where step b other no_memory) last
 
 pub told-quiet : (reply : Reply) (replies : List Reply) → is_quiet reply ≡ true → told (reply ∷ replies) ≡ told replies
 told-quiet reply replies quiet = ap (λ r. told (r ∷ replies)) (quiet_is reply quiet)
@@ -140,7 +196,7 @@ steps-whole (step ∷ steps) (x ∷ xs) (y ∷ ys) hs ks p q e =
           let there : (tries_of x, last_of x) ∷ told xs ≡ (tries_of y, last_of y) ∷ told ys = sym (told-loud x xs (quiet_x ∙ other) no_x.0) ∙ (e ∙ told-loud y ys (quiet_y ∙ other) no_y.0) in
           let one = head_is (tries_of x, last_of x) (tries_of y, last_of y) (told xs) (told ys) there in
           let rest = steps-whole steps xs ys hs.1 ks.1 no_x.1 no_y.1 (tail_is (tries_of x, last_of x) (tries_of y, last_of y) (told xs) (told ys) there) in
-          let first = reply-same x y (merges step) (merge_where step x hs.0 no_x.0) (merge_where step y ks.0 no_y.0) (ap (λ said. said.0) one) (ap (λ said. said.1) one) in
+          let first = reply-same step x y hs.0 ks.0 no_x.0 no_y.0 (ap (λ said. said.0) one) (ap (λ said. said.1) one) in
           ap₂ (λ r rs. r ∷ rs) first rest
     ]
 

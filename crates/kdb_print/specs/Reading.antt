@@ -4,15 +4,17 @@ use Rattle.std.specs.List.{AllByRecursion}
 use Rattle.batch_script.specs.declared.steps.Phase.{Phase}
 use Rattle.batch_script.specs.declared.steps.Script.{Script}
 use Rattle.batch_script.specs.declared.steps.Step.{Step}
-use Rattle.batch_script.specs.declared.steps.Step.TheVariants.{Put, MetaStep, Del, Cut, Merge}
+use Rattle.batch_script.specs.declared.steps.Step.TheVariants.{Put, MetaStep, Del, Cut, Merge, Undo}
 use Rattle.batch_script.specs.declared.steps.Steps.{Steps}
 use Rattle.kdb_handle.specs.declared.merging.MergeEnd.{MergeEnd}
 use Rattle.kdb_handle.specs.declared.merging.MergeEnd.TheVariants as merge_end
 use Rattle.kdb_handle.specs.declared.merging.Tried.{Tried}
 use Rattle.kdb_handle.specs.declared.replies.Reply.{Reply}
-use Rattle.kdb_handle.specs.declared.replies.Reply.TheVariants.{Got, GetRefused, Quiet, LookFound, LookNone, SetDone, SetRefused, Merged, MergeRefused, Watching, News, NoWatch, Memory}
+use Rattle.kdb_handle.specs.declared.replies.Reply.TheVariants.{Got, GetRefused, Quiet, LookFound, LookNone, SetDone, SetRefused, Merged, MergeRefused, Watching, News, NoWatch, Undone, UndoRefused, Memory}
 use Rattle.kdb_handle.specs.declared.setting.SetFault.{SetFault}
 use Rattle.kdb_handle.specs.declared.setting.SetFault.TheVariants.{Prepare, Commit}
+use Rattle.kdb_handle.specs.declared.undoing.UndoFault.{UndoFault}
+use Rattle.kdb_handle.specs.declared.undoing.UndoFault.TheVariants as undoing
 use Rattle.kdb_print.specs.Replies.{is_memory}
 use Rattle.model_history.specs.History as history
 use Rattle.model_names.specs.WellFormed.{IsName}
@@ -91,6 +93,13 @@ IsDone (Same front aside) = IsNumber front × IsNumber aside
 abbrev pub IsChanged : Changed → Type 0
 IsChanged item = IsName item.name × IsNumber item.number
 
+abbrev pub IsUndoFault : UndoFault → Type 0
+IsUndoFault (undoing.NoCommit number front) = IsNumber number × IsNumber front
+IsUndoFault (undoing.Overtaken name by front) = IsName name × IsNumber by × IsNumber front
+IsUndoFault (undoing.Get fault) = IsGetFault fault
+IsUndoFault (undoing.Set fault) = IsSetFault fault
+IsUndoFault undoing.Memory = Unit {0}
+
 abbrev pub IsReply : Reply → Type 0
 IsReply (Got front count) = IsNumber front × IsNumber count
 IsReply (GetRefused fault) = IsGetFault fault
@@ -104,6 +113,8 @@ IsReply (MergeRefused fault) = AllByRecursion IsTry fault.tried × IsEnd fault.e
 IsReply (Watching front) = IsNumber front
 IsReply (News news) = IsNumber news.front × IsNumber news.missed × AllByRecursion IsChanged news.changes
 IsReply NoWatch = Unit {0}
+IsReply (Undone done) = IsDone done
+IsReply (UndoRefused fault) = IsUndoFault fault
 IsReply Memory = Unit {0}
 
 abbrev pub is_quiet : Reply → Bool
@@ -116,15 +127,23 @@ tries_of (Merged merging) = merging.tried
 tries_of (MergeRefused fault) = fault.tried
 tries_of reply = []
 
--- a reply as its last line tells it: a merge's commit as a set's, and its refusal as a set's where a set has it too
+-- a reply as its last line tells it: a merge's and an undo's commit as a set's, and their refusals as a set's, or a get's, where it has them too
 abbrev pub last_of_end : MergeEnd → Reply
 last_of_end (merge_end.Set fault) = SetRefused fault
 last_of_end merge_end.Memory = Memory
 last_of_end end = MergeRefused (record { tried = []; end = end })
 
+abbrev pub last_of_undo : UndoFault → Reply
+last_of_undo (undoing.Get fault) = GetRefused fault
+last_of_undo (undoing.Set fault) = SetRefused fault
+last_of_undo undoing.Memory = Memory
+last_of_undo fault = UndoRefused fault
+
 abbrev pub last_of : Reply → Reply
 last_of (Merged merging) = SetDone merging.done
 last_of (MergeRefused fault) = last_of_end fault.end
+last_of (Undone done) = SetDone done
+last_of (UndoRefused fault) = last_of_undo fault
 last_of reply = reply
 
 -- what a last line tells: a want of memory stands alone wherever it stood
@@ -135,8 +154,8 @@ told_last reply = if is_memory reply then Memory else last_of reply
 abbrev pub told_of : Reply → List Tried × Reply
 told_of reply = (tries_of reply, told_last reply)
 
--- what the lines of a session tell, of each reply but for those of edits. The last line of a merge can be that of a set:
--- the steps tell which of both it is, but not where an edit may have wanted memory, since then it isn't known which line
+-- what the lines of a session tell, of each reply but for those of edits. The last line of a merge or an undo can be that of a set:
+-- the steps tell which of them it is, but not where an edit may have wanted memory, since then it isn't known which line
 -- is whose
 abbrev pub told : List Reply → List (List Tried × Reply)
 told replies = over told_of (filter (λ reply. not (is_quiet reply)) replies)
@@ -177,11 +196,22 @@ is_merge (Merged merging) = true
 is_merge (MergeRefused fault) = true
 is_merge reply = false
 
--- a reply that a step can give: edits alone are quiet, merges alone tell tries, and each step may want memory
+-- a step takes a commit back, and a reply is such a step's
+abbrev pub undoes : Step → Bool
+undoes (Undo number) = true
+undoes step = false
+
+abbrev pub is_undo : Reply → Bool
+is_undo (Undone done) = true
+is_undo (UndoRefused fault) = true
+is_undo reply = false
+
+-- a reply that a step can give: edits alone are quiet, merges and undos alone answer as theirs do, and each step may want memory
 pub record IsReplyTo (step : Step) (reply : Reply) : Type 0 where
   pub fits : IsReply reply
   pub quiet : (is_quiet reply ≡ edits step) ⊎ (reply ≡ Memory)
   pub merge : (is_merge reply ≡ merges step) ⊎ (reply ≡ Memory)
+  pub undo : (is_undo reply ≡ undoes step) ⊎ (reply ≡ Memory)
 
 -- one such reply for each step
 abbrev pub AreOfSteps : List Step → List Reply → Type 0

@@ -6,9 +6,11 @@ use Rattle.kdb_handle.specs.declared.merging.MergeEnd.{MergeEnd}
 use Rattle.kdb_handle.specs.declared.merging.MergeEnd.TheVariants as merge_end
 use Rattle.kdb_handle.specs.declared.merging.Tried.{Tried}
 use Rattle.kdb_handle.specs.declared.replies.Reply.{Reply}
-use Rattle.kdb_handle.specs.declared.replies.Reply.TheVariants.{Got, GetRefused, Quiet, LookFound, LookNone, SetDone, SetRefused, Merged, MergeRefused, Watching, News, NoWatch, Memory}
+use Rattle.kdb_handle.specs.declared.replies.Reply.TheVariants.{Got, GetRefused, Quiet, LookFound, LookNone, SetDone, SetRefused, Merged, MergeRefused, Watching, News, NoWatch, Undone, UndoRefused, Memory}
 use Rattle.kdb_handle.specs.declared.setting.SetFault.{SetFault}
 use Rattle.kdb_handle.specs.declared.setting.SetFault.TheVariants.{Prepare, Commit}
+use Rattle.kdb_handle.specs.declared.undoing.UndoFault.{UndoFault}
+use Rattle.kdb_handle.specs.declared.undoing.UndoFault.TheVariants as undoing
 use Rattle.model_names.specs.Name.{Name}
 use Rattle.model_quoting.specs.Quoted.{quoted, shown}
 use Rattle.mount_table.specs.declared.faults.TableFault.{TableFault}
@@ -95,6 +97,22 @@ line_of_end (merge_end.TriesSpent mount by front) =
 line_of_end (merge_end.Set fault) = line_of_set fault
 line_of_end merge_end.Memory = memory
 
+-- a commit that is not there to be taken back, and one of whose names a later commit changed too
+abbrev pub line_of_missing : ℕ → ℕ → List ℕ
+line_of_missing number front = codes "refused C01320 no-commit " ++ (decimal number ++ (codes " front " ++ decimal front))
+
+abbrev pub line_of_overtaken : Name → ℕ → ℕ → List ℕ
+line_of_overtaken name by front =
+    codes "refused C02000 overtaken " ++ (shown name ++ (codes " by " ++ (decimal by ++ (codes " front " ++ decimal front))))
+
+-- why a commit was not taken back: a get's refusal, or a set's, or one of its own
+abbrev pub line_of_undo : UndoFault → List ℕ
+line_of_undo (undoing.NoCommit number front) = line_of_missing number front
+line_of_undo (undoing.Overtaken name by front) = line_of_overtaken name by front
+line_of_undo (undoing.Get fault) = line_of_get fault
+line_of_undo (undoing.Set fault) = line_of_set fault
+line_of_undo undoing.Memory = memory
+
 -- a change that a watch tells: the number of its commit, and whether the key went or has a new entry
 abbrev pub sign_of : Bool → List ℕ
 sign_of removed = if removed then codes "-" else codes "+"
@@ -124,9 +142,15 @@ lines_of_reply (MergeRefused fault) = over line_of_try fault.tried ++ line_of_en
 lines_of_reply (Watching front) = (codes "watch " ++ decimal front) ∷ []
 lines_of_reply (News news) = lines_of_news news
 lines_of_reply NoWatch = codes "no-watch" ∷ []
+lines_of_reply (Undone done) = line_of_done done ∷ []
+lines_of_reply (UndoRefused fault) = line_of_undo fault ∷ []
 lines_of_reply Memory = memory ∷ []
 
--- a set, or the last of a merge, was refused for want of memory
+-- a get, or a set, or what else ends as one of them does, was refused for want of memory
+abbrev pub get_wants_memory : GetFault → Bool
+get_wants_memory getting.Memory = true
+get_wants_memory fault = false
+
 abbrev pub set_wants_memory : SetFault → Bool
 set_wants_memory (Prepare preparing.Memory) = true
 set_wants_memory (Prepare (preparing.BadTable table.Memory)) = true
@@ -138,15 +162,22 @@ end_wants_memory (merge_end.Set fault) = set_wants_memory fault
 end_wants_memory merge_end.Memory = true
 end_wants_memory end = false
 
+abbrev pub undo_wants_memory : UndoFault → Bool
+undo_wants_memory (undoing.Get fault) = get_wants_memory fault
+undo_wants_memory (undoing.Set fault) = set_wants_memory fault
+undo_wants_memory undoing.Memory = true
+undo_wants_memory fault = false
+
 -- a reply is a want of memory, alone or inside a refusal
 abbrev pub is_memory : Reply → Bool
 is_memory Memory = true
-is_memory (GetRefused getting.Memory) = true
+is_memory (GetRefused fault) = get_wants_memory fault
 is_memory (SetRefused fault) = set_wants_memory fault
 is_memory (MergeRefused fault) = end_wants_memory fault.end
+is_memory (UndoRefused fault) = undo_wants_memory fault
 is_memory reply = false
 
--- a set, or the last of a merge, failed for the disk
+-- a set, or the last of a merge, or that of an undo, failed for the disk
 abbrev pub set_meets_fault : SetFault → Bool
 set_meets_fault (Commit (committing.DiskFault front)) = true
 set_meets_fault fault = false
@@ -155,10 +186,15 @@ abbrev pub end_meets_fault : MergeEnd → Bool
 end_meets_fault (merge_end.Set fault) = set_meets_fault fault
 end_meets_fault end = false
 
+abbrev pub undo_meets_fault : UndoFault → Bool
+undo_meets_fault (undoing.Set fault) = set_meets_fault fault
+undo_meets_fault fault = false
+
 -- a reply is a fault of the disk
 abbrev pub is_disk_fault : Reply → Bool
 is_disk_fault (SetRefused fault) = set_meets_fault fault
 is_disk_fault (MergeRefused fault) = end_meets_fault fault.end
+is_disk_fault (UndoRefused fault) = undo_meets_fault fault
 is_disk_fault reply = false
 
 -- some reply of a batch is such

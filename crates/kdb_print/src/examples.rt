@@ -1,13 +1,15 @@
 //! Worked examples.
 ghost use Rattle.std.specs.Prelude.{◌≡◌, ◌++◌, [], ◌∷◌, codes};
 ghost use Rattle.kdb_handle.specs.declared.merging.MergeEnd.TheVariants as merge_end;
-ghost use Rattle.kdb_handle.specs.declared.replies.Reply.TheVariants.{Got, LookFound, LookNone, Memory, NoWatch, Quiet, SetDone, SetRefused, Watching};
+ghost use Rattle.kdb_handle.specs.declared.replies.Reply.TheVariants.{GetRefused, Got, LookFound, LookNone, Memory, NoWatch, Quiet, SetDone, SetRefused, UndoRefused, Undone, Watching};
 ghost use Rattle.kdb_handle.specs.declared.setting.SetFault.TheVariants.{Commit, Prepare};
+ghost use Rattle.kdb_handle.specs.declared.undoing.UndoFault.TheVariants as undoing;
 ghost use Rattle.kdb_print.specs.Printed.{printed};
 ghost use Rattle.kdb_print.specs.Replies.{status_of};
 ghost use Rattle.kdb_print.specs.Worked.{asked, gone, merged, mounts, name, new, phase_of, removes, script_of, sets, sets_with, steps_of, tried, unmerged};
 ghost use Rattle.model_names.specs.declared.namespaces.Namespace.TheVariants.{System, User};
-ghost use Rattle.store_core.specs.declared.committing.CommitFault.TheVariants.{Conflict, DiskFault};
+ghost use Rattle.mounted_files.specs.declared.refusals.GetFault.TheVariants as getting;
+ghost use Rattle.store_core.specs.declared.committing.CommitFault.TheVariants.{Conflict, DatabaseFull, DiskFault};
 ghost use Rattle.store_core.specs.declared.committing.Done.TheVariants.{Committed, Same};
 ghost use Rattle.store_verdict.specs.declared.faults.PrepareFault.TheVariants.{NotFetched, Memory as Unprepared};
 
@@ -60,6 +62,17 @@ pub fn a_poll_tells_the_last_changes_and_how_many_it_left_out()
         ++ codes "session 2\nnews 5 missed 1\n~ 4 + user:/b\n~ 5 - \"system:/a b\"\nhistory 0\nend\n" }
 {}
 
+/// An undo tells the commit that it made, or that there is none to take back, or what a later commit changed of it, or
+/// what a get or a set tells.
+pub fn an_undo_tells_its_commit_or_why_there_is_none()
+    ensures { printed mounts (1 ∷ []) (script_of (phase_of (steps_of 1 ∷ []) ∷ []))
+        (((UndoRefused (undoing.Overtaken (name User (codes "a" ∷ [])) 2 2) ∷ Undone (Committed 3 0) ∷ UndoRefused (undoing.NoCommit 9 3)
+        ∷ UndoRefused (undoing.Get (getting.BadFile (name User []) 4)) ∷ UndoRefused (undoing.Set (Commit (DatabaseFull 7 3)))
+        ∷ UndoRefused undoing.Memory ∷ []) ∷ []) ∷ []) []
+        ≡ codes "phase 1\nsession 1\nrefused C02000 overtaken user:/a by 2 front 2\ncommit 3 aside 0\nrefused C01320 no-commit 9 front 3\n"
+        ++ codes "refused C03100 bad-file user:/ 4\nrefused C01100 database-full 7 front 3\nmemory\nhistory 0\nend\n" }
+{}
+
 /// A want of memory comes before a fault of the disk, wherever each stands.
 pub fn a_status_tells_the_worst_reply()
     ensures well { status_of (((Got 0 0 ∷ Quiet ∷ []) ∷ []) ∷ []) ≡ 0 }
@@ -68,6 +81,9 @@ pub fn a_status_tells_the_worst_reply()
     ensures merge { status_of (((unmerged (tried 1 2 4 ∷ []) (merge_end.Set (Commit (DiskFault 4))) ∷ []) ∷ []) ∷ []) ≡ 74 }
     ensures memory { status_of (((SetRefused (Commit (DiskFault 0)) ∷ []) ∷ []) ∷ ((SetRefused (Prepare Unprepared) ∷ []) ∷ []) ∷ []) ≡ 70 }
     ensures cut { status_of (((unmerged (tried 1 2 4 ∷ []) merge_end.Memory ∷ []) ∷ []) ∷ []) ≡ 70 }
+    ensures undone { status_of (((Undone (Committed 3 0) ∷ UndoRefused (undoing.NoCommit 9 3) ∷ []) ∷ []) ∷ []) ≡ 0 }
+    ensures undo_fault { status_of (((UndoRefused (undoing.Set (Commit (DiskFault 2))) ∷ []) ∷ []) ∷ []) ≡ 74 }
+    ensures undo_memory { status_of (((UndoRefused (undoing.Get getting.Memory) ∷ []) ∷ []) ∷ []) ≡ 70 }
     ensures polls { status_of (((NoWatch ∷ Watching 0 ∷ asked 5 1 (new 4 (name User []) ∷ []) ∷ []) ∷ []) ∷ []) ≡ 0 }
     ensures alone { status_of (((Memory ∷ []) ∷ []) ∷ []) ≡ 70 }
 {}

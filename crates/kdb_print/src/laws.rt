@@ -10,8 +10,9 @@ ghost use Rattle.model_history.specs.History.{Commit};
 ghost use Rattle.mount_table.specs.declared.mounts.Mount.{Mount};
 
 /// The text tells the history, and the replies but for those to edits, the places at which wants of memory stood, and
-/// whether a merge or a set gave a line that both have; where no step wanted memory, it tells all replies. Where in a
-/// phase no edit of a session wanted memory, it tells which of both it was, too: then each line is known to be whose.
+/// whether a merge, an undo, a get or a set gave a line that others have too; where no step wanted memory, it tells all
+/// replies. Where in a phase no edit of a session wanted memory, it tells which of them it was, too: then each line is
+/// known to be whose.
 pub fn the_text_tells_the_batch()
     ensures history { (mounts : List Mount) (sessions : List ℕ) (script : Script) (a b : List (List (List Reply))) (h k : List Commit) → AreNamed mounts sessions → IsBatch mounts sessions script a h → IsBatch mounts sessions script b k → printed mounts sessions script a h ≡ printed mounts sessions script b k → h ≡ k }
     ensures replies { (mounts : List Mount) (sessions : List ℕ) (script : Script) (a b : List (List (List Reply))) (h k : List Commit) → AreNamed mounts sessions → IsBatch mounts sessions script a h → IsBatch mounts sessions script b k → printed mounts sessions script a h ≡ printed mounts sessions script b k → over (over told) a ≡ over (over told) b }

@@ -1,13 +1,13 @@
 //! The lines of replies.
 ghost use Rattle.std.specs.Prelude.{◌≡◌, ◌++◌, ◌∷◌, [], IfOk, OnOk, map as over, string_bytes};
 ghost use Rattle.std.specs.List.{flat_map};
-ghost use Rattle.kdb_print.specs.Replies.{line_of_commit, line_of_conflicts, line_of_done, line_of_end, line_of_get, line_of_prepare, line_of_set, line_of_table, line_of_try, lines_of_reply, memory, refused, refused_at};
+ghost use Rattle.kdb_print.specs.Replies.{line_of_commit, line_of_conflicts, line_of_done, line_of_end, line_of_get, line_of_prepare, line_of_set, line_of_table, line_of_try, line_of_undo, lines_of_reply, memory, refused, refused_at};
 ghost use Rattle.model_lines.specs.Lines.{ended};
 ghost use Rattle.model_quoting.specs.Quoted.{shown};
 
 use crate::lines::push_line;
 use crate::news_lines::push_news;
-use kdb_handle::{MergeEnd, Reply, SetFault, Tried};
+use kdb_handle::{MergeEnd, Reply, SetFault, Tried, UndoFault};
 use kdb_text::{quoted, shown};
 use key_meta::Memory;
 use key_name::KeyName;
@@ -76,6 +76,14 @@ fn push_reply(alloc: Global, text: &mut String, reply: &Reply) -> Result<(), Mem
         }
         Reply::News(news) => push_news(alloc, text, news),
         Reply::NoWatch => push_line(text, "no-watch"),
+        Reply::Undone(done) => {
+            let line = line_of_done(alloc, done)?;
+            push_line(text, line.as_str())
+        }
+        Reply::UndoRefused(fault) => {
+            let line = line_of_undo(alloc, fault)?;
+            push_line(text, line.as_str())
+        }
         Reply::Memory => push_line(text, "memory"),
     }
 }
@@ -135,6 +143,24 @@ fn push_name(alloc: Global, line: &mut String, name: &KeyName) -> Result<(), Mem
     let name = shown(alloc, name)?;
     line.push(' ')?;
     line.push_str(name.as_str())
+}
+
+/// The line of an undo that was refused.
+fn line_of_undo(alloc: Global, fault: &UndoFault) -> Result<String, Memory>
+    ensures { IfOk result (λ line. string_bytes line ≡ line_of_undo fault.now) }
+{
+    match fault {
+        UndoFault::NoCommit { number, front } => {
+            format!(in alloc; "refused C01320 no-commit {number} front {front}")
+        }
+        UndoFault::Overtaken { name, by, front } => {
+            let name = shown(alloc, name)?;
+            format!(in alloc; "refused C02000 overtaken {name} by {by} front {front}")
+        }
+        UndoFault::Get(fault) => line_of_get(alloc, fault),
+        UndoFault::Set(fault) => line_of_set(alloc, fault),
+        UndoFault::Memory => memory(alloc),
+    }
 }
 
 /// The line of a get that was refused.

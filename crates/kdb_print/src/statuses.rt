@@ -2,9 +2,9 @@
 ghost use Rattle.std.specs.Prelude.{◌≡◌};
 ghost use Rattle.std.specs.List.{list_any};
 ghost use Rattle.kdb_handle.specs.declared.setting.SetFault.TheVariants.{Prepare};
-ghost use Rattle.kdb_print.specs.Replies.{end_meets_fault, end_wants_memory, is_disk_fault, is_memory, set_meets_fault, set_wants_memory, some_reply, status_of};
+ghost use Rattle.kdb_print.specs.Replies.{end_meets_fault, end_wants_memory, get_wants_memory, is_disk_fault, is_memory, set_meets_fault, set_wants_memory, some_reply, status_of, undo_meets_fault, undo_wants_memory};
 
-use kdb_handle::{MergeEnd, Reply, SetFault, Transcripts};
+use kdb_handle::{MergeEnd, Reply, SetFault, Transcripts, UndoFault};
 use key_meta::List;
 use mount_table::TableFault;
 use mounted_files::GetFault;
@@ -105,11 +105,29 @@ fn is_memory(reply: &Reply) -> bool
 {
     match reply {
         Reply::Memory => true,
-        Reply::GetRefused(fault) => matches!(fault, GetFault::Memory),
+        Reply::GetRefused(fault) => get_wants_memory(fault),
         Reply::SetRefused(fault) => set_wants_memory(fault),
         Reply::MergeRefused(fault) => end_wants_memory(&fault.end),
+        Reply::UndoRefused(fault) => undo_wants_memory(fault),
         _ => false,
     }
+}
+
+fn undo_wants_memory(fault: &UndoFault) -> bool
+    ensures { result ≡ undo_wants_memory fault.now }
+{
+    match fault {
+        UndoFault::Get(fault) => get_wants_memory(fault),
+        UndoFault::Set(fault) => set_wants_memory(fault),
+        UndoFault::Memory => true,
+        _ => false,
+    }
+}
+
+fn get_wants_memory(fault: &GetFault) -> bool
+    ensures { result ≡ get_wants_memory fault.now }
+{
+    matches!(fault, GetFault::Memory)
 }
 
 fn end_wants_memory(end: &MergeEnd) -> bool
@@ -148,6 +166,16 @@ fn is_disk_fault(reply: &Reply) -> bool
     match reply {
         Reply::SetRefused(fault) => set_meets_fault(fault),
         Reply::MergeRefused(fault) => end_meets_fault(&fault.end),
+        Reply::UndoRefused(fault) => undo_meets_fault(fault),
+        _ => false,
+    }
+}
+
+fn undo_meets_fault(fault: &UndoFault) -> bool
+    ensures { result ≡ undo_meets_fault fault.now }
+{
+    match fault {
+        UndoFault::Set(fault) => set_meets_fault(fault),
         _ => false,
     }
 }

@@ -14,12 +14,14 @@ use Rattle.batch_script.specs.declared.steps.Steps.{Steps}
 use Rattle.kdb_handle.specs.declared.merging.MergeEnd.{MergeEnd}
 use Rattle.kdb_handle.specs.declared.merging.MergeEnd.TheVariants as merge_end
 use Rattle.kdb_handle.specs.declared.replies.Reply.{Reply}
-use Rattle.kdb_handle.specs.declared.replies.Reply.TheVariants.{SetRefused, MergeRefused}
+use Rattle.kdb_handle.specs.declared.replies.Reply.TheVariants.{SetRefused, MergeRefused, UndoRefused}
 use Rattle.kdb_handle.specs.declared.replies.Transcripts.{Transcripts}
 use Rattle.kdb_handle.specs.declared.setting.SetFault.TheVariants.{Commit}
-use Rattle.kdb_print.specs.Replies.{end_meets_fault, is_disk_fault, is_memory, some_reply, status_of}
+use Rattle.kdb_handle.specs.declared.undoing.UndoFault.{UndoFault}
+use Rattle.kdb_handle.specs.declared.undoing.UndoFault.TheVariants as undo_fault
+use Rattle.kdb_print.specs.Replies.{end_meets_fault, is_disk_fault, is_memory, some_reply, status_of, undo_meets_fault}
 use Rattle.model_batch.specs.Fair.{count_failed}
-use Rattle.model_batch.specs.Replies.{failures_of_end, failures_told}
+use Rattle.model_batch.specs.Replies.{failures_of_end, failures_of_undo, failures_told}
 use Rattle.model_batch.specs.Scripts.{AnswerEach, AreTranscripts, has_session, replies_in, reply_rows, rows_by, sessions_of}
 use Rattle.store_core.specs.declared.committing.CommitFault.TheVariants.{DiskFault}
 use Rattle.tool_commands.specs.Report.{IsAnswered}
@@ -30,9 +32,14 @@ end-counts : (end : MergeEnd) → end_meets_fault end ≡ true → failures_of_e
 end-counts (merge_end.Set (Commit (DiskFault front))) is = refl
 end-counts end is = absurd cc
 
+undo-counts : (why : UndoFault) → undo_meets_fault why ≡ true → failures_of_undo why ≡ 1
+undo-counts (undo_fault.Set (Commit (DiskFault front))) is = refl
+undo-counts why is = absurd cc
+
 reply-counts : (reply : Reply) → is_disk_fault reply ≡ true → failures_told reply ≡ 1
 reply-counts (SetRefused (Commit (DiskFault front))) is = refl
 reply-counts (MergeRefused fault) is = end-counts fault.end is
+reply-counts (UndoRefused why) is = undo-counts why is
 reply-counts reply is = absurd cc
 
 replies-count : (replies : List Reply) → list_any is_disk_fault replies ≡ true → 0 < sum_by failures_told replies

@@ -3,7 +3,7 @@ use Rattle.std.proofs.Common.{◌≡◌, ◌⊎◌, inl, inr, ℕ, zero, suc, �
 use Rattle.std.specs.FinMap as map
 use Rattle.std.specs.List.{AllByRecursion, flat_map}
 use Rattle.batch_script.specs.declared.steps.Step.{Step}
-use Rattle.batch_script.specs.declared.steps.Step.TheVariants.{Get, Put, MetaStep, Del, Cut, Look, Set, Merge, Watch, Poll}
+use Rattle.batch_script.specs.declared.steps.Step.TheVariants.{Get, Put, MetaStep, Del, Cut, Look, Set, Merge, Watch, Poll, Undo}
 use Rattle.general_words.proofs.Lists.{all_append, all_from_places, some_is}
 use Rattle.key_edits.specs.Edits.{put_meta, put_value}
 use Rattle.key_merge.specs.declared.strategies.Strategy.{Strategy}
@@ -13,6 +13,7 @@ use Rattle.kdb_handle.specs.declared.merging.MergeEnd.TheVariants as merge_end
 use Rattle.kdb_handle.specs.declared.merging.Tried.{Tried}
 use Rattle.kdb_handle.specs.declared.replies.Reply.{Reply}
 use Rattle.kdb_handle.specs.declared.replies.Reply.TheVariants as reply
+use Rattle.kdb_handle.specs.declared.undoing.UndoFault.TheVariants as undo_fault
 use Rattle.model_batch.specs.Fair.{IsFair, of_session}
 use Rattle.model_batch.specs.Replies.{conflicts_told, look_reply, merge_reply, numbers_told}
 use Rattle.model_batch.specs.Sessions.{Session, first_session}
@@ -20,7 +21,8 @@ use Rattle.model_batch.specs.Sets.{Lacks, kept_then}
 use Rattle.model_batch.specs.Steps.{Edits, Means, got_then}
 use Rattle.model_batch.specs.Told.{IsAtLeast, Tells, count_of_others}
 use Rattle.model_batch.specs.Watches.{news_then}
-use Rattle.model_batch.proofs.Covering.{AreTold, Covers, Leaves, covers-kept, covers-later, lacks-covers, leaves, leaves-same, none-behind, set-covers}
+use Rattle.model_batch.proofs.Covering.{AreTold, Covers, Leaves, covers-kept, covers-later, lacks-covers, leaves, leaves-same, none-behind, set-covers, undo-covers}
+use Rattle.model_batch.proofs.Knowing.{fair-flat}
 use Rattle.model_batch.proofs.MergesCover.{merges-cover, merges-spent}
 use Rattle.model_batch.proofs.OwnLemmas.{own-among}
 use Rattle.model_batch.proofs.Telling.{means-later, means-numbers, numbers-behind, tells-later}
@@ -94,6 +96,9 @@ module _ (formats : Formats) (files : List MountedFile) (procs : KeyMap) (number
       leaves number history old.told (reply.News (news_then h.watched h.past)) answer made new h.reply_is h.new_is
       (λ told. (covers-later number history h.past old.rec old.told h.begins told covers, tt)) told
   step-covers old new Poll answer (inr (inr h)) covers told = lacks-covers number history reply.Memory old new answer refl h covers
+  step-covers old new (Undo undone) answer (inl h) covers told = undo-covers number history formats files procs undone old new answer h covers told
+  step-covers old new (Undo undone) answer (inr (inl h)) covers told = lacks-covers number history (reply.UndoRefused undo_fault.Memory) old new answer refl h covers
+  step-covers old new (Undo undone) answer (inr (inr h)) covers told = lacks-covers number history reply.Memory old new answer refl h covers
 
   -- ---- step by step
 
@@ -160,7 +165,7 @@ module _ (formats : Formats) (files : List MountedFile) (sessions : ℕ) (procs 
     (fair : IsFair formats files sessions procs history steps replies) where
   fair-amid : (i : ℕ) → i < sessions → (at : ℕ) (answer : Reply) → slice_get (of_session i replies) at ≡ Some answer → Amid formats files (procs (i + 1)) (i + 1) history (of_session i steps) at answer
   fair-amid i lt at answer there =
-      let tells = fair.tells i lt in
+      let tells = fair-flat formats files sessions procs history steps replies fair i lt in
       amid formats files (procs (i + 1)) (i + 1) history first_session tells.0 (of_session i steps) (of_session i replies) tells.1 (λ place m commit here own touched before. absurd (omega (arith, before)))
       (λ place commit here own least.
       subst (λ (numbers : List ℕ). is_among numbers (place + 1) ≡ true) (fair.own i lt) (own-among (i + 1) 1 history place (place + 1) commit here own (omega arith)))

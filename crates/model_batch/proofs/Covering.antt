@@ -4,15 +4,20 @@ use Rattle.std.specs.List.{AllByRecursion}
 use Rattle.std.proofs.lemmas.Option.{slice_get_within}
 use mathlib.Core.List.{IsPrefix}
 use Rattle.kdb_handle.specs.Fronts.{Cover, IsAnothers, front_at}
+use Rattle.kdb_handle.specs.Opened.{store_at}
 use Rattle.kdb_handle.specs.Sets.{tells_refusal}
+use Rattle.kdb_handle.specs.Undoing.{IsUndoneBy, Undo, parent_of, rec_got, set_made}
 use Rattle.kdb_handle.specs.declared.replies.Reply.{Reply}
 use Rattle.kdb_handle.specs.declared.replies.Reply.TheVariants as reply
 use Rattle.kdb_handle.specs.declared.setting.SetFault.TheVariants as set_fault
+use Rattle.kdb_handle.specs.declared.undoing.UndoFault.{UndoFault}
+use Rattle.kdb_handle.specs.declared.undoing.UndoFault.TheVariants as undo_fault
 use Rattle.kdb_handle.proofs.BlockLemmas.{another, blocked_at}
 use Rattle.kdb_handle.proofs.CoverLemmas.{cover-keeping, cover-own}
-use Rattle.model_batch.specs.Replies.{conflicts_told, numbers_told, set_reply}
+use Rattle.model_batch.specs.Replies.{conflicts_told, numbers_told, set_reply, undo_reply}
 use Rattle.model_batch.specs.Sessions.{Session}
 use Rattle.model_batch.specs.Sets.{Lacks, MeansSet, StandsNext, kept_then, record_then, set_by, told_then}
+use Rattle.model_batch.specs.Undos.{UndoStands, Undoes, undo_then, undo_told}
 use Rattle.model_batch.proofs.OwnLemmas.{anothers-longer, place-longer, place-shorter}
 use Rattle.model_history.specs.History.{Commit, is_among, replay, touches}
 use Rattle.model_maps.specs.KeyMap.{KeyMap}
@@ -25,6 +30,7 @@ use Rattle.model_store.specs.Verdicts.{blocking, commit_of}
 use Rattle.model_store.proofs.VerdictLemmas.{is_blocked}
 use Rattle.model_store.proofs.Members.{from_all}
 use Rattle.seat_lock.proofs.Prefixes.{prefix-trans}
+use Rattle.mounted_files.specs.declared.files.MountedFile.{MountedFile}
 use Rattle.set_split.specs.Involved.{involved_in}
 use Rattle.store_core.specs.Answers.{IsJudged}
 use Rattle.store_core.specs.declared.committing.CommitFault.{CommitFault}
@@ -147,3 +153,44 @@ module _ (number : ℕ) (history : List Commit) where
     set-covers formats keys old new answer (inr (inr (inl h))) covers told = lacks-covers (reply.SetRefused (set_fault.Commit Memory)) old new answer refl h covers
     set-covers formats keys old new answer (inr (inr (inr (inl h)))) covers told = lacks-covers (reply.SetRefused (set_fault.Prepare early_fault.Memory)) old new answer refl h covers
     set-covers formats keys old new answer (inr (inr (inr (inr h)))) covers told = lacks-covers reply.Memory old new answer refl h covers
+
+  -- an undoing
+  module _ (formats : Formats) (files : List MountedFile) (procs : KeyMap) (undone : ℕ) (old new : Session) (answer : Reply) (h : Undoes formats files procs number history undone old answer new) (covers : Covers old.rec old.told) where
+    abbrev undo : Undo
+    undo = undo_then files procs number old.rec h.past undone
+
+    abbrev store_of_files : Store
+    store_of_files = store_at files
+
+    abbrev made : Record → ℕ → Session
+    made rec told = record old { working = h.keys; rec = rec; told = told }
+
+    -- the get of its parent
+    got-covers : (told : ℕ) → IsPrefix h.past history → NoneBetween old.told (length h.past) → Covers (rec_got undo) (length h.past)
+    got-covers told p none = covers-kept store_of_files h.past (involved_in (points_of store_of_files) (parent_of undo)) old.rec old.told p none covers
+
+    undone-covers : (rec : Record) (result : Result Done UndoFault) → IsUndoneBy formats undo old.working rec h.keys result → UndoStands history h.past (set_made undo) result
+        → AreTold old.told (numbers_told (undo_reply result)) (undo_told (length h.past) result) → Covers rec (undo_told (length h.past) result) × AreAnothers (conflicts_told (undo_reply result))
+    undone-covers rec (Ok (Committed n aside)) done stands told =
+        let set : Prepared = set_made undo in
+        let all : List Commit = h.past ++ commit_of set ∷ [] in
+        let p : IsPrefix h.past history = prefix-trans h.past all history (commit_of set ∷ [], refl) stands in
+        let none = none-behind old.told n (length h.past) (n ∷ []) (omega (arith, done.judged.0), tt) (omega (arith, done.judged.0)) told in
+        let got : Covers (rec_got undo) (length h.past) = got-covers n p none in
+        let long : length h.past + 1 ≡ length all = omega (arith, length-append h.past (commit_of set ∷ [])) in
+        let wanted : ℕ → KeyMap = wants (points_of store_of_files) set.keys in
+        let before : Cover number h.past (front_in (rec_got undo)) = past-cover h.past (rec_got undo) (length h.past) p (λ place commit there own le. le) got in
+        let cover = cover-own number h.past (commit_of set) wanted (rec_got undo) before in
+        let after : Record = keeping set.touched (length h.past + 1) wanted (rec_got undo) in
+        (subst (λ (r : Record). Covers r n) (sym done.left_is) (covers-past all after n stands (omega (arith, done.judged.0, long)) cover), tt)
+    undone-covers rec (Ok (Same front aside)) done stands told = absurd done
+    undone-covers rec (Err (undo_fault.Set why)) done stands told =
+        let none = none-behind old.told (length h.past) (length h.past) [] tt (omega arith) told in
+        (subst (λ (r : Record). Covers r (length h.past)) (sym done.left_is) (got-covers (length h.past) stands none), tt)
+    undone-covers rec (Err (undo_fault.NoCommit n front)) done stands told = (subst (λ (r : Record). Covers r (length h.past)) (sym done.1) (covers-later h.past old.rec old.told stands told covers), tt)
+    undone-covers rec (Err (undo_fault.Overtaken name by front)) done stands told = (subst (λ (r : Record). Covers r (length h.past)) (sym done.1) (covers-later h.past old.rec old.told stands told covers), tt)
+    undone-covers rec (Err (undo_fault.Get why)) done stands told = (subst (λ (r : Record). Covers r (length h.past)) (sym done.1) (covers-later h.past old.rec old.told stands told covers), tt)
+    undone-covers rec (Err undo_fault.Memory) done stands told = (subst (λ (r : Record). Covers r (length h.past)) (sym done.1) (covers-later h.past old.rec old.told stands told covers), tt)
+
+    pub undo-covers : AreTold old.told (numbers_told answer) new.told → Leaves answer new
+    undo-covers told = leaves old.told (undo_reply h.result) answer (made h.rec (undo_told (length h.past) h.result)) new h.reply_is h.new_is (undone-covers h.rec h.result h.done h.stands) told

@@ -1,5 +1,8 @@
 pub mod TriesLemmas
+mod JudgedLemmas
+mod UndoTells
 pub mod Telling
+pub mod Knowing
 mod OwnLemmas
 mod Covering
 mod MergesCover

@@ -5,7 +5,7 @@ use Rattle.std.specs.List.{AllByRecursion, flat_map}
 use Rattle.circular_buffer.specs.Buffer.{keep_last}
 use mathlib.Core.List.{IsPrefix}
 use Rattle.batch_script.specs.declared.steps.Step.{Step}
-use Rattle.batch_script.specs.declared.steps.Step.TheVariants.{Get, Put, MetaStep, Del, Cut, Look, Set, Merge, Watch, Poll}
+use Rattle.batch_script.specs.declared.steps.Step.TheVariants.{Get, Put, MetaStep, Del, Cut, Look, Set, Merge, Watch, Poll, Undo}
 use Rattle.general_words.proofs.Lists.{some_is}
 use Rattle.key_merge.specs.declared.strategies.Strategy.{Strategy}
 use Rattle.kdb_handle.specs.Opened.{store_at}
@@ -17,14 +17,17 @@ use Rattle.kdb_handle.specs.declared.replies.Reply.{Reply}
 use Rattle.kdb_handle.specs.declared.replies.Reply.TheVariants as reply
 use Rattle.kdb_handle.specs.declared.setting.SetFault.{SetFault}
 use Rattle.kdb_handle.specs.declared.setting.SetFault.TheVariants as set_fault
+use Rattle.kdb_handle.specs.declared.undoing.UndoFault.{UndoFault}
+use Rattle.kdb_handle.specs.declared.undoing.UndoFault.TheVariants as undo_fault
 use Rattle.model_batch.specs.Fair.{IsFair, of_session}
 use Rattle.model_batch.specs.Merges.{EndsSo, Merges, Retries, SetsSo}
-use Rattle.model_batch.specs.Replies.{look_reply, merge_reply, set_reply, stored_reply}
+use Rattle.model_batch.specs.Replies.{look_reply, merge_reply, set_reply, stored_reply, undo_reply}
 use Rattle.model_batch.specs.Sessions.{Session, Watching, first_session}
 use Rattle.model_batch.specs.Sets.{Lacks, MeansSet}
 use Rattle.model_batch.specs.Steps.{Edits, Means}
 use Rattle.model_batch.specs.Told.{Tells}
 use Rattle.model_batch.specs.Watches.{Follows, begins_watch, changes_then, news_told, news_then}
+use Rattle.model_batch.proofs.Knowing.{fair-flat}
 use Rattle.model_batch.proofs.Telling.{means-later}
 use Rattle.model_batch.proofs.TriesLemmas.{cut-keeps, tries-keep}
 use Rattle.model_history.specs.History.{Commit}
@@ -136,6 +139,11 @@ pub record Polled (history : List Commit) (watched : Watching) (answer : Reply) 
   pub told_is : new.told ≡ length past
   pub watching_is : new.watching ≡ Some (record watched { from = length past })
 
+-- an undoing tells none
+undone-news : (result : Result Done UndoFault) → news_told (undo_reply result) ≡ []
+undone-news (Ok done) = refl
+undone-news (Err why) = refl
+
 no-watch : {A : Type 0} → true ≡ false → A
 no-watch e = absurd cc
 
@@ -172,6 +180,9 @@ module _ (formats : Formats) (files : List MountedFile) (procs : KeyMap) (number
         watching_is = ap (λ (s : Session). s.watching) h.new_is ∙ ap (λ (w : Watching). Some (record w { from = length h.past })) same;
       })
   step-watched old new Poll answer (inr (inr h)) is le none = inl (lacked reply.Memory old answer new refl h)
+  step-watched old new (Undo undone) answer (inl h) is le none = inl (record { none = ap news_told h.reply_is ∙ undone-news h.result; same = ap (λ (s : Session). s.watching) h.new_is })
+  step-watched old new (Undo undone) answer (inr (inl h)) is le none = inl (lacked (reply.UndoRefused undo_fault.Memory) old answer new refl h)
+  step-watched old new (Undo undone) answer (inr (inr h)) is le none = inl (lacked reply.Memory old answer new refl h)
 
 -- ---- step by step
 
@@ -275,7 +286,7 @@ pub fair-follows : (formats : Formats) (files : List MountedFile) (sessions : �
     → of_session i steps ≡ before ++ Watch parent room ∷ later → of_session i replies ≡ answers ++ reply.Watching front ∷ others → AllByRecursion (λ answer. begins_watch answer ≡ false) others
     → (last : Session) × Follows history (record { parent = parent; room = room; from = front }) others last
 fair-follows formats files sessions procs history steps replies fair i lt before later answers others parent room front many steps_are replies_are none =
-    let told = fair.tells i lt in
+    let told = fair-flat formats files sessions procs history steps replies fair i lt in
     let split = subst (λ (s : List Step). Tells formats files (procs (i + 1)) (i + 1) history first_session s (answers ++ reply.Watching front ∷ others) told.0) steps_are
     (subst (λ (r : List Reply). Tells formats files (procs (i + 1)) (i + 1) history first_session (of_session i steps) r told.0) replies_are told.1) in
     let behind = tells-behind formats files (procs (i + 1)) (i + 1) history first_session told.0 before (Watch parent room ∷ later) answers (reply.Watching front ∷ others) many split in

@@ -5,7 +5,7 @@ use Rattle.std.specs.List.{AllByRecursion, flat_map}
 use Rattle.std.proofs.lemmas.List.Concat.{flat_map-append}
 use mathlib.Core.List.{IsPrefix}
 use Rattle.batch_script.specs.declared.steps.Step.{Step}
-use Rattle.batch_script.specs.declared.steps.Step.TheVariants.{Get, Put, MetaStep, Del, Cut, Look, Set, Merge, Watch, Poll}
+use Rattle.batch_script.specs.declared.steps.Step.TheVariants.{Get, Put, MetaStep, Del, Cut, Look, Set, Merge, Watch, Poll, Undo}
 use Rattle.general_words.proofs.Lists.{all_append, all_back}
 use Rattle.key_merge.specs.declared.strategies.Strategy.{Strategy}
 use Rattle.kdb_handle.specs.Opened.{store_at}
@@ -18,6 +18,7 @@ use Rattle.kdb_handle.specs.declared.replies.Reply.{Reply}
 use Rattle.kdb_handle.specs.declared.replies.Reply.TheVariants as reply
 use Rattle.kdb_handle.specs.declared.setting.SetFault.{SetFault}
 use Rattle.kdb_handle.specs.declared.setting.SetFault.TheVariants as set_fault
+use Rattle.kdb_handle.specs.declared.undoing.UndoFault.TheVariants as undo_fault
 use Rattle.key_edits.specs.Edits.{put_meta, put_value}
 use Rattle.model_batch.specs.Merges.{EndsSo, Merges, Retries, SetsSo, Stays}
 use Rattle.model_batch.specs.Replies.{fronts_of_done, fronts_of_try, fronts_told, look_reply, merge_reply, numbers_of, numbers_told, set_reply, stored_reply}
@@ -26,6 +27,8 @@ use Rattle.model_batch.specs.Sets.{IsJudgedThen, Lacks, MeansSet, StandsNext, se
 use Rattle.model_batch.specs.Steps.{Edits, Gets, Means, got_then}
 use Rattle.model_batch.specs.Told.{IsAtLeast, Tells}
 use Rattle.model_batch.specs.Watches.{Polls, Watches, news_then}
+use Rattle.model_batch.proofs.JudgedLemmas.{judged-front, stands-more}
+use Rattle.model_batch.proofs.UndoTells.{undoes-later, undoes-more, undoes-numbers}
 use Rattle.model_batch.proofs.TriesLemmas.{cut-keeps, merged-too, tries-keep}
 use Rattle.model_history.specs.History.{Commit, replay}
 use Rattle.model_maps.specs.KeyMap.{KeyMap, not_below}
@@ -62,11 +65,6 @@ all-less low high [] le h = tt
 all-less low high (answer ∷ answers) le h = (at_least-less low high (fronts_told answer) le h.0, all-less low high answers le h.1)
 
 -- ---- while the history goes on
-
-stands-more : (history longer past : List Commit) (set : Prepared) (result : Result Done CommitFault) → IsPrefix history longer → StandsNext history past set result → StandsNext longer past set result
-stands-more history longer past set (Ok (Committed number aside)) p stands = prefix-trans (past ++ commit_of set ∷ []) history longer stands p
-stands-more history longer past set (Ok (Same front aside)) p stands = prefix-trans past history longer stands p
-stands-more history longer past set (Err why) p stands = prefix-trans past history longer stands p
 
 pub judged-more : (formats : Formats) (store : Store) (number : ℕ) (history longer : List Commit) (parent : Name) (keys : KeyMap) (old new : Session) (answer : Reply) → IsPrefix history longer
     → IsJudgedThen formats store number history parent keys old answer new → IsJudgedThen formats store number longer parent keys old answer new
@@ -157,6 +155,8 @@ module _ (formats : Formats) (files : List MountedFile) (procs : KeyMap) (number
   means-more history longer old new Poll answer p (inl none) = inl none
   means-more history longer old new Poll answer p (inr (inl polls)) = inr (inl (polls-more history longer old new answer p polls))
   means-more history longer old new Poll answer p (inr (inr other)) = inr (inr other)
+  means-more history longer old new (Undo undone) answer p (inl undoes) = inl (undoes-more formats files procs number undone old new answer history longer p undoes)
+  means-more history longer old new (Undo undone) answer p (inr other) = inr other
 
   pub tells-more : (history longer : List Commit) (old new : Session) (steps : List Step) (answers : List Reply) → IsPrefix history longer
       → Tells formats files procs number history old steps answers new → Tells formats files procs number longer old steps answers new
@@ -211,18 +211,6 @@ polls-later : (history : List Commit) (old new : Session) (answer : Reply) → P
 polls-later history old new answer h =
     (omega (arith, ap (λ (s : Session). s.told) h.new_is, h.no_less), subst (IsAtLeast old.told) (sym h.reply_is) (h.no_less, tt))
 
--- a judged set tells of the commits by which it was judged
-judged-front : (formats : Formats) (store : Store) (risen : Bool) (past : List Commit) (keys : KeyMap) (set : Prepared) (floor : ℕ) (result : Result Done CommitFault) → floor ≤ length past → IsJudged formats store risen past keys set result
-    → (floor ≤ told_then result floor) × IsAtLeast floor (set_reply result)
-judged-front formats store risen past keys set floor (Ok (Committed number aside)) le h = (omega (arith, h.0), (omega (arith, h.0), tt))
-judged-front formats store risen past keys set floor (Ok (Same front aside)) le h = (omega (arith, h.0), (omega (arith, h.0), tt))
-judged-front formats store risen past keys set floor (Err (Conflict mount by front)) le h = (omega (arith, h.2), (omega (arith, h.2), tt))
-judged-front formats store risen past keys set floor (Err (Invalid violation front)) le h = (omega (arith, h.0), (omega (arith, h.0), tt))
-judged-front formats store risen past keys set floor (Err (DatabaseFull weight front)) le h = (omega (arith, h.0), (omega (arith, h.0), tt))
-judged-front formats store risen past keys set floor (Err (HistoryFull weight front)) le h = (omega (arith, h.0), (omega (arith, h.0), tt))
-judged-front formats store risen past keys set floor (Err (DiskFault front)) le h = (omega (arith, h.1), (omega (arith, h.1), tt))
-judged-front formats store risen past keys set floor (Err Memory) le h = (omega arith, tt)
-
 pub set-later : (formats : Formats) (store : Store) (number : ℕ) (history : List Commit) (parent : Name) (keys : KeyMap) (old new : Session) (answer : Reply)
     → MeansSet formats store number history parent keys old answer new → IsLater old answer new
 set-later formats store number history parent keys old new answer (inl h) =
@@ -252,6 +240,8 @@ numbers-behind floor (reply.MergeRefused fault) h = tt
 numbers-behind floor (reply.Watching front) h = tt
 numbers-behind floor (reply.News told) h = tt
 numbers-behind floor reply.NoWatch h = tt
+numbers-behind floor (reply.Undone done) h = done-behind floor done h
+numbers-behind floor (reply.UndoRefused why) h = tt
 numbers-behind floor reply.Memory h = tt
 
 -- a merged set tells of no fewer with each try, and with its end
@@ -374,6 +364,9 @@ module _ (formats : Formats) (files : List MountedFile) (procs : KeyMap) (number
   means-later history old new Poll answer (inl h) = (omega (arith, ap (λ (s : Session). s.told) h.new_is), subst (IsAtLeast old.told) (sym h.reply_is) tt)
   means-later history old new Poll answer (inr (inl h)) = polls-later history old new answer h
   means-later history old new Poll answer (inr (inr h)) = lacks reply.Memory old new answer (λ floor. tt) h
+  means-later history old new (Undo undone) answer (inl h) = undoes-later formats files procs number undone old new answer history h
+  means-later history old new (Undo undone) answer (inr (inl h)) = lacks (reply.UndoRefused undo_fault.Memory) old new answer (λ floor. tt) h
+  means-later history old new (Undo undone) answer (inr (inr h)) = lacks reply.Memory old new answer (λ floor. tt) h
 
   -- a reply that tells no number
   unnumbered : (said : Reply) (told : ℕ) (answer : Reply) → numbers_told said ≡ [] → answer ≡ said → IsAtMost told answer
@@ -404,6 +397,9 @@ module _ (formats : Formats) (files : List MountedFile) (procs : KeyMap) (number
   means-numbers history old new Poll answer (inl h) = unnumbered reply.NoWatch new.told answer refl h.reply_is
   means-numbers history old new Poll answer (inr (inl h)) = unnumbered (reply.News (news_then h.watched h.past)) new.told answer refl h.reply_is
   means-numbers history old new Poll answer (inr (inr h)) = unnumbered reply.Memory new.told answer refl h.reply_is
+  means-numbers history old new (Undo undone) answer (inl h) = undoes-numbers formats files procs number undone old new answer history h
+  means-numbers history old new (Undo undone) answer (inr (inl h)) = unnumbered (reply.UndoRefused undo_fault.Memory) new.told answer refl h.reply_is
+  means-numbers history old new (Undo undone) answer (inr (inr h)) = unnumbered reply.Memory new.told answer refl h.reply_is
 
   pub tells-later : (history : List Commit) (old new : Session) (steps : List Step) (answers : List Reply) → Tells formats files procs number history old steps answers new
       → (old.told ≤ new.told) × AllByRecursion (IsAtLeast old.told) answers

@@ -4,6 +4,7 @@ pub mod Sessions
 pub mod Sets
 pub mod Merges
 pub mod Watches
+pub mod Undos
 pub mod Steps
 pub mod Told
 pub mod Fair

@@ -10,7 +10,8 @@ pub record Watching : Type 0 where
   pub room : ℕ
   pub from : ℕ
 
--- the working set, what its handle's record keeps, how many commits its replies have told of, and what it watches
+-- the working set, what its handle's record keeps, how many commits it knows of, and what it watches. It knows of those that its replies told of, and of those that
+-- the phases before its present one made
 pub record Session : Type 0 where
   pub working : KeyMap
   pub rec : Record

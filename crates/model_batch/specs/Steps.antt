@@ -4,15 +4,17 @@ use Rattle.std.specs.Prelude.{◌≡◌, ◌⊎◌, ℕ, ◌≤◌, List, length
 use Rattle.std.specs.FinMap as map
 use mathlib.Core.List.{IsPrefix}
 use Rattle.batch_script.specs.declared.steps.Step.{Step}
-use Rattle.batch_script.specs.declared.steps.Step.TheVariants.{Get, Put, MetaStep, Del, Cut, Look, Set, Merge, Watch, Poll}
+use Rattle.batch_script.specs.declared.steps.Step.TheVariants.{Get, Put, MetaStep, Del, Cut, Look, Set, Merge, Watch, Poll, Undo}
 use Rattle.kdb_handle.specs.Opened.{store_at}
 use Rattle.kdb_handle.specs.declared.replies.Reply.{Reply}
 use Rattle.kdb_handle.specs.declared.replies.Reply.TheVariants as reply
+use Rattle.kdb_handle.specs.declared.undoing.UndoFault.TheVariants as undo_fault
 use Rattle.key_edits.specs.Edits.{put_meta, put_value}
 use Rattle.model_batch.specs.Merges.{Merges}
 use Rattle.model_batch.specs.Replies.{look_reply}
 use Rattle.model_batch.specs.Sessions.{Session}
 use Rattle.model_batch.specs.Sets.{Lacks, MeansSet, kept_then}
+use Rattle.model_batch.specs.Undos.{Undoes}
 use Rattle.model_batch.specs.Watches.{IsUnwatched, Polls, Watches}
 use Rattle.model_history.specs.History.{Commit, replay}
 use Rattle.model_maps.specs.KeyMap.{KeyMap, not_below}
@@ -77,3 +79,5 @@ Means formats files procs number history old (Set parent) answer new = MeansSet 
 Means formats files procs number history old (Merge parent strategy tries) answer new = Merges formats files number history parent strategy tries old answer new ⊎ Lacks reply.Memory old answer new
 Means formats files procs number history old (Watch parent room) answer new = Watches history parent room old answer new ⊎ Lacks reply.Memory old answer new
 Means formats files procs number history old Poll answer new = IsUnwatched old answer new ⊎ (Polls history old answer new ⊎ Lacks reply.Memory old answer new)
+Means formats files procs number history old (Undo undone) answer new =
+    Undoes formats files procs number history undone old answer new ⊎ (Lacks (reply.UndoRefused undo_fault.Memory) old answer new ⊎ Lacks reply.Memory old answer new)

@@ -19,6 +19,20 @@ Tells formats files procs number history old (step ∷ steps) [] new = ⊥
 Tells formats files procs number history old (step ∷ steps) (answer ∷ answers) new =
     (mid : Session) × Means formats files procs number history old step answer mid × Tells formats files procs number history mid steps answers new
 
+-- a session that knows of so many commits
+abbrev pub knowing : ℕ → Session → Session
+knowing told session = record session { told = told }
+
+-- The steps of a phase have their replies, and the rest goes on from what they left. When the phase begins the session knows of no fewer commits than before, and of
+-- no fewer than the phases before it made
+pub record TellsPhase (formats : Formats) (files : List MountedFile) (procs : KeyMap) (number : ℕ) (history : List Commit) (made : ℕ) (old : Session) (steps : List Step) (answers : List Reply) (Rest : Session → Type 0) : Type 0 where
+  pub told : ℕ
+  pub no_less : old.told ≤ told
+  pub knows : made ≤ told
+  pub mid : Session
+  pub tells : Tells formats files procs number history (knowing told old) steps answers mid
+  pub rest : Rest mid
+
 -- the fronts of a reply are at least so high
 abbrev pub IsAtLeast : ℕ → Reply → Type 0
 IsAtLeast floor answer = AllByRecursion (λ front. floor ≤ front) (fronts_told answer)

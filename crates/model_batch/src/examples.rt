@@ -5,10 +5,12 @@ ghost use Rattle.kdb_handle.specs.declared.merging.MergeEnd.TheVariants as end;
 ghost use Rattle.kdb_handle.specs.declared.replies.Reply.{Reply};
 ghost use Rattle.kdb_handle.specs.declared.replies.Reply.TheVariants as reply;
 ghost use Rattle.kdb_handle.specs.declared.setting.SetFault.TheVariants as fault;
+ghost use Rattle.kdb_handle.specs.declared.undoing.UndoFault.TheVariants as undo;
 ghost use Rattle.model_batch.specs.Replies.{conflicts_told, failures_told, fronts_told, numbers_told};
 ghost use Rattle.model_batch.specs.Scripts.{reply_rows, sessions_of, step_rows};
 ghost use Rattle.model_batch.specs.Told.{count_of_others, numbers_by};
 ghost use Rattle.model_names.specs.Name.{Name};
+ghost use Rattle.mounted_files.specs.declared.refusals.GetFault.{GetFault};
 ghost use Rattle.store_core.specs.declared.committing.CommitFault.TheVariants as commit;
 ghost use Rattle.store_core.specs.declared.committing.Done.TheVariants as done;
 
@@ -28,6 +30,16 @@ pub fn replies_tell_fronts()
     ensures watching { fronts_told (reply.Watching 4) ≡ 4 ∷ [] }
     ensures news { fronts_told (reply.News (record { front = 6; missed = 1; changes = [] })) ≡ 6 ∷ [] }
     ensures quiet { fronts_told reply.Quiet ≡ [] }
+{}
+
+/// An undoing tells its commit and its front as a set does, where it was refused for want of such a commit or by a later one the front, and by a bad mount none.
+pub fn undos_tell_fronts()
+    ensures number { numbers_told (reply.Undone (done.Committed 3 0)) ≡ 3 ∷ [] }
+    ensures commit { fronts_told (reply.Undone (done.Committed 3 0)) ≡ 2 ∷ [] }
+    ensures none { fronts_told (reply.UndoRefused (undo.NoCommit 9 3)) ≡ 3 ∷ [] }
+    ensures overtaken { (name : Name) → fronts_told (reply.UndoRefused (undo.Overtaken name 2 5)) ≡ 5 ∷ [] }
+    ensures failed { failures_told (reply.UndoRefused (undo.Set (fault.Commit (commit.DiskFault 5)))) ≡ 1 }
+    ensures bad { (why : GetFault) → fronts_told (reply.UndoRefused (undo.Get why)) ≡ [] }
 {}
 
 /// A merge that met two conflicts tells two fronts of each try and the one of its end, and who was in the way; it is told as a commit, as spent,

@@ -18,7 +18,7 @@ ghost use Rattle.mounted_files.specs.declared.files.MountedFile.{MountedFile};
 
 pub use examples::{
     commits_go_by_their_handles, merges_tell_their_tries, others_are_counted, replies_tell_fronts,
-    sessions_have_rows,
+    sessions_have_rows, undos_tell_fronts,
 };
 pub use laws::{
     a_conflict_is_with_the_commit_of_another, a_merge_is_not_spent_by_fewer_commits_than_its_tries,

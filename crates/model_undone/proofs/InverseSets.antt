@@ -48,7 +48,7 @@ none_of f [] each = refl
 none_of f (m ∷ ms) each = ap (λ o. option_or o (first_some f ms)) (each m (among-first m ms)) ∙ none_of f ms (λ n among. each n (among-rest m n ms among))
 
 -- what is among all and passes is among those that pass
-into-filter : (p : ℕ → Bool) (ms : List ℕ) (m : ℕ) → is_among ms m ≡ true → p m ≡ true → is_among (filter p ms) m ≡ true
+pub into-filter : (p : ℕ → Bool) (ms : List ℕ) (m : ℕ) → is_among ms m ≡ true → p m ≡ true → is_among (filter p ms) m ≡ true
 into-filter p [] m among passes = absurd cc
 into-filter p (n ∷ ms) m among passes = by (into-filter p ms m) (nat_eq m n) refl (p n) refl among
   where

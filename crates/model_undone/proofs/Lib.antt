@@ -1,1 +1,2 @@
 pub mod InverseSets
+pub mod ParentLemmas

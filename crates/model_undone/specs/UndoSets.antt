@@ -1,9 +1,11 @@
 -- The set that undoes a commit: that of a handle which has got a parent and made the inverse on its keys. (This project's own.)
-use Rattle.std.specs.Prelude.{◌≡◌, ℕ, ◌-◌, true, List, length, take, Some, None}
+use Rattle.std.specs.Prelude.{◌≡◌, ℕ, ◌-◌, true, List, [], ◌∷◌, length, take, slice_get, Some, None}
+use Rattle.std.specs.Option.{option_map_or, unwrap_or}
 use Rattle.model_history.specs.Changes.{changed_by}
 use Rattle.model_history.specs.History.{Commit, is_among, replay}
 use Rattle.model_maps.specs.KeyMap.{KeyMap}
 use Rattle.model_names.specs.Name.{Name}
+use Rattle.model_names.specs.declared.namespaces.Namespace.TheVariants.{Cascading}
 use Rattle.model_store.specs.Cores.{keeping}
 use Rattle.model_store.specs.Legal.{IsLegalCommit}
 use Rattle.model_store.specs.Records.{Record}
@@ -11,6 +13,23 @@ use Rattle.model_store.specs.Sets.{Prepared, prepared, wants}
 use Rattle.model_store.specs.Store.{Store, Formats, points_of}
 use Rattle.model_undo.specs.Undoing.{commit_at, inverse, overtaken}
 use Rattle.set_split.specs.Involved.{involved_in}
+
+-- the mounts that the commit of a number touched; where no commit has the number, none
+abbrev pub touched_by : List Commit → ℕ → List ℕ
+touched_by history number = option_map_or (λ commit. commit.touched) (commit_at history number) []
+
+-- the parent of these mounts: the mountpoint of the one, and the cascading root where it isn't just one
+abbrev pub cascading_root : Name
+cascading_root = record { namespace = Cascading; parts = [] }
+
+abbrev pub parent_over : List Name → List ℕ → Name
+parent_over points [] = cascading_root
+parent_over points (m ∷ []) = unwrap_or (slice_get points m) cascading_root
+parent_over points (m ∷ n ∷ mounts) = cascading_root
+
+-- the parent at which a commit is undone
+abbrev pub undo_parent : Store → List Commit → ℕ → Name
+undo_parent store history number = parent_over (points_of store) (touched_by history number)
 
 -- keys with the inverse of a commit made on them
 abbrev pub taken_back : Store → List Commit → ℕ → KeyMap → KeyMap

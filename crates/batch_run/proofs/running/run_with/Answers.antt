@@ -25,7 +25,7 @@ all_phases-requires-clause-resting g c κs within =
     let plan = plan_of c.args.store.now in
     let seats = c.seat_all-workers in
     let taken = fresh-each formats lock plan (procs_of c.args.script.now) c.args.handles.items seats.result.items seats.ensures.handles c.requires.fresh seats.ensures.seated.each in
-    let rest : (i : ℕ) (d : Worker) → i < length seats.result.items → IsResting lock plan (get_or seats.result.items i d) = λ i d lt. rests formats lock plan _ (i + 1) [] [] (get_or seats.result.items i d) (taken i d lt) in
+    let rest : (i : ℕ) (d : Worker) → i < length seats.result.items → IsResting lock plan (get_or seats.result.items i d) = λ i d lt. rests formats lock plan _ (length seats.result.items) i [] [] (get_or seats.result.items i d) (taken i d lt) in
     subst (λ (ws : List Worker). (i : ℕ) (d : Worker) → i < length ws → IsResting lock plan (get_or ws i d)) (sym c.as_mut_slice.ensures.value) rest
 
 pub all_phases-requires-clause-rooms : goal.all_phases-requires-clause-rooms
@@ -68,8 +68,8 @@ ended g c =
     let workers = c.all_phases.new.workers in
     let rooms = c.all_phases.new.rooms in
     let taken = fresh-each formats lock plan procs c.args.handles.items seats.result.items seats.ensures.handles c.requires.fresh seats.ensures.seated.each in
-    let each : (i : ℕ) (d : Worker) → i < length begun → HasTaken formats lock plan (procs (i + 1)) (i + 1) [] [] (get_or begun i d) =
-    subst (λ (ws : List Worker). (i : ℕ) (d : Worker) → i < length ws → HasTaken formats lock plan (procs (i + 1)) (i + 1) [] [] (get_or ws i d)) (sym c.as_mut_slice.ensures.value) taken in
+    let each : (i : ℕ) (d : Worker) → i < length begun → HasTaken formats lock plan (procs (i + 1)) (length begun) i [] [] (get_or begun i d) =
+    subst (λ (ws : List Worker). (i : ℕ) (d : Worker) → i < length ws → HasTaken formats lock plan (procs (i + 1)) (length ws) i [] [] (get_or ws i d)) (sym c.as_mut_slice.ensures.value) taken in
     let numbers = c.deref.ensures.value ∙ c.requires.room.numbers in
     let named = named-all c.args.handles.items seats.result.items c.deref.result.now seats.ensures.handles (c.requires.many ∙ sym (ap length numbers)) seats.ensures.seated.named in
     let numbered : over number_in begun ≡ names = ap (over number_in) c.as_mut_slice.ensures.value ∙ named ∙ numbers in

@@ -85,7 +85,7 @@ returns-clause-handle g c =
     c.commit-done.new.rec turn.result.place turn.result.number turn.result.seen turn.result.own (told_now c.commit-done.new.self.fresh) c.leave.result c.leave.ensures turn.ensures.same turn.ensures.seen turn.ensures.own
     (set_turn store.lock store.plan c.args.self.now c.in-Some.seat c.self.inside.rec before c.requires.handle
     formats g.D.Disk g.row.D.coded g.P.Patterns.refusals found.core found.entries turn.result.seen turn.ensures.seen shared number c.args.prepared c.requires.prepared
-    c.commit-done.result (told_now c.commit-done.new.self.fresh) c.commit-done.ensures.told) c.commit-done.ensures.places
+    c.commit-done.result (told_now c.commit-done.new.self.fresh) c.commit-done.ensures.told) c.commit-done.ensures.places c.commit-done.ensures.proc
     (c.commit-done.ensures.keeps turn.result.seen given)
     (done_covers store.lock store.plan c.args.self.now c.in-Some.seat c.self.inside.rec before c.requires.handle
     formats g.D.Disk g.row.D.coded g.P.Patterns.refusals found.core found.entries turn.result.seen turn.ensures.seen shared number c.args.prepared c.requires.prepared
