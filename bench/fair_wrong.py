@@ -11,7 +11,7 @@ from fair_play import Play
 from fair_scripts import Making, files_of, script_of
 from fair_steps import Judge, merged
 
-SCRIPTS = 40
+SCRIPTS = 120
 
 
 class Remaking(Play):
