@@ -249,6 +249,11 @@ def failing_of(numbers):
     return [numbers.below(100) + 12 for _ in range(numbers.below(12))]
 
 
+def flushes_of(numbers):
+    """How many events are before each of some flushes. A flush answers nothing here and changes nothing of what is wanted."""
+    return sorted(numbers.below(EVENTS) + 1 for _ in range(numbers.below(6)))
+
+
 def shown(text):
     """A file's text on one line."""
     return text.replace("\n", "|n") if text else "nothing"
@@ -276,21 +281,24 @@ HEAD = [
 
 
 def cases():
-    """The lines of each list with its events, its failing calls, and the number of its crash."""
+    """The events of each list, the lines that ask for them with the flushes between, its failing calls, and the number of its crash."""
     for seed in range(LISTS):
         numbers = Numbers(seed)
-        events = list_of(numbers)
-        yield seed, events, failing_of(numbers)
+        events, failing = list_of(numbers), failing_of(numbers)
+        yield seed, events, lines_of_list(events, flushes_of(numbers)), failing
 
 
-def lines_of_list(events):
-    return ["", "again"] + [line for event in events for line in lines_of(event)]
+def lines_of_list(events, flushes):
+    lines = ["", "again"]
+    for number, event in enumerate(events, 1):
+        lines += lines_of(event) + ["flush"] * flushes.count(number)
+    return lines
 
 
 def data():
     lines = list(HEAD)
-    for seed, events, failing in cases():
-        lines += lines_of_list(events) + [f"fronts {seed}"]
+    for seed, _, asked, failing in cases():
+        lines += asked + [f"fronts {seed}"]
         lines += [f"fail {' '.join(map(str, failing))}", f"fronts {seed}"] if failing else []
     return "\n".join(lines) + "\n"
 
@@ -376,8 +384,8 @@ def check(printed):
                 raise Wrong(f"line {at + 1} of the lists: {lines[at]!r} where {line!r} is wanted")
             at += 1
 
-    for seed, events, failing in cases():
-        take(lines_of_list(events) + [f"fronts {seed}"] + wanted_of(events))
+    for seed, events, asked, failing in cases():
+        take(asked + [f"fronts {seed}"] + wanted_of(events))
         counts.update(line.split(" ")[2] for line in wanted_of(events) if not line.split(" ")[2].endswith(".ecf"))
         if failing:
             take([f"fail {' '.join(map(str, failing))}", f"fronts {seed}"])
@@ -401,8 +409,8 @@ def main(word="", path=WANTED):
             file.write(data())
     elif word == "answers":
         print("\n".join(HEAD))
-        for seed, events, _ in cases():
-            print("\n".join(lines_of_list(events) + [f"fronts {seed}"] + wanted_of(events)))
+        for seed, events, asked, _ in cases():
+            print("\n".join(asked + [f"fronts {seed}"] + wanted_of(events)))
     elif word == "check":
         with open(path, encoding="utf-8") as file:
             print(check(file.read()))

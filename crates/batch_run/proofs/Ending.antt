@@ -8,10 +8,11 @@ use Rattle.batch_script.specs.declared.steps.Script.{Script}
 use Rattle.batch_run.specs.Played.{IsPlayed}
 use Rattle.batch_run.proofs.Making.{failures-all, nobody_made, refusals-all}
 use Rattle.batch_run.proofs.Totals.{AreNarrow, reply-rows_narrow, rows-total, total, total-same}
-use Rattle.intent_journal.specs.Moments.{LeavesOnly}
-use Rattle.intent_journal.specs.Outcomes.{HasOnly, IsEither, SameFiles}
+use Rattle.journal_steps.specs.Moments.{LeavesOnly}
+use Rattle.intent_journal.specs.Opened.{IsFresh}
+use Rattle.intent_journal.specs.Outcomes.{HasOnly}
+use Rattle.journal_steps.specs.Outcomes.{IsEither, SameFiles}
 use Rattle.intent_journal.specs.States.{IsCalm}
-use Rattle.intent_journal.specs.declared.states.State.TheVariants as state
 use Rattle.kdb_handle.specs.Closing.{IsClosed}
 use Rattle.kdb_handle.specs.Datums.{coded_journal}
 use Rattle.kdb_handle.specs.Handles.{HandleValue}
@@ -170,14 +171,14 @@ module _ (formats : Formats) {D P : Type 0} (g : Ghosts D) (code : Coded D) (ref
         failed = is_closed.faults;
         refused_by = subst (λ (o : Opening). HasRisenBy (refusals_in story) o.refusals (refused closed.patterns)) opening_is is_closed.refusals;
         goes = is_closed.goes;
-        left_alone = λ begins unwritten in_doubt. is_closed.left_alone begins (ap (λ (o : Opening). o.wrote) opening_is ∙ unwritten) in_doubt;
+        left_alone = λ begins unwritten fresh. is_closed.left_alone begins (ap (λ (o : Opening). o.wrote) opening_is ∙ unwritten) fresh;
         disk = is_closed.disk;
       }
 
 -- a store that was never shared has the empty story
 pub unplayed : (formats : Formats) {D P : Type 0} (g : Ghosts D) (refused : P → ℕ) (files : List MountedFile) (script : Script) (core : Core D P) (closed : Closed D P) → StandsIn formats (store_at files) core (λ r m. None) (λ p. None) first_world
     → closed.history ≡ core.history → closed.patterns ≡ core.patterns
-    → (core.wrote ≡ false → core.journal.state ≡ state.Doubt → closed.disk ≡ core.journal.disk)
+    → (core.wrote ≡ false → IsFresh core.journal → closed.disk ≡ core.journal.disk)
     → ((start : D) (run : Run) → IsStore g start core.journal run → ¬ HasRisen (g.faults core.journal.disk) (g.faults closed.disk) → SameFiles (g.seen closed.disk) (files_of run))
     → ((start : D) (run : Run) → IsStore g start core.journal run → ¬ HasRisen run.faults (g.faults closed.disk) → IsCalm (g.seen closed.disk) (g.may_leave closed.disk) (files_of run) run.doubt)
     → ((start : D) (run : Run) → IsStore g start core.journal run → LeavesOnly g start closed.disk (IsReached run.files run.commits run.begun))
@@ -195,7 +196,7 @@ unplayed formats g refused files script core closed stands history patterns left
   failed = inl (omega (arith, goes.later));
   refused_by = inl (omega (arith, ap refused patterns));
   goes = goes;
-  left_alone = λ begins unwritten in_doubt. left_alone unwritten in_doubt;
+  left_alone = λ begins unwritten fresh. left_alone unwritten fresh;
   disk = λ start first is_store. record {
     last = first;
     by_story = refl;

@@ -77,16 +77,16 @@ module _ {F : Type 0} (lock : Place Told) (plan : Plan F) where
 
   -- the next one is, for the session of its place
   pub opened-next : (script : Script) (numbers : List ℕ) (lines : List ProcLine) (place : ℕ) (handles all : List HandleValue) (handle : HandleValue) (seats left : List (Known Told)) (room now : ℕ) → numbers ≡ sessions_of script → lines ≡ script.proc → length handles ≡ place
-      → all ≡ handles ++ handle ∷ [] → AreOpened lock plan script handles seats room → IsFresh lock plan (lock.seats - length seats + 1) (keys_by (get_or numbers place 0) lines no_keys) handle → AreFree lock left now → length left + 1 ≡ length seats
+      → all ≡ handles ++ handle ∷ [] → AreOpened lock plan script handles seats room → IsFresh lock plan (lock.seats - length seats) (keys_by (get_or numbers place 0) lines no_keys) handle → AreFree lock left now → length left + 1 ≡ length seats
       → AreOpened lock plan script all left now
   opened-next script numbers lines place handles all handle seats left room now are given count pushed was fresh free fewer =
-      let number : lock.seats - length seats + 1 ≡ length handles + 1 = omega (arith, was.all) in
+      let number : lock.seats - length seats ≡ length handles + 1 = omega (arith, was.all) in
       let keys : keys_by (get_or numbers place 0) lines no_keys ≡ procs_of script (length handles + 1) =
       ap (λ (ls : List ProcLine). keys_by (get_or numbers place 0) ls no_keys) given ∙ sym (procs_at script numbers place are) ∙ ap (λ (k : ℕ). procs_of script (k + 1)) (sym count) in
       record {
         fresh = subst (AreFresh lock plan (procs_of script)) (sym pushed)
             (fresh-push (procs_of script) handles handle was.fresh
-            (subst (λ (n : ℕ). IsFresh lock plan n (procs_of script (length handles + 1)) handle) number (subst (λ (ks : KeyMap). IsFresh lock plan (lock.seats - length seats + 1) ks handle) keys fresh)));
+            (subst (λ (n : ℕ). IsFresh lock plan n (procs_of script (length handles + 1)) handle) number (subst (λ (ks : KeyMap). IsFresh lock plan (lock.seats - length seats) ks handle) keys fresh)));
         free = free;
         all = omega (arith, ap (λ (hs : List HandleValue). length hs) pushed, length_push handles handle, was.all);
       }

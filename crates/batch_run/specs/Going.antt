@@ -1,8 +1,10 @@
 -- How sessions go on in a phase. (This project's own.)
-use Rattle.std.specs.Prelude.{◌≡◌, ℕ, ◌≤◌, ◌<◌, List, [], length, get_or, map as over}
+use Rattle.std.specs.Prelude.{◌≡◌, ℕ, ◌≤◌, ◌<◌, List, [], length, get_or, map as over, slice_index_or}
 use Rattle.std.specs.Global.{Vec}
 use mathlib.Core.List.{IsPrefix}
 use Rattle.batch_script.specs.declared.steps.Step.{Step}
+use Rattle.batch_script.specs.declared.steps.Steps.{Steps}
+use Rattle.batch_run.specs.Rooms.{IsRoom}
 use Rattle.batch_run.specs.Workers.{number_in}
 use Rattle.batch_run.specs.declared.workers.Worker.{Worker}
 use Rattle.kdb_handle.specs.Handles.{HandleValue}
@@ -10,10 +12,11 @@ use Rattle.kdb_handle.specs.Stores.{IsHandle}
 use Rattle.kdb_handle.specs.Story.{Told, commits_of}
 use Rattle.kdb_handle.specs.declared.replies.Reply.{Reply}
 use Rattle.model_batch.specs.Fair.{in_row}
+use Rattle.model_batch.specs.Scripts.{steps_in}
 use Rattle.model_batch.specs.Told.{numbers_by}
 use Rattle.model_store.specs.Store.{Formats}
 use Rattle.seat_lock.specs.Known.{Place}
-use Rattle.batch_run.specs.Stepping.{GoesOn}
+use Rattle.batch_run.specs.Stepping.{GoesOn, IsReady}
 use Rattle.store_core.specs.declared.cores.Plan.{Plan}
 
 -- how many commits of a number there are in what a handle has seen
@@ -41,6 +44,18 @@ pub record Meets {F : Type 0} (lock : Place Told) (plan : Plan F) (old new : Wor
   pub session : new.session.number ≡ old.session.number
   pub workspace : new.session.workspace ≡ old.session.workspace
   pub told : new.told ≡ old.told
+
+-- all sessions can take their steps, there is room for the replies to their steps of a phase, and each took them
+abbrev pub AreReady : {F : Type 0} → Place Told → Plan F → List Worker → Type 0
+AreReady lock plan workers = (i : ℕ) (d : Worker) → i < length workers → IsReady lock plan (slice_index_or workers i d).session.handle (slice_index_or workers i d).session.workspace
+
+abbrev pub HaveOwnRoom : List Steps → List Worker → Type 0
+HaveOwnRoom phase workers = (i : ℕ) (d : Worker) → i < length workers → IsRoom (length (steps_in phase (slice_index_or workers i d).session.number)) (slice_index_or workers i d).told
+
+abbrev pub AllWork : {F : Type 0} → Formats → Place Told → Plan F → List Steps → List Worker → List Worker → Type 0
+AllWork formats lock plan phase old new =
+    (i : ℕ) (d : Worker) → i < length old
+    → Works formats lock plan (steps_in phase (slice_index_or old i d).session.number) (slice_index_or old i d) (slice_index_or new i d)
 
 -- A phase of some sessions: each took the steps of its place and got the replies there. Then they met: each has seen of the commits of each other as many as that one
 -- has

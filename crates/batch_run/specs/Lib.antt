@@ -2,6 +2,7 @@
 pub mod Stepping
 pub mod Watching
 pub mod Workers
+pub mod Flushes
 pub mod Going
 pub mod Stands
 pub mod Rooms

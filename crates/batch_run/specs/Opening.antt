@@ -17,8 +17,8 @@ pub record HasPlaces (script : Script) (places : Places) : Type 0 where
   pub none : places.handles.items ≡ []
   pub wide : length (sessions_of script) ≤ vec_capacity places.handles
 
--- the handles of the first sessions of a script were just opened, and each other seat is free
+-- the handles of the first sessions of a script were just opened, and each other seat is free but the flusher's
 pub record AreOpened {F : Type 0} (lock : Place Told) (plan : Plan F) (script : Script) (handles : List HandleValue) (seats : List (Known Told)) (room : ℕ) : Type 0 where
   pub fresh : AreFresh lock plan (procs_of script) handles
   pub free : AreFree lock seats room
-  pub all : length handles + length seats ≡ lock.seats
+  pub all : length handles + length seats + 1 ≡ lock.seats

@@ -4,7 +4,7 @@ use Rattle.batch_run.specs.Shown.{IsOrdered}
 use Rattle.batch_script.specs.declared.steps.ProcLine.{ProcLine}
 use Rattle.batch_script.specs.declared.steps.Script.{Script}
 use Rattle.batch_run.specs.declared.playing.Played.{Played}
-use Rattle.intent_journal.specs.declared.states.State.TheVariants.{Doubt}
+use Rattle.intent_journal.specs.Opened.{IsFresh}
 use Rattle.kdb_handle.specs.Closing.{IsHandedOn}
 use Rattle.kdb_handle.specs.Opened.{store_at}
 use Rattle.kdb_handle.specs.Rising.{HasRisenBy}
@@ -41,5 +41,5 @@ pub record IsPlayed (formats : Formats) {D P : Type 0} (g : Ghosts D) (refused :
   pub failed : HasRisenBy (failures_in story) (g.faults core.journal.disk) (g.faults played.closed.disk)
   pub refused_by : HasRisenBy (refusals_in story) (refused core.patterns) (refused played.closed.patterns)
   pub goes : GoesOn g core.journal.disk played.closed.disk
-  pub left_alone : BeginsNone story → core.wrote ≡ false → core.journal.state ≡ Doubt → played.closed.disk ≡ core.journal.disk
+  pub left_alone : BeginsNone story → core.wrote ≡ false → IsFresh core.journal → played.closed.disk ≡ core.journal.disk
   pub disk : (start : D) (first : Run) → IsStore g start core.journal first → IsHandedOn formats g files start first core.journal.disk story played.closed.disk

@@ -5,7 +5,7 @@ ghost use Rattle.batch_run.specs.Closes.{IsFresh};
 ghost use Rattle.batch_script.specs.declared.steps.ProcLine.{ProcLine};
 ghost use Rattle.batch_run.specs.Opening.{AreOpened};
 ghost use Rattle.kdb_handle.specs.Stores.{AreFree, IsStarted};
-ghost use Rattle.kdb_handle.specs.Views.{lock_of, plan_of, room_of, seats_of};
+ghost use Rattle.kdb_handle.specs.Views.{lock_of, plan_of, room_of, seats_of, spare_of};
 ghost use Rattle.model_batch.specs.Scripts.{keys_by, sessions_of};
 ghost use Rattle.model_maps.specs.KeyMap.{no_keys};
 ghost use Rattle.model_names.specs.declared.namespaces.Namespace.TheVariants.{Proc};
@@ -35,6 +35,7 @@ pub fn open_all<D: Disk, F: Formats + Drop, P: Patterns + Drop>(
     requires room { length numbers.now ≤ vec_capacity handles.old }
     requires opened { AreOpened (lock_of store.now) (plan_of store.now) script.now handles.old.items (seats_of seats.old) (room_of seats.old) }
     ensures opened { AreOpened (lock_of store.now) (plan_of store.now) script.now handles.new.items (seats_of seats.new) (room_of seats.new) }
+    ensures flusher { spare_of seats.new ≡ spare_of seats.old }
     ensures all { OnOk result (length handles.new.items ≡ length numbers.now) }
 {
     for number in numbers {
@@ -55,8 +56,9 @@ fn open_one<D: Disk, F: Formats + Drop, P: Patterns + Drop>(
     requires started { IsStarted (lock_of store.now) (plan_of store.now) }
     requires free { AreFree (lock_of store.now) (seats_of seats.old) (room_of seats.old) }
     requires procs { All (λ (line : ProcLine). line.key.namespace ≡ Proc) lines.now }
-    ensures fresh { IfOk result (λ handle. IsFresh (lock_of store.now) (plan_of store.now) ((lock_of store.now).seats - length (seats_of seats.old) + 1) (keys_by session lines.now no_keys) handle) }
+    ensures fresh { IfOk result (λ handle. IsFresh (lock_of store.now) (plan_of store.now) ((lock_of store.now).seats - length (seats_of seats.old)) (keys_by session lines.now no_keys) handle) }
     ensures free { AreFree (lock_of store.now) (seats_of seats.new) (room_of seats.new) }
+    ensures flusher { spare_of seats.new ≡ spare_of seats.old }
     ensures fewer { OnOk result (length (seats_of seats.new) + 1 ≡ length (seats_of seats.old)) }
     ensures same { OnErr result (seats.new ≡ seats.old) }
 {

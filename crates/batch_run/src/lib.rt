@@ -4,6 +4,7 @@
 
 mod editing;
 mod exchanges;
+mod flushing;
 mod handles;
 mod laws;
 mod meetings;

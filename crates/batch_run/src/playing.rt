@@ -1,10 +1,10 @@
 //! Plays a script on an open store.
-ghost use Rattle.std.specs.Prelude.{◌≡◌, ℕ, None, length};
+ghost use Rattle.std.specs.Prelude.{◌≡◌, ℕ, ◌+◌, None, length};
 ghost use Rattle.batch_script.specs.declared.steps.Script.{Script};
 ghost use Rattle.batch_run.specs.Opening.{AreOpened, HasPlaces};
 ghost use Rattle.batch_run.specs.Played.{IsPlayable, IsPlayed};
-ghost use Rattle.kdb_handle.specs.Stores.{AreFree, IsStarted};
-ghost use Rattle.kdb_handle.specs.Views.{files_in, files_of, first_story, lock_of, plan_of, room_of, seats_of};
+ghost use Rattle.kdb_handle.specs.Stores.{AreFree, HasFlusher, IsStarted};
+ghost use Rattle.kdb_handle.specs.Views.{files_in, files_of, first_story, lock_of, plan_of, room_of, seats_of, spare_of};
 ghost use Rattle.model_batch.specs.Scripts.{sessions_of};
 ghost use Rattle.model_maps.specs.KeyMap.{KeyMap};
 ghost use Rattle.model_store.specs.Store.{store_of, formats_of};
@@ -99,7 +99,8 @@ fn play_with_seats<
     requires script { IsPlayable script.now }
     requires started { IsStarted (lock_of store) (plan_of store) }
     requires free { AreFree (lock_of store) (seats_of seats) (room_of seats) }
-    requires all { length (seats_of seats) ≡ (lock_of store).seats }
+    requires flusher { HasFlusher (lock_of store) (spare_of seats) None }
+    requires all { length (seats_of seats) + 1 ≡ (lock_of store).seats }
     requires places { HasPlaces script.now places }
     ensures { (core : Core D P) → (lock_of store).start ≡ first_story D.row.coded P.refusals (plan_of store) core
         → IsPlayed (formats_of F.Formats) D.Disk P.refusals (files_in store) script.now core result }
@@ -112,7 +113,7 @@ fn play_with_seats<
     match open_all(alloc, &store, script, &numbers, &mut seats, &mut handles) {
         Ok(()) => play_with_handles(rt, alloc, gate, store, seats, handles, script),
         Err(_) => Played {
-            closed: store.close_store(seats, handles),
+            closed: store.close_store(seats, handles, None),
             transcripts: None,
         },
     }
@@ -137,16 +138,31 @@ fn play_with_handles<
     requires script { IsPlayable script.now }
     requires started { IsStarted (lock_of store) (plan_of store) }
     requires opened { AreOpened (lock_of store) (plan_of store) script.now handles.items (seats_of seats) (room_of seats) }
+    requires flusher { HasFlusher (lock_of store) (spare_of seats) None }
     requires all { length handles.items ≡ length (sessions_of script.now) }
     ensures { (core : Core D P) → (lock_of store).start ≡ first_story D.row.coded P.refusals (plan_of store) core
         → IsPlayed (formats_of F.Formats) D.Disk P.refusals (files_in store) script.now core result }
 {
+    let mut seats = seats;
+    let Some(flusher) = seats.flusher() else {
+        unreachable!()
+    };
     let Sessions {
         handles,
+        flusher,
         transcripts,
-    } = run_sessions(rt, alloc, gate, &store, List::from_vec(handles), script);
+    } = run_sessions(
+        rt,
+        alloc,
+        gate,
+        &store,
+        List::from_vec(handles),
+        flusher,
+        script,
+    );
+    let closed = store.close_store(seats, handles.into_vec(), Some(flusher));
     Played {
-        closed: store.close_store(seats, handles.into_vec()),
+        closed,
         transcripts,
     }
 }

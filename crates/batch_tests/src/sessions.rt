@@ -84,3 +84,19 @@ fn the_gate_is_asked_before_each_step(rt: HostRuntime) -> Result<(), Fail> {
     assert_eq!(rt; (gate.calls(), gate.told()), (4, 301 + 302 + 701 + 303));
     Ok(())
 }
+
+/// The calls of the disk: six of the opening, two for the gate that it left in doubt, four of each commit, and five of each time that the file is
+/// written. The first time is the flusher's, in the first phase or in the second, and the other one is its own in the last phase or the closing's.
+#[test]
+fn a_flusher_writes_beside_the_sessions(rt: HostRuntime) -> Result<(), Fail> {
+    let gate = CountingGate::new();
+    let text =
+        "session 1\nget user:/\nput user:/k1 1\nset user:/\nphase\nsession 1\nset user:/\nphase\nsession 1\nput user:/k2 2\nset user:/\n";
+    let played = play(&rt, rt.alloc(), &gate, text).ok_or("it is played")?;
+    assert!(rt; played.transcripts.is_some());
+    assert_eq!(rt;
+        (gate.calls(), played.closed.disk.calls()),
+        (6, 6 + 2 + 4 + 5 + 4 + 5)
+    );
+    Ok(())
+}

@@ -1,11 +1,9 @@
-//! Tests of the public calls of the outside, of disks, files and the journal: of what no contract says, each call with ample memory.
+//! Tests of the public calls of the outside, of disks and files, and of the runs of a journal: of what no contract says, each call with ample memory.
 //! Calls of a disk in memory, names of files and bodies of entries are cases of `kdb_cases`.
 #![tactic(auto)]
 
 #[cfg(test)]
 mod file_names;
-#[cfg(test)]
-mod journals;
 #[cfg(test)]
 mod mem_disks;
 #[cfg(test)]

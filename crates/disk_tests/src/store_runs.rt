@@ -1,16 +1,17 @@
-//! A run of commits over the journal of a disk in memory: two commits, each device call failing alone, and a crash behind the run.
+//! A run of commits over the journal of a disk in memory: two commits, each device call failing alone, and a crash behind the run; and its flushes.
 ghost use Rattle.std.specs.Prelude.{IfOk};
 ghost use Rattle.journal_codec.specs.Entry.{IsEntry};
 
 use backend_files::FileRead;
 use disk_memory::MemDisk;
-use intent_journal::{Journal, State};
+use intent_journal::Journal;
 use journal_codec::{FileText, decode, encode, spells_what_is_read};
+use journal_steps::State;
 use kdb_outside::{Failed, FileName};
 use key_meta::List;
 use std::alloc::Global;
 use std::test::Fail;
-use store_phases::{begin, bring_in, close, commit, make_clean, open, read, store};
+use store_phases::{close, commit, flush, make_clean, make_room, open, read, store};
 
 /// The body of an entry that writes `1` into `a.ecf`.
 const FIRST: &[u8] = b"\x01\x05a.ecf\x01\x00\x00\x001";
@@ -63,10 +64,10 @@ fn commit_both(alloc: Global, failed: u64) -> Result<Ended, Fail> {
     }
 }
 
-/// Whether what is told of both entries fits the call that failed. The first call is the opening's; the seventh syncs the open
-/// gate of the first entry, and the sixteenth that of the second.
+/// Whether what is told of both entries fits the call that failed. The first call is the opening's. The next two settle the first gate, and four each put a
+/// body and open its gate: those of the second entry end with the eleventh. What comes behind them is the closing's.
 fn is_told(failed: u64, one: bool, two: bool) -> bool {
-    one == (failed > 7) && two == (failed > 1 && !(13..17).contains(&failed))
+    one == (failed > 7) && two == (failed > 1 && !(8..12).contains(&failed))
 }
 
 /// A file of a disk, once the disk was opened and closed again.
@@ -104,7 +105,7 @@ fn every_failure_fits(alloc: Global, calls: u64, choices: u64) -> Result<bool, F
 
 #[test]
 fn stores_what_it_acknowledges_whichever_call_fails(rt: HostRuntime) -> Result<(), Fail> {
-    assert!(rt; every_failure_fits(rt.alloc(), 25, 3)?);
+    assert!(rt; every_failure_fits(rt.alloc(), 21, 3)?);
     Ok(())
 }
 
@@ -113,36 +114,6 @@ fn opened(alloc: Global, disk: MemDisk) -> Result<Journal<MemDisk>, Fail> {
         Ok(journal) => Ok(journal),
         Err(_) => Err("the disk opens")?,
     }
-}
-
-/// How the journal is made clean, and its state then.
-fn cleaned(journal: &mut Journal<MemDisk>) -> (Result<(), Failed>, State) {
-    let cleaned = make_clean(journal);
-    (cleaned, journal.state())
-}
-
-/// How an entry is begun on a clean journal, and the state then. Nothing where it isn't clean.
-fn begun(
-    alloc: Global,
-    journal: &mut Journal<MemDisk>,
-    body: &[u8],
-) -> Result<Option<(Result<(), Failed>, State)>, Fail> {
-    let files = entry(alloc, body)?;
-    let encoded = encode(alloc, files.as_slice())?;
-    if journal.state() != State::Clean {
-        return Ok(None);
-    }
-    let begun = begin(journal, &encoded, files);
-    Ok(Some((begun, journal.state())))
-}
-
-/// The state once the entry that lags behind was brought in. Nothing where none does.
-fn brought_in(journal: &mut Journal<MemDisk>) -> Option<State> {
-    if journal.state() != State::Lag {
-        return None;
-    }
-    bring_in(journal);
-    Some(journal.state())
 }
 
 /// How an entry is stored.
@@ -176,42 +147,51 @@ fn bytes_of(alloc: Global, journal: &mut Journal<MemDisk>, text: &str) -> Result
     }
 }
 
-/// Whether an entry goes in by the phases, one by one.
-fn goes_in_phases(
+/// Whether a journal has this state, and a file these bytes.
+fn stands(
     alloc: Global,
     journal: &mut Journal<MemDisk>,
-    body: &[u8],
-) -> Result<bool, Fail> {
-    Ok(
-        cleaned(journal) == (Ok(()), State::Clean)
-            && begun(alloc, journal, body)? == Some((Ok(()), State::Lag))
-            && brought_in(journal) == Some(State::Clean),
-    )
-}
-
-/// Whether an entry is stored, and gives a file these bytes.
-fn stores(
-    alloc: Global,
-    journal: &mut Journal<MemDisk>,
-    body: &[u8],
+    state: State,
     bytes: &[u8],
 ) -> Result<bool, Fail> {
-    Ok(
-        stored(alloc, journal, body)? == Ok(())
-            && bytes_of(alloc, journal, "a.ecf")?.as_slice() == bytes,
-    )
+    Ok(journal.state() == state && bytes_of(alloc, journal, "a.ecf")?.as_slice() == bytes)
 }
 
 #[test]
-fn goes_through_the_phases_of_a_commit(rt: HostRuntime) -> Result<(), Fail> {
+fn leaves_the_files_until_the_list_is_brought_in(rt: HostRuntime) -> Result<(), Fail> {
     let alloc = rt.alloc();
     let mut journal = opened(alloc, empty_disk(alloc, Vec::new(alloc))?)?;
-    assert!(rt; goes_in_phases(alloc, &mut journal, FIRST)?);
-    assert!(rt; stores(alloc, &mut journal, SECOND, b"22")?);
+    assert!(rt; stands(alloc, &mut journal, State::Doubt, b"")?);
+    assert_eq!(rt; make_room(&mut journal, 67_200_000), Ok(()));
+    assert!(rt; stands(alloc, &mut journal, State::Clean, b"")?);
+    assert_eq!(rt; stored(alloc, &mut journal, FIRST)?, Ok(()));
+    assert!(rt; stands(alloc, &mut journal, State::Lag, b"")?);
+    // Its entry ends at place 17, so that a body of so many bytes fits behind it, and one of another byte doesn't.
+    assert_eq!(rt; make_room(&mut journal, 67_199_983), Ok(()));
+    assert!(rt; stands(alloc, &mut journal, State::Lag, b"")?);
+    assert_eq!(rt; make_room(&mut journal, 67_199_984), Ok(()));
+    assert!(rt; stands(alloc, &mut journal, State::Clean, b"1")?);
+    assert_eq!(rt; committed(alloc, &mut journal, SECOND)?, Ok(()));
+    assert!(rt; stands(alloc, &mut journal, State::Lag, b"1")?);
+    assert_eq!(rt; make_clean(&mut journal), Ok(()));
+    assert!(rt; stands(alloc, &mut journal, State::Clean, b"22")?);
     assert!(rt; !journal.has_recovered());
+    Ok(())
+}
+
+#[test]
+fn flushes_what_waits_and_tries_again_behind_a_failure(rt: HostRuntime) -> Result<(), Fail> {
+    let alloc = rt.alloc();
+    // The eighth call is the first that brings the entry in.
+    let disk = empty_disk(alloc, vec![in alloc; 8]?)?;
+    let mut journal = opened(alloc, disk)?;
+    assert_eq!(rt; flush(&mut journal), Ok(false));
     assert_eq!(rt; committed(alloc, &mut journal, FIRST)?, Ok(()));
-    let bytes = bytes_behind(alloc, journal, "a.ecf")?;
-    assert_eq!(rt; bytes.as_slice(), b"1".as_slice());
+    assert_eq!(rt; flush(&mut journal), Err(Failed));
+    assert!(rt; stands(alloc, &mut journal, State::Lag, b"")?);
+    assert_eq!(rt; flush(&mut journal), Ok(true));
+    assert!(rt; stands(alloc, &mut journal, State::Clean, b"1")?);
+    assert_eq!(rt; flush(&mut journal), Ok(false));
     Ok(())
 }
 

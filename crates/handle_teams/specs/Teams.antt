@@ -6,13 +6,13 @@ use Rattle.std.specs.Coded.{Coded-set, code_by, coded×, coded_bool, coded_list,
 use Rattle.std.specs.List.{All}
 use Rattle.std.specs.Prelude.{Bool, List, Option, refl, ℕ}
 use Rattle.kdb_handle.specs.Handles.{HandleValue}
-use Rattle.kdb_handle.specs.Stores.{IsHandle, IsStarted}
+use Rattle.kdb_handle.specs.Stores.{IsFlusher, IsHandle, IsStarted}
 use Rattle.kdb_handle.specs.Story.{Told, coded_told}
 use Rattle.key_set.specs.contracts.key_sets.KeySet as KeySet
 use Rattle.model_store.specs.Records.{Fetched}
 use Rattle.mount_table.specs.contracts.mounts.Mount as Mount
 use Rattle.mounted_files.specs.contracts.files.MountedFile as MountedFile
-use Rattle.seat_lock.specs.Known.{Place}
+use Rattle.seat_lock.specs.Known.{Known, Place}
 use Rattle.store_core.specs.declared.cores.Plan.{Plan}
 
 files_set : IsSet (List MountedFile.the_row.Denot)
@@ -44,6 +44,9 @@ started_prop lock plan = hlevel (props, files_set, mounts_set, keys_set, told_se
 
 handle_prop : {F : Type 0} (lock : Place Told) (plan : Plan F) (handle : HandleValue) → IsProp (IsHandle lock plan handle)
 handle_prop lock plan handle = hlevel (props, seen_prop, files_set, mounts_set, keys_set, told_set, bools_set, fetched_set)
+
+pub flusher_prop : (lock : Place Told) (flusher : Known Told) → IsProp (IsFlusher lock flusher)
+flusher_prop lock flusher = hlevel (props, seen_prop, told_set)
 
 pub each_prop : {F : Type 0} (lock : Place Told) (plan : Plan F) (handles : List HandleValue) → IsProp (All (IsHandle lock plan) handles)
 each_prop lock plan handles = let one = handle_prop lock plan in hlevel one

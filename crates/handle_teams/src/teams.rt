@@ -1,8 +1,8 @@
 //! A store with all handles that share it.
-ghost use Rattle.std.specs.Prelude.{◌≡◌, ◌+◌, All, length};
+ghost use Rattle.std.specs.Prelude.{◌≡◌, ◌+◌, All, None, length};
 ghost use Rattle.std.specs.Vec.{vec_capacity};
-ghost use Rattle.handle_teams.specs.Teams.{each_prop, started_prop};
-ghost use Rattle.kdb_handle.specs.Stores.{AreFree, IsHandle, IsStarted};
+ghost use Rattle.handle_teams.specs.Teams.{each_prop, flusher_prop, started_prop};
+ghost use Rattle.kdb_handle.specs.Stores.{AreFree, IsFlusher, IsHandle, IsStarted};
 
 use crate::asking::ask_at;
 use crate::meeting::meet_last;
@@ -10,7 +10,7 @@ use crate::opening::open_handles;
 use crate::watching::{poll_at, store_at, watch_by};
 use crate::working::work_all;
 use crate::{Answer, Ask};
-use kdb_handle::{FreeSeats, Handle, NewStore, SharedStore};
+use kdb_handle::{Flusher, FreeSeats, Handle, NewStore, SharedStore};
 use kdb_outside::Disk;
 use key_name::KeyName;
 use key_set::KeySet;
@@ -25,15 +25,18 @@ use watch_feed::{News, Watch};
 /// The most handles that a store has.
 const MOST: usize = 32;
 
-/// An open store, and its handles in the order of their numbers.
+/// An open store, its handles in the order of their numbers, and its flusher.
 pub struct Team<D: Disk, F: Formats + Drop, P: Patterns + Drop> {
     store: SharedStore<D, F, P>,
     seats: FreeSeats,
+    flusher: Flusher,
     handles: Vec<Handle>,
     ghost started: { IsStarted store.lock store.plan } by { started_prop store.lock store.plan },
     ghost free: { AreFree store.lock seats.seats.items (vec_capacity seats.seats) },
     ghost each: { All (IsHandle store.lock store.plan) handles.items } by { each_prop store.lock store.plan handles.items },
-    ghost all: { length handles.items + length seats.seats.items ≡ store.lock.seats },
+    ghost all: { length handles.items + length seats.seats.items + 1 ≡ store.lock.seats },
+    ghost given: { seats.flusher ≡ None },
+    ghost flushes: { IsFlusher store.lock flusher } by { flusher_prop store.lock flusher },
 }
 
 impl<D: Disk, F: Formats + Drop, P: Patterns + Drop> Team<D, F, P> {
@@ -61,10 +64,14 @@ impl<D: Disk, F: Formats + Drop, P: Patterns + Drop> Team<D, F, P> {
         else {
             return None;
         };
+        let Some(flusher) = seats.flusher() else {
+            unreachable!()
+        };
         open_handles(alloc, &store, &mut seats, &mut handles, count);
         Some(Team {
             store,
             seats,
+            flusher,
             handles,
         })
     }
@@ -85,12 +92,14 @@ impl<D: Disk, F: Formats + Drop, P: Patterns + Drop> Team<D, F, P> {
         let Team {
             store,
             seats,
+            flusher,
             mut handles,
         } = self;
         let answer = ask_at(rt, alloc, &store, &mut handles, place, ask);
         let team = Team {
             store,
             seats,
+            flusher,
             handles,
         };
         (team, answer)
@@ -117,12 +126,14 @@ impl<D: Disk, F: Formats + Drop, P: Patterns + Drop> Team<D, F, P> {
         let Team {
             store,
             seats,
+            flusher,
             mut handles,
         } = self;
         let news = poll_at(rt, &store, &mut handles, place, watch);
         let team = Team {
             store,
             seats,
+            flusher,
             handles,
         };
         (team, news)
@@ -140,12 +151,14 @@ impl<D: Disk, F: Formats + Drop, P: Patterns + Drop> Team<D, F, P> {
         let Team {
             store,
             seats,
+            flusher,
             mut handles,
         } = self;
         let answer = store_at(rt, alloc, &store, &mut handles, place, parent, keys);
         let team = Team {
             store,
             seats,
+            flusher,
             handles,
         };
         (team, answer)
@@ -156,12 +169,14 @@ impl<D: Disk, F: Formats + Drop, P: Patterns + Drop> Team<D, F, P> {
         let Team {
             store,
             seats,
+            flusher,
             mut handles,
         } = self;
         meet_last(&store, &mut handles);
         Team {
             store,
             seats,
+            flusher,
             handles,
         }
     }
@@ -183,12 +198,31 @@ impl<D: Disk, F: Formats + Drop, P: Patterns + Drop> Team<D, F, P> {
         let Team {
             store,
             seats,
+            flusher,
             mut handles,
         } = self;
         work_all(rt, alloc, &store, &mut handles, parents, commits, tries);
         Team {
             store,
             seats,
+            flusher,
+            handles,
+        }
+    }
+
+    /// Has the flusher write what waits in the journal.
+    pub fn flush<R: Wait>(self, rt: &R) -> Team<D, F, P> {
+        let Team {
+            store,
+            seats,
+            mut flusher,
+            handles,
+        } = self;
+        flusher.flush(rt, &store);
+        Team {
+            store,
+            seats,
+            flusher,
             handles,
         }
     }
@@ -198,8 +232,9 @@ impl<D: Disk, F: Formats + Drop, P: Patterns + Drop> Team<D, F, P> {
         let Team {
             store,
             seats,
+            flusher,
             handles,
         } = self;
-        store.close_store(seats, handles)
+        store.close_store(seats, handles, Some(flusher))
     }
 }

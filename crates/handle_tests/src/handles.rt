@@ -317,3 +317,26 @@ fn the_files_are_those_of_the_history_of_32_handles(rt: HostRuntime) -> Result<(
     assert!(rt; has_files_of(rt.alloc(), &start, closed, 64)?);
     Ok(())
 }
+
+/// The calls of the disk: six of the opening, two for the gate that it left in doubt, four of each commit, and five of each time that the file is
+/// written, first by the flusher and then by the closing.
+#[test]
+fn a_flusher_writes_between_two_commits(rt: HostRuntime) -> Result<(), Fail> {
+    let alloc = rt.alloc();
+    let team = team_of(alloc, 1)?;
+    let (team, got) = team.ask(&rt, alloc, 0, get("user:/"));
+    let (team, first) = team.ask(&rt, alloc, 0, set("user:/", "user:/k1", "1"));
+    let (team, second) = team
+        .flush(&rt)
+        .ask(&rt, alloc, 0, set("user:/", "user:/k2", "2"));
+    assert_eq!(rt; got, Answer::Got { front: 0, keys: 0 });
+    assert_eq!(rt;
+        (first, second),
+        (
+            Answer::Committed { number: 1 },
+            Answer::Committed { number: 2 }
+        )
+    );
+    assert_eq!(rt; team.close().disk.calls(), 6 + 2 + 4 + 5 + 4 + 5);
+    Ok(())
+}

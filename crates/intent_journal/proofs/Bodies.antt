@@ -1,62 +1,63 @@
--- The body of an entry behind the gate.
-use Rattle.std.proofs.Common.{◌≡◌, ℕ, suc, ◌+◌, ◌*◌, ◌<◌, ◌≤◌, List, [], ◌∷◌, ◌++◌, length, take, drop, Ok, slice_index_or, refl, sym, ap, ◌∙◌, subst, arith, length-append}
-use Rattle.std.specs.List.{flat_map}
+-- The body of an entry that stands behind a gate, where another gate follows.
+use Rattle.std.proofs.Common.{◌≡◌, ℕ, ◌+◌, ◌<◌, ◌≤◌, Bool, true, cond, List, ◌++◌, length, take, drop, Result, Ok, Err, refl, sym, ap, ◌∙◌, subst, arith}
+use Rattle.std.proofs.lemmas.Bool.{eq-eqb}
 use Rattle.std.proofs.lemmas.Nat.{from_le_bytes-to_le_bytes_4}
-use Rattle.std.proofs.Math.Seq.{take-append_seam}
-use Rattle.kdb_outside.specs.Files.{written}
-use Rattle.kdb_outside.specs.Images.{Only}
+use Rattle.std.proofs.Math.Seq.{take-append_seam, drop-append_seam}
 use Rattle.journal_codec.specs.declared.files.FileText.{FileText}
-use Rattle.journal_codec.specs.Entry.{number_of, length_bytes, spelled, spelled_file, longest_file, IsEntry, IsEntryFile, journal_name}
-use Rattle.journal_codec.specs.Reading.{Reads, read_body}
-use Rattle.journal_codec.proofs.BodyLemmas.{is_read_again}
-use Rattle.intent_journal.specs.JournalBytes.{longest_body, entry_or_place, one_entry, entries_behind, first_entry, IsClosed, HoldsBody}
-use Rattle.intent_journal.specs.States.{HasBody}
-use Rattle.intent_journal.proofs.Behind.{behind-long, entry_or_place-whole}
+use Rattle.journal_codec.specs.Entry.{IsEntry}
+use Rattle.journal_codec.specs.Reading.{Reading, read_body}
+use Rattle.journal_codec.proofs.FormLemmas.{followed-spelled_on, read_again_on}
+use Rattle.journal_steps.specs.JournalBytes.{body_or_place}
+use Rattle.journal_steps.proofs.Bodies.{length-spelled}
+use Rattle.journal_codec.specs.Forms.{followed, uncounted, spelled_on, behind_gate}
+use Rattle.intent_journal.specs.Grammar.{size_of, body_of, rest_of, body_in, most_entries, head_size, last_place, IsWhole}
 
-length-spelled_file : (f : FileText) → length (spelled_file f) ≡ 5 + length f.file + length f.bytes
-length-spelled_file f = omega (arith, length-append f.file (length_bytes (length f.bytes) ++ f.bytes))
+-- both forms of a body have as many bytes
+pub length-spelled_on : (entry : List FileText) → IsEntry entry → length (spelled_on entry) ≤ 67200000
+length-spelled_on entry is = let short = length-spelled entry is in omega arith
 
--- a spelled file has at most so many bytes
-file_short : (f : FileText) → IsEntryFile f → length (spelled_file f) ≤ longest_file
-file_short f is = omega (arith, length-spelled_file f, is.is_name.not_long, is.not_long)
+same_entry : (other entry : List FileText) → ◌≡◌ {A = Result (List FileText) ℕ} (Ok other) (Ok entry) → other ≡ entry
+same_entry other entry is = cc
 
-files_short : (files : List FileText) → ((i : ℕ) (d : FileText) → i < length files → IsEntryFile (slice_index_or files i d)) → length (flat_map spelled_file files) ≤ longest_file * length files
-files_short [] each = omega arith
-files_short (f ∷ files) each =
-    let first = file_short f (each 0 f (omega arith)) in
-    let others = files_short files (λ i d lt. each (suc i) d (omega arith)) in
-    omega (arith, length-append (spelled_file f) (flat_map spelled_file files))
+-- what stands behind the gate of an entry
+module _ (entry : List FileText) (is : IsEntry entry) (more : List ℕ) where
+  size_there : size_of (behind_gate entry ++ more) ≡ length (spelled_on entry)
+  size_there = let short = length-spelled_on entry is in from_le_bytes-to_le_bytes_4 (length (spelled_on entry)) (omega arith)
 
--- the body of an entry has few bytes
-pub length-spelled : (entry : List FileText) → IsEntry entry → length (spelled entry) ≤ 67200000
-length-spelled entry is =
-    let short = files_short entry is.each in
-    let few = is.not_many in
-    omega arith
+  body_there : body_of (behind_gate entry ++ more) ≡ spelled_on entry
+  body_there = ap (λ (n : ℕ). take n (spelled_on entry ++ more)) size_there ∙ take-append_seam (spelled_on entry) more
 
--- what stands behind the gate once a body was written there
-behind-body : (n : ℕ) (body more : List ℕ) (entry : List FileText) → n ≡ length body → n ≤ longest_body → read_body body ≡ Reads entry
-    → entries_behind (length_bytes n ++ (body ++ more)) ≡ Ok (entry ∷ [])
-behind-body n body more entry sized small reads =
-    let bytes = length_bytes n ++ (body ++ more) in
-    let number : number_of (take 4 bytes) ≡ n = from_le_bytes-to_le_bytes_4 n (omega arith) in
-    let cut : take n (body ++ more) ≡ body = ap (λ (k : ℕ). take k (body ++ more)) sized ∙ take-append_seam body more in
-    behind-long bytes (omega arith) ∙ ap (λ (k : ℕ). one_entry (entry_or_place k (take k (body ++ more)))) number
-    ∙ ap (λ (b : List ℕ). one_entry (entry_or_place n b)) cut ∙ ap one_entry (entry_or_place-whole n body entry small reads (sym sized))
+  rest_there : rest_of (behind_gate entry ++ more) ≡ more
+  rest_there = ap (λ (n : ℕ). drop n (spelled_on entry ++ more)) size_there ∙ drop-append_seam (spelled_on entry) more
 
-pub HoldsBody-written : (seen bytes : List ℕ) (entry : List FileText) → IsClosed seen → IsEntry entry → bytes ≡ length_bytes (length (spelled entry)) ++ spelled entry → HoldsBody entry (written seen 1 bytes)
-HoldsBody-written [] bytes entry closed is encoded = absurd (omega (arith, closed.there))
-HoldsBody-written (x ∷ rest) bytes entry closed is encoded = record {
-  gate_is = closed.gate_is;
-  body =
-      let more = drop (1 + length bytes) (x ∷ rest) in
-      let short = length-spelled entry is in
-      ap (λ (b : List ℕ). first_entry (entries_behind (b ++ more))) encoded
-      ∙ ap first_entry (behind-body (length (spelled entry)) (spelled entry) more entry refl short (is_read_again entry is));
-}
+  whole_there : body_in (size_of (behind_gate entry ++ more)) (body_of (behind_gate entry ++ more)) ≡ Ok entry
+  whole_there =
+      let n = length (spelled_on entry) in
+      ap (λ (body : List ℕ). body_or_place (read_body (uncounted body)) (size_of (behind_gate entry ++ more)) (length body)) body_there
+      ∙ ap (λ (size : ℕ). body_or_place (read_body (uncounted (spelled_on entry))) size n) size_there
+      ∙ ap (λ (r : Reading). body_or_place r n n) (read_again_on entry is)
+      ∙ ap (λ (b : Bool). cond b (Ok entry) (Err n)) (eq-eqb n n refl)
 
--- a body that was written behind a closed gate
-pub HasBody-put : (name seen bytes : List ℕ) (new : List ℕ → List ℕ → Type 0) (entry : List FileText) → name ≡ journal_name → IsClosed seen → IsEntry entry
-    → bytes ≡ length_bytes (length (spelled entry)) ++ spelled entry → Only (written seen 1 bytes) (new name) → HasBody new entry
-HasBody-put name seen bytes new entry named closed is encoded only c left =
-    subst (HoldsBody entry) (sym (subst (λ (n : List ℕ). Only (written seen 1 bytes) (new n)) named only c left)) (HoldsBody-written seen bytes entry closed is encoded)
+  -- the entry alone is whole there, another gate follows, and what holds from that gate on holds of what stands there
+  module _ (tail : List ℕ) (there : tail ≡ behind_gate entry ++ more) where
+    pub whole_is : (number place : ℕ) (other : List FileText) → IsWhole number place tail other → other ≡ entry
+    whole_is number place other whole =
+        same_entry other entry (sym whole.body ∙ subst (λ (t : List ℕ). body_in (size_of t) (body_of t) ≡ Ok entry) (sym there) whole_there)
+
+    pub is_whole : (number place : ℕ) → number < most_entries → place + head_size + length (spelled_on entry) ≤ last_place → IsWhole number place tail entry
+    is_whole number place few within =
+        let size = ap size_of there ∙ size_there in
+        record {
+          few = few;
+          within = omega arith;
+          body = subst (λ (t : List ℕ). body_in (size_of t) (body_of t) ≡ Ok entry) (sym there) whole_there;
+        }
+
+    pub goes_on : followed (body_of tail) ≡ true
+    goes_on = ap (λ (t : List ℕ). followed (body_of t)) there ∙ ap followed body_there ∙ followed-spelled_on entry is
+
+    pub next_gate : (P : ℕ → ℕ → List ℕ → Type 0) (number place : ℕ) → P (number + 1) (place + head_size + size_of tail) (rest_of tail)
+        → P (number + 1) (place + head_size + length (spelled_on entry)) more
+    next_gate P number place holds =
+        subst (λ (size : ℕ). P (number + 1) (place + head_size + size) more) (ap size_of there ∙ size_there)
+        (subst (λ (rest : List ℕ). P (number + 1) (place + head_size + size_of tail) rest) (ap rest_of there ∙ rest_there) holds)

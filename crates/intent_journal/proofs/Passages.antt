@@ -1,222 +1,320 @@
--- How the states pass into each other, and what the images of each stand for.
-use Rattle.std.proofs.Common.{◌≡◌, ℕ, List, [], ◌∷◌, true, inl, inr, ◌⊎◌, Option, Some, None, refl, sym, ap, ◌∙◌, subst}
-use Rattle.std.proofs.lemmas.Bool.{cases_eq}
+-- How the states of a list pass into each other by steps of the journal's file.
+use Rattle.std.proofs.Common.{◌≡◌, ℕ, ◌+◌, ◌<◌, ◌≤◌, List, [], ◌∷◌, ◌++◌, inl, inr, length, drop, true, Option, Some, None, refl, sym, ap, ◌∙◌, subst, arith, append_assoc, append-nil, length-append}
+use Rattle.std.specs.List.{AllByRecursion}
 use Rattle.std.specs.Option.{unwrap_or}
+use Rattle.general_words.proofs.Lists.{all_back}
 use Rattle.kdb_outside.specs.Files.{written}
-use Rattle.kdb_outside.specs.Images.{Image, IsImage, Only, IsTornWrite}
+use Rattle.kdb_outside.specs.Images.{Image, Only, IsTornWrite}
 use Rattle.journal_codec.specs.declared.files.FileText.{FileText}
-use Rattle.journal_codec.specs.Entry.{journal_name}
-use Rattle.intent_journal.specs.JournalBytes.{gate, entry_in, IsOwnFile, IsShut, IsClosed, IsOpen}
-use Rattle.intent_journal.specs.Outcomes.{content_in, with_entry, with_entries, SameFiles, HasOnly, IsOutcome, IsEither}
-use Rattle.intent_journal.specs.Readings.{ReadsAs, IsBroken}
-use Rattle.intent_journal.specs.States.{IsOwnImage, IsSettled, IsDoubtful, IsLagging, HasBody, HasAppliedAll}
-use Rattle.intent_journal.proofs.Behind.{behind-entry}
-use Rattle.intent_journal.proofs.GateBytes.{gate_of_shut, entry_in-kept, IsShut-kept, IsClosed-behind, IsClosed-written, IsOpen-written}
-use Rattle.intent_journal.proofs.Contents.{HasAppliedAll-content}
-use Rattle.intent_journal.proofs.Readings.{IsReadIn, only_open, reads_cases, shut_not_broken, shut_or_holds, whole_not_broken}
+use Rattle.journal_codec.specs.Entry.{journal_name, IsEntry}
+use Rattle.journal_steps.specs.JournalBytes.{IsOwnFile, IsShut, IsClosed}
+use Rattle.journal_steps.specs.Outcomes.{content_in, with_entry, with_entries, IsEither}
+use Rattle.journal_steps.proofs.Contents.{content_in-journal}
+use Rattle.journal_steps.proofs.GateBytes.{IsClosed-behind, IsClosed-written, IsShut-kept}
+use Rattle.journal_steps.proofs.Steps.{IsJournalStep}
+use Rattle.journal_codec.specs.Forms.{followed, spelled_on, behind_gate}
+use Rattle.intent_journal.specs.Grammar.{most_entries, head_size, last_place, size_of, body_of, rest_of, IsWhole}
+use Rattle.intent_journal.specs.Lists.{MayBeOpen, Follows, ReadsFrom, Leads, Breaks, BreaksFrom, list_bytes, Fits, as_one}
+use Rattle.intent_journal.specs.States.{BeginsWith, RestGives, IsListed, IsInDoubt, HoldsBehind, HasBodyBehind, HasBrought}
+use Rattle.intent_journal.proofs.Bytes.{torn_behind, written_behind}
+use Rattle.intent_journal.proofs.Contents.{content_cases, content_in-second}
+use Rattle.intent_journal.proofs.Entries.{with_entries-as_one, with_entries-again, as_one-unnamed}
+use Rattle.intent_journal.proofs.Images.{nothing_more}
+use Rattle.intent_journal.proofs.ListReads.{reads_closed, closed_not_broken, reads_list, breaks_list, reads_with_gate, gate_not_broken}
 
-pub unwrap_same : (o : Option (List ℕ)) (x y : List ℕ) → (o ≡ None → x ≡ y) → unwrap_or o x ≡ unwrap_or o y
-unwrap_same None x y same = same refl
-unwrap_same (Some z) x y same = refl
+-- ---- the bytes of lists
 
--- two files with an entry are the same where the entry doesn't name them
-pub with_entry-same : (entry : List FileText) (files others : Image) (file : List ℕ) → (content_in entry file ≡ None → files file ≡ others file) → with_entry files entry file ≡ with_entry others entry file
-with_entry-same entry files others file same = unwrap_same (content_in entry file) (files file) (others file) same
+pub list_bytes-append : (entries more : List (List FileText)) → list_bytes (entries ++ more) ≡ list_bytes entries ++ list_bytes more
+list_bytes-append [] more = refl
+list_bytes-append (entry ∷ entries) more =
+    ap (λ (l : List ℕ). 1 ∷ (behind_gate entry ++ l)) (list_bytes-append entries more)
+    ∙ ap (λ (l : List ℕ). 1 ∷ l) (sym (append_assoc (behind_gate entry) (list_bytes entries) (list_bytes more)))
 
-pub same_entry : (c : List ℕ) (e entry : List FileText) → entry_in c ≡ Some e → entry_in c ≡ Some entry → e ≡ entry
-same_entry c e entry first second = cc
+-- the list of one entry more, with what stands behind it
+bytes_with : (entries : List (List FileText)) (entry : List FileText) (rest : List ℕ) → list_bytes (entries ++ entry ∷ []) ++ rest ≡ list_bytes entries ++ 1 ∷ (behind_gate entry ++ rest)
+bytes_with entries entry rest =
+    ap (λ (l : List ℕ). l ++ rest) (list_bytes-append entries (entry ∷ []))
+    ∙ append_assoc (list_bytes entries) (1 ∷ (behind_gate entry ++ [])) rest
+    ∙ ap (λ (l : List ℕ). list_bytes entries ++ 1 ∷ (l ++ rest)) (append-nil (behind_gate entry))
 
--- files are the same with entries where they were the same before
-pub with_entries-same : (entries : List (List FileText)) (files others : Image) (file : List ℕ) → files file ≡ others file → with_entries files entries file ≡ with_entries others entries file
-with_entries-same [] files others file same = same
-with_entries-same (entry ∷ entries) files others file same =
-    with_entries-same entries (with_entry files entry) (with_entry others entry) file (with_entry-same entry files others file (λ _. same))
+-- one entry more has room
+pub record HasRoom (entries : List (List FileText)) (entry : List FileText) : Type 0 where
+  pub is : IsEntry entry
+  pub few : length entries < most_entries
+  pub within : length (list_bytes entries) + head_size + length (spelled_on entry) ≤ last_place
 
--- files that are the same are among the same
-pub either_same : (files outcome other : Image) (doubt : Option (List FileText)) → SameFiles other outcome → IsEither files doubt outcome → IsEither files doubt other
-either_same files outcome other doubt same (inl is) = inl (λ file ne. same file ne ∙ is file ne)
-either_same files outcome other doubt same (inr brings) = inr (brings.0, brings.1, λ file ne. same file ne ∙ brings.2 file ne)
-
--- the journal is shut, or its entry gives the files or these with the doubt
-abbrev pub GivesEither : Image → Option (List FileText) → List ℕ → Type 0
-GivesEither files doubt c = IsShut c ⊎ ((entry : List FileText) × (entry_in c ≡ Some entry) × (IsEither files doubt (with_entry files entry)))
-
--- a journal that a crash may leave, alone
-pub own_image : (leaves : List ℕ → List ℕ → Type 0) (c : List ℕ) → leaves journal_name c → IsOwnImage leaves (λ file. c)
-own_image leaves c is file own = subst (λ (n : List ℕ). leaves n c) (sym own) is
-
-gives_of : (files : Image) (doubt : Option (List FileText)) (image : Image) (entry : List FileText) → entry_in (image journal_name) ≡ Some entry
-    → ((entries : List (List FileText)) → ReadsAs image entries → IsEither files doubt (with_entries files entries)) → GivesEither files doubt (image journal_name)
-gives_of files doubt image entry some outcomes = elim (cases_eq (gate (image journal_name)) 0) [
-  | inl closed ↦ inl (inr closed)
-  | inr opened ↦ inr (entry, some, outcomes (entry ∷ []) (record { taken = true; admitted = opened; reads = behind-entry (image journal_name) entry some }))
-]
-
--- what a journal in doubt is
-pub IsDoubtful-gives : (leaves : List ℕ → List ℕ → Type 0) (files : Image) (doubt : Option (List FileText)) → IsDoubtful leaves files doubt
-    → (c : List ℕ) → leaves journal_name c → GivesEither files doubt c
-IsDoubtful-gives leaves files doubt state c is =
-    let own = own_image leaves c is in
-    elim (shut_or_holds (λ file. c) (state.not_broken (λ file. c) own)) [
-      | inl shut ↦ inl shut
-      | inr holds ↦ gives_of files doubt (λ file. c) holds.0 holds.1 (λ entries reads. state.outcomes (λ file. c) entries own reads)
-    ]
-
-not_broken_of : (files : Image) (doubt : Option (List FileText)) (image : Image) → GivesEither files doubt (image journal_name) → ¬ IsBroken image
-not_broken_of files doubt image (inl shut) = shut_not_broken image shut
-not_broken_of files doubt image (inr holds) = whole_not_broken image holds.0 holds.1
-
-brought_in : (files : Image) (doubt : Option (List FileText)) (c : List ℕ) (entries : List (List FileText)) → GivesEither files doubt c → (read : IsReadIn c entries) → IsEither files doubt (with_entry files read.entry)
-brought_in files doubt c entries (inl shut) read = absurd (read.opened (gate_of_shut c read.entry read.body shut))
-brought_in files doubt c entries (inr holds) read =
-    subst (λ (e : List FileText). IsEither files doubt (with_entry files e)) (same_entry c holds.0 read.entry holds.1 read.body) holds.2
-
-read_gives : (files : Image) (doubt : Option (List FileText)) (image : Image) (entries : List (List FileText)) → GivesEither files doubt (image journal_name) → ReadsAs image entries
-    → IsEither files doubt (with_entries files entries)
-read_gives files doubt image entries gives reads = elim (reads_cases image entries reads) [
-  | inl none ↦ subst (λ (es : List (List FileText)). IsEither files doubt (with_entries files es)) (sym none) (inl (λ file ne. refl))
-  | inr read ↦ subst (λ (es : List (List FileText)). IsEither files doubt (with_entries files es)) (sym read.alone) (brought_in files doubt (image journal_name) entries gives read)
-]
-
--- and what is a journal in doubt
-pub IsDoubtful-from : (leaves : List ℕ → List ℕ → Type 0) (files : Image) (doubt : Option (List FileText)) → ((file : List ℕ) → ¬ IsOwnFile file → Only (files file) (leaves file))
-    → ((c : List ℕ) → leaves journal_name c → GivesEither files doubt c) → IsDoubtful leaves files doubt
-IsDoubtful-from leaves files doubt same gives = record {
-  same = same;
-  not_broken = λ image own. not_broken_of files doubt image (gives (image journal_name) (own journal_name refl));
-  outcomes = λ image entries own reads. read_gives files doubt image entries (gives (image journal_name) (own journal_name refl)) reads;
-}
-
--- what a crash leaves of a journal in doubt stands for the files, or for those with the entry
-pub IsDoubtful-only : (leaves : List ℕ → List ℕ → Type 0) (files : Image) (doubt : Option (List FileText)) → IsDoubtful leaves files doubt
-    → (image : Image) → IsImage leaves image → HasOnly (IsEither files doubt) image
-IsDoubtful-only leaves files doubt state image is = record {
-  not_broken = state.not_broken image (λ file own. is file);
-  each = λ outcome has.
-      either_same files (with_entries files has.0) outcome doubt
-      (λ file ne. has.2 file ne ∙ with_entries-same has.0 image files file (state.same file ne (image file) (is file)))
-      (state.outcomes image has.0 (λ file own. is file) has.1);
-}
-
--- what a crash leaves of a settled journal stands for the files
-pub IsSettled-doubt : (leaves : List ℕ → List ℕ → Type 0) (files : Image) (doubt : Option (List FileText)) → IsSettled leaves files → IsDoubtful leaves files doubt
-IsSettled-doubt leaves files doubt state = IsDoubtful-from leaves files doubt state.same (λ c is. inl (inr (state.closed c is).gate_is))
-
-pub either_none : (files outcome : Image) → IsEither files None outcome → IsOutcome files outcome
-either_none files outcome (inl same) = same
-either_none files outcome (inr brings) = let none = brings.1 in absurd (cc)
-
--- without a doubt there is any
-pub IsDoubtful-any : (leaves : List ℕ → List ℕ → Type 0) (files : Image) (doubt : Option (List FileText)) → IsDoubtful leaves files None → IsDoubtful leaves files doubt
-IsDoubtful-any leaves files doubt state = record {
-  same = state.same;
-  not_broken = state.not_broken;
-  outcomes = λ image entries own reads. inl (either_none files (with_entries files entries) (state.outcomes image entries own reads));
-}
-
--- with no doubt there are only the files
-pub HasOnly-none : (files image : Image) → HasOnly (IsEither files None) image → HasOnly (IsOutcome files) image
-HasOnly-none files image only = record { not_broken = only.not_broken; each = λ outcome has. either_none files outcome (only.each outcome has) }
-
-pub IsSettled-only : (leaves : List ℕ → List ℕ → Type 0) (files : Image) → IsSettled leaves files → (image : Image) → IsImage leaves image → HasOnly (IsOutcome files) image
-IsSettled-only leaves files state image is = HasOnly-none files image (IsDoubtful-only leaves files None (IsSettled-doubt leaves files None state) image is)
-
-open_outcome : (leaves : List ℕ → List ℕ → Type 0) (files : Image) (entry : List FileText) (image outcome : Image) (entries : List (List FileText)) → IsLagging leaves files entry → IsImage leaves image
-    → IsOpen entry (image journal_name) → ReadsAs image entries → SameFiles outcome (with_entries image entries) → SameFiles outcome (with_entry files entry)
-open_outcome leaves files entry image outcome entries state is opened reads same file ne =
-    same file ne ∙ ap (λ (es : List (List FileText)). with_entries image es file) (only_open image entry entries opened reads)
-    ∙ with_entry-same entry image files file (λ none. state.same file ne none (image file) (is file))
-
--- what a crash leaves while the gate is open on an entry stands for the files with it
-pub IsLagging-only : (leaves : List ℕ → List ℕ → Type 0) (files : Image) (entry : List FileText) → IsLagging leaves files entry
-    → (image : Image) → IsImage leaves image → HasOnly (IsOutcome (with_entry files entry)) image
-IsLagging-only leaves files entry state image is =
-    let opened = state.opened (image journal_name) (is journal_name) in
+pub room_of : (entries : List (List FileText)) (entry : List FileText) → Fits (entries ++ entry ∷ []) → HasRoom entries entry
+room_of entries entry fits =
+    let sized = ap length (list_bytes-append entries (entry ∷ [])) in
+    let joined = length-append (list_bytes entries) (list_bytes (entry ∷ [])) in
+    let alone = length-append (behind_gate entry) [] in
     record {
-      not_broken = whole_not_broken image entry opened.body;
-      each = λ outcome has. open_outcome leaves files entry image outcome has.0 state is opened has.1 has.2;
+      is = (all_back IsEntry entries (entry ∷ []) fits.each).0;
+      few = omega (arith, fits.few, length-append entries (entry ∷ []));
+      within = omega (arith, fits.within);
     }
 
--- closing a gate in doubt leaves the doubt
-pub IsDoubtful-closing : (old new : List ℕ → List ℕ → Type 0) (files : Image) (doubt : Option (List FileText)) → IsDoubtful old files doubt
-    → ((other : List ℕ) → ¬ IsOwnFile other → (c : List ℕ) → new other c → old other c)
-    → ((c : List ℕ) → new journal_name c → (former : List ℕ) × old journal_name former × IsTornWrite 0 (0 ∷ []) former c) → IsDoubtful new files doubt
-IsDoubtful-closing old new files doubt state others step =
-    IsDoubtful-from new files doubt (λ file ne c is. state.same file ne c (others file ne c is)) (λ c is.
-    let torn = step c is in
-    elim (IsDoubtful-gives old files doubt state torn.0 torn.1) [
-      | inl shut ↦ inl (IsShut-kept torn.0 c torn.2 shut)
-      | inr holds ↦ inr (holds.0, entry_in-kept 0 torn.0 c torn.2 ∙ holds.1, holds.2)
-    ])
+pub no_entries : Fits []
+no_entries = record { few = omega arith; within = omega arith; each = tt }
 
--- a gate that was closed for good
-pub IsSettled-closed : (old new : List ℕ → List ℕ → Type 0) (files : Image) (seen : List ℕ) → ((file : List ℕ) → ¬ IsOwnFile file → Only (files file) (old file))
-    → ((other : List ℕ) → ¬ IsOwnFile other → (c : List ℕ) → new other c → old other c)
-    → Only (written seen 0 (0 ∷ [])) (new journal_name) → IsSettled new files
-IsSettled-closed old new files seen same others only = record {
-  same = λ file ne c is. same file ne c (others file ne c is);
-  closed = λ c is. subst IsClosed (sym (only c is)) (IsClosed-written seen);
+-- ---- what a torn gate may be
+
+-- the gate's write leaves what stands behind the gate
+torn_gate : (b x : ℕ) (tail now : List ℕ) → IsTornWrite 0 (b ∷ []) (x ∷ tail) now → (y : ℕ) × (now ≡ y ∷ tail)
+torn_gate b x tail [] torn = absurd (omega (arith, torn.no_shorter))
+torn_gate b x tail (y ∷ now) torn = (y, ap (λ (l : List ℕ). y ∷ l) torn.back)
+
+-- a gate that may be open behind the closing of it might be open before
+open_before : (rest now : List ℕ) → IsTornWrite 0 (0 ∷ []) rest now → MayBeOpen now → MayBeOpen rest
+open_before rest now torn opened = record {
+  there = omega (arith, torn.no_longer, opened.there);
+  open_too = λ closed. by (IsShut-kept rest now torn (inr closed));
 }
-
--- writing behind a closed gate leaves it closed
-pub IsSettled-behind : (old new : List ℕ → List ℕ → Type 0) (files : Image) (bytes : List ℕ) → IsSettled old files
-    → ((other : List ℕ) → ¬ IsOwnFile other → (c : List ℕ) → new other c → old other c)
-    → ((c : List ℕ) → new journal_name c → (former : List ℕ) × old journal_name former × IsTornWrite 1 bytes former c) → IsSettled new files
-IsSettled-behind old new files bytes state others step = record {
-  same = λ file ne c is. state.same file ne c (others file ne c is);
-  closed = λ c is. let torn = step c is in IsClosed-behind bytes torn.0 c torn.2 (state.closed torn.0 torn.1);
-}
-
--- opening the gate on a body brings its entry in doubt
-pub IsDoubtful-opening : (old new : List ℕ → List ℕ → Type 0) (files : Image) (entry : List FileText) → IsSettled old files → HasBody old entry
-    → ((other : List ℕ) → ¬ IsOwnFile other → (c : List ℕ) → new other c → old other c)
-    → ((c : List ℕ) → new journal_name c → (former : List ℕ) × old journal_name former × IsTornWrite 0 (1 ∷ []) former c) → IsDoubtful new files (Some entry)
-IsDoubtful-opening old new files entry state body others step =
-    IsDoubtful-from new files (Some entry) (λ file ne c is. state.same file ne c (others file ne c is)) (λ c is.
-    let torn = step c is in
-    inr (entry, entry_in-kept 1 torn.0 c torn.2 ∙ (body torn.0 torn.1).body, inr (entry, refl, λ file ne. refl)))
-
--- a gate that was opened for good
-pub IsLagging-opened : (old new : List ℕ → List ℕ → Type 0) (files : Image) (entry : List FileText) (seen : List ℕ) → ((file : List ℕ) → ¬ IsOwnFile file → Only (files file) (old file))
-    → entry_in seen ≡ Some entry → ((other : List ℕ) → ¬ IsOwnFile other → (c : List ℕ) → new other c → old other c)
-    → Only (written seen 0 (1 ∷ [])) (new journal_name) → IsLagging new files entry
-IsLagging-opened old new files entry seen same body others only = record {
-  same = λ file ne none c is. same file ne c (others file ne c is);
-  opened = λ c is. subst (IsOpen entry) (sym (only c is)) (IsOpen-written seen entry body);
-}
-
--- the entry's own files may change while the gate is open
-pub IsLagging-kept : (old new : List ℕ → List ℕ → Type 0) (files : Image) (entry : List FileText) → IsLagging old files entry → content_in entry journal_name ≡ None
-    → ((other : List ℕ) → content_in entry other ≡ None → (c : List ℕ) → new other c → old other c) → IsLagging new files entry
-IsLagging-kept old new files entry state unnamed others = record {
-  same = λ file ne none c is. state.same file ne none c (others file none c is);
-  opened = λ c is. state.opened c (others journal_name unnamed c is);
-}
-
-applied_file : (leaves : List ℕ → List ℕ → Type 0) (files : Image) (entry : List FileText) (file : List ℕ) (o : Option (List ℕ)) → content_in entry file ≡ o → HasAppliedAll leaves entry
-    → (o ≡ None → Only (files file) (leaves file)) → Only (unwrap_or o (files file)) (leaves file)
-applied_file leaves files entry file None is all same = same refl
-applied_file leaves files entry file (Some bytes) is all same = HasAppliedAll-content leaves entry file bytes all is
-
--- with all files applied, the files are those with the entry
-pub IsLagging-applied : (leaves : List ℕ → List ℕ → Type 0) (files : Image) (entry : List FileText) → IsLagging leaves files entry → HasAppliedAll leaves entry
-    → (file : List ℕ) → ¬ IsOwnFile file → Only (with_entry files entry file) (leaves file)
-IsLagging-applied leaves files entry state all file ne =
-    applied_file leaves files entry file (content_in entry file) refl all (state.same file ne)
-
--- files with an entry stay what they are when it comes in again
-pub with_entry-again : (files : Image) (entry : List FileText) (file : List ℕ) → with_entry (with_entry files entry) entry file ≡ with_entry files entry file
-with_entry-again files entry file = again (content_in entry file) (files file)
   where
-    again : (o : Option (List ℕ)) (x : List ℕ) → unwrap_or o (unwrap_or o x) ≡ unwrap_or o x
-    again None x = refl
-    again (Some y) x = refl
+    by : IsShut now → ⊥
+    by (inl short) = omega (arith, opened.there)
+    by (inr closed) = opened.open_too closed
 
--- closing the gate behind an entry that is in all its files leaves no doubt: brought in again, it changes nothing
-pub IsDoubtful-applied : (old new : List ℕ → List ℕ → Type 0) (files : Image) (entry : List FileText) → IsLagging old files entry → HasAppliedAll old entry
-    → ((other : List ℕ) → ¬ IsOwnFile other → (c : List ℕ) → new other c → old other c)
-    → ((c : List ℕ) → new journal_name c → (former : List ℕ) × old journal_name former × IsTornWrite 0 (0 ∷ []) former c) → IsDoubtful new (with_entry files entry) None
-IsDoubtful-applied old new files entry state all others step =
-    IsDoubtful-from new (with_entry files entry) None (λ file ne c is. IsLagging-applied old files entry state all file ne c (others file ne c is)) (λ c is.
-    let torn = step c is in
-    inr (entry, entry_in-kept 0 torn.0 c torn.2 ∙ (state.opened torn.0 torn.1).body, inl (λ file ne. with_entry-again files entry file)))
+-- so what is broken behind the closing of it was broken before, and each entry that is read then was read
+pub closing_breaks : (number place : ℕ) (rest now : List ℕ) → IsTornWrite 0 (0 ∷ []) rest now → BreaksFrom number place now → BreaksFrom number place rest
+closing_breaks number place rest now torn broken = by broken.0 broken.1
+  where
+    by : (entries : List (List FileText)) → Leads Breaks number place now entries → BreaksFrom number place rest
+    by [] breaks = (
+      [],
+      record {
+        opened = open_before rest now torn breaks.opened;
+        never = λ entry whole. breaks.never entry (subst (λ (tail : List ℕ). IsWhole number place tail entry) (sym torn.back) whole);
+      },
+    )
+    by (entry ∷ entries) leads = (
+      entry ∷ entries,
+      (
+        open_before rest now torn leads.0,
+        subst (λ (tail : List ℕ). IsWhole number place tail entry) torn.back leads.1,
+        subst (λ (tail : List ℕ). followed (body_of tail) ≡ true) torn.back leads.2,
+        subst (λ (tail : List ℕ). Leads Breaks (number + 1) (place + head_size + size_of tail) (rest_of tail) entries) torn.back leads.3,
+      ),
+    )
+
+pub closing_reads : (number place : ℕ) (rest now : List ℕ) (entry : List FileText) (more : List (List FileText)) → IsTornWrite 0 (0 ∷ []) rest now → ReadsFrom number place now (entry ∷ more)
+    → ReadsFrom number place rest (entry ∷ more)
+closing_reads number place rest now entry more torn reads = (
+  open_before rest now torn reads.0,
+  subst (λ (tail : List ℕ). IsWhole number place tail entry) torn.back reads.1,
+  subst (λ (tail : List ℕ). Follows (followed (body_of tail)) more (ReadsFrom (number + 1) (place + head_size + size_of tail) (rest_of tail) more)) torn.back reads.2,
+)
+
+-- closing a gate in doubt leaves the doubt
+pub closing_gives : (number place : ℕ) (files : Image) (doubt : Option (List FileText)) (rest now : List ℕ) → IsTornWrite 0 (0 ∷ []) rest now → RestGives number place files doubt rest
+    → RestGives number place files doubt now
+closing_gives number place files doubt rest now torn gives = record {
+  not_broken = λ broken. gives.not_broken (breaks broken.0 broken.1);
+  outcomes = outcomes;
+}
+  where
+    breaks : (entries : List (List FileText)) → Leads Breaks number place now entries → BreaksFrom number place rest
+    breaks [] broken = (
+      [],
+      record {
+        opened = open_before rest now torn broken.opened;
+        never = λ entry whole. broken.never entry (subst (λ (tail : List ℕ). IsWhole number place tail entry) (sym torn.back) whole);
+      },
+    )
+    breaks (entry ∷ entries) leads = (
+      entry ∷ entries,
+      (
+        open_before rest now torn leads.0,
+        subst (λ (tail : List ℕ). IsWhole number place tail entry) torn.back leads.1,
+        subst (λ (tail : List ℕ). followed (body_of tail) ≡ true) torn.back leads.2,
+        subst (λ (tail : List ℕ). Leads Breaks (number + 1) (place + head_size + size_of tail) (rest_of tail) entries) torn.back leads.3,
+      ),
+    )
+
+    outcomes : (more : List (List FileText)) → ReadsFrom number place now more → IsEither files doubt (with_entries files more)
+    outcomes [] reads = inl (λ file own. refl)
+    outcomes (entry ∷ more) reads =
+        gives.outcomes (entry ∷ more) (
+          open_before rest now torn reads.0,
+          subst (λ (tail : List ℕ). IsWhole number place tail entry) torn.back reads.1,
+          subst (λ (tail : List ℕ). Follows (followed (body_of tail)) more (ReadsFrom (number + 1) (place + head_size + size_of tail) (rest_of tail) more)) torn.back reads.2,
+        )
+
+-- the gate in front of an entry with a closed gate behind it, open or not
+opening_gives : (entries : List (List FileText)) (entry : List FileText) (files : Image) (b : ℕ) (more : List ℕ) → HasRoom entries entry
+    → RestGives (length entries) (length (list_bytes entries)) files (Some entry) (b ∷ (behind_gate entry ++ 0 ∷ more))
+opening_gives entries entry files b more room = record {
+  not_broken = gate_not_broken entry (length entries) (length (list_bytes entries)) b more room.is room.few room.within;
+  outcomes = λ read reads. elim (reads_with_gate entry (length entries) (length (list_bytes entries)) b more read room.is reads) [
+    | inl none ↦ nothing_more files (Some entry) read none
+    | inr one ↦ subst (λ (es : List (List FileText)). IsEither files (Some entry) (with_entries files es)) (sym one) (inr (entry, refl, λ file own. refl))
+  ];
+}
+
+-- a whole list whose files all have its contents changes nothing
+list_gives : (entries : List (List FileText)) (before : Image) (rest : List ℕ) → Fits entries → IsClosed rest → RestGives 0 0 (with_entries before entries) None (list_bytes entries ++ rest)
+list_gives entries before rest fits closed = record {
+  not_broken = λ broken.
+      closed_not_broken (length entries) (length (list_bytes entries)) rest closed
+      (breaks_list entries 0 0 (length entries) (length (list_bytes entries)) rest fits.each fits.few fits.within (omega arith) (omega arith) broken);
+  outcomes = λ read reads.
+      let behind = reads_list entries 0 0 (length entries) (length (list_bytes entries)) rest read fits.each (omega arith) (omega arith) reads in
+      let none = reads_closed (length entries) (length (list_bytes entries)) rest behind.more closed behind.reads in
+      let all : read ≡ entries = behind.is ∙ ap (λ (es : List (List FileText)). entries ++ es) none ∙ append-nil entries in
+      inl (λ file own. ap (λ (es : List (List FileText)). with_entries (with_entries before entries) es file) all ∙ with_entries-again entries before file);
+}
+
+-- ---- the passages
+
+-- the contents of the list are in its files
+pub brought_files : (leaves : List ℕ → List ℕ → Type 0) (before : Image) (entries : List (List FileText)) → IsListed leaves before entries → HasBrought leaves (as_one entries)
+    → (file : List ℕ) → ¬ IsOwnFile file → Only (with_entries before entries file) (leaves file)
+brought_files leaves before entries state brought file own c is = elim (content_cases (as_one entries) file) [
+  | inl none ↦ state.same file own none c is ∙ sym (with_entries-as_one entries before file ∙ with_unnamed none)
+  | inr some ↦ brought file some.0 some.1 c is ∙ sym (with_entries-as_one entries before file ∙ with_named some.0 some.1)
+]
+  where
+    with_unnamed : content_in (as_one entries) file ≡ None → with_entry before (as_one entries) file ≡ before file
+    with_unnamed none = ap (λ (o : Option (List ℕ)). unwrap_or o (before file)) none
+
+    with_named : (bytes : List ℕ) → content_in (as_one entries) file ≡ Some bytes → with_entry before (as_one entries) file ≡ bytes
+    with_named bytes some = ap (λ (o : Option (List ℕ)). unwrap_or o (before file)) some
+
+-- no list names the journal
+pub as_one-journal : (entries : List (List FileText)) → AllByRecursion IsEntry entries → content_in (as_one entries) journal_name ≡ None
+as_one-journal [] each = refl
+as_one-journal (entry ∷ entries) each = content_in-second (as_one entries) entry journal_name (as_one-journal entries each.1) ∙ content_in-journal entry each.0
+
+-- the files that the list names may change while its gates are open
+pub listed_kept : (old new : List ℕ → List ℕ → Type 0) (before : Image) (entries : List (List FileText)) → IsListed old before entries
+    → ((other : List ℕ) → content_in (as_one entries) other ≡ None → (c : List ℕ) → new other c → old other c) → IsListed new before entries
+listed_kept old new before entries state kept = record {
+  same = λ file own none c is. state.same file own none c (kept file none c is);
+  fits = state.fits;
+  journal = λ c is. state.journal c (kept journal_name (as_one-journal entries state.fits.each) c is);
+}
+
+-- a body and a closed gate that were written behind a closed gate
+body_written : (entry : List FileText) (bytes : List ℕ) → bytes ≡ behind_gate entry ++ 0 ∷ [] → (rest : List ℕ) → IsClosed rest → (more : List ℕ) × (written rest 1 bytes ≡ 0 ∷ (behind_gate entry ++ 0 ∷ more))
+body_written entry bytes is_body [] closed = absurd (omega (arith, closed.there))
+body_written entry bytes is_body (x ∷ rest) closed =
+    let more = drop (1 + length bytes) (x ∷ rest) in (
+      more,
+      ap (λ (y : ℕ). y ∷ (bytes ++ more)) closed.gate_is ∙ ap (λ (l : List ℕ). 0 ∷ (l ++ more)) is_body
+          ∙ ap (λ (l : List ℕ). 0 ∷ l) (append_assoc (behind_gate entry) (0 ∷ []) more),
+    )
+
+-- the journals that a crash may leave begin with a list, before a write into it and behind it
+module _ (old new : List ℕ → List ℕ → Type 0) (entries : List (List FileText)) where
+  -- what a write behind the list's bytes leaves of them
+  pub torn_there : (bytes c : List ℕ) (place at : ℕ) → place ≡ length (list_bytes entries) + at → (Behind After : List ℕ → Type 0) → ((former : List ℕ) → old journal_name former → BeginsWith entries Behind former)
+      → IsJournalStep (IsTornWrite place bytes) old new → ((rest now : List ℕ) → IsTornWrite at bytes rest now → Behind rest → After now) → new journal_name c → BeginsWith entries After c
+  torn_there bytes c place at placed Behind After began step passes is =
+      let was = step.this c is in
+      let begins = began was.0 was.1 in
+      let torn = torn_behind (list_bytes entries) bytes begins.0 c place at placed (subst (λ former. IsTornWrite place bytes former c) begins.1 was.2) in
+      (torn.0, torn.1, passes begins.0 torn.0 torn.2 begins.2)
+
+  -- what a write that went well leaves of the journal
+  pub wrote_there : (seen bytes : List ℕ) (place at : ℕ) → place ≡ length (list_bytes entries) + at → (Behind After : List ℕ → Type 0) → BeginsWith entries Behind seen
+      → Only (written seen place bytes) (new journal_name) → ((rest : List ℕ) → Behind rest → After (written rest at bytes)) → (c : List ℕ) → new journal_name c → BeginsWith entries After c
+  wrote_there seen bytes place at placed Behind After begins only passes c is =
+      (written begins.0 at bytes, only c is ∙ ap (λ (s : List ℕ). written s place bytes) begins.1 ∙ written_behind (list_bytes entries) begins.0 bytes place at placed, passes begins.0 begins.2)
+
+  -- a body that was written behind the closed gate
+  pub body_behind : (entry : List FileText) (seen bytes : List ℕ) (place : ℕ) → place ≡ length (list_bytes entries) + 1 → bytes ≡ behind_gate entry ++ 0 ∷ [] → BeginsWith entries IsClosed seen
+      → Only (written seen place bytes) (new journal_name) → HasBodyBehind new entries entry
+  body_behind entry seen bytes place placed encoded begins only c is =
+      let there = wrote_there seen bytes place 1 placed IsClosed (λ rest. (more : List ℕ) × (rest ≡ 0 ∷ (behind_gate entry ++ 0 ∷ more))) begins only (body_written entry bytes encoded) c is in
+      (there.2.0, there.1 ∙ ap (λ (l : List ℕ). list_bytes entries ++ l) there.2.1)
+
+  -- and a gate that was opened on it for good
+  pub opened_there : (entry : List FileText) (seen : List ℕ) (place : ℕ) → place ≡ length (list_bytes entries) → HoldsBehind entries entry seen
+      → Only (written seen place (1 ∷ [])) (new journal_name) → (c : List ℕ) → new journal_name c → BeginsWith (entries ++ entry ∷ []) IsClosed c
+  opened_there entry seen place placed holds only c is = (
+    0 ∷ holds.0,
+    only c is ∙ ap (λ (s : List ℕ). written s place (1 ∷ [])) holds.1
+        ∙ written_behind (list_bytes entries) (0 ∷ (behind_gate entry ++ 0 ∷ holds.0)) (1 ∷ []) place 0 (omega arith) ∙ sym (bytes_with entries entry (0 ∷ holds.0)),
+    record { there = omega arith; gate_is = refl },
+  )
+
+module _ (old new : List ℕ → List ℕ → Type 0) (before : Image) (entries : List (List FileText)) where
+  -- writing behind the closed gate leaves it closed
+  pub listed_behind : (bytes : List ℕ) (place : ℕ) → place ≡ length (list_bytes entries) + 1 → IsListed old before entries → IsJournalStep (IsTornWrite place bytes) old new
+      → IsListed new before entries
+  listed_behind bytes place placed state step = record {
+    same = λ file own none c is. state.same file own none c (step.others file own c is);
+    fits = state.fits;
+    journal = λ c is. torn_there old new entries bytes c place 1 placed IsClosed IsClosed state.journal step (IsClosed-behind bytes) is;
+  }
+
+  -- opening the gate on a body brings its entry in doubt
+  pub doubt_opening : (entry : List FileText) (place : ℕ) → place ≡ length (list_bytes entries) → IsListed old before entries → HasRoom entries entry → HasBodyBehind old entries entry
+      → IsJournalStep (IsTornWrite place (1 ∷ [])) old new → IsInDoubt new before entries (Some entry)
+  doubt_opening entry place placed state room body step = record {
+    same = λ file own none c is. state.same file own none c (step.others file own c is);
+    fits = state.fits;
+    journal = λ c is.
+        torn_there old new entries (1 ∷ []) c place 0 (omega arith) (λ rest. (more : List ℕ) × (rest ≡ 0 ∷ (behind_gate entry ++ 0 ∷ more)))
+        (RestGives (length entries) (length (list_bytes entries)) (with_entries before entries) (Some entry))
+        (λ former was. let holds = body former was in (0 ∷ (behind_gate entry ++ 0 ∷ holds.0), holds.1, (holds.0, refl))) step
+        (λ rest now torn holds.
+        let opened = torn_gate 1 0 (behind_gate entry ++ 0 ∷ holds.0) now (subst (λ r. IsTornWrite 0 (1 ∷ []) r now) holds.1 torn) in
+        subst (RestGives (length entries) (length (list_bytes entries)) (with_entries before entries) (Some entry)) (sym opened.1)
+        (opening_gives entries entry (with_entries before entries) opened.0 holds.0 room)) is;
+  }
+
+  -- closing the gate in doubt leaves the doubt
+  pub doubt_closing : (doubt : Option (List FileText)) (place : ℕ) → place ≡ length (list_bytes entries) → IsInDoubt old before entries doubt
+      → IsJournalStep (IsTornWrite place (0 ∷ [])) old new → IsInDoubt new before entries doubt
+  doubt_closing doubt place placed state step = record {
+    same = λ file own none c is. state.same file own none c (step.others file own c is);
+    fits = state.fits;
+    journal = λ c is.
+        let gives = RestGives (length entries) (length (list_bytes entries)) (with_entries before entries) doubt in
+        torn_there old new entries (0 ∷ []) c place 0 (omega arith) gives gives state.journal step
+        (closing_gives (length entries) (length (list_bytes entries)) (with_entries before entries) doubt) is;
+  }
+
+  -- closing the gate before a list that is in all its files leaves no doubt
+  pub doubt_emptied : IsListed old before entries → HasBrought old (as_one entries) → IsJournalStep (IsTornWrite 0 (0 ∷ [])) old new → IsInDoubt new (with_entries before entries) [] None
+  doubt_emptied state brought step = record {
+    same = λ file own none c is. brought_files old before entries state brought file own c (step.others file own c is);
+    fits = no_entries;
+    journal = λ c is.
+        let was = step.this c is in
+        let begins = state.journal was.0 was.1 in (
+          c,
+          refl,
+          closing_gives 0 0 (with_entries before entries) None was.0 c was.2
+              (subst (RestGives 0 0 (with_entries before entries) None) (sym begins.1) (list_gives entries before begins.0 state.fits begins.2)),
+        );
+  }
+
+  -- a gate that was closed for good
+  pub listed_closed : (seen : List ℕ) (doubt : Option (List FileText)) (place : ℕ) → place ≡ length (list_bytes entries) → IsInDoubt old before entries doubt → old journal_name seen
+      → IsJournalStep (IsTornWrite place (0 ∷ [])) old new → Only (written seen place (0 ∷ [])) (new journal_name) → IsListed new before entries
+  listed_closed seen doubt place placed state was step only = record {
+    same = λ file own none c is. state.same file own none c (step.others file own c is);
+    fits = state.fits;
+    journal = wrote_there old new entries seen (0 ∷ []) place 0 (omega arith) (RestGives (length entries) (length (list_bytes entries)) (with_entries before entries) doubt) IsClosed (state.journal seen was) only
+        (λ rest gives. IsClosed-written rest);
+  }
+
+  -- the list is empty for good
+  pub listed_emptied : (seen : List ℕ) → IsListed old before entries → HasBrought old (as_one entries) → IsJournalStep (IsTornWrite 0 (0 ∷ [])) old new
+      → Only (written seen 0 (0 ∷ [])) (new journal_name) → IsListed new (with_entries before entries) []
+  listed_emptied seen state brought step only = record {
+    same = λ file own none c is. brought_files old before entries state brought file own c (step.others file own c is);
+    fits = no_entries;
+    journal = λ c is. (c, refl, subst IsClosed (sym (only c is)) (IsClosed-written seen));
+  }
+
+  -- a gate that was opened for good
+  pub listed_opened : (entry : List FileText) (seen : List ℕ) (place : ℕ) → place ≡ length (list_bytes entries) → IsListed old before entries → Fits (entries ++ entry ∷ []) → HoldsBehind entries entry seen
+      → IsJournalStep (IsTornWrite place (1 ∷ [])) old new → Only (written seen place (1 ∷ [])) (new journal_name) → IsListed new before (entries ++ entry ∷ [])
+  listed_opened entry seen place placed state fits holds step only = record {
+    same = λ file own none c is. state.same file own (as_one-unnamed entries (entry ∷ []) file none) c (step.others file own c is);
+    fits = fits;
+    journal = opened_there old new entries entry seen place placed holds only;
+  }

@@ -1,61 +1,115 @@
--- What a step makes of that which a crash may leave: one of the journal's file, or one of an entry's files.
-use Rattle.std.proofs.Common.{◌≡◌, ◌≢◌, ℕ, ◌≤◌, List, [], ◌∷◌, true, inl, inr, Option, Some, None, Result, Ok, Err, OnOk, OnErr, refl, sym, subst, ◌∙◌}
-use Rattle.std.specs.Result.{IsErr}
+-- What a write through to the journal makes of a list, and what a crash may leave meanwhile.
+use Rattle.std.proofs.Common.{◌≡◌, ℕ, ◌+◌, ◌≤◌, List, [], ◌∷◌, ◌++◌, inl, inr, Bool, true, false, length, Option, Some, None, Result, Ok, Err, OnErr, refl, sym, subst, ◌∙◌}
 use Rattle.std.proofs.lemmas.Result.{on_ok_weaker}
 use Rattle.kdb_outside.specs.declared.disks.Disk.{Ghosts}
 use Rattle.kdb_outside.specs.declared.faults.Failed.{Failed}
 use Rattle.kdb_outside.specs.Files.{written}
 use Rattle.kdb_outside.specs.Frames.{GoesOn}
-use Rattle.kdb_outside.specs.Images.{Image, IsImage, Only, IsTornWrite, Touches}
+use Rattle.kdb_outside.specs.Images.{Image, IsImage, Only, KeepsImagesOf, IsTornWrite}
 use Rattle.journal_codec.specs.declared.files.FileText.{FileText}
-use Rattle.journal_codec.specs.Entry.{journal_name, IsEntry}
-use Rattle.intent_journal.specs.declared.states.State.{State}
-use Rattle.intent_journal.specs.declared.states.State.TheVariants.{Doubt, Lag}
-use Rattle.intent_journal.specs.Moments.{AddsOnly, LeavesMeanwhile, IsStepOf, KeepsUnnamed}
-use Rattle.intent_journal.specs.Outcomes.{with_entry, HasOnly, IsOutcome, IsEither}
-use Rattle.intent_journal.specs.States.{IsSettled, IsDoubtful, IsLagging, HasBody, HasAppliedAll}
-use Rattle.intent_journal.specs.Steps.{IsUnfinished, Passes, WritesThrough}
-use Rattle.intent_journal.proofs.Contents.{content_in-journal}
-use Rattle.intent_journal.proofs.Meanwhile.{else_both, else_weaker, meanwhile}
-use Rattle.intent_journal.proofs.Passages.{IsLagging-applied, IsSettled-doubt, IsDoubtful-only, IsSettled-only, IsLagging-only, IsDoubtful-closing, IsSettled-closed, IsSettled-behind, IsDoubtful-opening, IsLagging-opened, IsLagging-kept, IsDoubtful-applied, HasOnly-none}
-use Rattle.intent_journal.proofs.Putting.{KeepsUnnamedImages}
+use Rattle.journal_codec.specs.Entry.{journal_name}
+use Rattle.journal_steps.specs.Moments.{AddsOnly, IsStepOf, KeepsUnnamed}
+use Rattle.journal_steps.specs.Outcomes.{content_in, with_entries, IsOutcome, IsEither}
+use Rattle.journal_steps.specs.Steps.{WritesThrough}
+use Rattle.journal_steps.proofs.Meanwhile.{else_both, else_weaker, meanwhile}
+use Rattle.journal_steps.proofs.Steps.{on_ok, on_err, only_image, IsJournalStep, journal_step, image_step}
+use Rattle.intent_journal.specs.Bringing.{HasBroughtFirst, Brings}
+use Rattle.intent_journal.specs.Lists.{list_bytes, Fits, as_one}
+use Rattle.intent_journal.specs.Outcomes.{HasOnly}
+use Rattle.intent_journal.specs.States.{IsListed, IsInDoubt, IsUnfinished, HasBodyBehind, HasBrought}
+use Rattle.intent_journal.specs.Steps.{Passes}
+use Rattle.intent_journal.proofs.Images.{listed_doubt, doubt_only, listed_only, only_none}
+use Rattle.intent_journal.proofs.Passages.{room_of, listed_kept, listed_behind, doubt_opening, doubt_closing, doubt_emptied, listed_closed, listed_emptied, listed_opened}
 
-pub on_ok : {X E : Type 0} (P : Type 0) (r : Result X E) → P → OnOk r P
-on_ok P (Ok x) p = p
-on_ok P (Err e) p = tt
+module _ {D : Type 0} (g : Ghosts D) (old new : D) (r : Result Unit Failed) (tells : g.tells old ≡ true) where
+  -- bytes were written into the journal: what is left came by that step, and so did each image meanwhile
+  pub wrote : (Done Undone : (List ℕ → List ℕ → Type 0) → Type 0) (P : Image → Type 0) (place : ℕ) (bytes : List ℕ)
+      → ((leaves : List ℕ → List ℕ → Type 0) → IsJournalStep (IsTornWrite place bytes) (g.may_leave old) leaves → Undone leaves)
+      → ((leaves : List ℕ → List ℕ → Type 0) → Undone leaves → (image : Image) → IsImage leaves image → HasOnly P image)
+      → ((image : Image) → IsImage (g.may_leave old) image → HasOnly P image)
+      → (IsJournalStep (IsTornWrite place bytes) (g.may_leave old) (g.may_leave new) → Only (written (g.seen old journal_name) place bytes) (g.may_leave new journal_name) → Done (g.may_leave new))
+      → WritesThrough g old new r journal_name place bytes → Passes g old new r Done Undone P
+  wrote Done Undone P place bytes undone only before done writes =
+      let step = journal_step (IsTornWrite place bytes) (g.may_leave old) (g.may_leave new) writes.images in
+      record {
+        ok = on_ok_weaker r (done step) writes.durable;
+        err = on_err (Undone (g.may_leave new)) r (undone (g.may_leave new) step);
+        any_moment = meanwhile _ _ _ (HasOnly P)
+            (else_weaker _ _ _ (IsStepOf journal_name (IsTornWrite place bytes) (g.may_leave old)) (HasOnly P) writes.time (λ image was.
+            only (only_image image) (undone (only_image image) (image_step (IsTornWrite place bytes) (g.may_leave old) image was)) image (λ file. refl)))
+            (λ image left. before image (g.only_now old image tells left));
+      }
 
-pub on_err : {X E : Type 0} (P : Type 0) (r : Result X E) → P → OnErr r P
-on_err P (Ok x) p = tt
-on_err P (Err e) p = p
+  -- what is read of the journal is an image of it
+  seen_is : g.may_leave old journal_name (g.seen old journal_name)
+  seen_is = g.read_is_image old tells journal_name
 
--- what one image leaves
-abbrev pub only_image : Image → List ℕ → List ℕ → Type 0
-only_image image file c = c ≡ image file
+  module _ (before : Image) (entries : List (List FileText)) where
+    -- closing a gate in doubt
+    pub settling : (doubt : Option (List FileText)) (place : ℕ) → place ≡ length (list_bytes entries) → IsInDoubt (g.may_leave old) before entries doubt
+        → WritesThrough g old new r journal_name place (0 ∷ [])
+        → Passes g old new r (λ leaves. IsListed leaves before entries) (λ leaves. IsInDoubt leaves before entries doubt) (IsEither (with_entries before entries) doubt)
+    settling doubt place placed state =
+        wrote (λ leaves. IsListed leaves before entries) (λ leaves. IsInDoubt leaves before entries doubt) (IsEither (with_entries before entries) doubt) place (0 ∷ [])
+        (λ leaves. doubt_closing (g.may_leave old) leaves before entries doubt place placed state)
+        (λ leaves. doubt_only leaves before entries doubt) (doubt_only (g.may_leave old) before entries doubt state)
+        (listed_closed (g.may_leave old) (g.may_leave new) before entries (g.seen old journal_name) doubt place placed state seen_is)
 
--- on a disk that was left alone nothing else happened
-pub still : (before : ℕ) (past : ℕ → Image → Type 0) (P : Image → Type 0) → ((image : Image) → past before image → P image) → LeavesMeanwhile before past past P
-still before past P held = record { each = held; earlier = λ moment image le left. inl left }
+    -- writing behind the closed gate
+    pub putting : (place : ℕ) (bytes : List ℕ) → place ≡ length (list_bytes entries) + 1 → IsListed (g.may_leave old) before entries → WritesThrough g old new r journal_name place bytes
+        → Passes g old new r (λ leaves. IsListed leaves before entries) (λ leaves. IsListed leaves before entries) (IsOutcome (with_entries before entries))
+    putting place bytes placed state =
+        wrote (λ leaves. IsListed leaves before entries) (λ leaves. IsListed leaves before entries) (IsOutcome (with_entries before entries)) place bytes
+        (λ leaves. listed_behind (g.may_leave old) leaves before entries bytes place placed state)
+        (λ leaves. listed_only leaves before entries) (listed_only (g.may_leave old) before entries state)
+        (λ step only. listed_behind (g.may_leave old) (g.may_leave new) before entries bytes place placed state step)
 
--- a step of the journal's file
-pub record IsJournalStep (Step : List ℕ → List ℕ → Type 0) (old new : List ℕ → List ℕ → Type 0) : Type 0 where
-  pub others : (other : List ℕ) → other ≢ journal_name → (c : List ℕ) → new other c → old other c
-  pub this : (c : List ℕ) → new journal_name c → (former : List ℕ) × old journal_name former × Step former c
+    -- opening the gate on a body
+    pub opening : (entry : List FileText) (place : ℕ) → place ≡ length (list_bytes entries) → Fits (entries ++ entry ∷ []) → IsListed (g.may_leave old) before entries
+        → HasBodyBehind (g.may_leave old) entries entry → WritesThrough g old new r journal_name place (1 ∷ [])
+        → Passes g old new r (λ leaves. IsListed leaves before (entries ++ entry ∷ [])) (λ leaves. IsInDoubt leaves before entries (Some entry)) (IsEither (with_entries before entries) (Some entry))
+    opening entry place placed fits state body =
+        wrote (λ leaves. IsListed leaves before (entries ++ entry ∷ [])) (λ leaves. IsInDoubt leaves before entries (Some entry)) (IsEither (with_entries before entries) (Some entry)) place (1 ∷ [])
+        (λ leaves. doubt_opening (g.may_leave old) leaves before entries entry place placed state (room_of entries entry fits) body)
+        (λ leaves. doubt_only leaves before entries (Some entry))
+        (doubt_only (g.may_leave old) before entries (Some entry) (listed_doubt (g.may_leave old) before entries (Some entry) state))
+        (listed_opened (g.may_leave old) (g.may_leave new) before entries entry (g.seen old journal_name) place placed state fits (body (g.seen old journal_name) seen_is))
 
-pub journal_step : (Step : List ℕ → List ℕ → Type 0) (old new : List ℕ → List ℕ → Type 0) → Touches journal_name Step old new → IsJournalStep Step old new
-journal_step Step old new touches = record { others = λ other ne c is. (touches.others other ne).no_more c is; this = touches.this }
+    -- closing the gate before a list whose files have their contents
+    pub closing : IsListed (g.may_leave old) before entries → HasBrought (g.may_leave old) (as_one entries) → WritesThrough g old new r journal_name 0 (0 ∷ [])
+        → Passes g old new r (λ leaves. IsListed leaves (with_entries before entries) []) (λ leaves. IsInDoubt leaves (with_entries before entries) [] None) (IsOutcome (with_entries before entries))
+    closing state brought =
+        wrote (λ leaves. IsListed leaves (with_entries before entries) []) (λ leaves. IsInDoubt leaves (with_entries before entries) [] None) (IsOutcome (with_entries before entries)) 0 (0 ∷ [])
+        (λ leaves. doubt_emptied (g.may_leave old) leaves before entries state brought)
+        (λ leaves doubtful image is. only_none (with_entries before entries) image (doubt_only leaves (with_entries before entries) [] None doubtful image is))
+        (listed_only (g.may_leave old) before entries state)
+        (listed_emptied (g.may_leave old) (g.may_leave new) before entries (g.seen old journal_name) state brought)
 
--- and one of its image
-pub image_step : (Step : List ℕ → List ℕ → Type 0) (old : List ℕ → List ℕ → Type 0) (image : Image) → IsStepOf journal_name Step old image → IsJournalStep Step old (only_image image)
-image_step Step old image step = record {
-  others = λ other ne c is. subst (old other) (sym is) (step.others other ne);
-  this = λ c is. let was = step.this in (was.0, was.1, subst (Step was.0) (sym is) was.2);
-}
+  -- files that the list names may change while its gates are open
+  pub keeping : (before : Image) (entries : List (List FileText)) → IsListed (g.may_leave old) before entries
+      → ((other : List ℕ) → content_in (as_one entries) other ≡ None → KeepsImagesOf other (g.may_leave old) (g.may_leave new)) → AddsOnly g old new (KeepsUnnamed (as_one entries) (g.may_leave old))
+      → Passes g old new r (λ leaves. IsListed leaves before entries) (λ leaves. IsListed leaves before entries) (IsOutcome (with_entries before entries))
+  keeping before entries state others time =
+      let P = HasOnly (IsOutcome (with_entries before entries)) in
+      let listed = listed_kept (g.may_leave old) (g.may_leave new) before entries state (λ other none. (others other none).no_more) in
+      record {
+        ok = on_ok (IsListed (g.may_leave new) before entries) r listed;
+        err = on_err (IsListed (g.may_leave new) before entries) r listed;
+        any_moment = meanwhile _ _ _ P
+            (else_weaker _ _ _ (KeepsUnnamed (as_one entries) (g.may_leave old)) P time (λ image kept.
+            listed_only (only_image image) before entries
+            (listed_kept (g.may_leave old) (only_image image) before entries state (λ other none c is. subst (g.may_leave old other) (sym is) (kept other none))) image (λ file. refl)))
+            (λ image left. listed_only (g.may_leave old) before entries state image (g.only_now old image tells left));
+      }
 
--- a write that failed may be told of another failure
-pub failed_writes : {D : Type 0} (g : Ghosts D) (old new : D) (r other : Result Unit Failed) (file : List ℕ) (at : ℕ) (bytes : List ℕ) → IsErr other → WritesThrough g old new r file at bytes
-    → WritesThrough g old new other file at bytes
-failed_writes g old new r (Ok x) file at bytes failed writes = absurd (cc)
-failed_writes g old new r (Err e) file at bytes failed writes = record { durable = tt; images = writes.images; time = writes.time }
+  -- and so do texts of the list
+  pub bringing : (brought : Result Unit Failed) (before : Image) (entries : List (List FileText)) → IsListed (g.may_leave old) before entries → Brings g old new brought (as_one entries) []
+      → Passes g old new r (λ leaves. IsListed leaves before entries) (λ leaves. IsListed leaves before entries) (IsOutcome (with_entries before entries))
+  bringing brought before entries state brings = keeping before entries state (λ other none. brings.kept other (inl none)) brings.time
+
+-- texts that no later ones name
+pub brought_all : (leaves : List ℕ → List ℕ → Type 0) (texts : List FileText) → HasBroughtFirst texts [] leaves → HasBrought leaves texts
+brought_all leaves texts brought file bytes is = brought file bytes is refl
 
 -- a step behind another
 pub passes_behind : {D : Type 0} (g : Ghosts D) (old mid new : D) (first r : Result Unit Failed) (A B Done Undone : (List ℕ → List ℕ → Type 0) → Type 0) (P : Image → Type 0) → Passes g old mid first A B P
@@ -69,100 +123,24 @@ passes_behind g old mid new first r A B Done Undone P so_far later next = record
   };
 }
 
-module _ {D : Type 0} (g : Ghosts D) (old new : D) (r : Result Unit Failed) (tells : g.tells old ≡ true) where
-  -- bytes were written into the journal: what is left came by that step, and so did each image meanwhile
-  wrote : (Done Undone : (List ℕ → List ℕ → Type 0) → Type 0) (P : Image → Type 0) (at : ℕ) (bytes : List ℕ)
-      → ((leaves : List ℕ → List ℕ → Type 0) → IsJournalStep (IsTornWrite at bytes) (g.may_leave old) leaves → Undone leaves)
-      → ((leaves : List ℕ → List ℕ → Type 0) → Undone leaves → (image : Image) → IsImage leaves image → HasOnly P image)
-      → ((image : Image) → IsImage (g.may_leave old) image → HasOnly P image)
-      → (IsJournalStep (IsTornWrite at bytes) (g.may_leave old) (g.may_leave new) → Only (written (g.seen old journal_name) at bytes) (g.may_leave new journal_name) → Done (g.may_leave new))
-      → WritesThrough g old new r journal_name at bytes → Passes g old new r Done Undone P
-  wrote Done Undone P at bytes undone only before done writes =
-      let step = journal_step (IsTornWrite at bytes) (g.may_leave old) (g.may_leave new) writes.images in
-      record {
-        ok = on_ok_weaker r (done step) writes.durable;
-        err = on_err (Undone (g.may_leave new)) r (undone (g.may_leave new) step);
-        any_moment = meanwhile _ _ _ (HasOnly P)
-            (else_weaker _ _ _ (IsStepOf journal_name (IsTornWrite at bytes) (g.may_leave old)) (HasOnly P) writes.time (λ image was.
-            only (only_image image) (undone (only_image image) (image_step (IsTornWrite at bytes) (g.may_leave old) image was)) image (λ file. refl)))
-            (λ image left. before image (g.only_now old image tells left));
-      }
-
-  -- closing a gate in doubt
-  pub settling : (files : Image) (doubt : Option (List FileText)) → IsDoubtful (g.may_leave old) files doubt → WritesThrough g old new r journal_name 0 (0 ∷ [])
-      → Passes g old new r (λ leaves. IsSettled leaves files) (λ leaves. IsDoubtful leaves files doubt) (IsEither files doubt)
-  settling files doubt state =
-      wrote (λ leaves. IsSettled leaves files) (λ leaves. IsDoubtful leaves files doubt) (IsEither files doubt) 0 (0 ∷ [])
-      (λ leaves step. IsDoubtful-closing (g.may_leave old) leaves files doubt state step.others step.this)
-      (λ leaves doubtful. IsDoubtful-only leaves files doubt doubtful) (IsDoubtful-only (g.may_leave old) files doubt state)
-      (λ step only. IsSettled-closed (g.may_leave old) (g.may_leave new) files (g.seen old journal_name) state.same step.others only)
-
-  -- writing behind a closed gate
-  pub putting : (files : Image) (bytes : List ℕ) → IsSettled (g.may_leave old) files → WritesThrough g old new r journal_name 1 bytes
-      → Passes g old new r (λ leaves. IsSettled leaves files) (λ leaves. IsSettled leaves files) (IsOutcome files)
-  putting files bytes state =
-      let behind = λ (leaves : List ℕ → List ℕ → Type 0) (step : IsJournalStep (IsTornWrite 1 bytes) (g.may_leave old) leaves). IsSettled-behind (g.may_leave old) leaves files bytes state step.others step.this in
-      wrote (λ leaves. IsSettled leaves files) (λ leaves. IsSettled leaves files) (IsOutcome files) 1 bytes
-      behind (λ leaves settled. IsSettled-only leaves files settled) (IsSettled-only (g.may_leave old) files state) (λ step only. behind (g.may_leave new) step)
-
-  -- opening the gate on a body
-  pub opening : (files : Image) (entry : List FileText) → IsSettled (g.may_leave old) files → HasBody (g.may_leave old) entry → WritesThrough g old new r journal_name 0 (1 ∷ [])
-      → Passes g old new r (λ leaves. IsLagging leaves files entry) (λ leaves. IsDoubtful leaves files (Some entry)) (IsEither files (Some entry))
-  opening files entry state body =
-      wrote (λ leaves. IsLagging leaves files entry) (λ leaves. IsDoubtful leaves files (Some entry)) (IsEither files (Some entry)) 0 (1 ∷ [])
-      (λ leaves step. IsDoubtful-opening (g.may_leave old) leaves files entry state body step.others step.this)
-      (λ leaves doubtful. IsDoubtful-only leaves files (Some entry) doubtful)
-      (IsDoubtful-only (g.may_leave old) files (Some entry) (IsSettled-doubt (g.may_leave old) files (Some entry) state))
-      (λ step only. IsLagging-opened (g.may_leave old) (g.may_leave new) files entry (g.seen old journal_name) state.same
-      (body (g.seen old journal_name) (g.read_is_image old tells journal_name)).body step.others only)
-
-  -- closing the gate behind an entry whose files have their contents
-  pub closing : (files : Image) (entry : List FileText) → IsLagging (g.may_leave old) files entry → HasAppliedAll (g.may_leave old) entry → WritesThrough g old new r journal_name 0 (0 ∷ [])
-      → Passes g old new r (λ leaves. IsSettled leaves (with_entry files entry)) (λ leaves. IsDoubtful leaves (with_entry files entry) None) (IsOutcome (with_entry files entry))
-  closing files entry state all =
-      wrote (λ leaves. IsSettled leaves (with_entry files entry)) (λ leaves. IsDoubtful leaves (with_entry files entry) None) (IsOutcome (with_entry files entry)) 0 (0 ∷ [])
-      (λ leaves step. IsDoubtful-applied (g.may_leave old) leaves files entry state all step.others step.this)
-      (λ leaves doubtful image is. HasOnly-none (with_entry files entry) image (IsDoubtful-only leaves (with_entry files entry) None doubtful image is))
-      (IsLagging-only (g.may_leave old) files entry state)
-      (λ step only. IsSettled-closed (g.may_leave old) (g.may_leave new) (with_entry files entry) (g.seen old journal_name) (IsLagging-applied (g.may_leave old) files entry state all) step.others only)
-
-  -- giving the entry's files their contents while the gate is open
-  pub applying : (files : Image) (entry : List FileText) → IsEntry entry → IsLagging (g.may_leave old) files entry → KeepsUnnamedImages entry (g.may_leave old) (g.may_leave new)
-      → AddsOnly g old new (KeepsUnnamed entry (g.may_leave old))
-      → Passes g old new r (λ leaves. IsLagging leaves files entry) (λ leaves. IsLagging leaves files entry) (IsOutcome (with_entry files entry))
-  applying files entry is state others time =
-      let unnamed = content_in-journal entry is in
-      let lagging = IsLagging-kept (g.may_leave old) (g.may_leave new) files entry state unnamed (λ other none. (others other none).no_more) in
-      let P = HasOnly (IsOutcome (with_entry files entry)) in
-      record {
-        ok = on_ok (IsLagging (g.may_leave new) files entry) r lagging;
-        err = on_err (IsLagging (g.may_leave new) files entry) r lagging;
-        any_moment = meanwhile _ _ _ P
-            (else_weaker _ _ _ (KeepsUnnamed entry (g.may_leave old)) P time (λ image kept.
-            IsLagging-only (only_image image) files entry
-            (IsLagging-kept (g.may_leave old) (only_image image) files entry state unnamed (λ other none c is. subst (g.may_leave old other) (sym is) (kept other none))) image (λ file. refl)))
-            (λ image left. IsLagging-only (g.may_leave old) files entry state image (g.only_now old image tells left));
-      }
-
--- all files of the entry get their contents, and the gate is closed
-pub finishing : {D : Type 0} (g : Ghosts D) (old mid new : D) (r : Result Unit Failed) (files : Image) (entry texts : List FileText) → g.tells old ≡ true → texts ≡ entry → IsEntry entry
-    → IsLagging (g.may_leave old) files entry → GoesOn g old mid → HasAppliedAll (g.may_leave mid) texts → KeepsUnnamedImages texts (g.may_leave old) (g.may_leave mid)
-    → AddsOnly g old mid (KeepsUnnamed texts (g.may_leave old)) → WritesThrough g mid new r journal_name 0 (0 ∷ [])
-    → Passes g old new r (λ leaves. IsSettled leaves (with_entry files entry)) (λ leaves. IsDoubtful leaves (with_entry files entry) None) (IsOutcome (with_entry files entry))
-finishing g old mid new r files entry texts tells same is state goes all others time writes =
-    let kept = subst (λ (t : List FileText). KeepsUnnamedImages t (g.may_leave old) (g.may_leave mid)) same others in
-    let applied = applying g old mid (Ok tt) tells files entry is state kept (subst (λ (t : List FileText). AddsOnly g old mid (KeepsUnnamed t (g.may_leave old))) same time) in
-    passes_behind g old mid new (Ok tt) r (λ leaves. IsLagging leaves files entry) (λ leaves. IsLagging leaves files entry) (λ leaves. IsSettled leaves (with_entry files entry))
-    (λ leaves. IsDoubtful leaves (with_entry files entry) None) (IsOutcome (with_entry files entry)) applied goes.moment
-    (closing g mid new r (goes.tells ∙ tells) files entry applied.ok (subst (λ (t : List FileText). HasAppliedAll (g.may_leave mid) t) same all) writes)
+-- all files of the list get their contents, and the list is closed
+pub finishing : {D : Type 0} (g : Ghosts D) (old mid new : D) (r : Result Unit Failed) (before : Image) (entries : List (List FileText)) → g.tells old ≡ true → IsListed (g.may_leave old) before entries
+    → GoesOn g old mid → Brings g old mid (Ok tt) (as_one entries) [] → WritesThrough g mid new r journal_name 0 (0 ∷ [])
+    → Passes g old new r (λ leaves. IsListed leaves (with_entries before entries) []) (λ leaves. IsInDoubt leaves (with_entries before entries) [] None) (IsOutcome (with_entries before entries))
+finishing g old mid new r before entries tells state goes brings writes =
+    let brought = bringing g old mid (Ok tt) tells (Ok tt) before entries state brings in
+    passes_behind g old mid new (Ok tt) r (λ leaves. IsListed leaves before entries) (λ leaves. IsListed leaves before entries) (λ leaves. IsListed leaves (with_entries before entries) [])
+    (λ leaves. IsInDoubt leaves (with_entries before entries) [] None) (IsOutcome (with_entries before entries)) brought goes.moment
+    (closing g mid new r (goes.tells ∙ tells) before entries brought.ok (brought_all (g.may_leave mid) (as_one entries) brings.durable) writes)
 
 -- what a finish leaves that failed
-pub unfinished_lag : (state : State) (files : Image) (entry : List FileText) (leaves : List ℕ → List ℕ → Type 0) (r : Result Unit Failed) → state ≡ Lag → OnErr r (IsLagging leaves files entry)
-    → OnErr r (IsUnfinished state files entry leaves)
-unfinished_lag state files entry leaves (Ok x) lag lagging = tt
-unfinished_lag state files entry leaves (Err e) lag lagging = record { lagging = λ is. lagging; doubtful = λ is. absurd (let both : Lag ≡ Doubt = sym lag ∙ is in cc) }
+pub unfinished_lag : (b : Bool) (before : Image) (entries : List (List FileText)) (leaves : List ℕ → List ℕ → Type 0) (r : Result Unit Failed) → b ≡ false → OnErr r (IsListed leaves before entries)
+    → OnErr r (IsUnfinished b before entries leaves)
+unfinished_lag true before entries leaves r sure listed = absurd (cc)
+unfinished_lag false before entries leaves r sure listed = listed
 
-pub unfinished_doubt : (state : State) (files : Image) (entry : List FileText) (leaves : List ℕ → List ℕ → Type 0) (r : Result Unit Failed) → OnErr r (state ≡ Doubt)
-    → OnErr r (IsDoubtful leaves (with_entry files entry) None) → OnErr r (IsUnfinished state files entry leaves)
-unfinished_doubt state files entry leaves (Ok x) doubt doubtful = tt
-unfinished_doubt state files entry leaves (Err e) doubt doubtful = record { lagging = λ is. absurd (let both : Doubt ≡ Lag = sym doubt ∙ is in cc); doubtful = λ is. doubtful }
+pub unfinished_doubt : (b : Bool) (before : Image) (entries : List (List FileText)) (leaves : List ℕ → List ℕ → Type 0) (r : Result Unit Failed) → OnErr r (b ≡ true)
+    → OnErr r (IsInDoubt leaves (with_entries before entries) [] None) → OnErr r (IsUnfinished b before entries leaves)
+unfinished_doubt b before entries leaves (Ok x) is doubtful = tt
+unfinished_doubt true before entries leaves (Err e) is doubtful = doubtful
+unfinished_doubt false before entries leaves (Err e) is doubtful = absurd (cc)

@@ -1,28 +1,18 @@
--- What the files of an image stand for, given what its journal holds. This project's own.
-use Rattle.std.specs.Prelude.{◌≡◌, ◌⊎◌, ℕ, List, [], ◌∷◌, Option, Some, None, if◌then◌else◌, bytes_eq}
-use Rattle.std.specs.Option.{unwrap_or}
+-- What an image reads as, and what its files stand for, given what its journal holds. This project's own.
+use Rattle.std.specs.Prelude.{List}
 use Rattle.kdb_outside.specs.Images.{Image}
 use Rattle.journal_codec.specs.declared.files.FileText.{FileText}
-use Rattle.intent_journal.specs.JournalBytes.{IsOwnFile}
-use Rattle.intent_journal.specs.Readings.{ReadsAs, IsBroken}
+use Rattle.journal_codec.specs.Entry.{journal_name}
+use Rattle.journal_steps.specs.Outcomes.{with_entries, SameFiles}
+use Rattle.intent_journal.specs.Lists.{ReadsFrom, BreaksFrom}
 
--- the content that an entry has for a file, if it names it
-abbrev pub content_in : List FileText → List ℕ → Option (List ℕ)
-content_in [] file = None
-content_in (text ∷ texts) file = if bytes_eq text.file file then Some text.bytes else content_in texts file
+-- some reading of the image has these open entries
+abbrev pub ReadsAs : Image → List (List FileText) → Type 0
+ReadsAs image entries = ReadsFrom 0 0 (image journal_name) entries
 
--- each file that the entry names has its content, and the others are as they are
-abbrev pub with_entry : Image → List FileText → Image
-with_entry image entry file = unwrap_or (content_in entry file) (image file)
-
--- files with these entries, one after the other
-abbrev pub with_entries : Image → List (List FileText) → Image
-with_entries image [] = image
-with_entries image (entry ∷ entries) = with_entries (with_entry image entry) entries
-
--- the same but for the journal's own files
-abbrev pub SameFiles : Image → Image → Type 0
-SameFiles files others = (file : List ℕ) → ¬ IsOwnFile file → files file ≡ others file
+-- in some reading of the image an open entry isn't whole
+abbrev pub IsBroken : Image → Type 0
+IsBroken image = BreaksFrom 0 0 (image journal_name)
 
 -- these are files that an image stands for: its own, with the entries that its journal reads as
 abbrev pub HasOutcome : Image → Image → Type 0
@@ -32,12 +22,3 @@ HasOutcome image files = (entries : List (List FileText)) × ReadsAs image entri
 pub record HasOnly (Property : Image → Type 0) (image : Image) : Type 0 where
   pub not_broken : ¬ IsBroken image
   pub each : (files : Image) → HasOutcome image files → Property files
-
--- these files, but for the journal's own
-abbrev pub IsOutcome : Image → Image → Type 0
-IsOutcome files outcome = SameFiles outcome files
-
--- these files, or these with an entry, if there is one
-abbrev pub IsEither : Image → Option (List FileText) → Image → Type 0
-IsEither files doubt outcome = SameFiles outcome files
-    ⊎ ((entry : List FileText) × (doubt ≡ Some entry) × (SameFiles outcome (with_entry files entry)))

@@ -1,27 +1,38 @@
--- How an image reads: with its gate taken as open or as shut, as open entries or not at all. This project's own.
-use Rattle.std.specs.Prelude.{◌≡◌, ℕ, List, Bool, Result, Ok, Err}
-use Rattle.kdb_outside.specs.Images.{Image}
+-- The open entries of a journal, or the place where one isn't whole: what is read from place 0 on, where each byte at a gate that is neither
+-- 0 nor 1 counts as 0. This project's own.
+use Rattle.std.specs.Prelude.{ℕ, zero, suc, ◌+◌, Bool, true, false, List, [], ◌∷◌, take, drop, Option, Some, None, Result, Ok, Err}
 use Rattle.journal_codec.specs.declared.files.FileText.{FileText}
-use Rattle.journal_codec.specs.Entry.{journal_name}
-use Rattle.intent_journal.specs.JournalBytes.{gate, reading_of, MayBeTaken}
+use Rattle.journal_steps.specs.JournalBytes.{open_length}
+use Rattle.journal_codec.specs.Forms.{followed}
+use Rattle.intent_journal.specs.Grammar.{most_entries, head_size, size_of, rest_of, entry_or_place}
 
--- the open entries of an image whose gate is taken so, or the place where one isn't whole
-abbrev pub reading : Bool → Image → Result (List (List FileText)) ℕ
-reading taken image = reading_of taken (image journal_name)
+-- an entry before those that were read
+abbrev pub with_first : List FileText → Result (List (List FileText)) ℕ → Result (List (List FileText)) ℕ
+with_first entry (Ok entries) = Ok (entry ∷ entries)
+with_first entry (Err at) = Err at
 
--- the gate of an image may be taken so
-abbrev pub Admits : Image → Bool → Type 0
-Admits image taken = MayBeTaken taken (gate (image journal_name))
+-- an entry, if it is whole, with what stands behind it, if another gate does
+abbrev pub joined : Result (List FileText) ℕ → Bool → Result (List (List FileText)) ℕ → Result (List (List FileText)) ℕ
+joined (Err at) goes_on rest = Err at
+joined (Ok entry) false rest = Ok (entry ∷ [])
+joined (Ok entry) true rest = with_first entry rest
 
--- the image reads as these open entries, in a way that it admits
-pub record ReadsAs (image : Image) (entries : List (List FileText)) : Type 0 where
-  pub taken : Bool
-  pub admitted : Admits image taken
-  pub reads : reading taken image ≡ Ok entries
+-- behind the most entries no open one is whole
+abbrev pub past_last : Option ℕ → Result (List (List FileText)) ℕ
+past_last None = Ok []
+past_last (Some size) = Err 0
 
--- in a way that it admits, an entry isn't whole
-pub record IsBroken (image : Image) : Type 0 where
-  pub taken : Bool
-  pub admitted : Admits image taken
-  pub at : ℕ
-  pub fails : reading taken image ≡ Err at
+-- from a gate on that is shut, or open on a body of this size
+abbrev pub at_gate : Option ℕ → ℕ → List ℕ → Result (List (List FileText)) ℕ → Result (List (List FileText)) ℕ
+at_gate None place c rest = Ok []
+at_gate (Some size) place c rest = joined (entry_or_place place size (take size (drop head_size c))) (followed (take size (drop head_size c))) rest
+
+-- from a gate on at this place, where so many entries are left
+abbrev pub reading : ℕ → ℕ → List ℕ → Result (List (List FileText)) ℕ
+reading zero place c = past_last (open_length c)
+reading (suc left) place c =
+    at_gate (open_length c) place c (reading left (place + head_size + size_of (drop 1 c)) (rest_of (drop 1 c)))
+
+-- the open entries of a journal, or the place in the body of the first one that isn't whole
+unfoldable pub list_in : List ℕ → Result (List (List FileText)) ℕ
+list_in journal = reading most_entries 0 journal

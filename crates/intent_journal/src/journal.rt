@@ -1,66 +1,92 @@
-//! The journal, and the steps of an entry through it.
-ghost use Rattle.std.specs.Prelude.{◌≡◌, ◌≢◌, ℕ, ◌⊎◌, ◌∷◌, ◌<◌, ◌+◌, ◌++◌, length, slice_get, List, [], Option, Some, None, true, false, Err, IfOk, IsOk, OnOk, OnErr};
+//! The journal of many entries, and the steps of entries through it.
+ghost use Rattle.std.specs.Prelude.{◌≡◌, ◌≤◌, ℕ, ◌+◌, ◌&&◌, nat_lt, nat_le, ◌++◌, ◌∷◌, [], List, length, Option, Some, None, true, false, Err, IfOk, OnOk, OnErr, ◌<◌, slice_get, not};
 ghost use Rattle.backend_files.specs.WholeFile.{IsWhole, IsShort, IsGiven};
 ghost use Rattle.kdb_outside.specs.Faults.{HasRisen};
 ghost use Rattle.kdb_outside.specs.Frames.{OnlyReads};
 ghost use Rattle.kdb_outside.specs.Images.{Image};
 ghost use Rattle.journal_codec.specs.declared.files.FileText.{FileText as Item};
-ghost use Rattle.journal_codec.specs.Entry.{IsEntry, journal_name, length_bytes, spelled};
-ghost use Rattle.intent_journal.specs.Outcomes.{with_entry, HasOnly, IsOutcome, IsEither};
-ghost use Rattle.intent_journal.specs.States.{IsSettled, IsDoubtful, IsLagging, HasBody, IsFound, HasApplied, HasAppliedAll};
-ghost use Rattle.intent_journal.specs.Moments.{AddsOnly, IsImageOr};
-ghost use Rattle.intent_journal.specs.Steps.{IsStep, IsUnfinished, Passes, PutsFile, WritesThrough};
+ghost use Rattle.journal_codec.specs.Entry.{IsEntry, journal_name};
+ghost use Rattle.journal_steps.specs.Steps.{PutsFile, WritesThrough};
+ghost use Rattle.journal_steps.specs.Outcomes.{with_entries, IsOutcome, IsEither};
+ghost use Rattle.journal_codec.specs.Forms.{spelled_on, behind_gate};
+ghost use Rattle.intent_journal.specs.Grammar.{most_entries, last_place, head_size};
+ghost use Rattle.intent_journal.specs.Journal.{state_of, has_room};
+ghost use Rattle.intent_journal.specs.Lists.{Fits};
+ghost use Rattle.intent_journal.specs.Opened.{IsFresh};
+ghost use Rattle.intent_journal.specs.Opens.{has_any};
+ghost use Rattle.intent_journal.specs.Pending.{Content, pending_in, HasBroughtTo};
+ghost use Rattle.intent_journal.specs.States.{IsListed, IsInDoubt, IsUnfinished, HasBodyBehind};
+ghost use Rattle.intent_journal.specs.Steps.{IsStep, Passes};
 
 mod opening;
 
-use crate::State;
-use crate::applying::{put_file, put_files};
-use crate::writing::write_through;
+use crate::bringing::bring_in;
+use crate::limits::{HEAD, LAST_PLACE, MOST_ENTRIES};
+use crate::pending::{count_pending, put_pending};
+use crate::sizes::body_size;
+use crate::writing::{close_list, open_gate, put_body, settle};
 use backend_files::{FileFault, FileRead};
 use journal_codec::FileText;
+use journal_steps::State;
 use kdb_outside::{Disk, Failed, FileName};
 use key_meta::List;
-pub use opening::name_of_journal;
 use std::alloc::Global;
 use std::marker::Model;
 
-/// A closed gate.
-const CLOSED: u8 = 0;
-
-/// An open gate.
-pub(crate) const OPEN: u8 = 1;
-
-/// The journal of a store over a disk: the entry whose gate is open goes into its files, whatever happens.
+/// The journal of a store over a disk: the entries whose gates are open go into their files, whatever happens.
 #[derive(Drop)]
 pub struct Journal<D: Disk> {
     disk: D,
-    alloc: Global,
     name: FileName,
-    state: State,
-    found: bool,
+    /// Where the gate behind the list stands.
+    place: u64,
+    list: Vec<List<FileText>>,
+    in_doubt: bool,
     recovered: bool,
-    entry: List<FileText>,
 }
 
 impl<D: Disk> Model for Journal<D> {
+    ghost use Rattle.std.specs.Vec.{vec_capacity};
     ghost use Rattle.intent_journal.specs.Journal.{JournalValue, IsSound};
 
     ghost Value = { JournalValue D };
 
-    ghost view = { λ j. record { disk = j.disk; state = j.state; entry = j.entry; found = j.found; recovered = j.recovered } };
+    ghost view = { λ j. record { disk = j.disk; list = j.list.items; in_doubt = j.in_doubt; recovered = j.recovered } };
 
-    ghost invariant = { λ j. IsSound (D.tells j.disk) (D.seen j.disk) (D.may_leave j.disk) j.name j.state j.found j.entry };
+    ghost invariant = { λ j. IsSound (D.tells j.disk) (D.may_leave j.disk) j.name j.place j.list.items j.in_doubt (vec_capacity j.list) };
 }
 
 impl<D: Disk> Journal<D> {
-    /// What is known of the gate.
+    /// What is known of the gates: the list is empty and the gate before it closed, or the list isn't empty and the gate behind it
+    /// closed, or the gate behind it is in doubt.
     pub fn state(&self) -> State
-        ensures { result ≡ self.now.state }
+        ensures { result ≡ state_of self.now }
     {
-        self.state
+        if self.in_doubt {
+            State::Doubt
+        } else if self.list.is_empty() {
+            State::Clean
+        } else {
+            State::Lag
+        }
     }
 
-    /// Whether the opening found an open entry, and brought it in.
+    /// Whether no entry waits to be brought into its files.
+    pub fn is_empty(&self) -> bool
+        ensures { result ≡ not (has_any self.now.list) }
+    {
+        self.list.is_empty()
+    }
+
+    /// Whether the journal is as its opening left it: no entry waits, and the first gate is in doubt.
+    pub fn is_fresh(&self) -> bool
+        ensures fresh { result ≡ true → IsFresh self.now }
+        ensures other { result ≡ false → ¬ IsFresh self.now }
+    {
+        self.in_doubt && self.list.is_empty()
+    }
+
+    /// Whether the opening found open entries, and brought them in.
     pub fn has_recovered(&self) -> bool
         ensures { result ≡ self.now.recovered }
     {
@@ -80,141 +106,150 @@ impl<D: Disk> Journal<D> {
         ensures told { D.tells self.old.disk ≡ true → IfOk result (IsWhole (D.seen self.old.disk file.now)) }
         ensures short { IfOk result IsShort }
         ensures given { IfOk result (IsGiven D.Disk self.old.disk file.now) }
-        ensures journal { (self.new.state ≡ self.old.state) × (self.new.entry ≡ self.old.entry) × (self.new.found ≡ self.old.found) }
-        ensures recovered { self.new.recovered ≡ self.old.recovered }
+        ensures journal { (self.new.list ≡ self.old.list) × (self.new.in_doubt ≡ self.old.in_doubt) × (self.new.recovered ≡ self.old.recovered) }
         ensures reads { OnlyReads D.Disk self.old.disk self.new.disk }
         ensures cause { result ≡ Err FileFault.DiskFault → HasRisen (D.faults self.old.disk) (D.faults self.new.disk) }
     {
         backend_files::read_file(alloc, &mut self.disk, file)
     }
 
-    /// Brings the open entry into its files that the opening found, and closes the gate. A journal that was handed out is left
-    /// as it is.
-    pub fn recover(&mut self) -> Result<(), Failed>
-        ensures handed_out { self.old.found ≡ false → (self.new ≡ self.old) × IsOk result }
-        ensures ok { self.old.found ≡ true → OnOk result (self.new.state ≡ State.Clean) }
-        ensures err { OnErr result (self.new.state ≡ State.Doubt) }
-        ensures step { IsStep D.Disk self.old self.new result }
-        ensures settled { D.tells self.old.disk ≡ true → self.old.found ≡ true → (files : Image) → IsFound (D.may_leave self.old.disk) files self.old.entry
-            → OnOk result (IsSettled (D.may_leave self.new.disk) (with_entry files self.old.entry)) }
-        ensures any_moment { D.tells self.old.disk ≡ true → self.old.found ≡ true → (files : Image) → IsFound (D.may_leave self.old.disk) files self.old.entry
-            → AddsOnly D.Disk self.old.disk self.new.disk (IsImageOr (D.may_leave self.old.disk) (HasOnly (IsOutcome (with_entry files self.old.entry)))) }
+    /// Whether the list has fewer than the most entries, and one more with a body of this size ends within the limit.
+    pub fn fits(&self, body: usize) -> bool
+        ensures exact { result ≡ has_room self.now.list body }
+        ensures fits { (entry : List Item) → IsEntry entry → body ≡ length (spelled_on entry) → result ≡ true → Fits (self.now.list ++ entry ∷ []) }
     {
-        if !self.found {
-            return Ok(());
-        }
-        self.found = false;
-        // The gate that was read may be pending: while it is, the files have to stay as they are.
-        self.disk.sync(&self.name)?;
-        put_files(&mut self.disk, self.entry.as_slice())?;
-        self.shut()
+        is_room(self.list.len(), self.place, body)
     }
 
-    /// Closes the gate where it is in doubt. A clean journal is left as it is.
+    /// Closes the gate in doubt. A journal without a doubt is left as it is.
     pub fn settle(&mut self) -> Result<(), Failed>
-        requires { self.old.state ≢ State.Lag }
-        ensures clean { self.old.state ≡ State.Clean → self.new ≡ self.old }
-        ensures ok { OnOk result (self.new.state ≡ State.Clean) }
-        ensures err { OnErr result (self.new.state ≡ State.Doubt) }
+        ensures sure { self.old.in_doubt ≡ false → self.new ≡ self.old }
+        ensures ok { OnOk result (self.new.in_doubt ≡ false) }
+        ensures err { OnErr result (self.new.in_doubt ≡ true) }
+        ensures list { self.new.list ≡ self.old.list }
         ensures step { IsStep D.Disk self.old self.new result }
-        ensures passes { D.tells self.old.disk ≡ true → (files : Image) (doubt : Option (List Item)) → IsDoubtful (D.may_leave self.old.disk) files doubt
-            → Passes D.Disk self.old.disk self.new.disk result (λ leaves. IsSettled leaves files) (λ leaves. IsDoubtful leaves files doubt) (IsEither files doubt) }
+        ensures passes { D.tells self.old.disk ≡ true → (before : Image) (doubt : Option (List Item)) → IsInDoubt (D.may_leave self.old.disk) before self.old.list doubt
+            → Passes D.Disk self.old.disk self.new.disk result (λ leaves. IsListed leaves before self.old.list) (λ leaves. IsInDoubt leaves before self.old.list doubt)
+            (IsEither (with_entries before self.old.list) doubt) }
     {
-        if self.state == State::Clean {
+        if !self.in_doubt {
             return Ok(());
         }
-        self.shut()
-    }
-
-    /// Writes the length and the body of an entry, as `encode` gives them, behind the closed gate.
-    pub fn put_body(&mut self, encoded: &[u8]) -> Result<(), Failed>
-        requires { self.old.state ≡ State.Clean }
-        ensures state { self.new.state ≡ State.Clean }
-        ensures step { IsStep D.Disk self.old self.new result }
-        ensures body { D.tells self.old.disk ≡ true → (entry : List Item) → IsEntry entry → encoded.now ≡ length_bytes (length (spelled entry)) ++ spelled entry
-            → OnOk result (HasBody (D.may_leave self.new.disk) entry) }
-        ensures passes { D.tells self.old.disk ≡ true → (files : Image) → IsSettled (D.may_leave self.old.disk) files
-            → Passes D.Disk self.old.disk self.new.disk result (λ leaves. IsSettled leaves files) (λ leaves. IsSettled leaves files) (IsOutcome files) }
-    {
-        write_through(&mut self.disk, &self.name, 1, encoded)
-    }
-
-    /// Opens the gate on the body of these files that was just put. After `Err` the files are dropped.
-    pub fn open_gate(&mut self, files: List<FileText>) -> Result<(), Failed>
-        requires clean { self.old.state ≡ State.Clean }
-        requires entry { IsEntry files }
-        requires body { D.tells self.old.disk ≡ true → HasBody (D.may_leave self.old.disk) files }
-        ensures ok { OnOk result ((self.new.state ≡ State.Lag) × (self.new.entry ≡ files)) }
-        ensures err { OnErr result (self.new.state ≡ State.Doubt) }
-        ensures step { IsStep D.Disk self.old self.new result }
-        ensures passes { D.tells self.old.disk ≡ true → (before : Image) → IsSettled (D.may_leave self.old.disk) before
-            → Passes D.Disk self.old.disk self.new.disk result (λ leaves. IsLagging leaves before files) (λ leaves. IsDoubtful leaves before (Some files)) (IsEither before (Some files)) }
-    {
-        self.state = State::Doubt;
-        write_through(&mut self.disk, &self.name, 0, &[OPEN])?;
-        self.state = State::Lag;
-        self.entry = files;
+        settle(&mut self.disk, &self.name, self.place)?;
+        self.in_doubt = false;
         Ok(())
     }
 
-    /// Gives the entry's file at this place its content.
+    /// Writes the length and the body of an entry and a closed gate, as `journal_codec::encode` gives them, behind the closed gate.
+    pub fn put_body(&mut self, encoded: &[u8]) -> Result<(), Failed>
+        requires { self.old.in_doubt ≡ false }
+        ensures same { (self.new.list ≡ self.old.list) × (self.new.in_doubt ≡ false) }
+        ensures step { IsStep D.Disk self.old self.new result }
+        ensures body { D.tells self.old.disk ≡ true → (entry : List Item) → encoded.now ≡ behind_gate entry ++ 0 ∷ []
+            → OnOk result (HasBodyBehind (D.may_leave self.new.disk) self.old.list entry) }
+        ensures passes { D.tells self.old.disk ≡ true → (before : Image) → IsListed (D.may_leave self.old.disk) before self.old.list
+            → Passes D.Disk self.old.disk self.new.disk result (λ leaves. IsListed leaves before self.old.list) (λ leaves. IsListed leaves before self.old.list)
+            (IsOutcome (with_entries before self.old.list)) }
+    {
+        put_body(&mut self.disk, &self.name, self.place, encoded)
+    }
+
+    /// Opens the gate behind the list on the body of these files that was just put. After `Err` the files are dropped.
+    pub fn open_gate(&mut self, files: List<FileText>) -> Result<(), Failed>
+        requires sure { self.old.in_doubt ≡ false }
+        requires fits { Fits (self.old.list ++ files ∷ []) }
+        requires body { D.tells self.old.disk ≡ true → HasBodyBehind (D.may_leave self.old.disk) self.old.list files }
+        ensures ok { OnOk result ((self.new.in_doubt ≡ false) × (self.new.list ≡ self.old.list ++ files ∷ [])) }
+        ensures err { OnErr result ((self.new.in_doubt ≡ true) × (self.new.list ≡ self.old.list)) }
+        ensures step { IsStep D.Disk self.old self.new result }
+        ensures passes { D.tells self.old.disk ≡ true → (before : Image) → IsListed (D.may_leave self.old.disk) before self.old.list
+            → Passes D.Disk self.old.disk self.new.disk result (λ leaves. IsListed leaves before (self.old.list ++ files ∷ [])) (λ leaves. IsInDoubt leaves before self.old.list (Some files))
+            (IsEither (with_entries before self.old.list) (Some files)) }
+    {
+        let end = self.place + HEAD as u64 + body_size(files.as_slice());
+        self.in_doubt = true;
+        open_gate(&mut self.disk, &self.name, self.place)?;
+        self.in_doubt = false;
+        self.place = end;
+        self.list.push_reserved(files);
+        Ok(())
+    }
+
+    /// How many files the entries of the list name.
+    pub fn pending(&self) -> usize
+        ensures { result ≡ length (pending_in self.now.list) }
+    {
+        count_pending(self.list.as_slice())
+    }
+
+    /// Gives the file at this place among those that the entries of the list name, by name, its last content.
     pub fn apply(&mut self, i: usize) -> Result<(), Failed>
-        requires lag { self.old.state ≡ State.Lag }
-        requires within { i < length self.old.entry }
-        ensures state { (self.new.state ≡ State.Lag) × (self.new.entry ≡ self.old.entry) }
+        requires sure { self.old.in_doubt ≡ false }
+        requires within { i < length (pending_in self.old.list) }
+        ensures same { (self.new.list ≡ self.old.list) × (self.new.in_doubt ≡ false) }
         ensures step { IsStep D.Disk self.old self.new result }
-        ensures puts { D.tells self.old.disk ≡ true → (text : Item) → slice_get self.old.entry i ≡ Some text → PutsFile D.Disk self.old.disk self.new.disk result text }
-        ensures applied { D.tells self.old.disk ≡ true → HasApplied (D.may_leave self.old.disk) self.old.entry i → OnOk result (HasApplied (D.may_leave self.new.disk) self.old.entry (i + 1)) }
-        ensures passes { D.tells self.old.disk ≡ true → (files : Image) → IsLagging (D.may_leave self.old.disk) files self.old.entry
-            → Passes D.Disk self.old.disk self.new.disk result (λ leaves. IsLagging leaves files self.old.entry) (λ leaves. IsLagging leaves files self.old.entry) (IsOutcome (with_entry files self.old.entry)) }
+        ensures puts { D.tells self.old.disk ≡ true → (content : Content) → slice_get (pending_in self.old.list) i ≡ Some content
+            → PutsFile D.Disk self.old.disk self.new.disk result (record { file = content.0; bytes = content.1 }) }
+        ensures applied { D.tells self.old.disk ≡ true → HasBroughtTo (D.may_leave self.old.disk) self.old.list i → OnOk result (HasBroughtTo (D.may_leave self.new.disk) self.old.list (i + 1)) }
+        ensures passes { D.tells self.old.disk ≡ true → (before : Image) → IsListed (D.may_leave self.old.disk) before self.old.list
+            → Passes D.Disk self.old.disk self.new.disk result (λ leaves. IsListed leaves before self.old.list) (λ leaves. IsListed leaves before self.old.list)
+            (IsOutcome (with_entries before self.old.list)) }
     {
-        let entry = self.entry.as_slice();
-        put_file(&mut self.disk, &entry[i])
+        put_pending(&mut self.disk, self.list.as_slice(), i)
     }
 
-    /// Closes the gate behind an entry whose files all have their contents.
+    /// Closes the gate before a list whose files all have their last contents. The list is empty then, also after `Err`.
     pub fn close_gate(&mut self) -> Result<(), Failed>
-        requires lag { self.old.state ≡ State.Lag }
-        requires applied { D.tells self.old.disk ≡ true → HasAppliedAll (D.may_leave self.old.disk) self.old.entry }
-        ensures ok { OnOk result (self.new.state ≡ State.Clean) }
-        ensures err { OnErr result (self.new.state ≡ State.Doubt) }
-        ensures entry { self.new.entry ≡ [] }
+        requires sure { self.old.in_doubt ≡ false }
+        requires applied { D.tells self.old.disk ≡ true → HasBroughtTo (D.may_leave self.old.disk) self.old.list (length (pending_in self.old.list)) }
+        ensures ok { OnOk result (self.new.in_doubt ≡ false) }
+        ensures err { OnErr result (self.new.in_doubt ≡ true) }
+        ensures list { self.new.list ≡ [] }
         ensures step { IsStep D.Disk self.old self.new result }
-        ensures passes { D.tells self.old.disk ≡ true → (files : Image) → IsLagging (D.may_leave self.old.disk) files self.old.entry
-            → Passes D.Disk self.old.disk self.new.disk result (λ leaves. IsSettled leaves (with_entry files self.old.entry)) (λ leaves. IsDoubtful leaves (with_entry files self.old.entry) None)
-            (IsOutcome (with_entry files self.old.entry)) }
+        ensures passes { D.tells self.old.disk ≡ true → (before : Image) → IsListed (D.may_leave self.old.disk) before self.old.list
+            → Passes D.Disk self.old.disk self.new.disk result (λ leaves. IsListed leaves (with_entries before self.old.list) [])
+            (λ leaves. IsInDoubt leaves (with_entries before self.old.list) [] None) (IsOutcome (with_entries before self.old.list)) }
     {
         self.shut()
     }
 
-    /// Gives all files of the open entry their contents again, and closes the gate. After a failure in a file the journal lags
-    /// still; after a failure of the closing it is in doubt.
+    /// Gives each file of the list its last content, and closes the list. After a failure in a file the journal lags still; after one of
+    /// the closing it is empty and in doubt.
     pub fn finish(&mut self) -> Result<(), Failed>
-        requires { self.old.state ≡ State.Lag }
-        ensures ok { OnOk result (self.new.state ≡ State.Clean) }
-        ensures err { OnErr result (((self.new.state ≡ State.Lag) × (self.new.entry ≡ self.old.entry)) ⊎ (self.new.state ≡ State.Doubt)) }
+        requires { self.old.in_doubt ≡ false }
+        ensures ok { OnOk result ((self.new.in_doubt ≡ false) × (self.new.list ≡ [])) }
+        ensures lag { OnErr result (self.new.in_doubt ≡ false → self.new.list ≡ self.old.list) }
+        ensures doubt { OnErr result (self.new.in_doubt ≡ true → self.new.list ≡ []) }
         ensures step { IsStep D.Disk self.old self.new result }
-        ensures passes { D.tells self.old.disk ≡ true → (files : Image) → IsLagging (D.may_leave self.old.disk) files self.old.entry
-            → Passes D.Disk self.old.disk self.new.disk result (λ leaves. IsSettled leaves (with_entry files self.old.entry)) (λ leaves. IsUnfinished self.new.state files self.old.entry leaves)
-            (IsOutcome (with_entry files self.old.entry)) }
+        ensures passes { D.tells self.old.disk ≡ true → (before : Image) → IsListed (D.may_leave self.old.disk) before self.old.list
+            → Passes D.Disk self.old.disk self.new.disk result (λ leaves. IsListed leaves (with_entries before self.old.list) [])
+            (IsUnfinished self.new.in_doubt before self.old.list) (IsOutcome (with_entries before self.old.list)) }
     {
-        put_files(&mut self.disk, self.entry.as_slice())?;
+        bring_in(&mut self.disk, self.list.as_slice())?;
         self.shut()
     }
 
-    /// Closes the gate, whatever was known of it.
+    /// Closes the gate before the list, whatever is known of it.
     fn shut(&mut self) -> Result<(), Failed>
-        ensures ok { OnOk result (self.new.state ≡ State.Clean) }
-        ensures err { OnErr result (self.new.state ≡ State.Doubt) }
-        ensures entry { self.new.entry ≡ [] }
+        ensures ok { OnOk result (self.new.in_doubt ≡ false) }
+        ensures err { OnErr result (self.new.in_doubt ≡ true) }
+        ensures list { self.new.list ≡ [] }
         ensures step { IsStep D.Disk self.old self.new result }
         ensures writes { D.tells self.old.disk ≡ true → WritesThrough D.Disk self.old.disk self.new.disk result journal_name 0 (0 ∷ []) }
     {
-        self.state = State::Doubt;
-        self.found = false;
-        self.entry = List::from_vec(Vec::new(self.alloc));
-        write_through(&mut self.disk, &self.name, 0, &[CLOSED])?;
-        self.state = State::Clean;
+        self.in_doubt = true;
+        self.list.clear();
+        self.place = 0;
+        close_list(&mut self.disk, &self.name)?;
+        self.in_doubt = false;
         Ok(())
     }
+}
+
+/// Whether there is room for one more entry with a body of this size behind so many entries, which end at this place.
+fn is_room(count: usize, place: u64, body: usize) -> bool
+    requires { place ≤ last_place }
+    ensures { result ≡ (nat_lt count most_entries && nat_le (place + head_size + body) last_place) }
+{
+    count < MOST_ENTRIES && (place + HEAD as u64).saturating_add(body as u64) <= LAST_PLACE
 }

@@ -2,3 +2,4 @@ pub mod Entry
 pub mod Reading
 pub mod Stops
 pub mod Places
+pub mod Forms

@@ -3,6 +3,7 @@
 
 mod faults;
 mod files;
+mod forms;
 mod laws;
 mod names;
 mod reading;
@@ -10,6 +11,7 @@ mod writing;
 
 pub use faults::DecodeFault;
 pub use files::FileText;
+pub use forms::followed;
 pub use laws::{
     a_body_fails_behind_its_longest_beginning, reads_what_is_spelled, spells_what_is_read,
 };

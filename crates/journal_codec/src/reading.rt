@@ -1,11 +1,13 @@
 //! Reads the body of an entry from left to right. Each function takes a field from the front of the bytes.
 ghost use Rattle.std.specs.Prelude.{◌≡◌, ℕ, [], length, IfOk, Err};
 ghost use Rattle.journal_codec.specs.Entry.{IsEntry, spelled};
+ghost use Rattle.journal_codec.specs.Forms.{uncounted};
 ghost use Rattle.journal_codec.specs.Reading.{Reads, Fails, read_body, byte_at, count_at, number_at, bytes_at, is_next_name, is_content, file_at, files_at, all_of};
 ghost use Rattle.journal_codec.specs.Places.{IsPlace};
 ghost use Rattle.journal_codec.specs.Stops.{Gives};
 
 use crate::faults::Stop;
+use crate::forms::plain_count;
 use crate::names::{last_name, next_name};
 use crate::{DecodeFault, FileText};
 use backend_files::LONGEST_FILE;
@@ -16,13 +18,13 @@ use std::alloc::Global;
 /// The most files of an entry.
 const MOST_FILES: u8 = 64;
 
-/// The files of the entry that this body spells, or the place of the first field that has no reading: it is behind the longest beginning that the
+/// The files of the entry that this body spells, with either form of the count, or the place of the first field that has no reading: it is behind the longest beginning that the
 /// body of an entry can have, and behind the length that comes next, if that is whole.
 pub fn decode(alloc: Global, body: &[u8]) -> Result<List<FileText>, DecodeFault>
-    ensures found { IfOk result (λ files. IsEntry files × (spelled files ≡ body.now)) }
-    ensures reads { IfOk result (λ files. read_body body.now ≡ Reads files) }
-    ensures bad { (at : ℕ) → result ≡ Err (DecodeFault.BadJournal at) → read_body body.now ≡ Fails at }
-    ensures place { (at : ℕ) → result ≡ Err (DecodeFault.BadJournal at) → IsPlace body.now at }
+    ensures found { IfOk result (λ files. IsEntry files × (spelled files ≡ uncounted body.now)) }
+    ensures reads { IfOk result (λ files. read_body (uncounted body.now) ≡ Reads files) }
+    ensures bad { (at : ℕ) → result ≡ Err (DecodeFault.BadJournal at) → read_body (uncounted body.now) ≡ Fails at }
+    ensures place { (at : ℕ) → result ≡ Err (DecodeFault.BadJournal at) → IsPlace (uncounted body.now) at }
 {
     match read_all(alloc, body) {
         Ok(files) => Ok(List::from_vec(files)),
@@ -35,7 +37,7 @@ pub fn decode(alloc: Global, body: &[u8]) -> Result<List<FileText>, DecodeFault>
 
 #[tactic(auto, unfolding(crate::specs::Reading::all_of))]
 fn read_all(alloc: Global, body: &[u8]) -> Result<Vec<FileText>, Stop>
-    ensures { Gives (λ files. files.items) result (all_of body.now) }
+    ensures { Gives (λ files. files.items) result (all_of (uncounted body.now)) }
 {
     let (count, files) = count_of(body)?;
     let (files, rest) = files_of(alloc, count, files)?;
@@ -112,9 +114,10 @@ fn content_of(alloc: Global, size: u32, bytes: &[u8]) -> Result<(List<u8>, &[u8]
 
 #[tactic(auto, unfolding(crate::specs::Reading::count_at))]
 fn count_of(body: &[u8]) -> Result<(u8, &[u8]), Stop>
-    ensures { Gives (λ x. (x.0, x.1.now)) result (count_at body.now) }
+    ensures { Gives (λ x. (x.0, x.1.now)) result (count_at (uncounted body.now)) }
 {
     let (count, rest) = byte_of(body)?;
+    let count = plain_count(count);
     if count == 0 || count > MOST_FILES {
         return Err(stop_before(body));
     }

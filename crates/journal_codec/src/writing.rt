@@ -1,23 +1,29 @@
-//! Writes the body of an entry behind its length.
-ghost use Rattle.std.specs.Prelude.{◌≡◌, ◌≤◌, ◌++◌, length, OnOk, IfOk};
-ghost use Rattle.journal_codec.specs.Entry.{IsEntry, IsEntryFile, length_bytes, spelled_file, spelled, longest_file};
+//! Writes the body of an entry behind its length, and the gate behind it.
+ghost use Rattle.std.specs.Prelude.{◌≡◌, ◌≤◌, ◌++◌, ◌∷◌, [], length, OnOk, IfOk};
+ghost use Rattle.journal_codec.specs.Entry.{IsEntry, IsEntryFile, spelled_file, longest_file};
+ghost use Rattle.journal_codec.specs.Forms.{spelled_on, behind_gate};
 
 use crate::FileText;
+use crate::forms::OVER;
 use kdb_outside::Memory;
 use std::alloc::Global;
 
-/// The length of the entry's body in four bytes, the low one first, and the body.
+/// A closed gate.
+const CLOSED: u8 = 0;
+
+/// The length of the entry's body in four bytes, the low one first, the body, whose count says that another gate follows, and that gate, closed.
 pub fn encode(alloc: Global, files: &[FileText]) -> Result<Vec<u8>, Memory>
     requires { IsEntry files.now }
-    ensures { IfOk result (λ bytes. bytes.items ≡ length_bytes (length (spelled files.now)) ++ spelled files.now) }
+    ensures { IfOk result (λ bytes. bytes.items ≡ behind_gate files.now ++ 0 ∷ []) }
 {
     let size = body_size(files);
-    let mut out = Vec::with_capacity(alloc, 4 + size as usize)?;
+    let mut out = Vec::with_capacity(alloc, 5 + size as usize)?;
     out.extend_from_slice(&size.to_le_bytes())?;
-    out.push(files.len() as u8)?;
+    out.push(OVER + files.len() as u8)?;
     for file in files {
         put_file(&mut out, file)?;
     }
+    out.push(CLOSED)?;
     Ok(out)
 }
 
@@ -37,7 +43,7 @@ fn put_file(out: &mut Vec<u8>, file: &FileText) -> Result<(), Memory>
 /// How many bytes the body has.
 fn body_size(files: &[FileText]) -> u32
     requires { IsEntry files.now }
-    ensures { result ≡ length (spelled files.now) }
+    ensures { result ≡ length (spelled_on files.now) }
 {
     let mut size = 1;
     for file in files {

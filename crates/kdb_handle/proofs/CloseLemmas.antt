@@ -11,10 +11,11 @@ use Rattle.kdb_outside.specs.declared.disks.Disk.{Ghosts}
 use Rattle.kdb_outside.proofs.Rises.{risen_since}
 use Rattle.kdb_outside.proofs.Frames.{GoesOn-then}
 use Rattle.intent_journal.specs.Journal.{JournalValue}
-use Rattle.intent_journal.specs.Moments.{LeavesOnly}
-use Rattle.intent_journal.specs.Outcomes.{SameFiles, HasOnly, IsEither}
+use Rattle.journal_steps.specs.Moments.{LeavesOnly}
+use Rattle.intent_journal.specs.Opened.{IsFresh}
+use Rattle.intent_journal.specs.Outcomes.{HasOnly}
+use Rattle.journal_steps.specs.Outcomes.{SameFiles, IsEither}
 use Rattle.intent_journal.specs.States.{IsCalm}
-use Rattle.intent_journal.specs.declared.states.State.TheVariants as state
 use Rattle.kdb_handle.specs.Closing.{IsClosed}
 use Rattle.kdb_handle.specs.Datums.{coded_journal}
 use Rattle.kdb_handle.specs.Handles.{HandleValue}
@@ -23,8 +24,9 @@ use Rattle.kdb_handle.specs.Rising.{HasRisenBy}
 use Rattle.kdb_handle.specs.Runs.{RunsBy}
 use Rattle.kdb_handle.specs.Shares.{IsShared}
 use Rattle.kdb_handle.specs.Story.{Told, Opening, Opened, maker_of, commits_of, failures_in, refusals_in}
-use Rattle.kdb_handle.specs.Stores.{AreFree, IsHandle, IsStarted, seat_of, seats_back}
+use Rattle.kdb_handle.specs.Stores.{IsHandle, IsStarted, seat_of, seats_back}
 use Rattle.kdb_handle.proofs.RunLemmas.{comes-to, risen-still}
+use Rattle.kdb_handle.proofs.SeatLemmas.{AreUnused}
 use Rattle.model_crashes.specs.Runs.{Run, files_of, IsReached}
 use Rattle.model_store.specs.Legal.{IsLegal}
 use Rattle.model_store.specs.Store.{Formats}
@@ -72,16 +74,18 @@ room_left free seats all left moved new handle len room first_room len_is seats_
     let h = length-back moved in
     omega arith
 
-all-free : (P : Known Told → Type 0) (seats : List (Known Told)) (f : ℕ → Known Told) → ((k : ℕ) → k < length seats → slice_get seats k ≡ Some (f k)) → ((k : ℕ) → P (f k)) → All P seats
-all-free P [] f each holds = All-nil P
-all-free P (seat ∷ seats) f each holds =
-    All-cons P seat seats (subst P (sym (some_is seat (f 0) (each 0 (omega arith)))) (holds 0)) (all-free P seats (λ k. f (suc k)) (λ k lt. each (suc k) (omega arith)) (λ k. holds (suc k)))
+all-each : (P : Known Told → Type 0) (seats : List (Known Told)) → ((k : ℕ) → k < length seats → (seat : Known Told) × (slice_get seats k ≡ Some seat) × P seat) → All P seats
+all-each P [] each = All-nil P
+all-each P (seat ∷ seats) each =
+    let first = each 0 (omega arith) in
+    All-cons P seat seats (subst P (sym (some_is seat first.0 first.1)) first.2) (all-each P seats (λ k lt. each (suc k) (omega arith)))
 
 -- all seats are the lock's
-pub all_places : {F : Type 0} (lock : Place Told) (plan : Plan F) (free : List (Known Told)) (room : ℕ) (handles : List HandleValue) → AreFree lock free room → All (IsHandle lock plan) handles → All (λ seat. seat.place ≡ lock.place) (free ++ seats_back handles)
-all_places lock plan free room handles are_free are =
+pub all_places : {F : Type 0} (lock : Place Told) (plan : Plan F) (free : List (Known Told)) (handles : List HandleValue) → AreUnused lock free → All (IsHandle lock plan) handles → All (λ seat. seat.place ≡ lock.place) (free ++ seats_back handles)
+all_places lock plan free handles unused are =
     All-append (λ (seat : Known Told). seat.place ≡ lock.place) free (seats_back handles)
-    (all-free (λ (seat : Known Told). seat.place ≡ lock.place) free (λ k. knowledge lock.place (lock.seats - length free + k + 1) lock.start []) are_free.each (λ k. refl)) (back handles are)
+    (all-each (λ (seat : Known Told). seat.place ≡ lock.place) free
+    (λ k lt. let at = unused.each k lt in (knowledge lock.place (lock.seats - length free + k + 1) at.0 [], at.1, refl))) (back handles are)
   where
     back : (hs : List HandleValue) → All (IsHandle lock plan) hs → All (λ seat. seat.place ≡ lock.place) (seats_back hs)
     back [] all = All-nil (λ (seat : Known Told). seat.place ≡ lock.place)
@@ -105,8 +109,8 @@ nobody_else opening other rest is = ap (drop 1) is
 others_made : (number : ℕ) (opening : Opening) (rest : List Told) → number ≢ 0 → made_by maker_of number (Opened opening ∷ rest) ≡ made_by maker_of number rest
 others_made number opening rest ne = ap (λ (b : Bool). cond b (Opened opening ∷ made_by maker_of number rest) (made_by maker_of number rest)) (ne_eqb 0 number (λ e. ne (sym e)))
 
-module _ {D P : Type 0} (formats : Formats) (g : Ghosts D) (code : Coded D) (refused : P → ℕ) {F : Type 0} (lock : Place Told) (plan : Plan F) (started : IsStarted lock plan) (free : List (Known Told)) (room : ℕ)
-    (are_free : AreFree lock free room) (handles : List HandleValue) (core : Core D P) (entries : ℕ) where
+module _ {D P : Type 0} (formats : Formats) (g : Ghosts D) (code : Coded D) (refused : P → ℕ) {F : Type 0} (lock : Place Told) (plan : Plan F) (started : IsStarted lock plan) (free : List (Known Told))
+    (unused : AreUnused lock free) (handles : List HandleValue) (core : Core D P) (entries : ℕ) where
   abbrev all_seats : List (Known Told)
   all_seats = free ++ seats_back handles
 
@@ -127,10 +131,10 @@ module _ {D P : Type 0} (formats : Formats) (g : Ghosts D) (code : Coded D) (ref
     -- a number that no handle has made nothing
     free_made : (given number : ℕ) → given + length free ≡ lock.seats → given < number → number ≤ lock.seats → made_by maker_of number log ≡ []
     free_made given number all more some =
-        let at = are_free.each (number - given - 1) (omega arith) in
+        let at = unused.each (number - given - 1) (omega arith) in
         let same : lock.seats - length free + (number - given - 1) + 1 ≡ number = omega arith in
-        all-at (λ (seat : Known Told). made_by maker_of seat.number log ≡ seat.own) free (seats_back handles) (number - given - 1) (knowledge lock.place number lock.start []) own
-        (at ∙ ap (λ n. Some (knowledge lock.place n lock.start [])) same)
+        all-at (λ (seat : Known Told). made_by maker_of seat.number log ≡ seat.own) free (seats_back handles) (number - given - 1) (knowledge lock.place number at.0 []) own
+        (at.1 ∙ ap (λ n. Some (knowledge lock.place n at.0 [])) same)
 
     pub only_handles : (number : ℕ) → length handles + length free ≡ lock.seats → (number ≡ 0) ⊎ (length handles < number) → made_by maker_of number shared.rest ≡ []
     only_handles number all (inl none) = subst (λ n. made_by maker_of n shared.rest ≡ []) (sym none) (nobody_else shared.opening (opening_in lock.start) shared.rest begun)
@@ -156,7 +160,7 @@ module _ {D P : Type 0} (formats : Formats) (g : Ghosts D) (code : Coded D) (ref
       same_journal = (coded_journal code).inj shared.journal journal (sym shared.journal_is ∙ ap (λ (o : Opening). o.journal) opening_is ∙ journal_is)
 
       pub closed_so : length handles + length free ≡ lock.seats → closed.history ≡ core.history → closed.patterns ≡ core.patterns
-          → (core.wrote ≡ false → core.journal.state ≡ state.Doubt → closed.disk ≡ core.journal.disk)
+          → (core.wrote ≡ false → IsFresh core.journal → closed.disk ≡ core.journal.disk)
           → ((start : D) (run : Run) → IsStore g start core.journal run → ¬ HasRisen (g.faults core.journal.disk) (g.faults closed.disk) → SameFiles (g.seen closed.disk) (files_of run))
           → ((start : D) (run : Run) → IsStore g start core.journal run → ¬ HasRisen run.faults (g.faults closed.disk) → IsCalm (g.seen closed.disk) (g.may_leave closed.disk) (files_of run) run.doubt)
           → ((start : D) (run : Run) → IsStore g start core.journal run → LeavesOnly g start closed.disk (IsReached run.files run.commits run.begun))
@@ -177,10 +181,10 @@ module _ {D P : Type 0} (formats : Formats) (g : Ghosts D) (code : Coded D) (ref
         refusals =
             subst (λ (o : Opening). HasRisenBy (refusals_in shared.rest) o.refusals (refused closed.patterns)) opening_is
             (subst (λ (p : P). HasRisenBy (refusals_in shared.rest) shared.opening.refusals (refused p)) (sym patterns) shared.refusals);
-        left_alone = λ none unwritten in_doubt.
-            let idle = shared.idle none in
+        left_alone = λ none unwritten fresh.
+            let idle = shared.idle none (ap (λ (j : JournalValue D). j.list) same_journal ∙ fresh.0) in
             let same : core.journal ≡ journal = idle.0 ∙ same_journal in
-            left_alone (idle.1 ∙ ap (λ (o : Opening). o.wrote) opening_is ∙ unwritten) (ap (λ (j : JournalValue D). j.state) same ∙ in_doubt) ∙ ap (λ (j : JournalValue D). j.disk) same;
+            left_alone (idle.1 ∙ ap (λ (o : Opening). o.wrote) opening_is ∙ unwritten) (subst (λ (j : JournalValue D). IsFresh j) (sym same) fresh) ∙ ap (λ (j : JournalValue D). j.disk) same;
         disk = λ start first stands.
             let before = shared.run start first (subst (λ (j : JournalValue D). IsStore g start j first) (sym same_journal) stands) in
             record {

@@ -13,6 +13,7 @@ mod UndoTurns
 mod UndoHandles
 mod UndoLaws
 pub mod BlockLemmas
+mod SeatLemmas
 mod CloseLemmas
 mod RemakeLemmas
 mod MergeLemmas

@@ -6,7 +6,9 @@ use Rattle.general_words.proofs.Lists.{some_is}
 use Rattle.kdb_outside.specs.Faults.{HasRisen}
 use Rattle.kdb_outside.specs.Frames.{GoesOn}
 use Rattle.kdb_outside.specs.declared.disks.Disk.{Ghosts}
+use Rattle.kdb_outside.specs.declared.faults.Failed.{Failed as DiskFailed}
 use Rattle.kdb_outside.proofs.Frames.{GoesOn-then}
+use Rattle.intent_journal.specs.Journal.{JournalValue}
 use Rattle.kdb_handle.specs.Opened.{opening_of, store_at}
 use Rattle.kdb_handle.specs.Rising.{HasRisenBy}
 use Rattle.kdb_handle.specs.Runs.{RunsBy}
@@ -44,6 +46,7 @@ use Rattle.mounted_files.specs.declared.files.MountedFile.{MountedFile}
 use Rattle.store_core.specs.Answers.{IsAnswer, has_written}
 use Rattle.store_core.specs.Committing.{RunsOn}
 use Rattle.store_core.specs.Cores.{StandsIn, core_with}
+use Rattle.store_core.specs.Flushes.{FlushesStore}
 use Rattle.store_core.specs.Frames.{IsUnwritten}
 use Rattle.store_core.specs.Joined.{Belongs, BelongsIn, HasAnswered, HasMade}
 use Rattle.store_core.specs.declared.committing.CommitFault.{CommitFault}
@@ -83,9 +86,34 @@ shared_first formats g code refused files held core same st =
       goes = record { tells = refl; moment = omega arith; later = omega arith };
       faults = inl (omega arith);
       refusals = inl (omega arith);
-      idle = λ none. (refl, refl);
+      idle = λ none empty. (refl, refl);
       run = λ start first stands. (first, refl, stands);
     })
+
+-- what was flushed stands for the story that it stood for, whatever came of it
+pub shared_flushed : (formats : Formats) {D P : Type 0} (g : Ghosts D) (code : Coded D) (refused : P → ℕ) (core next : Core D P) (result : Result Bool DiskFailed) (entries : ℕ) (log : List Told) → FlushesStore g core next result
+    → IsShared formats g code refused core entries log → IsShared formats g code refused next entries log
+shared_flushed formats {D} {P} g code refused core next result entries log flushed shared = record {
+  opening = shared.opening;
+  rest = shared.rest;
+  log_is = shared.log_is;
+  count = shared.count;
+  files = shared.files;
+  history = ap (λ h. h.commits) flushed.history ∙ shared.history;
+  start = flushed.start ∙ shared.start;
+  keys = flushed.keys ∙ shared.keys;
+  legal = shared.legal;
+  journal = shared.journal;
+  journal_is = shared.journal_is;
+  goes = GoesOn-then g shared.journal.disk core.journal.disk next.journal.disk shared.goes flushed.goes;
+  faults = risen-still (failures_in shared.rest) (g.faults shared.journal.disk) (g.faults core.journal.disk) (g.faults next.journal.disk) shared.faults flushed.goes.later;
+  refusals = subst (λ (p : P). HasRisenBy (refusals_in shared.rest) shared.opening.refusals (refused p)) (sym flushed.patterns) shared.refusals;
+  -- where no entry waited from the first, and none was begun since, none waits
+  idle = λ none empty.
+      let was = shared.idle none empty in
+      let still = (flushed.none (ap (λ (j : JournalValue D). j.list) was.0 ∙ empty)).0 in (ap (λ (c : Core D P). c.journal) still ∙ was.0, flushed.wrote ∙ was.1);
+  run = λ start first stands. let before = shared.run start first stands in (before.0, before.1, flushed.on_disk start before.0 before.2);
+}
 
 -- how what is kept goes on, by the answer to a commit
 abbrev core_by : Store → cores.Core → ℕ → sets.Prepared → Result Done CommitFault → cores.Core
@@ -248,19 +276,19 @@ module _ (formats : Formats) {D P : Type 0} (g : Ghosts D) (code : Coded D) (ref
   abbrev Idles : Type 0
   Idles = (after.journal ≡ may.shared.journal) × (after.wrote ≡ may.shared.opening.wrote)
 
-  idle_still : (told : List Told) → IsUnwritten core after → BeginsNone (may.shared.rest ++ told) → Idles
-  idle_still told unwritten none = let was = may.shared.idle (begins_none-before may.shared.rest told none) in (unwritten.journal ∙ was.0, unwritten.wrote ∙ was.1)
+  idle_still : (told : List Told) → IsUnwritten core after → BeginsNone (may.shared.rest ++ told) → may.shared.journal.list ≡ [] → Idles
+  idle_still told unwritten none empty = let was = may.shared.idle (begins_none-before may.shared.rest told none) empty in (unwritten.journal ∙ was.0, unwritten.wrote ∙ was.1)
 
   -- where no set was begun, the journal is as the opening left it
-  idle_by : (result : Result Done CommitFault) → UnwrittenClause result → BeginsNone (may.shared.rest ++ told_by now result) → Idles
-  idle_by (Ok (done.Committed number aside)) unwritten none = absurd (begins-commit may.shared.rest (commit_of now) none)
-  idle_by (Ok (done.Same front aside)) unwritten none = idle_still [] (unwritten refl) none
-  idle_by (Err (fault.Conflict mount by front)) unwritten none = idle_still [] (unwritten refl) none
-  idle_by (Err (fault.Invalid violation front)) unwritten none = idle_still (told_by now (Err (fault.Invalid violation front))) (unwritten refl) none
-  idle_by (Err (fault.DatabaseFull weight front)) unwritten none = idle_still [] (unwritten refl) none
-  idle_by (Err (fault.HistoryFull weight front)) unwritten none = idle_still [] (unwritten refl) none
-  idle_by (Err (fault.DiskFault front)) unwritten none = absurd (begins-failure may.shared.rest (commit_of now) none)
-  idle_by (Err fault.Memory) unwritten none = idle_still [] (unwritten refl) none
+  idle_by : (result : Result Done CommitFault) → UnwrittenClause result → BeginsNone (may.shared.rest ++ told_by now result) → may.shared.journal.list ≡ [] → Idles
+  idle_by (Ok (done.Committed number aside)) unwritten none empty = absurd (begins-commit may.shared.rest (commit_of now) none)
+  idle_by (Ok (done.Same front aside)) unwritten none empty = idle_still [] (unwritten refl) none empty
+  idle_by (Err (fault.Conflict mount by front)) unwritten none empty = idle_still [] (unwritten refl) none empty
+  idle_by (Err (fault.Invalid violation front)) unwritten none empty = idle_still (told_by now (Err (fault.Invalid violation front))) (unwritten refl) none empty
+  idle_by (Err (fault.DatabaseFull weight front)) unwritten none empty = idle_still [] (unwritten refl) none empty
+  idle_by (Err (fault.HistoryFull weight front)) unwritten none empty = idle_still [] (unwritten refl) none empty
+  idle_by (Err (fault.DiskFault front)) unwritten none empty = absurd (begins-failure may.shared.rest (commit_of now) none)
+  idle_by (Err fault.Memory) unwritten none empty = idle_still [] (unwritten refl) none empty
 
   -- the core stands for the story with what the turn told
   pub shared_next : (result : Result Done CommitFault) (told : List Told) (count : ℕ) → told ≡ told_by now result → count ≡ entries + length told

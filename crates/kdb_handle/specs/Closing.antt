@@ -6,10 +6,11 @@ use Rattle.kdb_outside.specs.Faults.{HasRisen}
 use Rattle.kdb_outside.specs.Frames.{GoesOn}
 use Rattle.kdb_outside.specs.declared.disks.Disk.{Ghosts}
 use Rattle.intent_journal.specs.Journal.{JournalValue}
-use Rattle.intent_journal.specs.Moments.{LeavesOnly}
-use Rattle.intent_journal.specs.Outcomes.{SameFiles, HasOnly, IsEither}
+use Rattle.journal_steps.specs.Moments.{LeavesOnly}
+use Rattle.intent_journal.specs.Opened.{IsFresh}
+use Rattle.intent_journal.specs.Outcomes.{HasOnly}
+use Rattle.journal_steps.specs.Outcomes.{SameFiles, IsEither}
 use Rattle.intent_journal.specs.States.{IsCalm}
-use Rattle.intent_journal.specs.declared.states.State.TheVariants as state
 use Rattle.kdb_handle.specs.Handles.{HandleValue}
 use Rattle.kdb_handle.specs.Opened.{store_at}
 use Rattle.kdb_handle.specs.Rising.{HasRisenBy}
@@ -50,5 +51,5 @@ pub record IsClosed (formats : Formats) {D P : Type 0} (g : Ghosts D) (refused :
   pub goes : GoesOn g journal.disk closed.disk
   pub faults : HasRisenBy (failures_in rest) (g.faults journal.disk) (g.faults closed.disk)
   pub refusals : HasRisenBy (refusals_in rest) opening.refusals (refused closed.patterns)
-  pub left_alone : BeginsNone rest → opening.wrote ≡ false → journal.state ≡ state.Doubt → closed.disk ≡ journal.disk
+  pub left_alone : BeginsNone rest → opening.wrote ≡ false → IsFresh journal → closed.disk ≡ journal.disk
   pub disk : (start : D) (first : Run) → IsStore g start journal first → IsHandedOn formats g files start first journal.disk rest closed.disk

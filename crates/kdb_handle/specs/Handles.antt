@@ -33,6 +33,10 @@ seat_in seat = unwrap_or seat no_seat
 abbrev pub handle_with : Option (Known Told) → Record → HandleValue
 handle_with seat rec = record { place = (seat_in seat).place; number = (seat_in seat).number; seen = (seat_in seat).seen; own = (seat_in seat).own; rec = rec }
 
+-- a flusher has one, too
+abbrev pub IsSat : Option (Known Told) → Type 0
+IsSat seat = seat ≡ Some (seat_in seat)
+
 -- the record has the seat's number, and the count of commits is that of the story that was seen
 pub record IsSeated (seat : Option (Known Told)) (rec : Record) (commits : ℕ) : Type 0 where
   pub there : seat ≡ Some (seat_in seat)

@@ -1,5 +1,6 @@
 -- An open store that handles share, and which handles are its own. (This project's own.)
-use Rattle.std.specs.Prelude.{◌≡◌, ℕ, ◌≤◌, ◌<◌, ◌+◌, ◌-◌, List, [], ◌∷◌, ◌++◌, length, slice_get, Some}
+use Rattle.std.specs.Prelude.{◌≡◌, ℕ, ◌≤◌, ◌<◌, ◌+◌, ◌-◌, List, [], ◌∷◌, ◌++◌, length, slice_get, Option, Some}
+use Rattle.std.specs.Option.{option_or}
 use mathlib.Core.List.{IsPrefix}
 use Rattle.kdb_handle.specs.Fronts.{Cover}
 use Rattle.kdb_handle.specs.Handles.{HandleValue}
@@ -30,12 +31,25 @@ pub record IsHandle {F : Type 0} (lock : Place Told) (plan : Plan F) (handle : H
   pub covers : Cover handle.number (commits_of handle.seen) (front_in (record_of handle.rec))
   pub procs : AreProc (proc_of handle.rec)
 
--- The seats that no handle has yet, by their numbers: the last ones of the lock, each of which has seen the opening and made nothing. Where they
--- stand is room for all seats again
+-- The seats that no handle has yet, by their numbers: the last ones of the lock but its very last, which is the flusher's. Each has seen the
+-- opening and made nothing. Where they stand is room for all seats again
 pub record AreFree (lock : Place Told) (seats : List (Known Told)) (room : ℕ) : Type 0 where
   pub room_is : lock.seats ≤ room
-  pub some : length seats ≤ lock.seats
-  pub each : (k : ℕ) → k < length seats → slice_get seats k ≡ Some (knowledge lock.place (lock.seats - length seats + k + 1) lock.start [])
+  pub some : length seats < lock.seats
+  pub each : (k : ℕ) → k < length seats → slice_get seats k ≡ Some (knowledge lock.place (lock.seats - length seats + k) lock.start [])
+
+-- the flusher of a store has the last seat: it has seen the opening at least, and makes nothing
+pub record IsFlusher (lock : Place Told) (flusher : Known Told) : Type 0 where
+  pub place : flusher.place ≡ lock.place
+  pub number : flusher.number ≡ lock.seats
+  pub begins : IsPrefix lock.start flusher.seen
+  pub own : flusher.own ≡ []
+
+-- the flusher of a store is with the free seats still, or it was given
+pub record HasFlusher (lock : Place Told) (kept given : Option (Known Told)) : Type 0 where
+  pub flusher : Known Told
+  pub there : option_or kept given ≡ Some flusher
+  pub is : IsFlusher lock flusher
 
 -- the seat of a handle
 abbrev pub seat_of : HandleValue → Known Told

@@ -1,5 +1,5 @@
 -- What contracts see of a shared store and of the seats that no handle has, whatever they are stored as. (This project's own.)
-use Rattle.std.specs.Prelude.{ℕ, List, [], ◌∷◌}
+use Rattle.std.specs.Prelude.{ℕ, List, [], ◌∷◌, Option}
 use Rattle.std.specs.Coded.{Coded}
 use Rattle.std.specs.Vec.{vec_capacity}
 use Rattle.kdb_handle.specs.Opened.{opening_of}
@@ -33,6 +33,10 @@ seats_of free = free.seats.items
 
 abbrev pub room_of : FreeSeats → ℕ
 room_of free = vec_capacity free.seats
+
+-- the flusher, where it is with these seats still
+abbrev pub spare_of : FreeSeats → Option (Known Told)
+spare_of free = free.flusher
 
 -- how the story of a store begins that was just opened
 abbrev pub first_story : {D P F : Type 0} → Coded D → (P → ℕ) → Plan F → Core D P → List Told

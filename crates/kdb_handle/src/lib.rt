@@ -4,6 +4,7 @@
 mod closing;
 mod deals;
 mod entries;
+mod flushing;
 mod getting;
 mod handles;
 mod laws;
@@ -20,6 +21,7 @@ mod watching;
 
 pub use deals::{FreeSeats, NoHandle};
 pub use entries::StoryEntry;
+pub use flushing::Flusher;
 pub use handles::Handle;
 pub use laws::{
     a_run_comes_to_its_story, an_accepted_set_is_still_prepared, an_undo_appends_the_inverse,

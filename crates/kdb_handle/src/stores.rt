@@ -26,7 +26,7 @@ pub struct Locked<V: Storied, F: Formats + Drop> {
 /// An open store that handles share: its plan, and the lock over its core.
 pub type SharedStore<D, F, P> = Locked<Shared<D, F, P>, F>;
 
-/// A shared store, and the seats for its handles.
+/// A shared store, and the seats for its handles and its flusher.
 pub struct NewStore<D: Disk, F: Formats + Drop, P: Patterns + Drop> {
     pub store: SharedStore<D, F, P>,
     pub seats: FreeSeats,
@@ -40,7 +40,7 @@ pub struct NotShared<D: Disk, F: Formats + Drop, P: Patterns + Drop> {
 }
 
 impl<D: Disk, F: Formats + Drop, P: Patterns + Drop> NewStore<D, F, P> {
-    /// Shares a store that was just opened, for 1 to 32 handles. It is refused for want of memory alone.
+    /// Shares a store that was just opened, for 1 to 32 handles and a flusher. It is refused for want of memory alone.
     pub fn new(
         alloc: Global,
         plan: Plan<F>,
@@ -57,10 +57,10 @@ impl<D: Disk, F: Formats + Drop, P: Patterns + Drop> NewStore<D, F, P> {
             entries: 1,
             fresh: Fresh::Nothing,
         };
-        match Lock::new(alloc, shared, handles) {
+        match Lock::new(alloc, shared, handles + 1) {
             Ok(NewLock { lock, seats }) => Ok(NewStore {
                 store: Locked { plan, lock },
-                seats: FreeSeats { seats },
+                seats: FreeSeats::of_new(seats),
             }),
             Err(NoLock { value }) => {
                 let Shared { core, .. } = value;

@@ -1,6 +1,6 @@
 //! What the core of an open store does in one turn.
-ghost use Rattle.std.specs.Prelude.{◌≡◌, ◌≤◌, ◌<◌, ◌+◌, ◌-◌, ◌^◌, ℕ, [], List, OnErr, OnOk, Option, length};
-ghost use Rattle.kdb_handle.specs.Shares.{told_now};
+ghost use Rattle.std.specs.Prelude.{◌≡◌, ◌≤◌, ◌<◌, ◌+◌, ◌-◌, ◌^◌, ◌++◌, ℕ, [], List, OnErr, OnOk, Option, length};
+ghost use Rattle.kdb_handle.specs.Shares.{IsShared, told_now};
 ghost use Rattle.kdb_handle.specs.Story.{Told};
 ghost use Rattle.kdb_handle.specs.Turns.{Commits, MayCommit, told_by, told_of_refusal};
 ghost use Rattle.model_maps.specs.KeyMap.{KeyMap};
@@ -71,6 +71,16 @@ impl<D: Disk, F: Formats + Drop, P: Patterns + Drop> Shared<D, F, P> {
     {
         self.fresh = Fresh::Nothing;
         watch.collect(self.core.history())
+    }
+
+    /// A flush, of which the story tells nothing, whatever comes of it.
+    pub(crate) fn flush(&mut self)
+        ensures shared { (log : List Told) → IsShared (formats_of F.Formats) D.Disk D.row.coded P.refusals self.old.core self.old.entries log
+            → IsShared (formats_of F.Formats) D.Disk D.row.coded P.refusals self.new.core self.new.entries (log ++ told_now self.new.fresh) }
+        ensures told { told_now self.new.fresh ≡ [] }
+    {
+        self.fresh = Fresh::Nothing;
+        let _ = self.core.flush();
     }
 
     /// A commit. The story tells of it where it was made, or begun; so there has to be room for one more entry before the disk is touched.

@@ -2,7 +2,7 @@
 use Rattle.std.specs.Prelude.{◌≡◌, ◌≢◌, ◌⊎◌, ℕ, zero, suc, ◌++◌, List, [], take, Option, Some, None, Result, Ok, Err, IfOk}
 use Rattle.std.proofs.Common.{refl, sym, ap, ◌∙◌, subst, inl, inr, arith}
 use Rattle.batch_script.specs.declared.steps.Script.{Script}
-use Rattle.intent_journal.specs.BadJournals.{opened_files}
+use Rattle.intent_journal.specs.Opened.{opened_files}
 use Rattle.journal_codec.specs.declared.files.FileText.{FileText}
 use Rattle.kdb_handle.specs.Story.{commits_of}
 use Rattle.kdb_outside.specs.Faults.{HasRisen}

@@ -1,9 +1,10 @@
 -- What is told where the files open no store.
-use Rattle.std.proofs.Common.{◌≡◌, ◌≢◌, ℕ, false, List, Option, Some, None, IfOk, Result, Ok, Err, OnOk, refl, sym, subst}
+use Rattle.std.proofs.Common.{◌≡◌, ◌≢◌, ℕ, false, List, [], Option, Some, IfOk, Result, Ok, Err, OnOk, refl, sym, subst}
 use Rattle.all_formats.specs.Meanings as all
-use Rattle.intent_journal.specs.BadJournals.{open_entry, opened_files}
-use Rattle.intent_journal.specs.Moments.{LeavesOnly}
-use Rattle.intent_journal.specs.Outcomes.{SameFiles, HasOnly, IsEither}
+use Rattle.intent_journal.specs.Opened.{open_list, opened_files}
+use Rattle.journal_steps.specs.Moments.{LeavesOnly}
+use Rattle.intent_journal.specs.Outcomes.{HasOnly}
+use Rattle.journal_steps.specs.Outcomes.{SameFiles, IsEither}
 use Rattle.journal_codec.specs.declared.files.FileText.{FileText}
 use Rattle.kdb_outside.specs.Crashes.{EveryImage}
 use Rattle.kdb_outside.specs.Faults.{HasRisen}
@@ -39,7 +40,7 @@ unopened bytes_of fault.Memory refuses read = absurd cc
 pub unopened-serve : {D : Type 0} (g : Ghosts D) (disk end : D) (files : Image) (doubt : Option (List FileText)) (why : OpenFault) (result : Result code.Report Stop)
     → IfOk result (λ report. report_of report ≡ warned 5 (line_of_store why)) → OnOk result ((why ≢ fault.DiskFault) × (why ≢ fault.Memory)) → result ≢ Err stops.ReadFault
     → LeavesOnly g disk end (HasOnly (IsEither files doubt)) → EveryImage (g.may_leave end) (HasOnly (IsEither files doubt))
-    → (may_be_of_journal (Some why) ≡ false → SameFiles (g.seen end) (opened_files (g.seen disk))) → (open_entry (g.seen disk) ≡ None → OnlyReads g disk end)
+    → (may_be_of_journal (Some why) ≡ false → SameFiles (g.seen end) (opened_files (g.seen disk))) → (open_list (g.seen disk) ≡ [] → OnlyReads g disk end)
     → RefusesStore all.Reads all.IsBadAt (opened_files (g.seen disk) own_mount.file) why → ((at : ℕ) → why ≡ fault.BadJournal at → ⊥)
     → (¬ HasRisen (g.faults disk) (g.faults end) → LeavesCalm g files doubt disk end) → Serve g files doubt (IsUnopened (opened_files (g.seen disk))) result disk end
 unopened-serve g disk end files doubt why (Ok report) told own unread meanwhile rests shown alone refuses journal left =

@@ -1,12 +1,14 @@
 -- What the sessions of a script did to a disk, from the opening of the store to its close.
-use Rattle.std.proofs.Common.{◌≡◌, ◌⊎◌, inl, inr, ℕ, ◌<◌, ◌≤◌, true, is_some, List, [], Option, Some, None, Result, Ok, Err, IfOk, IfSome, refl, sym, ap, subst, ◌∙◌, arith}
+use Rattle.std.proofs.Common.{◌≡◌, ◌⊎◌, inl, inr, ℕ, ◌<◌, ◌≤◌, true, List, [], ◌∷◌, Option, Some, None, Result, Ok, Err, IfOk, IfSome, refl, sym, ap, subst, ◌∙◌, arith}
 use Rattle.all_formats.specs.Meanings as all
 use Rattle.batch_script.specs.declared.steps.Script.{Script}
 use Rattle.batch_run.specs.Played.{IsPlayable, IsPlayed}
 use Rattle.batch_run.specs.declared.playing.Played.{Played}
-use Rattle.intent_journal.specs.BadJournals.{open_entry, opened_files}
-use Rattle.intent_journal.specs.Moments.{LeavesOnly}
-use Rattle.intent_journal.specs.Outcomes.{SameFiles, HasOnly, IsEither}
+use Rattle.intent_journal.specs.Opened.{open_list, opened_files}
+use Rattle.intent_journal.specs.Opens.{has_any}
+use Rattle.journal_steps.specs.Moments.{LeavesOnly}
+use Rattle.intent_journal.specs.Outcomes.{HasOnly}
+use Rattle.journal_steps.specs.Outcomes.{SameFiles, IsEither}
 use Rattle.intent_journal.specs.States.{IsCalm}
 use Rattle.journal_codec.specs.declared.files.FileText.{FileText}
 use Rattle.kdb_handle.specs.Closing.{IsHandedOn}
@@ -97,8 +99,8 @@ module _ {D P : Type 0} (g : Ghosts D) (refused : P → ℕ) (disk : D) (files :
   handed = is.disk mid first has_opened.begun.store
 
   -- nothing was written where no entry was open and no set was begun
-  untouched : BeginsNone is.story → open_entry (g.seen disk) ≡ None → OnlyReads g disk end
-  untouched begins_none none = subst (OnlyReads g disk) (sym (is.left_alone begins_none (has_opened.wrote ∙ ap is_some none) has_opened.state)) (has_opened.alone none)
+  untouched : BeginsNone is.story → open_list (g.seen disk) ≡ [] → OnlyReads g disk end
+  untouched begins_none none = subst (OnlyReads g disk) (sym (is.left_alone begins_none (has_opened.wrote ∙ ap has_any none) has_opened.fresh)) (has_opened.alone none)
 
   quiet_since : ¬ HasRisen (g.faults disk) (g.faults end) → ¬ HasRisen (g.faults mid) (g.faults end)
   quiet_since still = λ rose. still (risen_since (g.faults disk) (g.faults mid) (g.faults end) has_opened.goes.later rose)
@@ -142,11 +144,13 @@ module _ {D P : Type 0} (g : Ghosts D) (refused : P → ℕ) (disk : D) (files :
   begins_none none = record { commits = ap commits_of none; failures = ap failures_in none }
 
   found_again : is.story ≡ [] → IsCalm (g.seen end) (g.may_leave end) opened has_opened.begun.first → SameFiles (opened_files (g.seen end)) opened
-  found_again none calm = by (open_entry (g.seen disk)) refl
+  found_again none calm = by (open_list (g.seen disk)) refl
     where
-      by : (o : Option (List FileText)) → open_entry (g.seen disk) ≡ o → SameFiles (opened_files (g.seen end)) opened
-      by None there = let reads = untouched (begins_none none) there in λ file not_own. ap (λ (seen : Image). opened_files seen file) (reads.same telling)
-      by (Some entry) there = found_whole g end opened told_end (subst (λ (d : Option (List FileText)). IsCalm (g.seen end) (g.may_leave end) opened d) (has_opened.begun.settled entry there) calm)
+      by : (list : List (List FileText)) → open_list (g.seen disk) ≡ list → SameFiles (opened_files (g.seen end)) opened
+      by [] there = let reads = untouched (begins_none none) there in λ file not_own. ap (λ (seen : Image). opened_files seen file) (reads.same telling)
+      by (entry ∷ entries) there =
+          let settled = has_opened.begun.settled (λ nothing. let both = sym there ∙ nothing in cc) in
+          found_whole g end opened told_end (subst (λ (d : Option (List FileText)). IsCalm (g.seen end) (g.may_leave end) opened d) settled calm)
 
   unserved : is.story ≡ [] → serving.Unserved g files doubt disk end
   unserved none =

@@ -2,7 +2,7 @@
 use Rattle.std.specs.Prelude.{◌≡◌, ◌≢◌, ℕ, List, Option, Result, Ok, Err, IfOk}
 use Rattle.std.proofs.Common.{refl, sym, subst}
 use Rattle.batch_script.specs.declared.steps.Script.{Script}
-use Rattle.intent_journal.specs.BadJournals.{opened_files}
+use Rattle.intent_journal.specs.Opened.{opened_files}
 use Rattle.journal_codec.specs.declared.files.FileText.{FileText}
 use Rattle.kdb_outside.proofs.Frames.{OnlyReads-none}
 use Rattle.kdb_outside.specs.Faults.{HasRisen}

@@ -1,7 +1,7 @@
 -- What is done for a batch, and to play a script on the store of a disk, however it ends. (This project's own.)
-use Rattle.std.specs.Prelude.{◌≡◌, ◌≢◌, ◌≤◌, ℕ, true, false, List, Option, Some, None, Err, IfOk, IsOk}
+use Rattle.std.specs.Prelude.{◌≡◌, ◌≢◌, ◌≤◌, ℕ, true, false, List, [], Option, Some, None, Err, IfOk, IsOk}
 use Rattle.batch_script.specs.declared.steps.Script.{Script}
-use Rattle.intent_journal.specs.BadJournals.{bad_place, open_entry, opened_files}
+use Rattle.intent_journal.specs.Opened.{bad_place, open_list, opened_files}
 use Rattle.intent_journal.specs.States.{IsCalm}
 use Rattle.journal_codec.specs.declared.files.FileText.{FileText}
 use Rattle.kdb_outside.specs.Faults.{HasRisen}
@@ -30,7 +30,7 @@ pub record PlaysScript {D P : Type 0} (d : disks.Ghosts D) (p : matchers.Ghosts 
   pub worked : d.tells disk ≡ true → (files : Image) (doubt : Option (List FileText)) → IsCalm (d.seen disk) (d.may_leave disk) files doubt
       → Works d files doubt (p.refusals patterns) (p.refusals ended.patterns) (IsUnopened (opened_files (d.seen disk))) (λ played. played ≡ script) ended.answer disk ended.disk
   pub reported : IfOk ended.answer (λ report. IsReported (HasRisen (d.faults disk) (d.faults ended.disk)) (report_of report))
-  pub unstored : d.tells disk ≡ true → open_entry (d.seen disk) ≡ None → StoresNone d ended.answer disk ended.disk
+  pub unstored : d.tells disk ≡ true → open_list (d.seen disk) ≡ [] → StoresNone d ended.answer disk ended.disk
   pub broken : d.tells disk ≡ true → (at : ℕ) → bad_place (d.seen disk) ≡ Some at → IfOk ended.answer (λ report. report_of report ≡ warned 5 (bad_journal at))
   pub broken_stays : d.tells disk ≡ true → (at : ℕ) → bad_place (d.seen disk) ≡ Some at → OnlyReads d disk ended.disk
   pub cause : ended.answer ≡ Err stops.DiskFault → HasRisen (d.faults disk) (d.faults ended.disk)
@@ -45,7 +45,7 @@ pub record CarriesOutBatch {S D P : Type 0} (s : sources.Ghosts S) (d : disks.Gh
   pub calm : d.tells disk ≡ true → (files : Image) (doubt : Option (List FileText)) → IsCalm (d.seen disk) (d.may_leave disk) files doubt → ¬ HasRisen (d.faults disk) (d.faults ended.disk) → IsAtRest d ended.disk
   pub words : takes_words line ≡ false → Tells (warned 1 options_refused) ended.answer
   pub reported : IfOk ended.answer (λ report. IsReported (HasRisen (d.faults disk) (d.faults ended.disk)) (report_of report))
-  pub unstored : d.tells disk ≡ true → open_entry (d.seen disk) ≡ None → StoresNone d ended.answer disk ended.disk
+  pub unstored : d.tells disk ≡ true → open_list (d.seen disk) ≡ [] → StoresNone d ended.answer disk ended.disk
   pub broken : d.tells disk ≡ true → (at : ℕ) → bad_place (d.seen disk) ≡ Some at → (given : List ℕ) → IsGiven (takes_words line) (s.left source) given → IfOk ended.answer (λ report. TellsBroken line given at (report_of report))
   pub broken_stays : d.tells disk ≡ true → (at : ℕ) → bad_place (d.seen disk) ≡ Some at → OnlyReads d disk ended.disk
   pub asked : IsOfDisk ended.answer → HasAsked s line source source_now

@@ -2,9 +2,10 @@
 use Rattle.std.specs.Prelude.{◌≡◌, ◌⊎◌, ℕ, List, [], Option, None, map as over}
 use Rattle.all_formats.specs.Meanings as all
 use Rattle.batch_script.specs.declared.steps.Script.{Script}
-use Rattle.intent_journal.specs.BadJournals.{open_entry, opened_files}
-use Rattle.intent_journal.specs.Moments.{LeavesOnly}
-use Rattle.intent_journal.specs.Outcomes.{SameFiles, HasOnly, IsEither}
+use Rattle.intent_journal.specs.Opened.{open_list, opened_files}
+use Rattle.journal_steps.specs.Moments.{LeavesOnly}
+use Rattle.intent_journal.specs.Outcomes.{HasOnly}
+use Rattle.journal_steps.specs.Outcomes.{SameFiles, IsEither}
 use Rattle.intent_journal.specs.States.{IsCalm}
 use Rattle.journal_codec.specs.declared.files.FileText.{FileText}
 use Rattle.kdb_handle.specs.Opened.{store_at}
@@ -56,7 +57,7 @@ pub record Plays {D : Type 0} (g : Ghosts D) (files : Image) (doubt : Option (Li
   pub lasting : EveryImage (g.may_leave end) (HasOnly (IsEither (files_of last) last.doubt))
   pub shown : ¬ HasRisen (g.faults disk) (g.faults end) → SameFiles (g.seen end) (files_of last)
   pub calm : ¬ HasRisen (g.faults disk) (g.faults end) → IsCalm (g.seen end) (g.may_leave end) (files_of last) last.doubt
-  pub untouched : BeginsNone story → open_entry (g.seen disk) ≡ None → OnlyReads g disk end
+  pub untouched : BeginsNone story → open_list (g.seen disk) ≡ [] → OnlyReads g disk end
 
 -- what a batch tells of its sessions, with the mounts and the numbers of the sessions: the worst of its replies as the status, and all of them with the history on out
 abbrev pub report_with : List Mount → List ℕ → Script → Transcripts → List Commit → Report

@@ -1,7 +1,7 @@
 -- What the run of a batch promises, in one record. (This project's own.)
-use Rattle.std.specs.Prelude.{◌≡◌, ◌≢◌, ◌⊎◌, ◌≤◌, ℕ, true, List, Option, Some, None}
+use Rattle.std.specs.Prelude.{◌≡◌, ◌≢◌, ◌⊎◌, ◌≤◌, ℕ, true, List, [], Option, Some, None}
 use Rattle.batch_script.specs.declared.steps.Script.{Script}
-use Rattle.intent_journal.specs.BadJournals.{bad_place, open_entry, opened_files}
+use Rattle.intent_journal.specs.Opened.{bad_place, open_list, opened_files}
 use Rattle.intent_journal.specs.States.{IsCalm}
 use Rattle.journal_codec.specs.declared.files.FileText.{FileText}
 use Rattle.kdb_handle.specs.Story.{commits_of}
@@ -65,7 +65,7 @@ pub record RunsBatch {S K E D P : Type 0} (s : sources.Ghosts S) (k : sinks.Ghos
   -- so without a fault the status isn't that of one
   pub complete : (HasRisen (d.faults disk) (d.faults end) → ⊥) → (FailsToRead (takes_words words) (s.faults input) (s.faults input_now) → ⊥) → (HasRisen (k.faults out) (k.faults out_now) → ⊥) → (HasRisen (e.faults err) (e.faults err_now) → ⊥) → status ≢ 74
   -- a batch that is refused writes nothing where no entry is open
-  pub unstored : d.tells disk ≡ true → open_entry (d.seen disk) ≡ None → status ≢ 0 → IsAnswered status → OnlyReads d disk end
+  pub unstored : d.tells disk ≡ true → open_list (d.seen disk) ≡ [] → status ≢ 0 → IsAnswered status → OnlyReads d disk end
   -- what it takes of the input
   pub takes : LeavesInput s (takes_words words) (IsAnswered status) input input_now
   -- the disk tells as much as before, and no count falls

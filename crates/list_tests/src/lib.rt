@@ -2,6 +2,12 @@
 #![tactic(auto)]
 
 #[cfg(test)]
+mod crashes;
+#[cfg(test)]
+mod entries;
+#[cfg(test)]
 mod openings;
+#[cfg(test)]
+mod places;
 #[cfg(test)]
 mod steps;

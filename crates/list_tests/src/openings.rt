@@ -1,8 +1,8 @@
 //! Journals as they are found: whole, bad, with odd gates, left by the former program; and a recovery that is cut off.
+use crate::entries::name;
 use disk_memory::MemDisk;
-use entry_list::Journal;
-use intent_journal::JournalFault;
-use kdb_outside::FileName;
+use intent_journal::Journal;
+use journal_steps::JournalFault;
 use std::alloc::Global;
 use std::test::Fail;
 
@@ -22,7 +22,7 @@ struct Row {
 const TWO: &[u8] =
     b"\x01\x17\x00\x00\x00\x82\x05a.ecf\x01\x00\x00\x001\x05b.ecf\x01\x00\x00\x001\x01\x0c\x00\x00\x00\x81\x05b.ecf\x01\x00\x00\x002\x00";
 
-const ROWS: [Row; 8] = [
+const ROWS: [Row; 10] = [
     // Nothing, and too few bytes.
     Row {
         journal: b"",
@@ -48,6 +48,24 @@ const ROWS: [Row; 8] = [
         first: b"0",
         second: b"0",
         calls: 2,
+    },
+    // A first gate that is neither open nor closed counts as closed.
+    Row {
+        journal: b"\x07\x0c\x00\x00\x00\x81\x05b.ecf\x01\x00\x00\x002\x00",
+        bad: None,
+        recovered: false,
+        first: b"0",
+        second: b"0",
+        calls: 2,
+    },
+    // An open gate without a whole length is no open one.
+    Row {
+        journal: b"\x01\x0c\x00\x00\x00\x81\x05b.ecf\x01\x00\x00\x002\x01\x0c\x00",
+        bad: None,
+        recovered: true,
+        first: b"0",
+        second: b"2",
+        calls: 10,
     },
     // The former program's entry: what stands behind it is no entry of the list.
     Row {
@@ -95,10 +113,6 @@ const ROWS: [Row; 8] = [
         calls: 2,
     },
 ];
-
-fn name(alloc: Global, text: &str) -> Result<FileName, Fail> {
-    Ok(FileName::new(alloc, text)?.ok_or("it is a name")?)
-}
 
 fn disk_with(alloc: Global, bytes: &[u8], stop_after: Option<u64>) -> Result<MemDisk, Fail> {
     let first = name(alloc, "a.ecf")?;

@@ -1,58 +1,18 @@
 //! Two entries on their way into the list of a journal, and the list on its way into its files.
-ghost use Rattle.std.specs.Prelude.{◌≡◌, ◌++◌, ◌∷◌, [], false, IfOk, OnOk};
-ghost use Rattle.journal_codec.specs.Entry.{IsEntry};
-ghost use Rattle.entry_list.specs.Grammar.{behind_gate};
+ghost use Rattle.std.specs.Prelude.{◌≡◌, false, OnOk};
 
+use crate::entries::{FIRST, SECOND, add, entry_of, name};
 use disk_memory::MemDisk;
-use entry_list::{Journal, encode};
-use intent_journal::State;
-use journal_codec::{FileText, decode, spells_what_is_read};
-use kdb_outside::{Disk, Failed, FileName};
-use key_meta::List;
+use intent_journal::Journal;
+use journal_codec::encode;
+use journal_steps::State;
+use kdb_outside::{Disk, Failed};
 use std::alloc::Global;
 use std::test::Fail;
-
-/// The body of an entry with `1` for two files, and of one with `2` for the second of them.
-const FIRST: &[u8] = b"\x02\x05a.ecf\x01\x00\x00\x001\x05b.ecf\x01\x00\x00\x001";
-
-const SECOND: &[u8] = b"\x01\x05b.ecf\x01\x00\x00\x002";
 
 /// The journal that had both, behind its closing.
 const CLOSED: &[u8] =
     b"\x00\x17\x00\x00\x00\x82\x05a.ecf\x01\x00\x00\x001\x05b.ecf\x01\x00\x00\x001\x01\x0c\x00\x00\x00\x81\x05b.ecf\x01\x00\x00\x002\x00";
-
-fn name(alloc: Global, text: &str) -> Result<FileName, Fail> {
-    Ok(FileName::new(alloc, text)?.ok_or("it is a name")?)
-}
-
-fn entry_of(alloc: Global, body: &[u8]) -> Result<List<FileText>, Fail>
-    ensures { IfOk result IsEntry }
-{
-    spells_what_is_read();
-    match decode(alloc, body) {
-        Ok(files) => Ok(files),
-        Err(_) => Err("it is a body")?,
-    }
-}
-
-/// Adds an entry to the list, if it fits.
-fn add<D: Disk>(
-    journal: &mut Journal<D>,
-    encoded: &[u8],
-    files: List<FileText>,
-) -> Result<bool, Failed>
-    requires sure { journal.old.in_doubt ≡ false }
-    requires entry { IsEntry files }
-    requires encoded { encoded.now ≡ behind_gate files ++ 0 ∷ [] }
-    ensures { OnOk result (journal.new.in_doubt ≡ false) }
-{
-    if !journal.fits(encoded.len() - 5) {
-        return Ok(false);
-    }
-    journal.put_body(encoded)?;
-    journal.open_gate(files)?;
-    Ok(true)
-}
 
 /// Gives each file of the list its content by its number, and closes the list.
 fn bring_in<D: Disk>(journal: &mut Journal<D>) -> Result<(), Failed>

@@ -3,7 +3,7 @@ use Rattle.std.proofs.Common.{◌≡◌, ◌≤◌, true, inl, inr, arith}
 use Rattle.kdb_outside.specs.declared.disks.Disk.{Ghosts}
 use Rattle.kdb_outside.specs.Frames.{OnlyReads}
 use Rattle.kdb_outside.specs.Images.{Image, IsImage}
-use Rattle.intent_journal.specs.Moments.{LeavesOnly}
+use Rattle.journal_steps.specs.Moments.{LeavesOnly}
 
 -- what was left has a property that follows
 pub only_follows : {D : Type 0} (g : Ghosts D) (old new : D) (P Q : Image → Type 0) → ((image : Image) → P image → Q image) → LeavesOnly g old new P → LeavesOnly g old new Q

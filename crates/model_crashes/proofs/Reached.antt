@@ -5,7 +5,8 @@ use Rattle.std.proofs.lemmas.List.{take-append-le, take_all}
 use Rattle.std.proofs.lemmas.List.Elements.{Contains-append_left, Contains-append_right}
 use Rattle.kdb_outside.specs.Images.{Image}
 use Rattle.journal_codec.specs.declared.files.FileText.{FileText}
-use Rattle.intent_journal.specs.Outcomes.{with_entry, with_entries, HasOnly, IsEither}
+use Rattle.intent_journal.specs.Outcomes.{HasOnly}
+use Rattle.journal_steps.specs.Outcomes.{with_entry, with_entries, IsEither}
 use Rattle.model_crashes.specs.Runs.{Run, Begun, files_of, IsBegun, IsReached, IsAmid, begun_before, after_commit}
 
 -- entries one after the other

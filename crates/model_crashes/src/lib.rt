@@ -4,7 +4,8 @@
 ghost use Rattle.std.specs.Prelude.{◌≡◌, ◌≤◌, ℕ, List, length, take, Option};
 ghost use Rattle.kdb_outside.specs.Images.{Image};
 ghost use Rattle.journal_codec.specs.declared.files.FileText.{FileText as Item};
-ghost use Rattle.intent_journal.specs.Outcomes.{with_entry, with_entries, HasOutcome, IsEither};
+ghost use Rattle.intent_journal.specs.Outcomes.{HasOutcome};
+ghost use Rattle.journal_steps.specs.Outcomes.{with_entry, with_entries, IsEither};
 ghost use Rattle.model_crashes.specs.Runs.{Run, Begun, files_of, IsBegun, IsReached, after_begun, after_commit};
 
 /// What a run may have left stays so while it goes on: each acknowledged commit and each one begun only adds to it.

@@ -5,7 +5,8 @@ use Rattle.std.specs.Option.{option_map, unwrap_or}
 use Rattle.std.specs.Prelude.{option_and_then}
 use Rattle.std.proofs.lemmas.Slice.Eq.{bytes_eq-Decides}
 use Rattle.general_words.proofs.Places.{there_is}
-use Rattle.intent_journal.specs.Outcomes.{with_entry, with_entries, HasOnly, IsEither}
+use Rattle.intent_journal.specs.Outcomes.{HasOnly}
+use Rattle.journal_steps.specs.Outcomes.{with_entry, with_entries, IsEither}
 use Rattle.journal_codec.specs.declared.files.FileText.{FileText}
 use Rattle.kdb_outside.specs.Images.{Image}
 use Rattle.model_crashes.specs.Runs.{Begun, IsBegun, IsReached}

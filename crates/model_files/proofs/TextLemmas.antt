@@ -11,7 +11,7 @@ use Rattle.general_words.proofs.Lookups.{tied_or_not, get-elsewhere}
 use Rattle.general_words.proofs.Maps.{get-insert_same}
 use Rattle.general_words.proofs.Orders.{itself}
 use Rattle.general_words.proofs.Texts.{text_cmp-total, text_cmp-IsAntisymmetric}
-use Rattle.intent_journal.specs.Outcomes.{content_in}
+use Rattle.journal_steps.specs.Outcomes.{content_in}
 use Rattle.model_maps.specs.KeyMap.{KeyMap}
 use Rattle.model_history.specs.History.{is_among}
 use Rattle.model_store.specs.Store.{Store, Formats}

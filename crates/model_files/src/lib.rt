@@ -3,7 +3,8 @@
 #![tactic(auto)]
 
 ghost use Rattle.std.specs.Prelude.{◌≡◌, ◌≤◌, ℕ, List, length, take, Option};
-ghost use Rattle.intent_journal.specs.Outcomes.{with_entries, HasOnly, IsEither};
+ghost use Rattle.intent_journal.specs.Outcomes.{HasOnly};
+ghost use Rattle.journal_steps.specs.Outcomes.{with_entries, IsEither};
 ghost use Rattle.journal_codec.specs.Entry.{IsEntry};
 ghost use Rattle.model_maps.specs.KeyMap.{KeyMap};
 ghost use Rattle.journal_codec.specs.declared.files.FileText.{FileText as Item};

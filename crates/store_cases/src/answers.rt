@@ -8,7 +8,7 @@ use model_specified::Violation;
 use mounted_files::GetFault;
 use std::alloc::Global;
 use store_core::{CommitFault, Done, Got, OpenFault};
-use store_play::{Answer, Skip};
+use store_play::{Answer, Flushes, Skip};
 use store_verdict::PrepareFault;
 
 /// The longest value that is printed. Of a longer one the number of its bytes is.
@@ -29,6 +29,16 @@ pub fn lines_of(
         Err(fault) => push_line(&mut text, &open_line(alloc, fault)?)?,
     }
     Ok(text)
+}
+
+/// How the flushes between the events went.
+pub fn push_flushes(alloc: Global, text: &mut String, told: Flushes) -> Result<(), Memory> {
+    let Flushes {
+        wrote,
+        idle,
+        failed,
+    } = told;
+    text.push_str(format!(in alloc; "  flushed {wrote} idle {idle} failed {failed}\n")?.as_str())
 }
 
 fn push_line(text: &mut String, line: &String) -> Result<(), Memory> {

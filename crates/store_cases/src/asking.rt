@@ -44,7 +44,7 @@ pub fn event_of(
 }
 
 /// The number that a text begins with, and what comes behind it.
-fn number_of(text: &str) -> (usize, &str) {
+pub fn number_of(text: &str) -> (usize, &str) {
     let (number, rest) = text.split_once(' ').unwrap_or((text, ""));
     (number.parse().unwrap_or(usize::MAX), rest)
 }

@@ -1,13 +1,16 @@
 //! A case is a line: a word that says what is done, and what it is done with.
 
-use crate::answers::lines_of;
-use crate::asking::{event_of, put, put_all, put_many, put_meta};
+use crate::answers::{lines_of, push_flushes};
+use crate::asking::{event_of, number_of, put, put_all, put_many, put_meta};
+use crate::commits::{failed_commits, stopped_commits};
 use crate::fronts::fronts_of;
 use crate::showing::push_bytes;
 use crate::spelling::spelled_out;
 use crate::starts::Start;
+use crate::steps::{Past, Steps};
 use crate::stops::{faults_of, recovered, stops_of};
-use crate::stores::{Left, Played, Quiet};
+use crate::stores::{Played, play_behind};
+use disk_memory::MemDisk;
 use kdb_outside::FileName;
 use key_meta::Memory;
 use key_set::KeySet;
@@ -15,15 +18,18 @@ use std::alloc::Global;
 use std::mem;
 use store_play::Event;
 
-/// A disk, what it begins with, the keys that are prepared next, and the events that are played next.
+/// What a disk begins with, the runs and crashes behind that, the last run and what it left; the keys that are prepared next, and the events that are played next,
+/// with how many of them are before each flush.
 #[derive(Drop)]
 pub struct Cases {
     alloc: Global,
     start: Start,
-    quiet: Option<Quiet>,
-    left: Option<Left>,
+    past: Vec<Past>,
+    played: Option<(Vec<Event>, Vec<usize>)>,
+    left: Option<MemDisk>,
     keys: KeySet,
     events: Vec<Event>,
+    flushes: Vec<usize>,
 }
 
 impl Cases {
@@ -31,10 +37,12 @@ impl Cases {
         Cases {
             alloc,
             start: Start::new(alloc),
-            quiet: None,
+            past: Vec::new(alloc),
+            played: None,
             left: None,
             keys: KeySet::new(alloc),
             events: Vec::new(alloc),
+            flushes: Vec::new(alloc),
         }
     }
 
@@ -52,6 +60,7 @@ impl Cases {
             "stop" => self.start.stop_after = rest.parse().ok(),
             "keys" | "put" | "many" | "meta" => return self.put(word, rest),
             "get" | "prepare" | "commit" => return self.ask(word, rest),
+            "flush" => self.flushes.push(self.events.len())?,
             _ => return self.look(word, rest),
         }
         Ok(String::new(self.alloc))
@@ -65,6 +74,7 @@ impl Cases {
             "calls" => self.calls(),
             "fronts" => self.fronts(rest.parse().unwrap_or(0)),
             "stops" | "faults" | "recover" => self.tried(word, rest.parse().unwrap_or(0)),
+            "stopped" | "failed" => self.tried_commits(word, rest),
             _ => String::from_str(self.alloc, "  no such case\n"),
         }
     }
@@ -74,10 +84,12 @@ impl Cases {
         self.start.failing = Vec::new(self.alloc);
         self.start.refusing = Vec::new(self.alloc);
         self.start.stop_after = None;
-        self.quiet = None;
+        self.past = Vec::new(self.alloc);
+        self.played = None;
         self.left = None;
         self.keys = KeySet::new(self.alloc);
         self.events = Vec::new(self.alloc);
+        self.flushes = Vec::new(self.alloc);
     }
 
     /// Adds a file, whose lines are parted by `|n`.
@@ -136,44 +148,86 @@ impl Cases {
         }
     }
 
-    /// Plays the events on the disk that a crash left, or on the one that the case begins with.
+    /// Plays the events on the disk that the crashes so far left of the one that the case begins with.
     fn play(&mut self) -> Result<String, Memory> {
-        let events = mem::replace(&mut self.events, Vec::new(self.alloc));
-        let quiet = match self.quiet.take() {
-            Some(quiet) => Some(quiet),
-            None => Quiet::of(self.alloc, &self.start, self.start.stop_after)?,
+        let (events, flushes) = self.take_steps();
+        let steps = Steps {
+            events: &events,
+            flushes: &flushes,
         };
-        let Some(quiet) = quiet else {
+        let Some(played) = play_behind(self.alloc, &self.start, &self.past, steps)? else {
             return String::from_str(self.alloc, "  no disk\n");
         };
-        let Played { left, answers } = quiet.play(
-            self.alloc,
-            &events,
-            self.start.refusing.clone()?,
-        )?;
+        let Played {
+            left,
+            answers,
+            flushes: told,
+        } = played;
+        let mut lines = lines_of(self.alloc, &answers)?;
+        if !flushes.is_empty() {
+            push_flushes(self.alloc, &mut lines, told)?;
+        }
         self.left = Some(left);
-        lines_of(self.alloc, &answers)
+        self.played = Some((events, flushes));
+        Ok(lines)
+    }
+
+    /// The events and the flushes between them. None are left.
+    fn take_steps(&mut self) -> (Vec<Event>, Vec<usize>) {
+        let events = mem::replace(&mut self.events, Vec::new(self.alloc));
+        let flushes = mem::replace(&mut self.flushes, Vec::new(self.alloc));
+        (events, flushes)
     }
 
     /// The events, tried over and over: stopped after each call, with each call failing alone, or with each crash behind them.
     fn tried(&mut self, word: &str, count: u64) -> Result<String, Memory> {
-        let events = mem::replace(&mut self.events, Vec::new(self.alloc));
+        let (events, flushes) = self.take_steps();
+        let steps = Steps {
+            events: &events,
+            flushes: &flushes,
+        };
         match word {
-            "stops" => stops_of(self.alloc, &mut self.start, &events, count),
-            "faults" => faults_of(self.alloc, &mut self.start, &events, count),
-            _ => recovered(self.alloc, &self.start, &events, count),
+            "stops" => stops_of(self.alloc, &mut self.start, steps, count),
+            "faults" => faults_of(self.alloc, &mut self.start, steps, count),
+            _ => recovered(self.alloc, &self.start, steps, count),
+        }
+    }
+
+    /// The events, tried over and over: stopped after each of these numbers of calls, or with each of these calls failing alone.
+    fn tried_commits(&mut self, word: &str, rest: &str) -> Result<String, Memory> {
+        let (events, flushes) = self.take_steps();
+        let steps = Steps {
+            events: &events,
+            flushes: &flushes,
+        };
+        let (from, rest) = number_of(rest);
+        let (to, _) = number_of(rest);
+        let range = (from as u64, to as u64);
+        match word {
+            "stopped" => stopped_commits(self.alloc, &mut self.start, steps, range),
+            _ => failed_commits(self.alloc, &mut self.start, steps, range),
         }
     }
 
     /// The events, played for each front of them. They stay.
     fn fronts(&mut self, choice: u64) -> Result<String, Memory> {
-        fronts_of(self.alloc, &self.start, &self.events, choice)
+        let steps = Steps {
+            events: &self.events,
+            flushes: &self.flushes,
+        };
+        fronts_of(self.alloc, &self.start, steps, choice)
     }
 
+    /// A crash behind the last run: what comes next is played behind it.
     fn crash(&mut self, choice: u64) -> Result<String, Memory> {
-        match self.left.take() {
-            Some(left) => {
-                self.quiet = Some(left.crash(choice)?);
+        match self.played.take() {
+            Some((events, flushes)) => {
+                self.left = None;
+                self.past.push(Past {
+                    events,
+                    flushes,
+                    choice,
+                })?;
                 Ok(String::new(self.alloc))
             }
             None => String::from_str(self.alloc, "  no disk\n"),

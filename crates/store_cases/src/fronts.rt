@@ -1,9 +1,12 @@
 //! Events that are played anew for each front of them that ends with a commit, with a crash behind each.
+ghost use Rattle.store_cases.specs.Disks.{CrashesCalm};
 
 use crate::answers::lines_of;
 use crate::showing::push_bytes;
 use crate::starts::Start;
-use crate::stores::{Left, Played, Quiet};
+use crate::steps::Steps;
+use crate::stores::{Played, crashed, first_disk, play};
+use disk_memory::MemDisk;
 use kdb_outside::FileName;
 use key_meta::Memory;
 use std::alloc::Global;
@@ -32,7 +35,7 @@ struct Told {
 pub fn fronts_of(
     alloc: Global,
     start: &Start,
-    events: &[Event],
+    steps: Steps<'_>,
     choice: u64,
 ) -> Result<String, Memory> {
     let mut told = Told {
@@ -40,9 +43,9 @@ pub fn fronts_of(
         texts: texts_at_first(alloc, start)?,
         lines: String::new(alloc),
     };
-    for place in 0..events.len() {
-        let front = &events[..place + 1];
-        if is_told(front, events.len()) {
+    for count in 1..=steps.events.len() {
+        let front = steps.front(count);
+        if is_told(front.events, steps.events.len()) {
             tell(alloc, &mut told, start, front, choice)?;
         }
     }
@@ -62,13 +65,13 @@ fn tell(
     alloc: Global,
     told: &mut Told,
     start: &Start,
-    front: &[Event],
+    front: Steps<'_>,
     choice: u64,
 ) -> Result<(), Memory> {
-    let Some(quiet) = Quiet::of(alloc, start, start.stop_after)? else {
+    let Some(disk) = first_disk(alloc, start, start.stop_after)? else {
         return told.lines.push_str("  no disk\n");
     };
-    let Played { left, answers } = quiet.play(alloc, front, start.refusing.clone()?)?;
+    let Played { left, answers, .. } = play(alloc, disk, front, start.refusing.clone()?)?;
     let lines = lines_of(alloc, &answers)?;
     for line in lines.lines().skip(told.answers) {
         told.lines.push_str(line)?;
@@ -82,12 +85,15 @@ fn tell(
 fn tell_files(
     alloc: Global,
     told: &mut Told,
-    left: Left,
+    left: MemDisk,
     is_faultless: bool,
     choice: u64,
-) -> Result<(), Memory> {
+) -> Result<(), Memory>
+    requires { CrashesCalm left }
+{
     let closed = texts_of(alloc, &left)?;
-    let opened = left.crash(choice)?.play(alloc, &[], Vec::new(alloc))?.left;
+    let disk = crashed(left, choice)?;
+    let opened = play(alloc, disk, Steps::none(), Vec::new(alloc))?.left;
     let texts = texts_of(alloc, &opened)?;
     push_changed(alloc, &mut told.lines, "  ", &told.texts, &texts)?;
     if is_faultless {
@@ -118,14 +124,17 @@ fn push_changed(
 }
 
 fn texts_at_first(alloc: Global, start: &Start) -> Result<Vec<Vec<u8>>, Memory> {
-    match Quiet::of(alloc, start, start.stop_after)? {
-        Some(quiet) => texts_of(alloc, &quiet.play(alloc, &[], Vec::new(alloc))?.left),
+    match first_disk(alloc, start, start.stop_after)? {
+        Some(disk) => texts_of(
+            alloc,
+            &play(alloc, disk, Steps::none(), Vec::new(alloc))?.left,
+        ),
         None => Ok(Vec::new(alloc)),
     }
 }
 
 /// What each file holds.
-fn texts_of(alloc: Global, left: &Left) -> Result<Vec<Vec<u8>>, Memory> {
+fn texts_of(alloc: Global, left: &MemDisk) -> Result<Vec<Vec<u8>>, Memory> {
     let mut texts = Vec::new(alloc);
     for file in FILES {
         let Some(name) = FileName::new(alloc, file)? else {

@@ -4,10 +4,12 @@
 mod answers;
 mod asking;
 mod cases;
+mod commits;
 mod fronts;
 mod showing;
 mod spelling;
 mod starts;
+mod steps;
 mod stops;
 mod stores;
 

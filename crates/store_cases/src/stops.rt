@@ -2,7 +2,8 @@
 
 use crate::answers::lines_of;
 use crate::starts::Start;
-use crate::stores::{Played, Quiet};
+use crate::steps::Steps;
+use crate::stores::{Played, crashed, first_disk, play};
 use kdb_outside::FileName;
 use key_meta::Memory;
 use key_name::{KeyName, Namespace};
@@ -10,7 +11,7 @@ use std::alloc::Global;
 use store_play::{Answer, Event};
 
 /// How many crashes are tried behind each run.
-const CHOICES: u64 = 10;
+pub const CHOICES: u64 = 10;
 
 /// What two files hold where nothing was played, and where all was.
 #[derive(Drop)]
@@ -23,14 +24,14 @@ struct Ends {
 pub fn stops_of(
     alloc: Global,
     start: &mut Start,
-    events: &[Event],
+    steps: Steps<'_>,
     calls: u64,
 ) -> Result<String, Memory> {
-    let ends = ends_of(alloc, start, events)?;
+    let ends = ends_of(alloc, start, steps)?;
     let mut table = String::new(alloc);
     for stop in 0..=calls {
         start.stop_after = Some(stop);
-        push_line(alloc, &mut table, stop, start, events, &ends)?;
+        push_line(alloc, &mut table, stop, start, steps, &ends)?;
     }
     Ok(table)
 }
@@ -39,22 +40,22 @@ pub fn stops_of(
 pub fn faults_of(
     alloc: Global,
     start: &mut Start,
-    events: &[Event],
+    steps: Steps<'_>,
     calls: u64,
 ) -> Result<String, Memory> {
-    let ends = ends_of(alloc, start, events)?;
+    let ends = ends_of(alloc, start, steps)?;
     let mut table = String::new(alloc);
     for call in 1..=calls {
         start.failing = vec![in alloc; call]?;
-        push_line(alloc, &mut table, call, start, events, &ends)?;
+        push_line(alloc, &mut table, call, start, steps, &ends)?;
     }
     Ok(table)
 }
 
-fn ends_of(alloc: Global, start: &Start, events: &[Event]) -> Result<Ends, Memory> {
+fn ends_of(alloc: Global, start: &Start, steps: Steps<'_>) -> Result<Ends, Memory> {
     Ok(Ends {
-        old: files_behind(alloc, start, &events[..0], 1)?,
-        new: files_behind(alloc, start, events, 1)?,
+        old: files_behind(alloc, start, Steps::none(), 1)?,
+        new: files_behind(alloc, start, steps, 1)?,
     })
 }
 
@@ -65,15 +66,15 @@ fn push_line(
     table: &mut String,
     number: u64,
     start: &Start,
-    events: &[Event],
+    steps: Steps<'_>,
     ends: &Ends,
 ) -> Result<(), Memory> {
     table.push_str(format!(in alloc; "  {number} ")?.as_str())?;
     for choice in 0..CHOICES {
-        let files = files_behind(alloc, start, events, choice)?;
+        let files = files_behind(alloc, start, steps, choice)?;
         table.push_str(letter_of(&files, ends))?;
     }
-    table.push_str(end_of(alloc, start, events)?)?;
+    table.push_str(end_of(alloc, start, steps)?)?;
     table.push_str("\n")
 }
 
@@ -88,11 +89,11 @@ fn letter_of(files: &Vec<u8>, ends: &Ends) -> &'static str {
 }
 
 /// How a run ended: by its last answer, or because the store wasn't opened.
-fn end_of(alloc: Global, start: &Start, events: &[Event]) -> Result<&'static str, Memory> {
-    let Some(quiet) = Quiet::of(alloc, start, start.stop_after)? else {
+fn end_of(alloc: Global, start: &Start, steps: Steps<'_>) -> Result<&'static str, Memory> {
+    let Some(disk) = first_disk(alloc, start, start.stop_after)? else {
         return Ok(" no disk");
     };
-    let Played { answers, .. } = quiet.play(alloc, events, start.refusing.clone()?)?;
+    let Played { answers, .. } = play(alloc, disk, steps, start.refusing.clone()?)?;
     Ok(match answers {
         Ok(answers) => match answers.as_slice().last() {
             Some(Answer::Committed(Ok(_))) => " done",
@@ -103,18 +104,19 @@ fn end_of(alloc: Global, start: &Start, events: &[Event]) -> Result<&'static str
 }
 
 /// What `user.ecf` and `system.ecf` hold behind a run, a crash, and an opening.
-fn files_behind(
+pub fn files_behind(
     alloc: Global,
     start: &Start,
-    events: &[Event],
+    steps: Steps<'_>,
     choice: u64,
 ) -> Result<Vec<u8>, Memory> {
     let mut bytes = Vec::new(alloc);
-    let Some(quiet) = Quiet::of(alloc, start, start.stop_after)? else {
+    let Some(disk) = first_disk(alloc, start, start.stop_after)? else {
         return Ok(bytes);
     };
-    let left = quiet.play(alloc, events, start.refusing.clone()?)?.left;
-    let left = left.crash(choice)?.play(alloc, &[], Vec::new(alloc))?.left;
+    let left = play(alloc, disk, steps, start.refusing.clone()?)?.left;
+    let disk = crashed(left, choice)?;
+    let left = play(alloc, disk, Steps::none(), Vec::new(alloc))?.left;
     for file in ["user.ecf", "system.ecf"] {
         if let Some(name) = FileName::new(alloc, file)? {
             bytes.extend_from_slice(left.bytes(&name))?;
@@ -128,7 +130,7 @@ fn files_behind(
 pub fn recovered(
     alloc: Global,
     start: &Start,
-    events: &[Event],
+    steps: Steps<'_>,
     choices: u64,
 ) -> Result<String, Memory> {
     let get = Event::Get {
@@ -136,16 +138,18 @@ pub fn recovered(
         parent: KeyName::root(alloc, Namespace::Cascading),
     };
     let gets = vec![in alloc; get]?;
+    let again = Steps {
+        events: &gets,
+        flushes: &[],
+    };
     let mut lines = String::new(alloc);
     for choice in 0..choices {
-        let Some(quiet) = Quiet::of(alloc, start, start.stop_after)? else {
+        let Some(disk) = first_disk(alloc, start, start.stop_after)? else {
             return Ok(lines);
         };
-        let left = quiet.play(alloc, events, start.refusing.clone()?)?.left;
-        let answers = left
-            .crash(choice)?
-            .play(alloc, &gets, Vec::new(alloc))?
-            .answers;
+        let left = play(alloc, disk, steps, start.refusing.clone()?)?.left;
+        let disk = crashed(left, choice)?;
+        let answers = play(alloc, disk, again, Vec::new(alloc))?.answers;
         lines.push_str(lines_of(alloc, &answers)?.as_str())?;
     }
     Ok(lines)

@@ -1,117 +1,134 @@
 //! A store over a disk in memory, whose crashes leave calm disks.
-ghost use Rattle.std.specs.Prelude.{◌≡◌, IfOk, length};
+ghost use Rattle.std.specs.Prelude.{◌≡◌, IfOk, IfSome, length};
 ghost use Rattle.std.specs.List.{AllByRecursion};
-ghost use Rattle.disk_memory.specs.DiskState.{seen_of};
-ghost use Rattle.intent_journal.specs.Readings.{IsBroken};
-ghost use Rattle.store_cases.specs.Disks.{IsAlone, IsNeverBroken};
+ghost use Rattle.store_cases.specs.Disks.{IsCalmDisk, CrashesCalm};
 ghost use Rattle.store_play.specs.Ran.{disk_of};
 ghost use Rattle.store_verdict.specs.ProcKeys.{AreProc};
 
 use crate::starts::Start;
+use crate::steps::{Past, Steps};
 use all_formats::AllFormats;
 use disk_memory::MemDisk;
-use kdb_outside::FileName;
+use journal_steps::name_of_journal;
 use key_meta::{List, Memory};
 use key_set::KeySet;
 use regex_check::ListedPatterns;
 use std::alloc::Global;
 use store_core::{OpenFault, OpenRefused};
-use store_play::{Answer, Event, Ran, run};
+use store_play::{Answer, Flushes, Ran, run};
 
 /// How many handles there are, and how many places for sets.
 const HANDLES: usize = 4;
 
 const PLACES: usize = 8;
 
-/// A disk of which a crash leaves just what is read, and whose journal isn't broken.
+const NO_FLUSHES: Flushes = Flushes {
+    wrote: 0,
+    idle: 0,
+    failed: 0,
+};
+
+/// What came of a run.
 #[derive(Drop)]
-pub struct Quiet {
-    disk: MemDisk,
-    ghost alone: { IsAlone disk },
-    ghost sound: { ¬ IsBroken (seen_of disk) },
+pub struct Played {
+    pub left: MemDisk,
+    pub answers: Result<List<Answer>, OpenFault>,
+    pub flushes: Flushes,
 }
 
-/// A disk behind a run, of which no crash leaves a broken journal.
-#[derive(Drop)]
-pub struct Left {
-    disk: MemDisk,
-    ghost sound: { IsNeverBroken disk },
+/// The disk of a start, unless it has a journal.
+pub fn first_disk(
+    alloc: Global,
+    start: &Start,
+    stop_after: Option<u64>,
+) -> Result<Option<MemDisk>, Memory>
+    ensures { IfOk result (λ disk. IfSome disk IsCalmDisk) }
+{
+    let disk = start.disk(stop_after)?;
+    let journal = name_of_journal(alloc)?;
+    if disk.bytes(&journal).is_empty() {
+        Ok(Some(disk))
+    } else {
+        Ok(None)
+    }
 }
 
-impl Quiet {
-    /// The disk of a start, unless it has a journal.
-    pub fn of(
-        alloc: Global,
-        start: &Start,
-        stop_after: Option<u64>,
-    ) -> Result<Option<Quiet>, Memory> {
-        let disk = start.disk(stop_after)?;
-        let Some(journal) = FileName::new(alloc, "journal")? else {
-            return Ok(None);
-        };
-        if disk.bytes(&journal).is_empty() {
-            Ok(Some(Quiet { disk }))
-        } else {
-            Ok(None)
-        }
-    }
-
-    /// Opens the store, plays the events, and closes it. The listed calls of the matcher are refused, counted from 1.
-    pub fn play(
-        self,
-        alloc: Global,
-        events: &[Event],
-        refusing: Vec<u64>,
-    ) -> Result<Played, Memory> {
-        let procs = no_procs(alloc)?;
-        let disk = self.disk;
-        let patterns = ListedPatterns::new(refusing);
-        Ok(played_of(run(alloc, disk, AllFormats, patterns, &procs, PLACES, events)))
-    }
+/// Opens the store, plays the events with the flushes between them, and closes it. The listed calls of the matcher are refused, counted from 1.
+pub fn play(
+    alloc: Global,
+    disk: MemDisk,
+    steps: Steps<'_>,
+    refusing: Vec<u64>,
+) -> Result<Played, Memory>
+    requires { IsCalmDisk disk }
+    ensures { IfOk result (λ played. CrashesCalm played.left) }
+{
+    let procs = no_procs(alloc)?;
+    let patterns = ListedPatterns::new(refusing);
+    Ok(played_of(run(
+        alloc,
+        disk,
+        AllFormats,
+        patterns,
+        &procs,
+        PLACES,
+        steps.events,
+        steps.flushes,
+    )))
 }
 
 /// The disk and the answers of a run, or why the store wasn't opened.
 fn played_of(
     ended: Result<Ran<MemDisk, ListedPatterns>, OpenRefused<MemDisk, ListedPatterns>>,
 ) -> Played
-    requires { IsNeverBroken (disk_of ended) }
+    ensures { result.left ≡ disk_of ended }
 {
     match ended {
-        Ok(Ran { disk, answers, .. }) => Played {
-            left: Left { disk },
+        Ok(
+            Ran {
+                disk,
+                answers,
+                flushes,
+                ..
+            },
+        ) => Played {
+            left: disk,
             answers: Ok(answers),
+            flushes,
         },
         Err(OpenRefused { disk, fault, .. }) => Played {
-            left: Left { disk },
+            left: disk,
             answers: Err(fault),
+            flushes: NO_FLUSHES,
         },
     }
 }
 
-/// What came of a run.
-#[derive(Drop)]
-pub struct Played {
-    pub left: Left,
-    pub answers: Result<List<Answer>, OpenFault>,
+/// What the crash of this number leaves.
+pub fn crashed(disk: MemDisk, choice: u64) -> Result<MemDisk, Memory>
+    requires { CrashesCalm disk }
+    ensures { IfOk result IsCalmDisk }
+{
+    let left = disk.crash(choice)?;
+    Ok(left)
 }
 
-impl Left {
-    /// What the crash of this number leaves.
-    pub fn crash(self, choice: u64) -> Result<Quiet, Memory> {
-        Ok(Quiet {
-            disk: self.disk.crash(choice)?,
-        })
+/// Plays events on the disk of a start, behind these runs with their crashes. Nothing where the start has a journal.
+pub fn play_behind(
+    alloc: Global,
+    start: &Start,
+    past: &[Past],
+    steps: Steps<'_>,
+) -> Result<Option<Played>, Memory> {
+    let Some(first) = first_disk(alloc, start, start.stop_after)? else {
+        return Ok(None);
+    };
+    let mut disk = first;
+    for run in past {
+        let played = play(alloc, disk, run.steps(), start.refusing.clone()?)?;
+        disk = crashed(played.left, run.choice)?;
     }
-
-    /// What a read of a file gives.
-    pub fn bytes(&self, file: &FileName) -> &[u8] {
-        self.disk.bytes(file)
-    }
-
-    /// How many calls of the disk there were.
-    pub fn calls(&self) -> u64 {
-        self.disk.calls()
-    }
+    Ok(Some(play(alloc, disk, steps, start.refusing.clone()?)?))
 }
 
 /// No handle has keys of its own.

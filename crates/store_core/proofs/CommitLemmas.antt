@@ -3,7 +3,7 @@ use Rattle.std.proofs.Common.{◌≡◌, ℕ, List, [], ◌∷◌, ◌++◌, Opt
 use Rattle.kdb_outside.specs.declared.disks.Disk.{Ghosts}
 use Rattle.journal_codec.specs.declared.files.FileText.{FileText}
 use Rattle.intent_journal.specs.Journal.{JournalValue}
-use Rattle.intent_journal.specs.Moments.{LeavesOnly}
+use Rattle.journal_steps.specs.Moments.{LeavesOnly}
 use Rattle.model_crashes.proofs.Moments.{only_now}
 use Rattle.model_crashes.specs.Runs.{Run, IsAmid, files_of, after_commit}
 use Rattle.model_files.specs.Texts.{entry_of, entries_from, entries_of}

@@ -1,5 +1,6 @@
 pub mod ReadingLemmas
 pub mod OpeningLemmas
+pub mod ClosingLemmas
 pub mod VisibleLemmas
 pub mod CommitLemmas
 pub mod EnteringLemmas

@@ -10,16 +10,16 @@ use Rattle.kdb_outside.specs.Frames.{GoesOn, OnlyReads}
 use Rattle.kdb_outside.specs.Images.{Image}
 use Rattle.kdb_outside.proofs.Rises.{risen_still}
 use Rattle.journal_codec.specs.declared.files.FileText.{FileText}
-use Rattle.intent_journal.specs.declared.faults.JournalFault.{JournalFault}
-use Rattle.intent_journal.specs.declared.faults.JournalFault.TheVariants as journal_fault
-use Rattle.intent_journal.specs.declared.states.State.TheVariants.{Doubt as IsDoubt}
-use Rattle.intent_journal.specs.JournalBytes.{IsOwnFile}
+use Rattle.journal_steps.specs.declared.faults.JournalFault.{JournalFault}
+use Rattle.journal_steps.specs.declared.faults.JournalFault.TheVariants as journal_fault
+use Rattle.journal_steps.specs.JournalBytes.{IsOwnFile}
 use Rattle.intent_journal.specs.Journal.{JournalValue}
-use Rattle.intent_journal.specs.Moments.{LeavesOnly}
-use Rattle.intent_journal.specs.Outcomes.{SameFiles}
+use Rattle.intent_journal.specs.Opened.{opened_files, IsFresh}
+use Rattle.journal_steps.specs.Moments.{LeavesOnly}
+use Rattle.journal_steps.specs.Outcomes.{SameFiles}
 use Rattle.intent_journal.specs.States.{IsCalm}
-use Rattle.intent_journal.proofs.Calm.{calm_kept}
-use Rattle.model_crashes.specs.Runs.{Run}
+use Rattle.intent_journal.proofs.OpenSteps.{calm_kept}
+use Rattle.model_crashes.specs.Runs.{Run, new_run}
 use Rattle.model_crashes.proofs.Moments.{only_both, only_read}
 use Rattle.model_files.specs.Files.{HaveFiles}
 use Rattle.model_files.specs.Texts.{entries_of}
@@ -38,12 +38,14 @@ use Rattle.mounted_files.specs.declared.files.MountedFile.{MountedFile}
 use Rattle.mounted_files.proofs.WeighLemmas.{mounts-from}
 use Rattle.mounted_files.specs.Visible.{visible_keys}
 use Rattle.mounted_files.specs.Weighed.{own_weight}
+use Rattle.store_phases.specs.Opens.{HasBegun}
 use Rattle.store_phases.specs.Stores.{IsStore}
 use Rattle.store_phases.proofs.Stores.{IsStore-read, IsStore-from_now}
 use Rattle.store_core.specs.Cores.{StandsFor, StandsIn}
 use Rattle.store_core.specs.Faults.{RefusesBroken, RefusesStore, of_journal}
 use Rattle.store_core.specs.Frames.{OnlyReadsFiles}
 use Rattle.store_core.specs.Opened.{may_be_of_journal}
+use Rattle.store_core.specs.Opens.{BeginsStore}
 use Rattle.store_core.specs.declared.cores.Core.{Core}
 use Rattle.store_core.specs.declared.faults.OpenFault.{OpenFault}
 use Rattle.store_core.specs.declared.faults.OpenFault.TheVariants.{BadJournal}
@@ -99,7 +101,7 @@ still_only g old mid new P tells goes only reads =
     (only_read g mid new P still reads (λ image is. only.each image (g.counts_now mid (g.moment old) image still goes.moment is)))
 
 pub store_read : {D : Type 0} (g : Ghosts D) (opened : D) (old new : JournalValue D) (run : Run) → OnlyReadsFiles g old new → IsStore g opened old run → IsStore g new.disk new run
-store_read g opened old new run reads store = IsStore-from_now g opened new run (IsStore-read g opened old new run reads.reads reads.state reads.entry store)
+store_read g opened old new run reads store = IsStore-from_now g opened new run (IsStore-read g opened old new run reads.reads reads.list reads.in_doubt store)
 
 -- what each crash left before the reading, it leaves behind it
 pub rests_read : {D : Type 0} (g : Ghosts D) (old new : D) (P : Image → Type 0) → g.tells old ≡ true → OnlyReads g old new → EveryImage (g.may_leave old) P → EveryImage (g.may_leave new) P
@@ -114,10 +116,10 @@ calm_read g disk mid new files doubt tells goes reads calm still =
     calm_kept (g.seen mid) (g.seen new) (g.may_leave mid) (g.may_leave new) files doubt (reads.same told) (reads.images told)
     (calm (λ risen. still (risen_still (g.faults disk) (g.faults mid) (g.faults new) goes.later reads.later risen)))
 
--- the gate stays in doubt
-pub in_doubt : {D F P : Type 0} (g : Ghosts D) (journal : JournalValue D) (result : Result (Opened D F P) (OpenRefused D P)) → journal.state ≡ IsDoubt → IfOk result (λ o. OnlyReadsFiles g journal o.core.journal) → IfOk result (λ o. o.core.journal.state ≡ IsDoubt)
-in_doubt g journal (Ok o) doubt reads = reads.state ∙ doubt
-in_doubt g journal (Err r) doubt reads = tt
+-- the journal stays as its opening left it
+pub still_fresh : {D F P : Type 0} (g : Ghosts D) (journal : JournalValue D) (result : Result (Opened D F P) (OpenRefused D P)) → IsFresh journal → IfOk result (λ o. OnlyReadsFiles g journal o.core.journal) → IfOk result (λ o. IsFresh o.core.journal)
+still_fresh g journal (Ok o) fresh reads = (reads.list ∙ fresh.0, reads.in_doubt ∙ fresh.1)
+still_fresh g journal (Err r) fresh reads = tt
 
 -- ---- what the opening of the journal is refused for
 
@@ -165,6 +167,13 @@ pub stands_opened : (formats : Formats) {D F P : Type 0} (g : Ghosts D) (Reads :
 stands_opened formats g Reads IsBad journal run (Ok o) empty store told start keys none reads = λ procs.
     first_core_stands formats g (store_of o.plan.mounted procs) o.core run (opened_mounts Reads IsBad (g.seen journal.disk) o.plan.mounted told) none start keys (store_read g journal.disk journal o.core.journal run reads store) empty
 stands_opened formats g Reads IsBad journal run (Err r) empty store told start keys none reads = tt
+
+-- which begins the run of the opening, with what that left in doubt
+pub begins_opened : (formats : Formats) {D F P : Type 0} (g : Ghosts D) (disk : D) (journal : JournalValue D) (result : Result (Opened D F P) (OpenRefused D P)) (begun : HasBegun g disk journal)
+    → IfOk result (λ o. (procs : ℕ → KeyMap) → StandsFor formats g (store_of o.plan.mounted procs) o.core.journal.disk o.core (λ r m. None) (λ p. None) first_world (new_run (opened_files (g.seen disk)) (g.faults disk) begun.later))
+    → IfOk result (λ o. BeginsStore formats g disk o)
+begins_opened formats g disk journal (Ok o) begun stands = record { later = begun.later; may_be = begun.may_be; stands = stands }
+begins_opened formats g disk journal (Err r) begun stands = tt
 
 pub whatever : {O R : Type 0} (result : Result O R) (P : Type 0) → P → IfOk result (λ o. P)
 whatever (Ok o) P is = is

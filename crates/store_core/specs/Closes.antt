@@ -1,14 +1,15 @@
 -- What `Core::close` promises. (This project's own.)
-use Rattle.std.specs.Prelude.{◌≡◌, ◌≢◌, ◌⊎◌, true, false}
+use Rattle.std.specs.Prelude.{◌≡◌, ◌⊎◌, true, false}
 use Rattle.kdb_outside.specs.Crashes.{EveryImage}
 use Rattle.kdb_outside.specs.declared.disks.Disk.{Ghosts}
 use Rattle.kdb_outside.specs.Faults.{HasRisen}
 use Rattle.kdb_outside.specs.Frames.{GoesOn}
-use Rattle.intent_journal.specs.declared.states.State.TheVariants.{Doubt}
 use Rattle.intent_journal.specs.Journal.{JournalValue}
-use Rattle.intent_journal.specs.Moments.{LeavesOnly}
-use Rattle.intent_journal.specs.Outcomes.{SameFiles, HasOnly, IsEither}
-use Rattle.intent_journal.specs.States.{IsSettled, IsCalm}
+use Rattle.journal_steps.specs.Moments.{LeavesOnly}
+use Rattle.intent_journal.specs.Outcomes.{HasOnly}
+use Rattle.journal_steps.specs.Outcomes.{SameFiles, IsEither}
+use Rattle.intent_journal.specs.Opened.{IsFresh}
+use Rattle.intent_journal.specs.States.{IsCalm, IsSettled}
 use Rattle.model_crashes.specs.Runs.{Run, files_of, IsReached}
 use Rattle.store_core.specs.declared.closing.Closed.{Closed}
 use Rattle.store_core.specs.declared.cores.Core.{Core}
@@ -23,11 +24,11 @@ pub record ClosesStore {D P : Type 0} (g : Ghosts D) (core : Core D P) (closed :
   pub history : closed.history ≡ core.history
   pub patterns : closed.patterns ≡ core.patterns
   -- where nothing was written, nothing is written now
-  pub left_alone : core.wrote ≡ false → core.journal.state ≡ Doubt → closed.disk ≡ core.journal.disk
+  pub left_alone : core.wrote ≡ false → IsFresh core.journal → closed.disk ≡ core.journal.disk
   -- where the disk doesn't fail it shows the files of the run, and is calm
   pub shown : WhereStore g core.journal (λ opened run. ¬ HasRisen (g.faults core.journal.disk) (g.faults closed.disk) → SameFiles (g.seen closed.disk) (files_of run))
   pub settled : WhereStore g core.journal (λ opened run. ¬ HasRisen (g.faults core.journal.disk) (g.faults closed.disk)
-      → (core.wrote ≡ true) ⊎ (core.journal.state ≢ Doubt) → IsSettled (g.may_leave closed.disk) (files_of run))
+      → (core.wrote ≡ true) ⊎ (¬ IsFresh core.journal) → IsSettled (g.may_leave closed.disk) (files_of run))
   pub calm : WhereStore g core.journal (λ opened run. ¬ HasRisen run.faults (g.faults closed.disk) → IsCalm (g.seen closed.disk) (g.may_leave closed.disk) (files_of run) run.doubt)
   -- what a crash leaves, since the opening and now
   pub always : WhereStore g core.journal (λ opened run. LeavesOnly g opened closed.disk (IsReached run.files run.commits run.begun))

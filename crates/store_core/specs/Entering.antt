@@ -4,7 +4,7 @@ use Rattle.kdb_outside.specs.declared.disks.Disk.{Ghosts}
 use Rattle.kdb_outside.specs.Faults.{HasRisen}
 use Rattle.kdb_outside.specs.Frames.{GoesOn}
 use Rattle.journal_codec.specs.declared.files.FileText.{FileText}
-use Rattle.intent_journal.specs.Moments.{LeavesOnly}
+use Rattle.journal_steps.specs.Moments.{LeavesOnly}
 use Rattle.model_crashes.specs.Runs.{Run, files_of, IsAmid, IsOneOf, after_begun, after_commit}
 use Rattle.model_history.specs.History.{Commit}
 use Rattle.model_maps.specs.KeyMap.{KeyMap}

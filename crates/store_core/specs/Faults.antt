@@ -2,8 +2,8 @@
 use Rattle.std.specs.Prelude.{◌≡◌, List, ℕ}
 use Rattle.backend_files.specs.declared.reading.FileFault.{FileFault}
 use Rattle.backend_files.specs.declared.reading.FileFault.TheVariants as file
-use Rattle.intent_journal.specs.declared.faults.JournalFault.{JournalFault}
-use Rattle.intent_journal.specs.declared.faults.JournalFault.TheVariants as journal
+use Rattle.journal_steps.specs.declared.faults.JournalFault.{JournalFault}
+use Rattle.journal_steps.specs.declared.faults.JournalFault.TheVariants as journal
 use Rattle.mounted_files.specs.Files.{Reading, Badness}
 use Rattle.mounted_files.specs.Opening.{RefusesOpening}
 use Rattle.mounted_files.specs.declared.refusals.OpenRefusal.{OpenRefusal}
@@ -35,8 +35,7 @@ RefusesStore Reads IsBad bytes DiskFault = Unit {0}
 RefusesStore Reads IsBad bytes (BadJournal at) = Unit {0}
 RefusesStore Reads IsBad bytes Memory = Unit {0}
 
--- why a store isn't opened whose journal's gate is open, and no whole body of an entry stands behind it: for that, by its place, unless the disk failed
--- or memory was wanting
+-- why a store isn't opened whose journal has an open entry that isn't whole: for that, by its place, unless the disk failed or memory was wanting
 abbrev pub RefusesBroken : ℕ → OpenFault → Type 0
 RefusesBroken place DiskFault = Unit {0}
 RefusesBroken place (BadJournal at) = at ≡ place

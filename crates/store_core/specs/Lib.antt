@@ -10,3 +10,4 @@ pub mod Gets
 pub mod Joined
 pub mod Opened
 pub mod Opens
+pub mod Flushes

@@ -1,7 +1,8 @@
 -- What an opening answers: the disk, the matcher and, where it was refused, why. (This project's own.)
-use Rattle.std.specs.Prelude.{Bool, true, false, Option, Some, None, Result, Ok, Err}
-use Rattle.intent_journal.specs.BadJournals.{opened_doubt, opened_files}
-use Rattle.intent_journal.specs.Outcomes.{SameFiles}
+use Rattle.std.specs.Prelude.{Bool, true, false, List, Option, Some, None, Result, Ok, Err}
+use Rattle.intent_journal.specs.Opened.{opened_files, MayBeLeft}
+use Rattle.journal_codec.specs.declared.files.FileText.{FileText}
+use Rattle.journal_steps.specs.Outcomes.{SameFiles}
 use Rattle.intent_journal.specs.States.{IsCalm}
 use Rattle.kdb_outside.specs.Frames.{OnlyReads}
 use Rattle.kdb_outside.specs.declared.disks.Disk.{Ghosts}
@@ -39,4 +40,5 @@ may_be_of_journal (Some Memory) = true
 -- leaves in doubt
 pub data IsLeft {D : Type 0} (g : Ghosts D) (disk end : D) : Type 0 where
   StillRead : OnlyReads g disk end → IsLeft g disk end
-  AsOpened : SameFiles (g.seen end) (opened_files (g.seen disk)) → IsCalm (g.seen end) (g.may_leave end) (opened_files (g.seen disk)) (opened_doubt (g.seen disk)) → IsLeft g disk end
+  AsOpened : (later : Option (List FileText)) → MayBeLeft (g.seen disk) later → SameFiles (g.seen end) (opened_files (g.seen disk))
+      → IsCalm (g.seen end) (g.may_leave end) (opened_files (g.seen disk)) later → IsLeft g disk end

@@ -1,15 +1,17 @@
 -- What `open_store` promises, by the disk and the matcher that it was handed, and by its answer. (This project's own.)
-use Rattle.std.specs.Prelude.{◌≡◌, ℕ, [], true, false, is_some, Some, None, Result, IfOk, IfErr, MatchResult}
+use Rattle.std.specs.Prelude.{◌≡◌, ℕ, List, [], true, false, Option, Some, None, Result, IfOk, IfErr, MatchResult}
 use Rattle.kdb_outside.specs.Crashes.{EveryImage}
 use Rattle.kdb_outside.specs.declared.disks.Disk.{Ghosts}
 use Rattle.kdb_outside.specs.Faults.{HasRisen}
 use Rattle.kdb_outside.specs.Frames.{GoesOn, OnlyReads}
-use Rattle.intent_journal.specs.declared.states.State.TheVariants.{Doubt}
+use Rattle.journal_codec.specs.declared.files.FileText.{FileText}
 use Rattle.intent_journal.specs.Journal.{JournalValue}
-use Rattle.intent_journal.specs.BadJournals.{bad_place, open_entry, opened_files, opened_doubt}
-use Rattle.intent_journal.specs.Moments.{LeavesOnly}
-use Rattle.intent_journal.specs.Opens.{WhereCalm}
-use Rattle.intent_journal.specs.Outcomes.{SameFiles, HasOnly, IsEither}
+use Rattle.intent_journal.specs.Opened.{bad_place, open_list, opened_files, IsFresh, MayBeLeft}
+use Rattle.intent_journal.specs.Opens.{has_any}
+use Rattle.journal_steps.specs.Moments.{LeavesOnly}
+use Rattle.intent_journal.specs.Openings.{WhereCalm}
+use Rattle.intent_journal.specs.Outcomes.{HasOnly}
+use Rattle.journal_steps.specs.Outcomes.{SameFiles, IsEither}
 use Rattle.intent_journal.specs.States.{IsCalm}
 use Rattle.model_crashes.specs.Runs.{new_run}
 use Rattle.model_maps.specs.KeyMap.{KeyMap}
@@ -27,13 +29,19 @@ use Rattle.store_core.specs.declared.faults.OpenFault.TheVariants.{BadJournal, D
 use Rattle.store_core.specs.declared.faults.OpenRefused.{OpenRefused}
 use Rattle.store_core.specs.declared.opening.Opened.{Opened}
 
+-- a core stands for a run that begins on the files that the opening leaves, with what that leaves in doubt
+pub record BeginsStore (formats : Formats) {D F P : Type 0} (g : Ghosts D) (disk : D) (opened : Opened D F P) : Type 0 where
+  pub later : Option (List FileText)
+  pub may_be : MayBeLeft (g.seen disk) later
+  pub stands : (procs : ℕ → KeyMap) → StandsFor formats g (store_of opened.plan.mounted procs) opened.core.journal.disk
+      opened.core (λ r m. None) (λ p. None) first_world (new_run (opened_files (g.seen disk)) (g.faults disk) later)
+
 -- by the formats: what they are to a store, which bytes they read as which keys, and which are bad
 pub record OpensStore (formats : Formats) (Reads : Reading) (IsBad : Badness) {D F P : Type 0} (g : Ghosts D) (disk : D) (matcher : P) (result : Result (Opened D F P) (OpenRefused D P)) : Type 0 where
   pub patterns : patterns_of result ≡ matcher
   -- of a calm disk the store of the files that the journal leaves is opened
   pub opened : WhereCalm g disk (λ files doubt. IfOk result (λ opened. IsOpened Reads IsBad (opened_files (g.seen disk)) opened.plan.mounted))
-  pub stands : WhereCalm g disk (λ files doubt. IfOk result (λ opened. (procs : ℕ → KeyMap) → StandsFor formats g (store_of opened.plan.mounted procs) opened.core.journal.disk
-      opened.core (λ r m. None) (λ p. None) first_world (new_run (opened_files (g.seen disk)) (g.faults disk) (opened_doubt (g.seen disk)))))
+  pub stands : WhereCalm g disk (λ files doubt. IfOk result (λ opened. BeginsStore formats g disk opened))
   pub own : WhereCalm g disk (λ files doubt. SameFiles files (opened_files (g.seen disk))
       → IfOk result (λ opened. (procs : ℕ → KeyMap) → StandsFor formats g (store_of opened.plan.mounted procs) opened.core.journal.disk
       opened.core (λ r m. None) (λ p. None) first_world (new_run files (g.faults disk) doubt)))
@@ -44,12 +52,12 @@ pub record OpensStore (formats : Formats) (Reads : Reading) (IsBad : Badness) {D
   pub keys : IfOk result (λ opened. opened.core.keys ≡ visible_keys opened.plan.mounted)
   pub start : IfOk result (λ opened. opened.core.start ≡ visible_keys opened.plan.mounted)
   pub none : IfOk result (λ opened. opened.core.history.commits ≡ [])
-  pub wrote : g.tells disk ≡ true → IfOk result (λ opened. opened.core.wrote ≡ is_some (open_entry (g.seen disk)))
-  pub doubt : IfOk result (λ opened. opened.core.journal.state ≡ Doubt)
+  pub wrote : g.tells disk ≡ true → IfOk result (λ opened. opened.core.wrote ≡ has_any (open_list (g.seen disk)))
+  pub fresh : IfOk result (λ opened. IsFresh opened.core.journal)
   -- a disk without an open entry is only read
-  pub as_seen : g.tells disk ≡ true → open_entry (g.seen disk) ≡ None
+  pub as_seen : g.tells disk ≡ true → open_list (g.seen disk) ≡ []
       → MatchResult result (λ opened. IsOpened Reads IsBad (g.seen disk) opened.plan.mounted) (λ refused. RefusesStore Reads IsBad (g.seen disk own_mount.file) refused.fault)
-  pub left_alone : g.tells disk ≡ true → open_entry (g.seen disk) ≡ None → OnlyReads g disk (disk_of result)
+  pub left_alone : g.tells disk ≡ true → open_list (g.seen disk) ≡ [] → OnlyReads g disk (disk_of result)
   -- why it is refused
   pub refused : WhereCalm g disk (λ files doubt. IfErr result (λ refused. RefusesStore Reads IsBad (opened_files (g.seen disk) own_mount.file) refused.fault))
   pub bad : g.tells disk ≡ true → (at : ℕ) → fault_of result ≡ Some (BadJournal at) → bad_place (g.seen disk) ≡ Some at

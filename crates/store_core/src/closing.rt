@@ -3,7 +3,6 @@ ghost use Rattle.store_core.specs.Closes.{ClosesStore};
 
 use crate::Core;
 use commit_log::History;
-use intent_journal::{Journal, State};
 use kdb_outside::Disk;
 use regex_check::Patterns;
 use store_phases::close;
@@ -17,7 +16,7 @@ pub struct Closed<D: Disk, P: Patterns + Drop> {
 }
 
 impl<D: Disk, P: Patterns + Drop> Core<D, P> {
-    /// Ends the store, and gives its disk, its matcher and its history back. What a commit left to be done is tried once more, and a failure of it is no
+    /// Ends the store, and gives its disk, its matcher and its history back. What commits left to be written is written now, and a failure of it is no
     /// refusal. Where nothing was written since the opening began, nothing is written now.
     pub fn close(self) -> Closed<D, P>
         ensures { ClosesStore D.Disk self result }
@@ -29,7 +28,7 @@ impl<D: Disk, P: Patterns + Drop> Core<D, P> {
             patterns,
             ..
         } = self;
-        if !wrote && journal.state() == State::Doubt {
+        if !wrote && journal.is_fresh() {
             return Closed {
                 disk: journal.into_disk(),
                 patterns,

@@ -4,7 +4,7 @@ ghost use Rattle.store_core.specs.Faults.{of_file, of_journal, of_refusal};
 ghost use Rattle.store_core.specs.declared.faults.OpenFault.TheVariants.{Memory as OfMemory};
 
 use backend_files::FileFault;
-use intent_journal::JournalFault;
+use journal_steps::JournalFault;
 use mount_table::TableFault;
 use mounted_files::OpenRefusal;
 use std::alloc::AllocError;
@@ -13,7 +13,7 @@ use std::alloc::AllocError;
 #[derive(Debug, Drop)]
 pub enum OpenFault {
     DiskFault,
-    /// The journal's gate is open, and no whole body of an entry stands behind it.
+    /// An open entry of the journal isn't whole.
     BadJournal { at: u64 },
     /// The keys of `elektra.ecf` make no table.
     BadTable { fault: TableFault },

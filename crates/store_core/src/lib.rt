@@ -5,6 +5,7 @@ mod closing;
 mod committing;
 mod cores;
 mod faults;
+mod flushing;
 mod getting;
 mod laws;
 mod mounting;

@@ -1,151 +1,235 @@
--- A journal at rest between the phases.
-use Rattle.std.proofs.Common.{◌≡◌, ◌≢◌, ◌⊎◌, ℕ, List, true, inl, inr, Option, Some, None, Result, Ok, Err, OnOk, OnErr, refl, sym, subst, ◌∙◌}
+-- A journal at rest between the phases: what is known of it before and behind each step, and how it passes from one into the other.
+use Rattle.std.proofs.Common.{◌≡◌, ◌≢◌, ◌⊎◌, ℕ, ◌+◌, ◌≤◌, List, [], ◌∷◌, ◌++◌, length, Bool, true, false, inl, inr, Option, Some, None, Result, Ok, Err, OnOk, OnErr, refl, sym, ap, subst, ◌∙◌, arith, length-append}
+use Rattle.std.specs.Prelude.{not, ◌==◌}
+use Rattle.std.proofs.lemmas.Bool.{eqb-true, le-leb}
+use Rattle.std.proofs.lemmas.List.{nil_from_length}
+use Rattle.std.proofs.lemmas.Result.{on_ok_weaker}
 use Rattle.kdb_outside.specs.declared.disks.Disk.{Ghosts}
 use Rattle.kdb_outside.specs.declared.faults.Failed.{Failed}
 use Rattle.kdb_outside.specs.Frames.{OnlyReads}
-use Rattle.kdb_outside.specs.Images.{Image, IsImage, KeepsImages}
+use Rattle.kdb_outside.specs.Images.{Image, IsImage}
 use Rattle.journal_codec.specs.declared.files.FileText.{FileText}
-use Rattle.journal_codec.specs.Entry.{journal_name}
-use Rattle.intent_journal.specs.declared.states.State.{State}
-use Rattle.intent_journal.specs.declared.states.State.TheVariants.{Clean, Doubt, Lag}
-use Rattle.intent_journal.specs.Journal.{JournalValue}
-use Rattle.intent_journal.specs.Moments.{LeavesOnly}
-use Rattle.intent_journal.specs.Outcomes.{with_entry, HasOnly, IsOutcome, IsEither}
-use Rattle.intent_journal.specs.States.{IsSettled, IsDoubtful}
-use Rattle.intent_journal.specs.Steps.{IsUnfinished}
-use Rattle.intent_journal.proofs.Passages.{IsDoubtful-any, IsSettled-doubt, IsSettled-only, IsDoubtful-only, IsLagging-only}
-use Rattle.model_crashes.proofs.Moments.{only_follows}
-use Rattle.model_crashes.proofs.Reached.{only_weaker}
-use Rattle.store_phases.specs.Resting.{IsBehind, IsResting}
+use Rattle.journal_codec.specs.Entry.{IsEntry}
+use Rattle.journal_codec.specs.Forms.{spelled_on, behind_gate}
+use Rattle.journal_steps.specs.Moments.{LeavesOnly}
+use Rattle.journal_steps.specs.Outcomes.{with_entry, with_entries, IsOutcome, IsEither}
+use Rattle.intent_journal.specs.Grammar.{head_size, last_place}
+use Rattle.intent_journal.specs.Journal.{JournalValue, has_room}
+use Rattle.intent_journal.specs.Lists.{Fits}
+use Rattle.intent_journal.specs.Opens.{has_any}
+use Rattle.intent_journal.specs.Outcomes.{HasOnly}
+use Rattle.intent_journal.specs.States.{IsListed, IsSettled, IsInDoubt, IsUnfinished}
+use Rattle.intent_journal.proofs.Images.{listed_doubt, doubt_any, doubt_only}
+use Rattle.intent_journal.proofs.Opened.{listed_read, doubt_read}
+use Rattle.intent_journal.proofs.Passages.{no_entries}
+use Rattle.intent_journal.proofs.Sound.{fits_more}
+use Rattle.model_crashes.proofs.Moments.{only_follows, only_both}
+use Rattle.model_crashes.proofs.Reached.{only_weaker, with_entries-append}
+use Rattle.store_phases.specs.Phases.{IsSure}
+use Rattle.store_phases.specs.Resting.{IsResting}
 
-pub cases_state : (s : State) → (s ≡ Clean) ⊎ (s ≡ Doubt) ⊎ (s ≡ Lag)
-cases_state Clean = inl refl
-cases_state Doubt = inr (inl refl)
-cases_state Lag = inr (inr refl)
+-- ---- words
 
--- the files are among these, whatever the doubt
-pub only_files : (files image : Image) (doubt : Option (List FileText)) → HasOnly (IsOutcome files) image → HasOnly (IsEither files doubt) image
-only_files files image doubt only = only_weaker (IsOutcome files) (IsEither files doubt) image (λ outcome same. inl same) only
+pub cases_doubt : (b : Bool) → (b ≡ false) ⊎ (b ≡ true)
+cases_doubt false = inl refl
+cases_doubt true = inr refl
 
--- the files with an entry are among these with that doubt
-pub only_with : (files image : Image) (entry : List FileText) → HasOnly (IsOutcome (with_entry files entry)) image → HasOnly (IsEither files (Some entry)) image
-only_with files image entry only = only_weaker (IsOutcome (with_entry files entry)) (IsEither files (Some entry)) image (λ outcome same. inr (entry, refl, same)) only
+-- a list that is found empty, and one that is not
+pub no_entry : (list : List (List FileText)) → not (has_any list) ≡ true → list ≡ []
+no_entry list none = nil_from_length list (eqb-true (length list) 0 (twice (length list == 0) none))
+  where
+    twice : (b : Bool) → not (not b) ≡ true → b ≡ true
+    twice true is = refl
+    twice false is = is
 
-behind_only : (files last image : Image) (doubt : Option (List FileText)) → files ≡ last → HasOnly (IsOutcome last) image → HasOnly (IsEither files doubt) image
-behind_only files last image doubt is only = only_files files image doubt (subst (λ (f : Image). HasOnly (IsOutcome f) image) (sym is) only)
+pub some_entry : (list : List (List FileText)) → not (has_any list) ≡ false → list ≢ []
+some_entry list some is = let none : not (has_any list) ≡ true = ap (λ (es : List (List FileText)). not (has_any es)) is in cc
+
+-- an entry as it is put: the length, the body, and a closed gate
+pub encoded_size : (entry : List FileText) (encoded : List ℕ) → encoded ≡ behind_gate entry ++ 0 ∷ [] → length encoded ≡ length (spelled_on entry) + 5
+encoded_size entry encoded is =
+    let sized = ap length is in
+    let joined = length-append (behind_gate entry) (0 ∷ []) in
+    omega arith
+
+room_at_first : (size : ℕ) → size ≤ 67200000 → has_room [] size ≡ true
+room_at_first size short = le-leb (head_size + size) last_place (omega arith)
+
+-- ---- what each image of a resting journal stands for
+
+-- a sure journal is one with any doubt
+pub resting_doubt : {D : Type 0} (g : Ghosts D) (journal : JournalValue D) (files : Image) (doubt : Option (List FileText)) (rests : IsResting g journal files doubt)
+    → IsInDoubt (g.may_leave journal.disk) rests.before journal.list doubt
+resting_doubt g journal files doubt rests = elim (cases_doubt journal.in_doubt) [
+  | inl sure ↦ listed_doubt (g.may_leave journal.disk) rests.before journal.list doubt (rests.sure sure)
+  | inr in_doubt ↦ rests.doubtful in_doubt
+]
 
 -- at rest each image stands for the files, or for these with the doubt
 pub resting_only : {D : Type 0} (g : Ghosts D) (journal : JournalValue D) (files : Image) (doubt : Option (List FileText)) → IsResting g journal files doubt
     → (image : Image) → IsImage (g.may_leave journal.disk) image → HasOnly (IsEither files doubt) image
-resting_only g journal files doubt rests image is = elim (cases_state journal.state) [
-  | inl clean ↦ only_files files image doubt (IsSettled-only (g.may_leave journal.disk) files (rests.clean clean) image is)
-  | inr (inl in_doubt) ↦ IsDoubtful-only (g.may_leave journal.disk) files doubt (rests.doubtful in_doubt) image is
-  | inr (inr lag) ↦
-      let behind = rests.lag lag in
-      behind_only files (with_entry behind.before journal.entry) image doubt behind.last (IsLagging-only (g.may_leave journal.disk) behind.before journal.entry behind.lagging image is)
-]
+resting_only g journal files doubt rests image is =
+    subst (λ (f : Image). HasOnly (IsEither f doubt) image) (sym rests.with_list)
+    (doubt_only (g.may_leave journal.disk) rests.before journal.list doubt (resting_doubt g journal files doubt rests) image is)
 
--- a journal that doesn't lag is settled, or in doubt
-pub resting_doubt : {D : Type 0} (g : Ghosts D) (journal : JournalValue D) (files : Image) (doubt : Option (List FileText)) → IsResting g journal files doubt → journal.state ≢ Lag
-    → IsDoubtful (g.may_leave journal.disk) files doubt
-resting_doubt g journal files doubt rests not_lag = elim (cases_state journal.state) [
-  | inl clean ↦ IsSettled-doubt (g.may_leave journal.disk) files doubt (rests.clean clean)
-  | inr (inl in_doubt) ↦ rests.doubtful in_doubt
-  | inr (inr lag) ↦ absurd (not_lag lag)
-]
+-- the files with a list are the files behind it, while a gate is in doubt and while none is
+pub either_moment : {D : Type 0} (g : Ghosts D) (old new : D) (files last : Image) (doubt : Option (List FileText)) → files ≡ last → LeavesOnly g old new (HasOnly (IsEither last doubt))
+    → LeavesOnly g old new (HasOnly (IsEither files doubt))
+either_moment g old new files last doubt is only = subst (λ (f : Image). LeavesOnly g old new (HasOnly (IsEither f doubt))) (sym is) only
 
--- a gate that could not be closed
-pub rests_in_doubt : {D : Type 0} (g : Ghosts D) (journal : JournalValue D) (files : Image) (doubt : Option (List FileText)) → g.tells journal.disk ≡ true → journal.state ≡ Doubt
-    → IsDoubtful (g.may_leave journal.disk) files doubt → IsResting g journal files doubt
-rests_in_doubt g journal files doubt tells in_doubt state = record {
-  tells = tells;
-  clean = λ clean. absurd (let both : Doubt ≡ Clean = sym in_doubt ∙ clean in cc);
-  doubtful = λ _. state;
-  lag = λ lag. absurd (let both : Doubt ≡ Lag = sym in_doubt ∙ lag in cc);
-}
+pub outcome_moment : {D : Type 0} (g : Ghosts D) (old new : D) (files last : Image) (doubt : Option (List FileText)) → files ≡ last → LeavesOnly g old new (HasOnly (IsOutcome last))
+    → LeavesOnly g old new (HasOnly (IsEither files doubt))
+outcome_moment g old new files last doubt is only =
+    either_moment g old new files last doubt is
+    (only_follows g old new (HasOnly (IsOutcome last)) (HasOnly (IsEither last doubt)) (λ image has. only_weaker (IsOutcome last) (IsEither last doubt) image (λ outcome same. inl same) has) only)
 
-pub rests_unsettled : {D : Type 0} (g : Ghosts D) (journal : JournalValue D) (files : Image) (doubt : Option (List FileText)) (r : Result Unit Failed) → g.tells journal.disk ≡ true
-    → OnErr r (journal.state ≡ Doubt) → OnErr r (IsDoubtful (g.may_leave journal.disk) files doubt) → OnErr r (IsResting g journal files doubt)
-rests_unsettled g journal files doubt (Ok x) tells in_doubt state = tt
-rests_unsettled g journal files doubt (Err e) tells in_doubt state = rests_in_doubt g journal files doubt tells in_doubt state
+-- one step behind another
+pub moments_then : {D : Type 0} (g : Ghosts D) (old mid new : D) (P : Image → Type 0) → g.moment old ≤ g.moment mid → LeavesOnly g old mid P → LeavesOnly g mid new P → LeavesOnly g old new P
+moments_then g old mid new P later first second = only_both g old mid new P P P (λ image has. has) (λ image has. has) later first second
 
--- while an entry that lags is brought in
-pub behind_moment : {D : Type 0} (g : Ghosts D) (old new : D) (files before : Image) (entry : List FileText) (doubt : Option (List FileText)) → files ≡ with_entry before entry
-    → LeavesOnly g old new (HasOnly (IsOutcome (with_entry before entry))) → LeavesOnly g old new (HasOnly (IsEither files doubt))
-behind_moment g old new files before entry doubt is only =
-    only_follows g old new (HasOnly (IsOutcome (with_entry before entry))) (HasOnly (IsEither files doubt)) (λ image has. behind_only files (with_entry before entry) image doubt is has) only
+-- ---- what makes a journal rest
 
--- a disk that was only read
-settled_kept : (old new : List ℕ → List ℕ → Type 0) (files : Image) → KeepsImages old new → IsSettled old files → IsSettled new files
-settled_kept old new files kept state = record {
-  same = λ file own c is. state.same file own c ((kept file).no_more c is);
-  closed = λ c is. state.closed c ((kept journal_name).no_more c is);
-}
+module _ {D : Type 0} (g : Ghosts D) (journal : JournalValue D) (files before : Image) (list : List (List FileText)) (same : journal.list ≡ list) (with_list : files ≡ with_entries before list) where
+  behind : files ≡ with_entries before journal.list
+  behind = subst (λ (es : List (List FileText)). files ≡ with_entries before es) (sym same) with_list
 
-doubtful_kept : (old new : List ℕ → List ℕ → Type 0) (files : Image) (doubt : Option (List FileText)) → KeepsImages old new → IsDoubtful old files doubt → IsDoubtful new files doubt
-doubtful_kept old new files doubt kept state = record {
-  same = λ file own c is. state.same file own c ((kept file).no_more c is);
-  not_broken = λ image is. state.not_broken image (λ file own. (kept file).no_more (image file) (is file own));
-  outcomes = λ image entries is reads. state.outcomes image entries (λ file own. (kept file).no_more (image file) (is file own)) reads;
-}
+  -- the gate behind its list is closed for good
+  pub sure_listed : IsListed (g.may_leave journal.disk) before list → IsSure journal (g.may_leave journal.disk) files
+  sure_listed listed = record {
+    before = before;
+    with_list = behind;
+    listed = subst (λ (es : List (List FileText)). IsListed (g.may_leave journal.disk) before es) (sym same) listed;
+  }
 
-behind_kept : (old new : List ℕ → List ℕ → Type 0) (entry now : List FileText) (files : Image) → now ≡ entry → KeepsImages old new → IsBehind old entry files → IsBehind new now files
-behind_kept old new entry now files same kept behind = subst (λ (e : List FileText). IsBehind new e files) (sym same) (record {
-  before = behind.before;
-  last = behind.last;
-  lagging = record {
-    same = λ file own none c is. behind.lagging.same file own none c ((kept file).no_more c is);
-    opened = λ c is. behind.lagging.opened c ((kept journal_name).no_more c is);
-  };
-})
+  pub rests_listed : g.tells journal.disk ≡ true → (doubt : Option (List FileText)) → journal.in_doubt ≡ false → IsListed (g.may_leave journal.disk) before list → IsResting g journal files doubt
+  rests_listed tells doubt sure listed = record {
+    tells = tells;
+    before = before;
+    with_list = behind;
+    sure = λ _. subst (λ (es : List (List FileText)). IsListed (g.may_leave journal.disk) before es) (sym same) listed;
+    doubtful = λ in_doubt. absurd (let both : false ≡ true = sym sure ∙ in_doubt in cc);
+  }
 
-pub rests_read : {D : Type 0} (g : Ghosts D) (old new : JournalValue D) (files : Image) (doubt : Option (List FileText)) → OnlyReads g old.disk new.disk → new.state ≡ old.state → new.entry ≡ old.entry
-    → IsResting g old files doubt → IsResting g new files doubt
-rests_read g old new files doubt reads state entry rests = record {
-  tells = reads.tells ∙ rests.tells;
-  clean = λ is. settled_kept (g.may_leave old.disk) (g.may_leave new.disk) files (reads.images rests.tells) (rests.clean (sym state ∙ is));
-  doubtful = λ is. doubtful_kept (g.may_leave old.disk) (g.may_leave new.disk) files doubt (reads.images rests.tells) (rests.doubtful (sym state ∙ is));
-  lag = λ is. behind_kept (g.may_leave old.disk) (g.may_leave new.disk) old.entry new.entry files entry (reads.images rests.tells) (rests.lag (sym state ∙ is));
-}
+  -- or in doubt
+  pub rests_in_doubt : g.tells journal.disk ≡ true → (doubt : Option (List FileText)) → journal.in_doubt ≡ true → IsInDoubt (g.may_leave journal.disk) before list doubt → IsResting g journal files doubt
+  rests_in_doubt tells doubt in_doubt state = record {
+    tells = tells;
+    before = before;
+    with_list = behind;
+    sure = λ sure. absurd (let both : true ≡ false = sym in_doubt ∙ sure in cc);
+    doubtful = λ _. subst (λ (es : List (List FileText)). IsInDoubt (g.may_leave journal.disk) before es doubt) (sym same) state;
+  }
 
--- a gate that was closed
-pub rests_settled : {D : Type 0} (g : Ghosts D) (journal : JournalValue D) (files : Image) (doubt : Option (List FileText)) → g.tells journal.disk ≡ true → journal.state ≡ Clean → IsSettled (g.may_leave journal.disk) files
-    → IsResting g journal files doubt
-rests_settled g journal files doubt tells clean settled = record {
-  tells = tells;
-  clean = λ _. settled;
-  doubtful = λ in_doubt. absurd (let both : Clean ≡ Doubt = sym clean ∙ in_doubt in cc);
-  lag = λ lag. absurd (let both : Clean ≡ Lag = sym clean ∙ lag in cc);
-}
+pub rests_sure : {D : Type 0} (g : Ghosts D) (journal : JournalValue D) (files : Image) (doubt : Option (List FileText)) → g.tells journal.disk ≡ true → journal.in_doubt ≡ false
+    → IsSure journal (g.may_leave journal.disk) files → IsResting g journal files doubt
+rests_sure g journal files doubt tells in_doubt sure =
+    rests_listed g journal files sure.before journal.list refl sure.with_list tells doubt in_doubt sure.listed
 
--- behind a closing, settled or not, the journal is at rest
-pub closed_rests : {D : Type 0} (g : Ghosts D) (journal : JournalValue D) (files : Image) (doubt : Option (List FileText)) (r : Result Unit Failed) → g.tells journal.disk ≡ true → OnOk r (journal.state ≡ Clean)
-    → OnOk r (IsSettled (g.may_leave journal.disk) files) → OnErr r (IsResting g journal files doubt) → IsResting g journal files doubt
-closed_rests g journal files doubt (Ok x) tells clean settled rests = rests_settled g journal files doubt tells clean settled
-closed_rests g journal files doubt (Err e) tells clean settled rests = rests
+-- no entry waits, and nothing is in doubt
+pub rests_settled : {D : Type 0} (g : Ghosts D) (journal : JournalValue D) (files : Image) (doubt : Option (List FileText)) → g.tells journal.disk ≡ true → journal.list ≡ [] → journal.in_doubt ≡ false
+    → IsSettled (g.may_leave journal.disk) files → IsResting g journal files doubt
+rests_settled g journal files doubt tells none sure settled = rests_listed g journal files files [] none refl tells doubt sure settled
+
+-- ---- steps
+
+-- a list without an entry is settled where no gate is in doubt
+pub settled_empty : (leaves : List ℕ → List ℕ → Type 0) (files before : Image) (list : List (List FileText)) → list ≡ [] → files ≡ with_entries before list → IsListed leaves before list → IsSettled leaves files
+settled_empty leaves files before list none with_list listed =
+    let is : files ≡ before = subst (λ (es : List (List FileText)). files ≡ with_entries before es) none with_list in
+    subst (λ (f : Image). IsSettled leaves f) (sym is) (subst (λ (es : List (List FileText)). IsListed leaves before es) none listed)
+
+-- behind a finish
+module _ {D : Type 0} (g : Ghosts D) (new : JournalValue D) (files before : Image) (list : List (List FileText)) (with_list : files ≡ with_entries before list) where
+  pub finished_settled : (r : Result Unit Failed) → OnOk r (IsListed (g.may_leave new.disk) (with_entries before list) []) → OnOk r (IsSettled (g.may_leave new.disk) files)
+  finished_settled r settled = subst (λ (f : Image). OnOk r (IsSettled (g.may_leave new.disk) f)) (sym with_list) settled
+
+  module _ (tells : g.tells new.disk ≡ true) (doubt : Option (List FileText)) where
+    unfinished : (new.in_doubt ≡ false → new.list ≡ list) → (new.in_doubt ≡ true → new.list ≡ []) → IsUnfinished new.in_doubt before list (g.may_leave new.disk) → IsResting g new files doubt
+    unfinished lag none state = elim (cases_doubt new.in_doubt) [
+      | inl sure ↦
+          rests_listed g new files before list (lag sure) with_list tells doubt sure (subst (λ (b : Bool). IsUnfinished b before list (g.may_leave new.disk)) sure state)
+      | inr in_doubt ↦
+          rests_in_doubt g new files (with_entries before list) [] (none in_doubt) with_list tells doubt in_doubt
+          (doubt_any (g.may_leave new.disk) (with_entries before list) [] doubt (subst (λ (b : Bool). IsUnfinished b before list (g.may_leave new.disk)) in_doubt state))
+    ]
+
+    pub finished_rests : (r : Result Unit Failed) → OnErr r (new.in_doubt ≡ false → new.list ≡ list) → OnErr r (new.in_doubt ≡ true → new.list ≡ [])
+        → OnErr r (IsUnfinished new.in_doubt before list (g.may_leave new.disk)) → OnErr r (IsResting g new files doubt)
+    finished_rests (Ok x) lag none state = tt
+    finished_rests (Err e) lag none state = unfinished lag none state
+
+-- behind the closing of a gate in doubt
+module _ {D : Type 0} (g : Ghosts D) (new : JournalValue D) (files before : Image) (list : List (List FileText)) (same : new.list ≡ list) (with_list : files ≡ with_entries before list) where
+  pub settled_sure : (r : Result Unit Failed) → OnOk r (IsListed (g.may_leave new.disk) before list) → OnOk r (IsSure new (g.may_leave new.disk) files)
+  settled_sure r listed = on_ok_weaker r (sure_listed g new files before list same with_list) listed
+
+  pub unsettled_rests : (r : Result Unit Failed) (doubt : Option (List FileText)) → g.tells new.disk ≡ true → OnErr r (new.in_doubt ≡ true) → OnErr r (IsInDoubt (g.may_leave new.disk) before list doubt)
+      → OnErr r (IsResting g new files doubt)
+  unsettled_rests (Ok x) doubt tells in_doubt state = tt
+  unsettled_rests (Err e) doubt tells in_doubt state = rests_in_doubt g new files before list same with_list tells doubt in_doubt state
+
+-- room for an entry: a list has it still where only its gate was closed
+pub settled_room : {D : Type 0} (new : JournalValue D) (list : List (List FileText)) (size : ℕ) (r : Result Unit Failed) → new.list ≡ list → has_room list size ≡ true → OnOk r (new.in_doubt ≡ false)
+    → OnOk r ((new.in_doubt ≡ false) × (has_room new.list size ≡ true))
+settled_room new list size (Ok x) same room sure = (sure, subst (λ (es : List (List FileText)). has_room es size ≡ true) (sym same) room)
+settled_room new list size (Err e) same room sure = tt
+
+-- and an empty list has it for each
+module _ {D : Type 0} (new : JournalValue D) (size : ℕ) where
+  pub cleaned_room : (r : Result Unit Failed) → size ≤ 67200000 → OnOk r ((new.list ≡ []) × (new.in_doubt ≡ false)) → OnOk r ((new.in_doubt ≡ false) × (has_room new.list size ≡ true))
+  cleaned_room (Ok x) short state = (state.1, subst (λ (es : List (List FileText)). has_room es size ≡ true) (sym state.0) (room_at_first size short))
+  cleaned_room (Err e) short state = tt
+
+  pub cleaned_fits : (r : Result Unit Failed) → size ≤ 67200000 → OnOk r ((new.list ≡ []) × (new.in_doubt ≡ false))
+      → OnOk r ((entry : List FileText) → IsEntry entry → size ≡ length (spelled_on entry) → Fits (new.list ++ entry ∷ []))
+  cleaned_fits (Ok x) short state = λ entry is sized.
+      subst (λ (es : List (List FileText)). Fits (es ++ entry ∷ [])) (sym state.0) (fits_more [] entry size no_entries is sized (room_at_first size short))
+  cleaned_fits (Err e) short state = tt
+
+pub cleaned_sure : {D : Type 0} (g : Ghosts D) (new : JournalValue D) (files : Image) (r : Result Unit Failed) → OnOk r ((new.list ≡ []) × (new.in_doubt ≡ false)) → OnOk r (IsSettled (g.may_leave new.disk) files)
+    → OnOk r (IsSure new (g.may_leave new.disk) files)
+cleaned_sure g new files (Ok x) state settled = sure_listed g new files files [] state.0 refl settled
+cleaned_sure g new files (Err e) state settled = tt
+
+-- behind the opening of a gate
+module _ {D : Type 0} (g : Ghosts D) (new : JournalValue D) (files before : Image) (list : List (List FileText)) (entry : List FileText) (tells : g.tells new.disk ≡ true)
+    (with_list : files ≡ with_entries before list) where
+  with_one_more : with_entry files entry ≡ with_entries before (list ++ entry ∷ [])
+  with_one_more = ap (λ (f : Image). with_entry f entry) with_list ∙ sym (with_entries-append before list (entry ∷ []))
+
+  pub opened_rests : (r : Result Unit Failed) → OnOk r ((new.in_doubt ≡ false) × (new.list ≡ list ++ entry ∷ [])) → OnOk r (IsListed (g.may_leave new.disk) before (list ++ entry ∷ []))
+      → OnOk r (IsResting g new (with_entry files entry) None)
+  opened_rests (Ok x) state listed = rests_listed g new (with_entry files entry) before (list ++ entry ∷ []) state.1 with_one_more tells None state.0 listed
+  opened_rests (Err e) state listed = tt
+
+  pub unopened_rests : (r : Result Unit Failed) → OnErr r ((new.in_doubt ≡ true) × (new.list ≡ list)) → OnErr r (IsInDoubt (g.may_leave new.disk) before list (Some entry))
+      → OnErr r (IsResting g new files (Some entry))
+  unopened_rests (Ok x) state doubtful = tt
+  unopened_rests (Err e) state doubtful = rests_in_doubt g new files before list state.1 with_list tells (Some entry) state.0 doubtful
+
+-- behind a closing, settled or not
+pub closed_rests : {D : Type 0} (g : Ghosts D) (journal : JournalValue D) (files : Image) (doubt : Option (List FileText)) (r : Result Unit Failed) → g.tells journal.disk ≡ true
+    → OnOk r ((journal.list ≡ []) × (journal.in_doubt ≡ false)) → OnOk r (IsSettled (g.may_leave journal.disk) files) → OnErr r (IsResting g journal files doubt) → IsResting g journal files doubt
+closed_rests g journal files doubt (Ok x) tells state settled rests = rests_settled g journal files doubt tells state.0 state.1 settled
+closed_rests g journal files doubt (Err e) tells state settled rests = rests
 
 -- where nothing failed, all went well
 pub unless : (r : Result Unit Failed) (P R : Type 0) → OnOk r P → OnErr r R → ¬ R → P
 unless (Ok x) P R well failed never = well
 unless (Err e) P R well failed never = absurd (never failed)
 
--- behind a finish, the journal is at rest with the files before the entry and with it
-module _ {D : Type 0} (g : Ghosts D) (new : JournalValue D) (before files : Image) (entry : List FileText) (doubt : Option (List FileText)) (is : files ≡ with_entry before entry) (tells : g.tells new.disk ≡ true) where
-  finished_so : ((new.state ≡ Lag) × (new.entry ≡ entry)) ⊎ (new.state ≡ Doubt) → IsUnfinished new.state before entry (g.may_leave new.disk) → IsResting g new files doubt
-  finished_so (inl lag) unfinished = record {
-    tells = tells;
-    clean = λ clean. absurd (let both : Lag ≡ Clean = sym lag.0 ∙ clean in cc);
-    doubtful = λ in_doubt. absurd (let both : Lag ≡ Doubt = sym lag.0 ∙ in_doubt in cc);
-    lag = λ _. subst (λ (e : List FileText). IsBehind (g.may_leave new.disk) e files) (sym lag.1) (record { before = before; last = is; lagging = unfinished.lagging lag.0 });
-  }
-  finished_so (inr in_doubt) unfinished =
-      rests_in_doubt g new files doubt tells in_doubt
-      (IsDoubtful-any (g.may_leave new.disk) files doubt (subst (λ (f : Image). IsDoubtful (g.may_leave new.disk) f None) (sym is) (unfinished.doubtful in_doubt)))
+-- ---- a disk that was only read
 
-  pub finished_rests : (r : Result Unit Failed) → OnErr r (((new.state ≡ Lag) × (new.entry ≡ entry)) ⊎ (new.state ≡ Doubt)) → OnErr r (IsUnfinished new.state before entry (g.may_leave new.disk))
-      → OnErr r (IsResting g new files doubt)
-  finished_rests (Ok x) state unfinished = tt
-  finished_rests (Err e) state unfinished = finished_so state unfinished
-
-  pub finished_settled : (r : Result Unit Failed) → OnOk r (IsSettled (g.may_leave new.disk) (with_entry before entry)) → OnOk r (IsSettled (g.may_leave new.disk) files)
-  finished_settled r settled = subst (λ (f : Image). OnOk r (IsSettled (g.may_leave new.disk) f)) (sym is) settled
+pub rests_read : {D : Type 0} (g : Ghosts D) (old new : JournalValue D) (files : Image) (doubt : Option (List FileText)) → OnlyReads g old.disk new.disk → new.list ≡ old.list → new.in_doubt ≡ old.in_doubt
+    → IsResting g old files doubt → IsResting g new files doubt
+rests_read g old new files doubt reads list in_doubt rests =
+    let tells = reads.tells ∙ rests.tells in
+    let kept = reads.images rests.tells in
+    elim (cases_doubt new.in_doubt) [
+      | inl sure ↦
+          rests_listed g new files rests.before old.list list rests.with_list tells doubt sure
+          (listed_read (g.may_leave old.disk) (g.may_leave new.disk) rests.before old.list kept (rests.sure (sym in_doubt ∙ sure)))
+      | inr doubted ↦
+          rests_in_doubt g new files rests.before old.list list rests.with_list tells doubt doubted
+          (doubt_read (g.may_leave old.disk) (g.may_leave new.disk) rests.before old.list doubt kept (rests.doubtful (sym in_doubt ∙ doubted)))
+    ]

@@ -1,5 +1,5 @@
--- How a run goes on: over a commit, a read, a closing.
-use Rattle.std.proofs.Common.{◌≡◌, ◌≢◌, ℕ, ◌≤◌, List, [], ◌∷◌, ◌++◌, length, inl, inr, refl, Option, None, Result, Ok, Err, OnOk, OnErr, sym, subst, ◌∙◌, arith}
+-- How a run goes on: over a commit, a flush, a read, a closing.
+use Rattle.std.proofs.Common.{◌≡◌, ◌≢◌, ℕ, ◌≤◌, List, [], ◌∷◌, ◌++◌, length, Bool, true, false, inl, inr, refl, Option, None, Result, Ok, Err, OnOk, OnErr, sym, subst, ◌∙◌, arith}
 use Rattle.kdb_outside.specs.declared.disks.Disk.{Ghosts}
 use Rattle.kdb_outside.specs.declared.faults.Failed.{Failed}
 use Rattle.kdb_outside.specs.Faults.{HasRisen}
@@ -7,40 +7,33 @@ use Rattle.kdb_outside.specs.Frames.{GoesOn, OnlyReads}
 use Rattle.kdb_outside.specs.Images.{Image}
 use Rattle.kdb_outside.proofs.Rises.{risen_since, risen_still}
 use Rattle.journal_codec.specs.declared.files.FileText.{FileText}
-use Rattle.intent_journal.specs.declared.states.State.TheVariants.{Clean, Doubt, Lag}
-use Rattle.intent_journal.specs.JournalBytes.{IsOwnFile}
+use Rattle.journal_steps.specs.JournalBytes.{IsOwnFile}
+use Rattle.journal_steps.specs.Moments.{LeavesOnly}
+use Rattle.journal_steps.specs.Outcomes.{with_entry, with_entries, IsEither}
 use Rattle.intent_journal.specs.Journal.{JournalValue}
-use Rattle.intent_journal.specs.Moments.{LeavesOnly}
-use Rattle.intent_journal.specs.Outcomes.{with_entry, HasOnly, IsEither}
-use Rattle.intent_journal.specs.States.{IsCalm}
-use Rattle.intent_journal.proofs.Calm.{calm_kept, settled_calm}
+use Rattle.intent_journal.specs.Outcomes.{HasOnly}
+use Rattle.intent_journal.specs.States.{IsCalm, IsInDoubt}
+use Rattle.intent_journal.proofs.ListCalm.{listed_calm}
+use Rattle.intent_journal.proofs.OpenSteps.{calm_kept}
 use Rattle.model_crashes.specs.Runs.{Run, files_of, IsBegun, IsReached, IsAmid, IsOneOf, new_run, after_begun, after_commit}
 use Rattle.model_crashes.proofs.Moments.{only_both, only_read, only_now}
 use Rattle.model_crashes.proofs.Reached.{files_of-commit, IsBegun-more, IsBegun-before, begun_last, reached_more, reached_next, reached_begun, reached_now, reached_amid}
 use Rattle.store_phases.specs.Resting.{IsResting}
 use Rattle.store_phases.specs.Stores.{IsStore}
-use Rattle.store_phases.proofs.Resting.{cases_state, resting_only, rests_read}
+use Rattle.store_phases.proofs.Resting.{cases_doubt, resting_doubt, resting_only, rests_read}
 
 -- a run begins
-pub IsStore-new : {D : Type 0} (g : Ghosts D) (journal : JournalValue D) (files : Image) (faults : ℕ) (doubt : Option (List FileText)) → faults ≤ g.faults journal.disk → journal.state ≡ Doubt
+pub IsStore-new : {D : Type 0} (g : Ghosts D) (journal : JournalValue D) (files : Image) (faults : ℕ) (doubt : Option (List FileText)) → faults ≤ g.faults journal.disk
     → IsResting g journal files doubt → IsCalm (g.seen journal.disk) (g.may_leave journal.disk) files doubt → IsStore g journal.disk journal (new_run files faults doubt)
-IsStore-new g journal files faults doubt risen in_doubt rests calm = record {
+IsStore-new g journal files faults doubt risen rests calm = record {
   later = omega arith;
   risen = risen;
   rests = rests;
   doubt_begun = IsBegun-before doubt;
-  lag_cause = λ lag. absurd (let both : Doubt ≡ Lag = sym in_doubt ∙ lag in cc);
   calm = λ _ _. calm;
   always = only_now g journal.disk (IsReached files [] (new_run files faults doubt).begun) rests.tells
       (λ image is. reached_now files [] (new_run files faults doubt).begun doubt image (IsBegun-before doubt) (resting_only g journal files doubt rests image is));
 }
-
--- a journal that lags or is in doubt is not clean
-not_clean_lag : {D : Type 0} (journal : JournalValue D) → journal.state ≡ Lag → journal.state ≢ Clean
-not_clean_lag journal lag clean = let both : Lag ≡ Clean = sym lag ∙ clean in cc
-
-not_clean_doubt : {D : Type 0} (journal : JournalValue D) → journal.state ≡ Doubt → journal.state ≢ Clean
-not_clean_doubt journal in_doubt clean = let both : Doubt ≡ Clean = sym in_doubt ∙ clean in cc
 
 -- what was left amid a commit is reached by the run behind it
 amid_committed : {D : Type 0} (g : Ghosts D) (opened old new : D) (run : Run) (entry : List FileText) → g.moment opened ≤ g.moment old → IsBegun run.begun (length run.commits) run.doubt
@@ -63,17 +56,20 @@ amid_begun g opened old new run entry later was always amid =
     (λ image has. reached_amid run.files run.commits run.begun run.doubt entry image was has)
     later always amid
 
+-- a journal without a doubt is in none
+no_doubt : (b : Bool) → b ≡ false → b ≢ true
+no_doubt b sure in_doubt = let both : false ≡ true = sym sure ∙ in_doubt in cc
+
 -- an acknowledged commit
 pub IsStore-committed : {D : Type 0} (g : Ghosts D) (opened : D) (old new : JournalValue D) (run : Run) (entry : List FileText) → IsStore g opened old run → GoesOn g old.disk new.disk
-    → IsResting g new (with_entry (files_of run) entry) None → (new.state ≢ Clean → HasRisen (g.faults old.disk) (g.faults new.disk))
+    → IsResting g new (with_entry (files_of run) entry) None → new.in_doubt ≡ false
     → LeavesOnly g old.disk new.disk (IsAmid (files_of run) run.doubt entry) → IsStore g opened new (after_commit run entry)
-IsStore-committed g opened old new run entry store goes rests risen amid = record {
+IsStore-committed g opened old new run entry store goes rests sure amid = record {
   later = let first = store.later in let second = goes.moment in omega arith;
   risen = let first = store.risen in let second = goes.later in omega arith;
   rests = subst (λ (files : Image). IsResting g new files None) (sym (files_of-commit run entry)) rests;
   doubt_begun = tt;
-  lag_cause = λ lag. risen_since run.faults (g.faults old.disk) (g.faults new.disk) store.risen (risen (not_clean_lag new lag));
-  calm = λ in_doubt still. absurd (still (risen_since run.faults (g.faults old.disk) (g.faults new.disk) store.risen (risen (not_clean_doubt new in_doubt))));
+  calm = λ in_doubt still. absurd (no_doubt new.in_doubt sure in_doubt);
   always = amid_committed g opened old.disk new.disk run entry store.later store.doubt_begun store.always amid;
 }
 
@@ -96,16 +92,15 @@ IsStore-begun g opened old new run entry later store goes one_of rests risen ami
       risen = let first = store.risen in let second = goes.later in omega arith;
       rests = rests;
       doubt_begun = begun_one_of run entry later one_of store.doubt_begun;
-      lag_cause = λ lag. has_risen;
       calm = λ in_doubt still. absurd (still has_risen);
       always = amid_begun g opened old.disk new.disk run entry store.later store.doubt_begun store.always amid;
     }
 
 pub committed : {D : Type 0} (g : Ghosts D) (opened : D) (old new : JournalValue D) (run : Run) (entry : List FileText) (r : Result Unit Failed) → IsStore g opened old run → GoesOn g old.disk new.disk
-    → OnOk r (IsResting g new (with_entry (files_of run) entry) None) → (new.state ≢ Clean → HasRisen (g.faults old.disk) (g.faults new.disk))
+    → OnOk r (IsResting g new (with_entry (files_of run) entry) None) → OnOk r (new.in_doubt ≡ false)
     → LeavesOnly g old.disk new.disk (IsAmid (files_of run) run.doubt entry) → OnOk r (IsStore g opened new (after_commit run entry))
-committed g opened old new run entry (Ok x) store goes rests risen amid = IsStore-committed g opened old new run entry store goes rests risen amid
-committed g opened old new run entry (Err e) store goes rests risen amid = tt
+committed g opened old new run entry (Ok x) store goes rests sure amid = IsStore-committed g opened old new run entry store goes rests sure amid
+committed g opened old new run entry (Err e) store goes rests sure amid = tt
 
 pub failed : {D : Type 0} (g : Ghosts D) (opened : D) (old new : JournalValue D) (run : Run) (entry : List FileText) (r : Result Unit Failed) → IsStore g opened old run → GoesOn g old.disk new.disk
     → OnErr r ((later : Option (List FileText)) × IsOneOf later run.doubt entry × IsResting g new (files_of run) later) → OnErr r (HasRisen (g.faults old.disk) (g.faults new.disk))
@@ -114,54 +109,64 @@ pub failed : {D : Type 0} (g : Ghosts D) (opened : D) (old new : JournalValue D)
 failed g opened old new run entry (Ok x) store goes one_of risen amid = tt
 failed g opened old new run entry (Err e) store goes one_of risen amid = (one_of.0, one_of.1, IsStore-begun g opened old new run entry one_of.0 store goes one_of.1 one_of.2 risen amid)
 
+-- what is left while the files of the run take their contents is reached
+pub rests_reached : {D : Type 0} (g : Ghosts D) (opened old new : D) (run : Run) → g.moment opened ≤ g.moment old → IsBegun run.begun (length run.commits) run.doubt
+    → LeavesOnly g opened old (IsReached run.files run.commits run.begun) → LeavesOnly g old new (HasOnly (IsEither (files_of run) run.doubt))
+    → LeavesOnly g opened new (IsReached run.files run.commits run.begun)
+rests_reached g opened old new run later was always closing =
+    only_both g opened old new (IsReached run.files run.commits run.begun) (HasOnly (IsEither (files_of run) run.doubt)) (IsReached run.files run.commits run.begun)
+    (λ image reached. reached) (λ image has. reached_now run.files run.commits run.begun run.doubt image was has) later always closing
+
+-- a flush keeps the run: a gate is in doubt behind it only where it failed
+pub IsStore-flushed : {D : Type 0} (g : Ghosts D) (opened : D) (old new : JournalValue D) (run : Run) → IsStore g opened old run → GoesOn g old.disk new.disk → IsResting g new (files_of run) run.doubt
+    → (new.in_doubt ≡ true → HasRisen (g.faults old.disk) (g.faults new.disk)) → LeavesOnly g old.disk new.disk (HasOnly (IsEither (files_of run) run.doubt)) → IsStore g opened new run
+IsStore-flushed g opened old new run store goes rests risen moments = record {
+  later = let first = store.later in let second = goes.moment in omega arith;
+  risen = let first = store.risen in let second = goes.later in omega arith;
+  rests = rests;
+  doubt_begun = store.doubt_begun;
+  calm = λ in_doubt still. absurd (still (risen_since run.faults (g.faults old.disk) (g.faults new.disk) store.risen (risen in_doubt)));
+  always = rests_reached g opened old.disk new.disk run store.later store.doubt_begun store.always moments;
+}
+
+pub flushed_sure : (P : Type 0) (b : Bool) → b ≡ false → b ≡ true → P
+flushed_sure P b sure in_doubt = absurd (no_doubt b sure in_doubt)
+
 -- a read
-pub IsStore-read : {D : Type 0} (g : Ghosts D) (opened : D) (old new : JournalValue D) (run : Run) → OnlyReads g old.disk new.disk → new.state ≡ old.state → new.entry ≡ old.entry
+pub IsStore-read : {D : Type 0} (g : Ghosts D) (opened : D) (old new : JournalValue D) (run : Run) → OnlyReads g old.disk new.disk → new.list ≡ old.list → new.in_doubt ≡ old.in_doubt
     → IsStore g opened old run → IsStore g opened new run
-IsStore-read g opened old new run reads state entry store =
+IsStore-read g opened old new run reads list same store =
     let tells = store.rests.tells in
     record {
       later = let first = store.later in let second = reads.moment in omega arith;
       risen = let first = store.risen in let second = reads.later in omega arith;
-      rests = rests_read g old new (files_of run) run.doubt reads state entry store.rests;
+      rests = rests_read g old new (files_of run) run.doubt reads list same store.rests;
       doubt_begun = store.doubt_begun;
-      lag_cause = λ lag. risen_still run.faults (g.faults old.disk) (g.faults new.disk) store.risen reads.later (store.lag_cause (sym state ∙ lag));
       calm = λ in_doubt still.
           calm_kept (g.seen old.disk) (g.seen new.disk) (g.may_leave old.disk) (g.may_leave new.disk) (files_of run) run.doubt (reads.same tells) (reads.images tells)
-          (store.calm (sym state ∙ in_doubt) (λ risen. still (risen_still run.faults (g.faults old.disk) (g.faults new.disk) store.risen reads.later risen)));
-      always =
-          only_both g opened old.disk new.disk (IsReached run.files run.commits run.begun) (HasOnly (IsEither (files_of run) run.doubt)) (IsReached run.files run.commits run.begun)
-          (λ image reached. reached) (λ image has. reached_now run.files run.commits run.begun run.doubt image store.doubt_begun has) store.later store.always
+          (store.calm (sym same ∙ in_doubt) (λ risen. still (risen_still run.faults (g.faults old.disk) (g.faults new.disk) store.risen reads.later risen)));
+      always = rests_reached g opened old.disk new.disk run store.later store.doubt_begun store.always
           (only_read g old.disk new.disk (HasOnly (IsEither (files_of run) run.doubt)) tells reads (resting_only g old (files_of run) run.doubt store.rests));
     }
 
--- where no fault came, a read gives the files of the run
-pub read_of_run : {D : Type 0} (g : Ghosts D) (opened : D) (journal : JournalValue D) (run : Run) (file : List ℕ) → IsStore g opened journal run → ¬ HasRisen run.faults (g.faults journal.disk) → ¬ IsOwnFile file
+-- where no entry waits, a read gives the files of the run
+pub read_of_run : {D : Type 0} (g : Ghosts D) (opened : D) (journal : JournalValue D) (run : Run) (file : List ℕ) → IsStore g opened journal run → journal.list ≡ [] → ¬ IsOwnFile file
     → g.seen journal.disk file ≡ files_of run file
-read_of_run g opened journal run file store still own =
-    let is = g.read_is_image journal.disk store.rests.tells file in
-    elim (cases_state journal.state) [
-      | inl clean ↦ (store.rests.clean clean).same file own (g.seen journal.disk file) is
-      | inr (inl in_doubt) ↦ (store.rests.doubtful in_doubt).same file own (g.seen journal.disk file) is
-      | inr (inr lag) ↦ absurd (still (store.lag_cause lag))
-    ]
-
--- what is left while the run is closed is reached
-pub closing_reached : {D : Type 0} (g : Ghosts D) (opened old new : D) (run : Run) → g.moment opened ≤ g.moment old → IsBegun run.begun (length run.commits) run.doubt
-    → LeavesOnly g opened old (IsReached run.files run.commits run.begun) → LeavesOnly g old new (HasOnly (IsEither (files_of run) run.doubt))
-    → LeavesOnly g opened new (IsReached run.files run.commits run.begun)
-closing_reached g opened old new run later was always closing =
-    only_both g opened old new (IsReached run.files run.commits run.begun) (HasOnly (IsEither (files_of run) run.doubt)) (IsReached run.files run.commits run.begun)
-    (λ image reached. reached) (λ image has. reached_now run.files run.commits run.begun run.doubt image was has) later always closing
+read_of_run g opened journal run file store none own =
+    let rests = store.rests in
+    let state = resting_doubt g journal (files_of run) run.doubt rests in
+    let empty = subst (λ (es : List (List FileText)). IsInDoubt (g.may_leave journal.disk) rests.before es run.doubt) none state in
+    let files : files_of run ≡ rests.before = subst (λ (es : List (List FileText)). files_of run ≡ with_entries rests.before es) none rests.with_list in
+    empty.same file own refl (g.seen journal.disk file) (g.read_is_image journal.disk rests.tells file) ∙ subst (λ (f : Image). rests.before file ≡ f file) (sym files) refl
 
 -- where no fault came, the disk is calm
 pub calm_of_run : {D : Type 0} (g : Ghosts D) (opened : D) (journal : JournalValue D) (run : Run) → IsStore g opened journal run → ¬ HasRisen run.faults (g.faults journal.disk)
     → IsCalm (g.seen journal.disk) (g.may_leave journal.disk) (files_of run) run.doubt
-calm_of_run g opened journal run store still = elim (cases_state journal.state) [
-  | inl clean ↦
-      settled_calm (g.seen journal.disk) (g.may_leave journal.disk) (files_of run) (files_of run) run.doubt (store.rests.clean clean) (g.read_is_image journal.disk store.rests.tells)
-      (inl (λ file own. refl))
-  | inr (inl in_doubt) ↦ store.calm in_doubt still
-  | inr (inr lag) ↦ absurd (still (store.lag_cause lag))
+calm_of_run g opened journal run store still = elim (cases_doubt journal.in_doubt) [
+  | inl sure ↦
+      listed_calm (g.seen journal.disk) (g.may_leave journal.disk) store.rests.before (files_of run) journal.list run.doubt (store.rests.sure sure) (g.read_is_image journal.disk store.rests.tells)
+      (subst (λ (f : Image). IsEither (files_of run) run.doubt f) store.rests.with_list (inl (λ file own. refl)))
+  | inr in_doubt ↦ store.calm in_doubt still
 ]
 
 -- a run stands since now too
@@ -171,7 +176,6 @@ IsStore-from_now g opened journal run store = record {
   risen = store.risen;
   rests = store.rests;
   doubt_begun = store.doubt_begun;
-  lag_cause = store.lag_cause;
   calm = store.calm;
   always = only_now g journal.disk (IsReached run.files run.commits run.begun) store.rests.tells
       (λ image is. reached_now run.files run.commits run.begun run.doubt image store.doubt_begun (resting_only g journal (files_of run) run.doubt store.rests image is));

@@ -1,32 +1,40 @@
 -- What `open` promises, by the disk that it was handed, and by its answer. This project's own.
-use Rattle.std.specs.Prelude.{◌≡◌, ◌≢◌, ℕ, Some, None, true, is_some, Result, IfOk, IfErr, OnOk}
+use Rattle.std.specs.Prelude.{◌≡◌, ◌≢◌, ℕ, List, [], Option, Some, None, true, Result, IfOk, IfErr, OnOk}
 use Rattle.kdb_outside.specs.declared.disks.Disk.{Ghosts}
 use Rattle.kdb_outside.specs.Crashes.{EveryImage}
 use Rattle.kdb_outside.specs.Faults.{HasRisen}
 use Rattle.kdb_outside.specs.Frames.{GoesOn, OnlyReads}
-use Rattle.intent_journal.specs.declared.faults.JournalFault.TheVariants.{DiskFault, BadJournal}
-use Rattle.intent_journal.specs.declared.faults.JournalRefused.{JournalRefused}
-use Rattle.intent_journal.specs.declared.states.State.TheVariants.{Doubt}
-use Rattle.intent_journal.specs.BadJournals.{bad_place, open_entry, opened_files, opened_doubt}
+use Rattle.journal_steps.specs.declared.faults.JournalFault.TheVariants.{DiskFault, BadJournal}
+use Rattle.journal_steps.specs.declared.faults.JournalRefused.{JournalRefused}
+use Rattle.intent_journal.specs.Opened.{bad_place, open_list, opened_files, IsFresh, MayBeLeft}
 use Rattle.intent_journal.specs.Journal.{JournalValue}
-use Rattle.intent_journal.specs.Moments.{LeavesOnly}
-use Rattle.intent_journal.specs.Opened.{disk_of, fault_of}
-use Rattle.intent_journal.specs.Opens.{WhereCalm}
-use Rattle.intent_journal.specs.Outcomes.{SameFiles, HasOnly, IsEither}
+use Rattle.journal_steps.specs.Moments.{LeavesOnly}
+use Rattle.journal_codec.specs.declared.files.FileText.{FileText}
+use Rattle.intent_journal.specs.Opens.{disk_of, fault_of, has_any}
+use Rattle.intent_journal.specs.Openings.{WhereCalm}
+use Rattle.intent_journal.specs.Outcomes.{HasOnly}
+use Rattle.journal_steps.specs.Outcomes.{SameFiles, IsEither}
 use Rattle.intent_journal.specs.States.{IsCalm}
 use Rattle.model_crashes.specs.Runs.{new_run}
 use Rattle.store_phases.specs.Stores.{IsStore}
 
+-- a run begins on the files that the opening leaves, with what that leaves in doubt
+pub record HasBegun {D : Type 0} (g : Ghosts D) (disk : D) (journal : JournalValue D) : Type 0 where
+  pub later : Option (List FileText)
+  pub may_be : MayBeLeft (g.seen disk) later
+  pub store : IsStore g journal.disk journal (new_run (opened_files (g.seen disk)) (g.faults disk) later)
+
 pub record OpensRun {D : Type 0} (g : Ghosts D) (disk : D) (result : Result (JournalValue D) (JournalRefused D)) : Type 0 where
-  -- a run begins on the files that the opening of a calm disk leaves, and on the disk's own where these are the same
+  -- a run begins on the files that the opening of a calm disk leaves, with what that leaves in doubt, and on the disk's
+  -- own where these are the same
   pub files : WhereCalm g disk (λ files doubt. IsEither files doubt (opened_files (g.seen disk)))
-  pub opened : WhereCalm g disk (λ files doubt. IfOk result (λ journal. IsStore g journal.disk journal (new_run (opened_files (g.seen disk)) (g.faults disk) (opened_doubt (g.seen disk)))))
+  pub opened : WhereCalm g disk (λ files doubt. IfOk result (λ journal. HasBegun g disk journal))
   pub own : WhereCalm g disk (λ files doubt. SameFiles files (opened_files (g.seen disk)) → IfOk result (λ journal. IsStore g journal.disk journal (new_run files (g.faults disk) doubt)))
   pub shown : WhereCalm g disk (λ files doubt. IfOk result (λ journal. SameFiles (g.seen journal.disk) (opened_files (g.seen disk))))
-  pub doubt : IfOk result (λ journal. journal.state ≡ Doubt)
+  pub fresh : IfOk result (λ journal. IsFresh journal)
   -- a disk without an open entry is only read
-  pub recovered : g.tells disk ≡ true → IfOk result (λ journal. journal.recovered ≡ is_some (open_entry (g.seen disk)))
-  pub reads : g.tells disk ≡ true → open_entry (g.seen disk) ≡ None → OnlyReads g disk (disk_of result)
+  pub recovered : g.tells disk ≡ true → IfOk result (λ journal. journal.recovered ≡ has_any (open_list (g.seen disk)))
+  pub reads : g.tells disk ≡ true → open_list (g.seen disk) ≡ [] → OnlyReads g disk (disk_of result)
   pub kept : IfErr result (λ refused. refused.fault ≢ DiskFault → OnlyReads g disk refused.disk)
   -- why it is refused
   pub good : g.tells disk ≡ true → OnOk result (bad_place (g.seen disk) ≡ None)

@@ -1,10 +1,9 @@
 -- A store over a journal, seen as a run on the disk as its opening left it. This project's own.
-use Rattle.std.specs.Prelude.{◌≡◌, ◌≤◌, length}
+use Rattle.std.specs.Prelude.{◌≡◌, ◌≤◌, length, true}
 use Rattle.kdb_outside.specs.declared.disks.Disk.{Ghosts}
 use Rattle.kdb_outside.specs.Faults.{HasRisen}
-use Rattle.intent_journal.specs.declared.states.State.TheVariants.{Doubt, Lag}
 use Rattle.intent_journal.specs.Journal.{JournalValue}
-use Rattle.intent_journal.specs.Moments.{LeavesOnly}
+use Rattle.journal_steps.specs.Moments.{LeavesOnly}
 use Rattle.intent_journal.specs.States.{IsCalm}
 use Rattle.model_crashes.specs.Runs.{Run, files_of, IsBegun, IsReached}
 use Rattle.store_phases.specs.Resting.{IsResting}
@@ -17,9 +16,7 @@ pub record IsStore {D : Type 0} (g : Ghosts D) (opened : D) (journal : JournalVa
   pub rests : IsResting g journal (files_of run) run.doubt
   -- which was begun behind the last commit
   pub doubt_begun : IsBegun run.begun (length run.commits) run.doubt
-  -- files wait for their contents only after a fault
-  pub lag_cause : journal.state ≡ Lag → HasRisen run.faults (g.faults journal.disk)
-  -- where the count of faults didn't rise since the run began, the disk is calm
-  pub calm : journal.state ≡ Doubt → ¬ HasRisen run.faults (g.faults journal.disk) → IsCalm (g.seen journal.disk) (g.may_leave journal.disk) (files_of run) run.doubt
+  -- where the count of faults didn't rise since the run began, a disk whose gate is in doubt is calm
+  pub calm : journal.in_doubt ≡ true → ¬ HasRisen run.faults (g.faults journal.disk) → IsCalm (g.seen journal.disk) (g.may_leave journal.disk) (files_of run) run.doubt
   -- a crash at any moment since the opening leaves the files of a prefix of the commits, or these with one entry that was begun on it
   pub always : LeavesOnly g opened journal.disk (IsReached run.files run.commits run.begun)

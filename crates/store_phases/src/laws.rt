@@ -1,7 +1,8 @@
 //! Facts about a journal that stands for a run. Nothing here runs: each function stands for its contract.
 ghost use Rattle.kdb_outside.specs.Crashes.{EveryImage};
 ghost use Rattle.kdb_outside.specs.Faults.{HasRisen};
-ghost use Rattle.intent_journal.specs.Outcomes.{HasOnly, IsEither};
+ghost use Rattle.intent_journal.specs.Outcomes.{HasOnly};
+ghost use Rattle.journal_steps.specs.Outcomes.{IsEither};
 ghost use Rattle.intent_journal.specs.States.{IsCalm};
 ghost use Rattle.model_crashes.specs.Runs.{Run, files_of};
 ghost use Rattle.store_phases.specs.Stores.{IsStore};

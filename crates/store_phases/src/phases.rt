@@ -1,79 +1,86 @@
-//! The phases of a commit on the disk: the journal is made clean, the entry is put and its gate opened, and it comes into its files.
-ghost use Rattle.std.specs.Prelude.{◌≡◌, ◌≢◌, ◌++◌, length, List, Option, Some, None, true, OnOk, OnErr};
-ghost use Rattle.kdb_outside.specs.Faults.{HasRisen};
-ghost use Rattle.kdb_outside.specs.Frames.{GoesOn};
+//! The phases of a commit on the disk: room is made for an entry, it is put behind the list, and its gate opened. The
+//! files take the contents of the whole list at once, when it is brought in.
+ghost use Rattle.std.specs.Prelude.{◌≡◌, ◌≤◌, ◌++◌, ◌∷◌, [], length, List, Option, Some, None, true, false, OnOk, OnErr};
 ghost use Rattle.kdb_outside.specs.Images.{Image};
 ghost use Rattle.journal_codec.specs.declared.files.FileText.{FileText as Item};
-ghost use Rattle.journal_codec.specs.Entry.{IsEntry, length_bytes, spelled};
-ghost use Rattle.intent_journal.specs.declared.states.State.TheVariants.{Clean as IsClean, Lag as IsLag};
-ghost use Rattle.intent_journal.specs.Moments.{LeavesOnly};
-ghost use Rattle.intent_journal.specs.Outcomes.{with_entry, HasOnly, IsOutcome, IsEither};
-ghost use Rattle.intent_journal.specs.States.{IsSettled, IsLagging};
+ghost use Rattle.journal_codec.specs.Entry.{IsEntry};
+ghost use Rattle.journal_codec.specs.Forms.{behind_gate, spelled_on};
+ghost use Rattle.journal_steps.specs.Moments.{LeavesOnly};
+ghost use Rattle.journal_steps.specs.Outcomes.{with_entry, IsEither};
+ghost use Rattle.intent_journal.specs.Journal.{has_room};
+ghost use Rattle.intent_journal.specs.Lists.{Fits};
+ghost use Rattle.intent_journal.specs.States.{IsSettled};
 ghost use Rattle.intent_journal.specs.Steps.{Passes};
 ghost use Rattle.model_crashes.specs.Runs.{IsAmid, IsOneOf};
-ghost use Rattle.store_phases.specs.Phases.{IsPhase};
+ghost use Rattle.store_phases.specs.Phases.{IsPhase, IsSure};
 ghost use Rattle.store_phases.specs.Resting.{IsResting};
 
-use intent_journal::{Journal, State};
+use intent_journal::Journal;
 use journal_codec::FileText;
 use kdb_outside::{Disk, Failed};
 use key_meta::List;
 
-/// Brings in the entry of a commit that lags, or closes a gate in doubt, so that the next entry may be put.
+/// Closes a gate in doubt, and brings the entries of the list into their files.
 pub fn make_clean<D: Disk>(journal: &mut Journal<D>) -> Result<(), Failed>
-    ensures ok { OnOk result (journal.new.state ≡ IsClean) }
-    ensures err { OnErr result (journal.new.state ≢ IsClean) }
+    ensures ok { OnOk result ((journal.new.list ≡ []) × (journal.new.in_doubt ≡ false)) }
     ensures phase { IsPhase D.Disk journal.old journal.new result }
     ensures passes { (files : Image) (doubt : Option (List Item)) → IsResting D.Disk journal.old files doubt
-        → Passes D.Disk journal.old.disk journal.new.disk result (λ leaves. IsSettled leaves files) (λ leaves. IsResting D.Disk journal.new files doubt) (IsEither files doubt) }
+        → Passes D.Disk journal.old.disk journal.new.disk result (λ leaves. IsSettled leaves files)
+        (λ leaves. IsResting D.Disk journal.new files doubt) (IsEither files doubt) }
 {
-    if journal.state() == State::Lag {
-        return journal.finish();
+    journal.settle()?;
+    if journal.is_empty() {
+        return Ok(());
     }
-    journal.settle()
+    journal.finish()
 }
 
-/// Puts the body of these files behind the closed gate, and opens it. From `Ok` on they are stored, whatever happens.
+/// Closes a gate in doubt, so that an entry with a body of this size may be put, and brings the list in where it has no
+/// room for it.
+pub fn make_room<D: Disk>(journal: &mut Journal<D>, body: usize) -> Result<(), Failed>
+    requires { body ≤ 67200000 }
+    ensures ok { OnOk result ((journal.new.in_doubt ≡ false) × (has_room journal.new.list body ≡ true)) }
+    ensures fits { OnOk result ((entry : List Item) → IsEntry entry → body ≡ length (spelled_on entry)
+        → Fits (journal.new.list ++ entry ∷ [])) }
+    ensures phase { IsPhase D.Disk journal.old journal.new result }
+    ensures passes { (files : Image) (doubt : Option (List Item)) → IsResting D.Disk journal.old files doubt
+        → Passes D.Disk journal.old.disk journal.new.disk result (λ leaves. IsSure journal.new leaves files)
+        (λ leaves. IsResting D.Disk journal.new files doubt) (IsEither files doubt) }
+{
+    if journal.fits(body) {
+        return journal.settle();
+    }
+    make_clean(journal)
+}
+
+/// Puts the body of these files behind the list, and opens its gate. From `Ok` on they are stored, whatever happens.
 pub fn begin<D: Disk>(
     journal: &mut Journal<D>,
     encoded: &[u8],
     files: List<FileText>,
 ) -> Result<(), Failed>
-    requires clean { journal.old.state ≡ IsClean }
-    requires entry { IsEntry files }
-    requires encoded { encoded.now ≡ length_bytes (length (spelled files)) ++ spelled files }
-    ensures ok { OnOk result ((journal.new.state ≡ IsLag) × (journal.new.entry ≡ files)) }
+    requires sure { journal.old.in_doubt ≡ false }
+    requires fits { Fits (journal.old.list ++ files ∷ []) }
+    requires encoded { encoded.now ≡ behind_gate files ++ 0 ∷ [] }
+    ensures ok { OnOk result ((journal.new.in_doubt ≡ false) × (journal.new.list ≡ journal.old.list ++ files ∷ [])) }
     ensures phase { IsPhase D.Disk journal.old journal.new result }
-    ensures passes { D.tells journal.old.disk ≡ true → (before : Image) → IsSettled (D.may_leave journal.old.disk) before
-        → Passes D.Disk journal.old.disk journal.new.disk result (λ leaves. IsLagging leaves before files) (λ leaves. IsResting D.Disk journal.new before (Some files)) (IsEither before (Some files)) }
+    ensures passes { (before : Image) (doubt : Option (List Item)) → IsResting D.Disk journal.old before doubt
+        → Passes D.Disk journal.old.disk journal.new.disk result (λ leaves. IsResting D.Disk journal.new (with_entry before files) None)
+        (λ leaves. IsResting D.Disk journal.new before (Some files)) (IsEither before (Some files)) }
 {
     journal.put_body(encoded)?;
     journal.open_gate(files)
 }
 
-/// Brings the open entry into its files, and closes the gate. A failure is no refusal: the entry is stored, and the next phase to
-/// come finishes it.
-pub fn bring_in<D: Disk>(journal: &mut Journal<D>)
-    requires { journal.old.state ≡ IsLag }
-    ensures rests { D.tells journal.old.disk ≡ true → (before : Image) → IsLagging (D.may_leave journal.old.disk) before journal.old.entry
-        → IsResting D.Disk journal.new (with_entry before journal.old.entry) None }
-    ensures any_moment { D.tells journal.old.disk ≡ true → (before : Image) → IsLagging (D.may_leave journal.old.disk) before journal.old.entry
-        → LeavesOnly D.Disk journal.old.disk journal.new.disk (HasOnly (IsOutcome (with_entry before journal.old.entry))) }
-    ensures recovered { journal.new.recovered ≡ journal.old.recovered }
-    ensures goes { GoesOn D.Disk journal.old.disk journal.new.disk }
-    ensures cause { journal.new.state ≢ IsClean → HasRisen (D.faults journal.old.disk) (D.faults journal.new.disk) }
-{
-    let _ = journal.finish();
-}
-
-/// Stores an entry: its files change together, and are stored from `Ok` on, whatever failed behind the opening of the gate.
+/// Stores an entry: its files change together, and are stored from `Ok` on. They take their contents later.
 pub fn store<D: Disk>(
     journal: &mut Journal<D>,
     encoded: &[u8],
     files: List<FileText>,
 ) -> Result<(), Failed>
     requires entry { IsEntry files }
-    requires encoded { encoded.now ≡ length_bytes (length (spelled files)) ++ spelled files }
+    requires encoded { encoded.now ≡ behind_gate files ++ 0 ∷ [] }
+    ensures sure { OnOk result (journal.new.in_doubt ≡ false) }
     ensures committed { (before : Image) (doubt : Option (List Item)) → IsResting D.Disk journal.old before doubt
         → OnOk result (IsResting D.Disk journal.new (with_entry before files) None) }
     ensures failed { (before : Image) (doubt : Option (List Item)) → IsResting D.Disk journal.old before doubt
@@ -81,10 +88,8 @@ pub fn store<D: Disk>(
     ensures any_moment { (before : Image) (doubt : Option (List Item)) → IsResting D.Disk journal.old before doubt
         → LeavesOnly D.Disk journal.old.disk journal.new.disk (IsAmid before doubt files) }
     ensures phase { IsPhase D.Disk journal.old journal.new result }
-    ensures rest_cause { journal.new.state ≢ IsClean → HasRisen (D.faults journal.old.disk) (D.faults journal.new.disk) }
 {
-    make_clean(journal)?;
-    begin(journal, encoded, files)?;
-    bring_in(journal);
-    Ok(())
+    // The length stands in four bytes before the body, and a closed gate in one behind it.
+    make_room(journal, encoded.len() - 5)?;
+    begin(journal, encoded, files)
 }

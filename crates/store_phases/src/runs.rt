@@ -1,14 +1,16 @@
 //! A run of commits on a journal, from its opening to its close.
-ghost use Rattle.std.specs.Prelude.{◌≡◌, ◌++◌, length, List, Option, true, Err, IfOk, OnOk, OnErr};
+ghost use Rattle.std.specs.Prelude.{◌≡◌, ◌≢◌, ◌++◌, ◌∷◌, [], List, Option, true, false, Ok, Err, IfOk, OnOk, OnErr};
 ghost use Rattle.backend_files.specs.WholeFile.{IsWhole, IsShort, IsGiven};
 ghost use Rattle.kdb_outside.specs.Crashes.{EveryImage};
 ghost use Rattle.kdb_outside.specs.Faults.{HasCause, HasRisen};
 ghost use Rattle.kdb_outside.specs.Frames.{GoesOn, OnlyReads};
 ghost use Rattle.journal_codec.specs.declared.files.FileText.{FileText as Item};
-ghost use Rattle.journal_codec.specs.Entry.{IsEntry, length_bytes, spelled};
-ghost use Rattle.intent_journal.specs.JournalBytes.{IsOwnFile};
-ghost use Rattle.intent_journal.specs.Moments.{LeavesOnly};
-ghost use Rattle.intent_journal.specs.Outcomes.{HasOnly, IsEither};
+ghost use Rattle.journal_codec.specs.Entry.{IsEntry};
+ghost use Rattle.journal_codec.specs.Forms.{behind_gate};
+ghost use Rattle.journal_steps.specs.JournalBytes.{IsOwnFile};
+ghost use Rattle.journal_steps.specs.Moments.{LeavesOnly};
+ghost use Rattle.intent_journal.specs.Outcomes.{HasOnly};
+ghost use Rattle.journal_steps.specs.Outcomes.{IsEither};
 ghost use Rattle.intent_journal.specs.States.{IsSettled};
 ghost use Rattle.model_crashes.specs.Runs.{Run, files_of, IsReached, IsAmid, IsOneOf, after_begun, after_commit};
 ghost use Rattle.store_phases.specs.Opens.{OpensRun};
@@ -17,8 +19,9 @@ ghost use Rattle.store_phases.specs.Stores.{IsStore};
 
 use crate::phases::{make_clean, store};
 use backend_files::{FileFault, FileRead};
-use intent_journal::{Journal, JournalRefused};
+use intent_journal::Journal;
 use journal_codec::FileText;
+use journal_steps::JournalRefused;
 use kdb_outside::{Disk, Failed, FileName};
 use key_meta::List;
 use std::alloc::Global;
@@ -30,14 +33,15 @@ pub fn open<D: Disk>(alloc: Global, disk: D) -> Result<Journal<D>, JournalRefuse
     Journal::open(alloc, disk)
 }
 
-/// Stores an entry of the run. From `Ok` on every crash leaves it; after `Err` at most one entry is in doubt.
+/// Stores an entry of the run, whose files take their contents later. From `Ok` on every crash leaves it; after `Err` at
+/// most one entry is in doubt.
 pub fn commit<D: Disk>(
     journal: &mut Journal<D>,
     encoded: &[u8],
     files: List<FileText>,
 ) -> Result<(), Failed>
     requires entry { IsEntry files }
-    requires encoded { encoded.now ≡ length_bytes (length (spelled files)) ++ spelled files }
+    requires encoded { encoded.now ≡ behind_gate files ++ 0 ∷ [] }
     ensures committed { (opened : D) (run : Run) → IsStore D.Disk opened journal.old run
         → OnOk result (IsStore D.Disk opened journal.new (after_commit run files)) }
     ensures failed { (opened : D) (run : Run) → IsStore D.Disk opened journal.old run
@@ -50,13 +54,34 @@ pub fn commit<D: Disk>(
     store(journal, encoded, files)
 }
 
-/// A file, read whole. Where no fault came since the run began, it is as the run's commits leave it.
+/// Brings the entries that wait into their files, and closes a gate in doubt before. False exactly where none waits, and
+/// then nothing is done. The run stays: what it stored is stored, and what may come into the files may do so still.
+pub fn flush<D: Disk>(journal: &mut Journal<D>) -> Result<bool, Failed>
+    ensures none { journal.old.list ≡ [] → (journal.new ≡ journal.old) × (result ≡ Ok false) }
+    ensures some { journal.old.list ≢ [] → IfOk result (λ wrote. wrote ≡ true) }
+    ensures store { (opened : D) (run : Run) → IsStore D.Disk opened journal.old run → IsStore D.Disk opened journal.new run }
+    ensures settled { (opened : D) (run : Run) → IsStore D.Disk opened journal.old run → result ≡ Ok true
+        → IsSettled (D.may_leave journal.new.disk) (files_of run) }
+    ensures any_moment { (opened : D) (run : Run) → IsStore D.Disk opened journal.old run
+        → LeavesOnly D.Disk journal.old.disk journal.new.disk (HasOnly (IsEither (files_of run) run.doubt)) }
+    ensures recovered { journal.new.recovered ≡ journal.old.recovered }
+    ensures goes { GoesOn D.Disk journal.old.disk journal.new.disk }
+    ensures cause { HasCause (D.faults journal.old.disk) (D.faults journal.new.disk) result }
+{
+    if journal.is_empty() {
+        return Ok(false);
+    }
+    make_clean(journal)?;
+    Ok(true)
+}
+
+/// A file, read whole. Where no entry waits, it is as the run's commits leave it.
 pub fn read<D: Disk>(
     journal: &mut Journal<D>,
     alloc: Global,
     file: &FileName,
 ) -> Result<FileRead, FileFault>
-    ensures told { (opened : D) (run : Run) → IsStore D.Disk opened journal.old run → ¬ HasRisen run.faults (D.faults journal.old.disk)
+    ensures told { (opened : D) (run : Run) → IsStore D.Disk opened journal.old run → journal.old.list ≡ []
         → ¬ IsOwnFile file.now → IfOk result (IsWhole (files_of run file.now)) }
     ensures seen { D.tells journal.old.disk ≡ true → IfOk result (IsWhole (D.seen journal.old.disk file.now)) }
     ensures short { IfOk result IsShort }
@@ -68,7 +93,8 @@ pub fn read<D: Disk>(
     journal.read_file(alloc, file)
 }
 
-/// Ends the run, and gives the disk back. A failure is no refusal: what is stored stays so.
+/// Ends the run: what waits is brought into its files, and a gate in doubt closed. A failure is no refusal: what is
+/// stored stays so.
 pub fn close<D: Disk>(journal: Journal<D>) -> D
     ensures always { (opened : D) (run : Run) → IsStore D.Disk opened journal run
         → LeavesOnly D.Disk opened result (IsReached run.files run.commits run.begun) }

@@ -4,3 +4,4 @@ pub mod StepLemmas
 pub mod CauseLemmas
 pub mod PlayLemmas
 pub mod RunLemmas
+pub mod FlushLemmas

@@ -7,11 +7,12 @@ use Rattle.kdb_outside.specs.Frames.{GoesOn}
 use Rattle.kdb_outside.specs.Images.{Image}
 use Rattle.kdb_outside.specs.declared.disks.Disk.{Ghosts}
 use Rattle.kdb_outside.proofs.Rises.{risen_since, risen_still}
-use Rattle.intent_journal.specs.BadJournals.{opened_files}
-use Rattle.intent_journal.specs.Moments.{LeavesOnly}
-use Rattle.intent_journal.specs.Outcomes.{HasOnly, IsEither}
+use Rattle.intent_journal.specs.Opened.{opened_files}
+use Rattle.journal_steps.specs.Moments.{LeavesOnly}
+use Rattle.intent_journal.specs.Outcomes.{HasOnly}
+use Rattle.journal_steps.specs.Outcomes.{IsEither}
 use Rattle.intent_journal.specs.States.{IsCalm, IsSettled}
-use Rattle.intent_journal.proofs.Calm.{settled_calm}
+use Rattle.intent_journal.proofs.Opened.{settled_calm}
 use Rattle.journal_codec.specs.declared.files.FileText.{FileText}
 use Rattle.model_crashes.specs.Runs.{Run, IsReached, files_of}
 use Rattle.model_crashes.proofs.Moments.{only_both}
@@ -37,7 +38,7 @@ use Rattle.store_core.specs.declared.faults.OpenFault.TheVariants.{BadJournal, D
 use Rattle.store_core.specs.declared.faults.OpenRefused.{OpenRefused}
 use Rattle.store_play.specs.Handles.{Holds, AreHandles, AreNew, HoldNothing, procs_at, records_of}
 use Rattle.store_play.specs.Plays.{Does, HasPlayed, Plays}
-use Rattle.store_play.specs.Ran.{HasPlayedNew, HasRun, HasRunFiles, HasRunOpened, IsNeverBroken, WasOrReached, disk_of, first_stage, store_with}
+use Rattle.store_play.specs.Ran.{HasPlayedNew, HasRun, HasRunFiles, HasRunOpened, CrashesCalm, WasOrReached, disk_of, first_stage, store_with}
 use Rattle.store_play.specs.Stages.{Stage, set_asked, stage_of}
 use Rattle.store_play.specs.Told.{asked_of}
 use Rattle.store_play.specs.declared.events.Answer.{Answer}
@@ -185,11 +186,11 @@ module _ (formats : Formats) (Reads : Reading) (IsBad : Badness) {D P : Type 0} 
 
 -- ---- a journal that isn't broken
 
-pub sound_now : {D : Type 0} (g : Ghosts D) (disk : D) (P : Image → Type 0) → EveryImage (g.may_leave disk) (HasOnly P) → IsNeverBroken g disk
-sound_now g disk P every image is = (every image is).not_broken
+pub sound_now : {D : Type 0} (g : Ghosts D) (disk : D) (files : Image) (doubt : Option (List FileText)) → EveryImage (g.may_leave disk) (HasOnly (IsEither files doubt)) → CrashesCalm g disk
+sound_now g disk files doubt every image is = (files, doubt, every image is)
 
-pub sound_since : {D : Type 0} (g : Ghosts D) (old new : D) (P : Image → Type 0) → g.tells old ≡ true → GoesOn g old new → LeavesOnly g old new (HasOnly P) → IsNeverBroken g new
-sound_since g old new P tells goes only image is = (only.each image (g.counts_now new (g.moment old) image (goes.tells ∙ tells) goes.moment is)).not_broken
+pub sound_since : {D : Type 0} (g : Ghosts D) (old new : D) (files : Image) (doubt : Option (List FileText)) → g.tells old ≡ true → GoesOn g old new → LeavesOnly g old new (HasOnly (IsEither files doubt)) → CrashesCalm g new
+sound_since g old new files doubt tells goes only image is = (files, doubt, only.each image (g.counts_now new (g.moment old) image (goes.tells ∙ tells) goes.moment is))
 
 -- ---- a run that is refused
 

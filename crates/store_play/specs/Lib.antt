@@ -4,3 +4,4 @@ pub mod Told
 pub mod Plays
 pub mod Ran
 pub mod Causes
+pub mod Flushed

@@ -5,12 +5,11 @@ use Rattle.kdb_outside.specs.Faults.{HasRisen}
 use Rattle.kdb_outside.specs.Frames.{GoesOn}
 use Rattle.kdb_outside.specs.Images.{Image}
 use Rattle.kdb_outside.specs.declared.disks.Disk.{Ghosts}
-use Rattle.intent_journal.specs.BadJournals.{opened_doubt, opened_files}
-use Rattle.intent_journal.specs.Readings.{IsBroken}
-use Rattle.intent_journal.specs.Moments.{LeavesOnly}
-use Rattle.intent_journal.specs.Outcomes.{HasOnly, IsEither, SameFiles}
+use Rattle.intent_journal.specs.Opened.{opened_files, IsFresh, MayBeLeft}
+use Rattle.intent_journal.specs.Outcomes.{HasOnly}
+use Rattle.journal_steps.specs.Moments.{LeavesOnly}
+use Rattle.journal_steps.specs.Outcomes.{IsEither, SameFiles}
 use Rattle.intent_journal.specs.States.{IsCalm}
-use Rattle.intent_journal.specs.declared.states.State.TheVariants.{Doubt}
 use Rattle.journal_codec.specs.declared.files.FileText.{FileText}
 use Rattle.model_crashes.specs.Runs.{Run, files_of, IsReached, new_run}
 use Rattle.model_files.specs.Texts.{entries_of}
@@ -73,9 +72,13 @@ abbrev pub disk_of : {D P : Type 0} → Result (Ran D P) (OpenRefused D P) → D
 disk_of (Ok ran) = ran.disk
 disk_of (Err refused) = refused.disk
 
--- no crash leaves a broken journal
-abbrev pub IsNeverBroken : {D : Type 0} → Ghosts D → D → Type 0
-IsNeverBroken g disk = EveryImage (g.may_leave disk) (λ image. ¬ IsBroken image)
+-- an image that stands for some files, or for these with one entry: a disk that has it alone is calm
+abbrev pub StandsForOne : Image → Type 0
+StandsForOne image = (files : Image) × (doubt : Option (List FileText)) × HasOnly (IsEither files doubt) image
+
+-- each crash leaves such an image
+abbrev pub CrashesCalm : {D : Type 0} → Ghosts D → D → Type 0
+CrashesCalm g disk = EveryImage (g.may_leave disk) StandsForOne
 
 -- an image that stands for what a calm disk stood for, or for what a run reached
 abbrev pub WasOrReached : Image → Option (List FileText) → Run → Image → Type 0
@@ -105,9 +108,13 @@ pub record HasRun (formats : Formats) {D P : Type 0} (g : Ghosts D) (mounted : L
 abbrev pub FromCalm : {D : Type 0} → Ghosts D → D → (Image → Option (List FileText) → Type 0) → Type 0
 FromCalm g disk P = (files : Image) (doubt : Option (List FileText)) → IsCalm (g.seen disk) (g.may_leave disk) files doubt → P files doubt
 
--- the run that begins on the files that the journal of a disk leaves, or on these files
-abbrev pub opened_run : {D : Type 0} → Ghosts D → D → Run
-opened_run g disk = new_run (opened_files (g.seen disk)) (g.faults disk) (opened_doubt (g.seen disk))
+-- the run that begins on the files that the journal of a disk leaves, with what that leaves in doubt
+abbrev pub opened_run : {D : Type 0} → Ghosts D → D → Option (List FileText) → Run
+opened_run g disk later = new_run (opened_files (g.seen disk)) (g.faults disk) later
+
+-- one that may begin so has a property
+abbrev pub ForOpenedRun : {D : Type 0} → Ghosts D → D → (Run → Type 0) → Type 0
+ForOpenedRun g disk Property = (later : Option (List FileText)) × MayBeLeft (g.seen disk) later × Property (opened_run g disk later)
 
 -- events were played on the store of some opened files, behind a run that began as the first one
 abbrev pub HasRunFiles : Formats → Reading → Badness → {D P : Type 0} → Ghosts D → List KeyMap → ℕ → List Event → D → Image → Option (List FileText) → Run → Ran D P → Type 0
@@ -116,8 +123,8 @@ HasRunFiles formats Reads IsBad g procs places events disk files doubt first ran
 
 -- of `run`
 pub record RunsStore (formats : Formats) (Reads : Reading) (IsBad : Badness) {D P : Type 0} (g : Ghosts D) (refusals : P → ℕ) (procs : List KeyMap) (places : ℕ) (events : List Event) (disk : D) (matcher : P) (result : Result (Ran D P) (OpenRefused D P)) : Type 0 where
-  pub sound : IsNeverBroken g (disk_of result)
-  pub ran : FromCalm g disk (λ files doubt. IfOk result (HasRunFiles formats Reads IsBad g procs places events disk files doubt (opened_run g disk)))
+  pub sound : CrashesCalm g (disk_of result)
+  pub ran : FromCalm g disk (λ files doubt. IfOk result (λ ran. ForOpenedRun g disk (λ first. HasRunFiles formats Reads IsBad g procs places events disk files doubt first ran)))
   pub own : FromCalm g disk (λ files doubt. SameFiles files (opened_files (g.seen disk)) → IfOk result (HasRunFiles formats Reads IsBad g procs places events disk files doubt (new_run files (g.faults disk) doubt)))
   pub causes : IfOk result (λ ran. All (IsCaused (g.faults disk) (g.faults ran.disk) (refusals matcher) (refusals ran.patterns)) ran.answers)
   pub later : IfOk result (λ ran. refusals matcher ≤ refusals ran.patterns)
@@ -128,7 +135,7 @@ pub record RunsStore (formats : Formats) (Reads : Reading) (IsBad : Badness) {D 
   pub patterns : IfErr result (λ refused. refused.patterns ≡ matcher)
   -- and leaves the disk as calm as before, where it didn't fail, and whole whenever it crashed
   pub calm_still : FromCalm g disk (λ files doubt. IfErr result (λ refused. ¬ HasRisen (g.faults disk) (g.faults refused.disk) → IsCalm (g.seen refused.disk) (g.may_leave refused.disk) files doubt))
-  pub any_moment : FromCalm g disk (λ files doubt. IfErr result (λ refused. LeavesOnly g disk refused.disk (WasOrReached files doubt (opened_run g disk))))
+  pub any_moment : FromCalm g disk (λ files doubt. IfErr result (λ refused. ForOpenedRun g disk (λ first. LeavesOnly g disk refused.disk (WasOrReached files doubt first))))
   pub own_any_moment : FromCalm g disk (λ files doubt. SameFiles files (opened_files (g.seen disk)) → IfErr result (λ refused. LeavesOnly g disk refused.disk (WasOrReached files doubt (new_run files (g.faults disk) doubt))))
   pub goes : GoesOn g disk (disk_of result)
 
@@ -139,13 +146,13 @@ StandsNew formats g mounted procs core start run = StandsFor formats g (store_wi
 -- of the run of a store that was just opened
 pub record RunsOpened (formats : Formats) {D P : Type 0} (g : Ghosts D) (refusals : P → ℕ) (mounted : List MountedFile) (procs : List KeyMap) (places : ℕ) (events : List Event) (core : Core D P) (result : Result (Ran D P) (OpenRefused D P)) : Type 0 where
   pub ran : (start : D) (run : Run) → StandsNew formats g mounted procs core start run → IfOk result (HasRunOpened formats g mounted procs places start run events)
-  pub sound : IsNeverBroken g (disk_of result)
+  pub sound : CrashesCalm g (disk_of result)
   pub causes : IfOk result (λ ran. All (IsCaused (g.faults core.journal.disk) (g.faults ran.disk) (refusals core.patterns) (refusals ran.patterns)) ran.answers)
   pub later : IfOk result (λ ran. refusals core.patterns ≤ refusals ran.patterns)
   pub refused : IfErr result (λ refused. refused.fault ≡ Memory)
   pub patterns : IfErr result (λ refused. refused.patterns ≡ core.patterns)
   pub reached : (start : D) (run : Run) → StandsNew formats g mounted procs core start run → IfErr result (λ refused. LeavesOnly g start refused.disk (IsReached run.files run.commits run.begun))
-  pub still : (start : D) (run : Run) (files : Image) (doubt : Option (List FileText)) → StandsNew formats g mounted procs core start run → core.journal.state ≡ Doubt → IsEither files doubt (files_of run)
+  pub still : (start : D) (run : Run) (files : Image) (doubt : Option (List FileText)) → StandsNew formats g mounted procs core start run → IsFresh core.journal → IsEither files doubt (files_of run)
       → IfErr result (λ refused. ¬ HasRisen (g.faults core.journal.disk) (g.faults refused.disk) → IsCalm (g.seen core.journal.disk) (g.may_leave core.journal.disk) files doubt
       → IsCalm (g.seen refused.disk) (g.may_leave refused.disk) files doubt)
   pub goes : GoesOn g core.journal.disk (disk_of result)

@@ -46,3 +46,11 @@ pub enum Answer {
     Committed(Result<Done, CommitFault>),
     Skipped(Skip),
 }
+
+/// How flushes between events went: how many wrote what waited, found nothing that waits, and failed.
+#[derive(Clone, Copy, Debug, PartialEq, Eq)]
+pub struct Flushes {
+    pub wrote: u64,
+    pub idle: u64,
+    pub failed: u64,
+}

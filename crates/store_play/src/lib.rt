@@ -3,13 +3,14 @@
 
 mod committing;
 mod events;
+mod flushing;
 mod getting;
 mod handles;
 mod playing;
 mod preparing;
 mod running;
 
-pub use events::{Answer, Event, Skip};
+pub use events::{Answer, Event, Flushes, Skip};
 pub use handles::Handles;
 pub use playing::play;
 pub use running::{Ran, run};

@@ -12,9 +12,10 @@ ghost use Rattle.store_play.specs.Plays.{HasPlayed, Stepped};
 ghost use Rattle.store_play.specs.Stages.{stage_of};
 
 use crate::committing::play_commit;
+use crate::flushing::flush_behind;
 use crate::getting::play_get;
 use crate::preparing::play_prepare;
-use crate::{Answer, Event, Handles};
+use crate::{Answer, Event, Flushes, Handles};
 use kdb_outside::Disk;
 use key_meta::{List, Memory};
 use regex_check::Patterns;
@@ -22,7 +23,7 @@ use std::alloc::Global;
 use storage_api::Formats;
 use store_core::{Core, Plan};
 
-/// Plays events one after the other. Where memory for the answers is wanting, none is played.
+/// Plays events one after the other, and makes a flush behind each of these numbers of them. Where memory for the answers is wanting, none is played.
 ///
 /// Each call that an event makes is judged as the definitions of a store say, and the store has one owner: each answer is the one that is meant by
 /// the history, the handle's fronts and what was asked. The core stands again, with a run that went on by these answers, so that a crash at any moment
@@ -33,6 +34,8 @@ pub fn play<D: Disk, F: Formats + Drop, P: Patterns + Drop>(
     core: &mut Core<D, P>,
     handles: &mut Handles,
     events: &[Event],
+    flushes: &[usize],
+    told: &mut Flushes,
 ) -> Result<List<Answer>, Memory>
     requires holding { IsHolding (formats_of F.Formats) D.Disk plan.now.mounted core.old (records_in handles.old) (places_in handles.old) }
     ensures played { (procs : ℕ → KeyMap) (opened : D) (known : ℕ → Option sets.Prepared) (world : World) (run : Run)
@@ -45,10 +48,35 @@ pub fn play<D: Disk, F: Formats + Drop, P: Patterns + Drop>(
 {
     let mut answers = Vec::with_capacity(alloc, events.len())?;
     for event in events {
-        let answer = step(alloc, plan, core, handles, event);
+        let count = answers.len() + 1;
+        let answer = turn(alloc, plan, core, handles, event, flushes, count, told);
         answers.push_reserved(answer);
     }
     Ok(List::from_vec(answers))
+}
+
+/// Plays one event, and makes the flushes that come behind so many events. A flush is no event: what is kept stays, and so does what the run stored.
+fn turn<D: Disk, F: Formats + Drop, P: Patterns + Drop>(
+    alloc: Global,
+    plan: &Plan<F>,
+    core: &mut Core<D, P>,
+    handles: &mut Handles,
+    event: &Event,
+    flushes: &[usize],
+    count: usize,
+    told: &mut Flushes,
+) -> Answer
+    requires holding { IsHolding (formats_of F.Formats) D.Disk plan.now.mounted core.old (records_in handles.old) (places_in handles.old) }
+    ensures stepped { (procs : ℕ → KeyMap) (opened : D) (known : ℕ → Option sets.Prepared) (world : World) (run : Run)
+        → Holds (formats_of F.Formats) D.Disk plan.now.mounted procs opened core.old (records_in handles.old) (places_in handles.old) known world run
+        → Stepped (formats_of F.Formats) D.Disk plan.now.mounted procs opened (stage_of core.old (records_in handles.old) (places_in handles.old) known run) event.now result core.new (records_in handles.new) (places_in handles.new) }
+    ensures goes { GoesOn D.Disk core.old.journal.disk core.new.journal.disk }
+    ensures later { P.refusals core.old.patterns ≤ P.refusals core.new.patterns }
+    ensures cause { IsCaused (D.faults core.old.journal.disk) (D.faults core.new.journal.disk) (P.refusals core.old.patterns) (P.refusals core.new.patterns) result }
+{
+    let answer = step(alloc, plan, core, handles, event);
+    flush_behind(core, flushes, count, told);
+    answer
 }
 
 /// Plays one event.

@@ -11,7 +11,7 @@ ghost use Rattle.store_play.specs.Causes.{IsCaused};
 ghost use Rattle.store_play.specs.Ran.{HasPlayedNew, RunsOpened, RunsStore, StandsNew};
 ghost use Rattle.store_verdict.specs.ProcKeys.{AreProc};
 
-use crate::{Answer, Event, Handles, play};
+use crate::{Answer, Event, Flushes, Handles, play};
 use commit_log::History;
 use kdb_outside::Disk;
 use key_meta::{List, Memory};
@@ -28,10 +28,11 @@ pub struct Ran<D: Disk, P: Patterns + Drop> {
     pub patterns: P,
     pub history: History,
     pub answers: List<Answer>,
+    pub flushes: Flushes,
 }
 
-/// Opens the store of a calm disk, plays events by new handles, and closes it. No crash then leaves a broken journal, so
-/// that the disk that a crash leaves is calm again. It is refused where the store isn't opened, and where memory is wanting
+/// Opens the store of a calm disk, plays events by new handles, with a flush behind each of these numbers of them, and closes it. What a crash then leaves
+/// is calm again. It is refused where the store isn't opened, and where memory is wanting
 /// before the first event; the disk and the matcher are then handed back. Where no fault came the disk is calm again, refused or not.
 pub fn run<D: Disk, F: Formats + Drop, P: Patterns + Drop>(
     alloc: Global,
@@ -41,6 +42,7 @@ pub fn run<D: Disk, F: Formats + Drop, P: Patterns + Drop>(
     procs: &[KeySet],
     places: usize,
     events: &[Event],
+    flushes: &[usize],
 ) -> Result<Ran<D, P>, OpenRefused<D, P>>
     requires tells { D.tells disk ≡ true }
     requires calm { (files : Image) × (doubt : Option (List Item)) × IsCalm (D.seen disk) (D.may_leave disk) files doubt }
@@ -49,7 +51,7 @@ pub fn run<D: Disk, F: Formats + Drop, P: Patterns + Drop>(
     ensures { RunsStore (formats_of F.Formats) F.reads F.is_bad_at D.Disk P.refusals procs.now places events.now disk patterns result }
 {
     match open_store(alloc, disk, formats, patterns) {
-        Ok(opened) => run_opened(alloc, opened, procs, places, events),
+        Ok(opened) => run_opened(alloc, opened, procs, places, events, flushes),
         Err(refused) => Err(refused),
     }
 }
@@ -61,6 +63,7 @@ fn run_opened<D: Disk, F: Formats + Drop, P: Patterns + Drop>(
     procs: &[KeySet],
     places: usize,
     events: &[Event],
+    flushes: &[usize],
 ) -> Result<Ran<D, P>, OpenRefused<D, P>>
     requires stands { (start : D) × (run : Run) × StandsNew (formats_of F.Formats) D.Disk opened.plan.mounted procs.now opened.core start run }
     requires few { length procs.now < 2 ^ 32 }
@@ -69,7 +72,14 @@ fn run_opened<D: Disk, F: Formats + Drop, P: Patterns + Drop>(
 {
     let plan = opened.plan;
     let mut core = opened.core;
-    let played = play_new(alloc, &plan, &mut core, procs, places, events);
+    let mut told = Flushes {
+        wrote: 0,
+        idle: 0,
+        failed: 0,
+    };
+    let played = play_new(
+        alloc, &plan, &mut core, procs, places, events, flushes, &mut told,
+    );
     let Closed {
         disk,
         patterns,
@@ -81,6 +91,7 @@ fn run_opened<D: Disk, F: Formats + Drop, P: Patterns + Drop>(
             patterns,
             history,
             answers,
+            flushes: told,
         }),
         Err(_) => Err(OpenRefused {
             fault: OpenFault::Memory,
@@ -98,6 +109,8 @@ fn play_new<D: Disk, F: Formats + Drop, P: Patterns + Drop>(
     procs: &[KeySet],
     places: usize,
     events: &[Event],
+    flushes: &[usize],
+    told: &mut Flushes,
 ) -> Result<List<Answer>, Memory>
     requires stands { (opened : D) × (run : Run) × StandsNew (formats_of F.Formats) D.Disk plan.now.mounted procs.now core.old opened run }
     requires few { length procs.now < 2 ^ 32 }
@@ -110,5 +123,5 @@ fn play_new<D: Disk, F: Formats + Drop, P: Patterns + Drop>(
     ensures none { OnErr result (core.new ≡ core.old) }
 {
     let mut handles = Handles::new(alloc, plan, procs, places)?;
-    play(alloc, plan, core, &mut handles, events)
+    play(alloc, plan, core, &mut handles, events, flushes, told)
 }

@@ -1,11 +1,13 @@
--- What is told of a journal whose gate is open, and no whole body of an entry stands behind it.
-use Rattle.std.specs.Prelude.{◌≡◌, ◌≢◌, ℕ, List, Some, None, Result, Ok, Err, IfOk, OnOk}
+-- What is told of a journal with an open gate behind which no whole body of an entry stands.
+use Rattle.std.specs.Prelude.{◌≡◌, ◌≢◌, ℕ, List, [], Some, Result, Ok, Err, IfOk, OnOk}
 use Rattle.std.proofs.Common.{refl, sym, ap, subst, ◌∙◌}
 use Rattle.all_formats.specs.Meanings as all
 use Rattle.std.proofs.lemmas.Option.{none-some}
 use Rattle.kdb_outside.specs.Images.{Image}
-use Rattle.intent_journal.specs.BadJournals.{bad_place, open_entry, opened_reading, place_read}
-use Rattle.intent_journal.specs.JournalBytes.{first_entry}
+use Rattle.intent_journal.specs.Opened.{bad_place, open_list}
+use Rattle.intent_journal.specs.Readings.{list_in}
+use Rattle.journal_codec.specs.Entry.{journal_name}
+use Rattle.journal_steps.specs.BadJournals.{entries_read, place_read}
 use Rattle.journal_codec.specs.declared.files.FileText.{FileText}
 use Rattle.kdb_outside.specs.SinkChange.{SinkChange as Change}
 use Rattle.kdb_outside.specs.declared.kinds.Kind.{Kind}
@@ -35,10 +37,10 @@ use Rattle.tool_single.specs.declared.answers.Stop.TheVariants as stops
 use Rattle.tool_single.proofs.EndLemmas.{given}
 
 -- no entry is open in such a journal
-pub bad-not_open : (seen : Image) (at : ℕ) → bad_place seen ≡ Some at → open_entry seen ≡ None
-bad-not_open seen at bad = none (opened_reading seen) bad
+pub bad-not_open : (seen : Image) (at : ℕ) → bad_place seen ≡ Some at → open_list seen ≡ []
+bad-not_open seen at bad = none (list_in (seen journal_name)) bad
   where
-    none : (r : Result (List (List FileText)) ℕ) → place_read r ≡ Some at → first_entry r ≡ None
+    none : (r : Result (List (List FileText)) ℕ) → place_read r ≡ Some at → entries_read r ≡ []
     none (Ok entries) is = absurd (none-some at is)
     none (Err place) is = refl
 

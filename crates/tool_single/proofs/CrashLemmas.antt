@@ -1,7 +1,8 @@
 -- What a crash may leave of a run that one command makes, by what it stores.
 use Rattle.std.proofs.Common.{◌≡◌, ◌⊎◌, inl, inr, ℕ, zero, suc, ◌≤◌, List, [], ◌∷◌, ◌++◌, take, Option, Some, None, Contains, refl, sym, ap, subst, arith}
 use Rattle.std.proofs.lemmas.Option.{none-some}
-use Rattle.intent_journal.specs.Outcomes.{with_entry, with_entries, HasOnly, IsEither}
+use Rattle.intent_journal.specs.Outcomes.{HasOnly}
+use Rattle.journal_steps.specs.Outcomes.{with_entry, with_entries, IsEither}
 use Rattle.journal_codec.specs.declared.files.FileText.{FileText}
 use Rattle.kdb_outside.specs.Images.{Image}
 use Rattle.model_crashes.specs.Runs.{Begun, IsBegun, IsReached, begun_before}

@@ -6,6 +6,7 @@ pub mod AnswersOnce
 pub mod AnswersExist
 pub mod AnswersMore
 pub mod AnswerLemmas
+pub mod DecidedLemmas
 pub mod CalmLemmas
 pub mod CrashLemmas
 pub mod ServeLemmas

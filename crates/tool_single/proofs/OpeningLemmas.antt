@@ -1,11 +1,12 @@
 -- What is told of a store that isn't opened, and what is known of one that is.
-use Rattle.std.proofs.Common.{◌≡◌, ◌≢◌, ℕ, true, false, List, [], Option, Some, None, IfOk, Result, Ok, Err, OnOk, refl, sym, ap, subst, ◌∙◌}
+use Rattle.std.proofs.Common.{◌≡◌, ◌≢◌, ℕ, true, false, List, [], ◌∷◌, Option, Some, None, IfOk, Result, Ok, Err, OnOk, refl, sym, ap, subst, ◌∙◌}
 use Rattle.all_formats.specs.Meanings as all
-use Rattle.intent_journal.specs.BadJournals.{open_entry, opened_files, opened_doubt, doubt_with}
+use Rattle.intent_journal.specs.Opened.{MayBeLeft, open_list, opened_files}
 use Rattle.intent_journal.specs.Journal.{JournalValue}
-use Rattle.intent_journal.proofs.Calm.{calm_files}
-use Rattle.intent_journal.specs.Moments.{LeavesOnly}
-use Rattle.intent_journal.specs.Outcomes.{SameFiles, HasOnly, IsEither}
+use Rattle.intent_journal.proofs.Opened.{calm_files}
+use Rattle.journal_steps.specs.Moments.{LeavesOnly}
+use Rattle.intent_journal.specs.Outcomes.{HasOnly}
+use Rattle.journal_steps.specs.Outcomes.{SameFiles, IsEither}
 use Rattle.intent_journal.specs.States.{IsCalm}
 use Rattle.journal_codec.specs.declared.files.FileText.{FileText}
 use Rattle.kdb_outside.specs.Crashes.{EveryImage}
@@ -16,7 +17,6 @@ use Rattle.kdb_outside.specs.declared.disks.Disk.{Ghosts}
 use Rattle.model_crashes.specs.Runs.{new_run}
 use Rattle.mount_table.specs.Table.{own_mount}
 use Rattle.mounted_files.specs.declared.refusals.OpenRefusal.TheVariants as refusal
-use Rattle.std.proofs.lemmas.Option.{none-some}
 use Rattle.store_core.specs.Faults.{RefusesStore}
 use Rattle.store_core.specs.Opened.{AsOpened, IsLeft, StillRead, may_be_of_journal}
 use Rattle.store_core.specs.declared.faults.OpenFault.{OpenFault}
@@ -61,18 +61,18 @@ pub record LeavesCalm {D : Type 0} (g : Ghosts D) (files : Image) (doubt : Optio
   pub shown : Shows [] (opened_files (g.seen disk)) (g.seen disk) (g.seen end)
   pub calm : StaysCalm g files doubt [] disk end
 
-pub leaves_calm : {D : Type 0} (g : Ghosts D) (disk end : D) (files : Image) (doubt : Option (List FileText)) → g.tells disk ≡ true → GoesOn g disk end → IsCalm (g.seen disk) (g.may_leave disk) files doubt → (open_entry (g.seen disk) ≡ None → OnlyReads g disk end)
+pub leaves_calm : {D : Type 0} (g : Ghosts D) (disk end : D) (files : Image) (doubt : Option (List FileText)) → g.tells disk ≡ true → GoesOn g disk end → IsCalm (g.seen disk) (g.may_leave disk) files doubt → (open_list (g.seen disk) ≡ [] → OnlyReads g disk end)
     → IsLeft g disk end → LeavesCalm g files doubt disk end
 leaves_calm g disk end files doubt told goes calm alone (StillRead reads) = record { shown = Alone refl (reads.same told); calm = read_calm g disk end files doubt told calm reads }
-leaves_calm {D} g disk end files doubt told goes calm alone (AsOpened same now) = by (open_entry (g.seen disk)) refl
+leaves_calm {D} g disk end files doubt told goes calm alone (AsOpened later may_be same now) = by (open_list (g.seen disk)) refl
   where
     opened : Image
     opened = opened_files (g.seen disk)
 
-    by : (o : Option (List FileText)) → open_entry (g.seen disk) ≡ o → LeavesCalm g files doubt disk end
-    by None is = let reads = alone is in record { shown = Alone refl (reads.same told); calm = read_calm g disk end files doubt told calm reads }
-    by (Some entry) is =
-        let none : opened_doubt (g.seen disk) ≡ None = ap (λ (x : Option (List FileText)). doubt_with x (g.seen disk)) is in
+    by : (list : List (List FileText)) → open_list (g.seen disk) ≡ list → LeavesCalm g files doubt disk end
+    by [] is = let reads = alone is in record { shown = Alone refl (reads.same told); calm = read_calm g disk end files doubt told calm reads }
+    by (entry ∷ entries) is =
+        let none : later ≡ None = may_be (λ nothing. let both = sym is ∙ nothing in cc) in
         let whole = subst (λ (d : Option (List FileText)). IsCalm (g.seen end) (g.may_leave end) opened d) none now in
         record {
           shown = Stored same;
@@ -89,7 +89,7 @@ leaves_calm {D} g disk end files doubt told goes calm alone (AsOpened same now) 
 pub refused_serve : {D : Type 0} (g : Ghosts D) (disk end : D) (files : Image) (doubt : Option (List FileText)) (before now : ℕ) (question : Question) (why : OpenFault) (result : Result code.Report Stop)
     → IfOk result (λ report. report_of report ≡ warned 5 (line_of_store why)) → OnOk result ((why ≢ fault.DiskFault) × (why ≢ fault.Memory)) → result ≢ Err stops.ReadFault
     → LeavesOnly g disk end (HasOnly (IsEither files doubt)) → EveryImage (g.may_leave end) (HasOnly (IsEither files doubt))
-    → (may_be_of_journal (Some why) ≡ false → SameFiles (g.seen end) (opened_files (g.seen disk))) → (open_entry (g.seen disk) ≡ None → OnlyReads g disk end)
+    → (may_be_of_journal (Some why) ≡ false → SameFiles (g.seen end) (opened_files (g.seen disk))) → (open_list (g.seen disk) ≡ [] → OnlyReads g disk end)
     → RefusesStore all.Reads all.IsBadAt (opened_files (g.seen disk) own_mount.file) why → ((at : ℕ) → why ≡ fault.BadJournal at → ⊥)
     → (¬ HasRisen (g.faults disk) (g.faults end) → LeavesCalm g files doubt disk end) → Serve g files doubt (AnswersOver (MayRefuse result before now) question (opened_files (g.seen disk))) result disk end
 refused_serve g disk end files doubt before now question why (Ok report) told own unread meanwhile rests shown alone refuses journal left =
@@ -104,18 +104,18 @@ refused_serve g disk end files doubt before now question why (Err stops.ReadFaul
 
 -- on a calm disk the opened journal stands for a run on the files that the opening leaves, with a doubt that stands for no other files
 pub has_begun : {D : Type 0} (g : Ghosts D) (disk : D) (files : Image) (doubt : Option (List FileText)) (journal : JournalValue D) → IsCalm (g.seen disk) (g.may_leave disk) files doubt → IsEither files doubt (opened_files (g.seen disk))
-    → IsStore g journal.disk journal (new_run (opened_files (g.seen disk)) (g.faults disk) (opened_doubt (g.seen disk)))
+    → (later : Option (List FileText)) → MayBeLeft (g.seen disk) later → IsStore g journal.disk journal (new_run (opened_files (g.seen disk)) (g.faults disk) later)
     → ((others : Image) (other : Option (List FileText)) → IsCalm (g.seen disk) (g.may_leave disk) others other → SameFiles others (opened_files (g.seen disk)) → IsStore g journal.disk journal (new_run others (g.faults disk) other))
     → HasBegun g disk files doubt journal
-has_begun g disk files doubt journal calm either store own = by (open_entry (g.seen disk)) refl
+has_begun g disk files doubt journal calm either later may_be store own = by (open_list (g.seen disk)) refl
   where
     opened : Image
     opened = opened_files (g.seen disk)
 
-    by : (o : Option (List FileText)) → open_entry (g.seen disk) ≡ o → HasBegun g disk files doubt journal
-    by (Some entry) is =
-        let none : opened_doubt (g.seen disk) ≡ None = ap (λ (x : Option (List FileText)). doubt_with x (g.seen disk)) is in
-        record { first = None; store = subst (λ (d : Option (List FileText)). IsStore g journal.disk journal (new_run opened (g.faults disk) d)) none store; within = either_none files doubt opened either; settled = λ e there. refl }
-    by None is =
+    by : (list : List (List FileText)) → open_list (g.seen disk) ≡ list → HasBegun g disk files doubt journal
+    by (entry ∷ entries) is =
+        let none : later ≡ None = may_be (λ nothing. let both = sym is ∙ nothing in cc) in
+        record { first = None; store = subst (λ (d : Option (List FileText)). IsStore g journal.disk journal (new_run opened (g.faults disk) d)) none store; within = either_none files doubt opened either; settled = λ some. refl }
+    by [] is =
         let on = calm_on (g.seen disk) (g.may_leave disk) files doubt opened calm either in
-        record { first = on.first; store = own opened on.first on.calm (λ file not_own. refl); within = on.within; settled = λ entry there. absurd (none-some entry (sym is ∙ there)) }
+        record { first = on.first; store = own opened on.first on.calm (λ file not_own. refl); within = on.within; settled = λ some. absurd (some is) }

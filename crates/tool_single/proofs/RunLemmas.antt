@@ -1,7 +1,7 @@
 -- What a run leaves of the files, and what it tells of its answer, from what was done to the disk.
 use Rattle.std.specs.Prelude.{◌≡◌, ℕ, ◌⊎◌, List, Option, Result, Ok, Err}
 use Rattle.std.proofs.Common.{inl, inr, refl, sym, subst}
-use Rattle.intent_journal.specs.BadJournals.{opened_files}
+use Rattle.intent_journal.specs.Opened.{opened_files}
 use Rattle.journal_codec.specs.declared.files.FileText.{FileText}
 use Rattle.kdb_outside.specs.Faults.{HasRisen}
 use Rattle.kdb_outside.specs.Images.{Image}

@@ -1,14 +1,13 @@
 -- What one run leaves to the next.
 use Rattle.std.proofs.Common.{◌≡◌, ◌⊎◌, inl, inr, ℕ, ◌≤◌, true, List, [], ◌∷◌, Option, Some, None, Result, refl, sym, ap, subst, ◌∙◌, arith}
 use Rattle.std.proofs.lemmas.Option.{none-some}
-use Rattle.intent_journal.specs.BadJournals.{entries_read, opened_files, opened_reading}
-use Rattle.intent_journal.specs.Moments.{LeavesOnly}
-use Rattle.intent_journal.specs.Outcomes.{with_entry, with_entries, SameFiles, HasOutcome, HasOnly, IsEither}
-use Rattle.intent_journal.specs.Readings.{IsBroken}
+use Rattle.intent_journal.specs.Opened.{open_list, opened_files}
+use Rattle.journal_steps.specs.Moments.{LeavesOnly}
+use Rattle.intent_journal.specs.Outcomes.{HasOnly, IsBroken}
+use Rattle.journal_steps.specs.Outcomes.{with_entry, SameFiles, IsEither}
 use Rattle.intent_journal.specs.States.{IsCalm}
-use Rattle.intent_journal.proofs.Calm.{calm_files}
-use Rattle.intent_journal.proofs.OneImage.{IsCalm-one}
-use Rattle.intent_journal.proofs.Readings.{decided_reads, opening_reads}
+use Rattle.intent_journal.proofs.ListCalm.{one_calm}
+use Rattle.intent_journal.proofs.Opened.{calm_files, opening_reads}
 use Rattle.journal_codec.specs.Entry.{journal_name}
 use Rattle.journal_codec.specs.declared.files.FileText.{FileText}
 use Rattle.kdb_outside.specs.Crashes.{EveryImage}
@@ -22,21 +21,16 @@ use Rattle.tool_single.specs.Crashing.{MayBeLeft, MayRemain, StaysCalm}
 use Rattle.tool_single.specs.Ran.{Ran, ByAnswer, NotStored, Without}
 use Rattle.tool_single.specs.Runs.{Ending, Ended, ThenCrashed, CutOff, OneRun, IsAtRest, HasRan, MetNoFault, Finds, AreRuns, IsStored, IsGiven, HasStored, IsHistory, IsDecided, found_next, AreDecided, files_behind, doubt_behind, AreFound}
 use Rattle.tool_single.proofs.CalmLemmas.{with-same}
+use Rattle.tool_single.proofs.DecidedLemmas.{one_outcome}
 
 -- ---- a decided journal has one outcome
 
--- all outcomes of an image whose gate is decided are the files that its opening leaves
-pub one_outcome : (image outcome : Image) → IsDecided (image journal_name) → HasOutcome image outcome
-    → SameFiles outcome (opened_files image)
-one_outcome image outcome decided has file own =
-    has.2 file own ∙ ap (λ (r : Result (List (List FileText)) ℕ). with_entries image (entries_read r) file) (sym (decided_reads image has.0 decided has.1))
-
--- so they are one of two, if all its outcomes are one of them
+-- it is one of two, if all its outcomes are one of them
 pub decided_either : (files image : Image) (doubt : Option (List FileText)) → IsDecided (image journal_name)
     → HasOnly (IsEither files doubt) image
     → IsEither files doubt (opened_files image)
 decided_either files image doubt decided only =
-    only.each (opened_files image) (entries_read (opened_reading image), opening_reads image only.not_broken, λ file own. refl)
+    only.each (opened_files image) (open_list image, opening_reads image only.not_broken, λ file own. refl)
 
 pub decided_only : (files image : Image) → IsDecided (image journal_name) → ¬ IsBroken image
     → SameFiles (opened_files image) files → HasOnly (IsEither files None) image
@@ -182,7 +176,7 @@ passes g files run next went found Ended is finds decided =
 passes g files run next went found ThenCrashed is finds decided = record {
   texts = went.texts;
   stored = record { found = found; acknowledged = λ acknowledged. went.given acknowledged.0; whole = went.whole };
-  calm = IsCalm-one (g.seen next) (g.may_leave next) (with_stored went.texts files) None finds.0
+  calm = one_calm (g.seen next) (g.may_leave next) (with_stored went.texts files) None finds.0
       (remains files (opened_files (g.seen run.found)) went.texts (g.seen next) found (went.rests (inl finds.2) (g.seen next) finds.1));
 }
 passes g files run next went found CutOff is finds decided =
@@ -190,7 +184,7 @@ passes g files run next went found CutOff is finds decided =
     record {
       texts = left.kept;
       stored = record { found = found; acknowledged = λ acknowledged. absurd (acknowledged.1 is); whole = whole left.kept left.all };
-      calm = IsCalm-one (g.seen next) (g.may_leave next) (with_stored left.kept files) None finds.0 left.only;
+      calm = one_calm (g.seen next) (g.may_leave next) (with_stored left.kept files) None finds.0 left.only;
     }
   where
     whole : (kept : Texts) → (kept ≡ []) ⊎ (kept ≡ went.texts) → (kept ≡ []) ⊎ IsStored g run kept
@@ -257,14 +251,14 @@ calm_behind g files doubt run next went Ended is finds =
     calm_with (g.seen run.left) (g.may_leave run.left) later rests.at_rest.0 after rests.at_rest.1 rests.at_rest.2 (λ image of. remains_so files opened doubt went.texts image (went.rests rests.how image of)) in
     inl (subst (λ d. IsCalm (g.seen d) (g.may_leave d) later after) (sym finds.0) behind)
 calm_behind g files doubt run next went ThenCrashed is finds =
-    inl (IsCalm-one (g.seen next) (g.may_leave next) (files_behind files (opened_files (g.seen run.found)) went.texts) (doubt_behind doubt went.texts) finds.0
+    inl (one_calm (g.seen next) (g.may_leave next) (files_behind files (opened_files (g.seen run.found)) went.texts) (doubt_behind doubt went.texts) finds.0
     (remains_so files (opened_files (g.seen run.found)) doubt went.texts (g.seen next) (went.rests (inl finds.2) (g.seen next) finds.1)))
 calm_behind g files doubt run next went CutOff is finds =
     inr (
       is,
       elim (amid_so files (opened_files (g.seen run.found)) doubt went.texts (g.seen next) (went.crash.each (g.seen next) finds.1)) [
-        | inl only ↦ inl (IsCalm-one (g.seen next) (g.may_leave next) files doubt finds.0 only)
-        | inr only ↦ inr (IsCalm-one (g.seen next) (g.may_leave next) (opened_files (g.seen run.found)) (Some (entry_of went.texts)) finds.0 only)
+        | inl only ↦ inl (one_calm (g.seen next) (g.may_leave next) files doubt finds.0 only)
+        | inr only ↦ inr (one_calm (g.seen next) (g.may_leave next) (opened_files (g.seen run.found)) (Some (entry_of went.texts)) finds.0 only)
       ],
     )
 

@@ -1,12 +1,14 @@
 -- What a command does to a disk, from what it did to the open store and what the opening and the close leave.
-use Rattle.std.proofs.Common.{◌≡◌, ◌≢◌, ◌⊎◌, inl, inr, ◌≤◌, true, false, is_some, List, [], ◌∷◌, Option, Some, None, Result, Ok, Err, IfOk, refl, sym, ap, subst, ◌∙◌}
-use Rattle.intent_journal.specs.BadJournals.{open_entry, opened_files}
+use Rattle.std.proofs.Common.{◌≡◌, ◌≢◌, ◌⊎◌, inl, inr, ◌≤◌, true, false, List, [], ◌∷◌, Option, Some, None, Result, Ok, Err, IfOk, refl, sym, ap, subst, ◌∙◌}
+use Rattle.intent_journal.specs.Opened.{IsFresh, open_list, opened_files}
+use Rattle.intent_journal.specs.Opens.{has_any}
 use Rattle.intent_journal.specs.Journal.{JournalValue}
-use Rattle.intent_journal.specs.Moments.{LeavesOnly}
-use Rattle.intent_journal.specs.Outcomes.{with_entry, SameFiles, HasOnly, IsEither, IsOutcome}
+use Rattle.journal_steps.specs.Moments.{LeavesOnly}
+use Rattle.intent_journal.specs.Outcomes.{HasOnly}
+use Rattle.journal_steps.specs.Outcomes.{with_entry, SameFiles, IsEither, IsOutcome}
 use Rattle.intent_journal.specs.States.{IsCalm, IsSettled}
-use Rattle.intent_journal.specs.declared.states.State.TheVariants.{Doubt as IsDoubt}
-use Rattle.intent_journal.proofs.Calm.{calm_files, calm_kept}
+use Rattle.intent_journal.proofs.Opened.{calm_files}
+use Rattle.intent_journal.proofs.OpenSteps.{calm_kept}
 use Rattle.kdb_outside.proofs.Frames.{OnlyReads-none}
 use Rattle.std.proofs.lemmas.Option.{none-some}
 use Rattle.journal_codec.specs.declared.files.FileText.{FileText}
@@ -41,26 +43,26 @@ pub record HasBegun {D : Type 0} (g : Ghosts D) (disk : D) (files : Image) (doub
   pub first : Option (List FileText)
   pub store : IsStore g journal.disk journal (new_run (opened_files (g.seen disk)) (g.faults disk) first)
   pub within : (o : Image) → IsEither (opened_files (g.seen disk)) first o → IsEither files doubt o
-  pub settled : (entry : List FileText) → open_entry (g.seen disk) ≡ Some entry → first ≡ None
+  pub settled : open_list (g.seen disk) ≢ [] → first ≡ None
 
 -- what an opening left of the disk
 pub record HasOpened {D P : Type 0} (g : Ghosts D) (disk : D) (files : Image) (doubt : Option (List FileText)) (core : Core D P) : Type 0 where
   pub begun : HasBegun g disk files doubt core.journal
   pub goes : GoesOn g disk core.journal.disk
   pub meanwhile : LeavesOnly g disk core.journal.disk (HasOnly (IsEither files doubt))
-  pub alone : open_entry (g.seen disk) ≡ None → OnlyReads g disk core.journal.disk
-  pub wrote : core.wrote ≡ is_some (open_entry (g.seen disk))
-  pub state : core.journal.state ≡ IsDoubt
+  pub alone : open_list (g.seen disk) ≡ [] → OnlyReads g disk core.journal.disk
+  pub wrote : core.wrote ≡ has_any (open_list (g.seen disk))
+  pub fresh : IsFresh core.journal
 
 -- what the close of a store left of it
 pub record HasClosed {D P : Type 0} (g : Ghosts D) (core : Core D P) (end : D) : Type 0 where
-  pub alone : core.wrote ≡ false → core.journal.state ≡ IsDoubt → end ≡ core.journal.disk
+  pub alone : core.wrote ≡ false → IsFresh core.journal → end ≡ core.journal.disk
   pub shown : (opened : D) (run : Run) → IsStore g opened core.journal run → ¬ HasRisen (g.faults core.journal.disk) (g.faults end) → SameFiles (g.seen end) (files_of run)
   pub always : (opened : D) (run : Run) → IsStore g opened core.journal run → LeavesOnly g opened end (IsReached run.files run.commits run.begun)
   pub now : (opened : D) (run : Run) → IsStore g opened core.journal run → EveryImage (g.may_leave end) (HasOnly (IsEither (files_of run) run.doubt))
   pub rests : (opened : D) (run : Run) → IsStore g opened core.journal run → RestsOn g end (files_of run) run.doubt
   pub settled : (opened : D) (run : Run) → IsStore g opened core.journal run → ¬ HasRisen (g.faults core.journal.disk) (g.faults end)
-      → (core.wrote ≡ true) ⊎ (core.journal.state ≢ IsDoubt) → IsSettled (g.may_leave end) (files_of run)
+      → (core.wrote ≡ true) ⊎ (¬ IsFresh core.journal) → IsSettled (g.may_leave end) (files_of run)
   pub goes : GoesOn g core.journal.disk end
   pub calm : (opened : D) (run : Run) → IsStore g opened core.journal run → ¬ HasRisen run.faults (g.faults end) → IsCalm (g.seen end) (g.may_leave end) (files_of run) run.doubt
 
@@ -68,16 +70,16 @@ pub record HasClosed {D P : Type 0} (g : Ghosts D) (core : Core D P) (end : D) :
 pub record WasRead {D P : Type 0} (g : Ghosts D) (disk : D) (core : Core D P) : Type 0 where
   pub alone : OnlyReads g disk core.journal.disk
   pub wrote : core.wrote ≡ false
-  pub state : core.journal.state ≡ IsDoubt
+  pub fresh : IsFresh core.journal
 
 -- ---- where no entry was open
 
-module _ {D P : Type 0} (g : Ghosts D) (disk end : D) (old new : Core D P) (read : WasRead g disk old) (closes : new.wrote ≡ false → new.journal.state ≡ IsDoubt → end ≡ new.journal.disk) where
+module _ {D P : Type 0} (g : Ghosts D) (disk end : D) (old new : Core D P) (read : WasRead g disk old) (closes : new.wrote ≡ false → IsFresh new.journal → end ≡ new.journal.disk) where
   pub still_read : IsUnwritten old new → OnlyReads g disk end
   still_read kept =
       let wrote : new.wrote ≡ false = kept.wrote ∙ read.wrote in
-      let state : new.journal.state ≡ IsDoubt = ap (λ (j : JournalValue D). j.state) kept.journal ∙ read.state in
-      subst (OnlyReads g disk) (sym (closes wrote state ∙ ap (λ (j : JournalValue D). j.disk) kept.journal)) read.alone
+      let fresh : IsFresh new.journal = subst (λ (j : JournalValue D). IsFresh j) (sym kept.journal) read.fresh in
+      subst (OnlyReads g disk) (sym (closes wrote fresh ∙ ap (λ (j : JournalValue D). j.disk) kept.journal)) read.alone
 
   -- nothing is written where no answer stores anything
   pub serving_untouched : (Answered : Answer → Type 0) (result : Result code.Report Stop) → Serving g Answered result old new → StoresNothing Answered → OnlyReads g disk end
@@ -140,13 +142,15 @@ module _ {D P : Type 0} (g : Ghosts D) (disk end : D) (files : Image) (doubt : O
 
   -- where nothing was stored it finds what this opening left
   found_none : IsUnwritten old new → g.tells disk ≡ true → g.tells end ≡ true → IsCalm (g.seen end) (g.may_leave end) opened has_opened.begun.first → SameFiles (opened_files (g.seen end)) opened
-  found_none kept telling told calm = by (open_entry (g.seen disk)) refl
+  found_none kept telling told calm = by (open_list (g.seen disk)) refl
     where
-      by : (o : Option (List FileText)) → open_entry (g.seen disk) ≡ o → SameFiles (opened_files (g.seen end)) opened
-      by None is =
-          let reads = still_read g disk end old new (record { alone = has_opened.alone is; wrote = has_opened.wrote ∙ ap is_some is; state = has_opened.state }) has_closed.alone kept in
+      by : (list : List (List FileText)) → open_list (g.seen disk) ≡ list → SameFiles (opened_files (g.seen end)) opened
+      by [] is =
+          let reads = still_read g disk end old new (record { alone = has_opened.alone is; wrote = has_opened.wrote ∙ ap has_any is; fresh = has_opened.fresh }) has_closed.alone kept in
           λ file not_own. ap (λ (seen : Image). opened_files seen file) (reads.same telling)
-      by (Some entry) is = found_whole g end opened told (subst (λ (d : Option (List FileText)). IsCalm (g.seen end) (g.may_leave end) opened d) (has_opened.begun.settled entry is) calm)
+      by (entry ∷ entries) is =
+          let settled = has_opened.begun.settled (λ none. let both = sym is ∙ none in cc) in
+          found_whole g end opened told (subst (λ (d : Option (List FileText)). IsCalm (g.seen end) (g.may_leave end) opened d) settled calm)
 
   stays : (stored : Texts) → IsStore g mid new.journal (run_with first stored) → (stored ≡ [] → IsUnwritten old new) → ¬ HasRisen (g.faults disk) (g.faults end) → StaysCalm g files doubt stored disk end
   stays [] store kept still =
@@ -196,7 +200,7 @@ module _ {D P : Type 0} (g : Ghosts D) (disk end : D) (files : Image) (doubt : O
       let store : IsStore g mid new.journal first = subst (λ (j : JournalValue D). IsStore g mid j first) (sym kept.journal) has_opened.begun.store in
       record {
         crash = whole (HasOnly (IsEither files doubt)) (λ image only. only) (IsReached opened [] first.begun) (λ image. amid [] image) (has_closed.always mid first store);
-        untouched = λ none. still_read g disk end old new (record { alone = has_opened.alone none; wrote = has_opened.wrote ∙ ap is_some none; state = has_opened.state }) has_closed.alone kept;
+        untouched = λ none. still_read g disk end old new (record { alone = has_opened.alone none; wrote = has_opened.wrote ∙ ap has_any none; fresh = has_opened.fresh }) has_closed.alone kept;
         shown = λ still. Stored (has_closed.shown mid first store (λ rose. still (risen_since (g.faults disk) (g.faults new.journal.disk) (g.faults end) store.risen rose)));
         calm = stays [] store (λ none. kept);
       }

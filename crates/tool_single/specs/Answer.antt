@@ -1,6 +1,6 @@
 -- What a command answers: what it tells, and the files that get other bytes. (This project's own.)
 use Rattle.std.specs.Prelude.{ℕ, List, [], map as over}
-use Rattle.intent_journal.specs.Outcomes.{with_entry}
+use Rattle.journal_steps.specs.Outcomes.{with_entry}
 use Rattle.journal_codec.specs.declared.files.FileText.{FileText}
 use Rattle.kdb_outside.specs.Images.{Image}
 use Rattle.model_files.specs.Texts.{as_file}

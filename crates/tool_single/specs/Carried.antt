@@ -1,6 +1,6 @@
 -- What is done for a request, and for a question to the store, however it ends. (This project's own.)
-use Rattle.std.specs.Prelude.{◌≡◌, ◌≢◌, ◌⊎◌, ◌≤◌, ℕ, true, List, Option, Some, None, Err, IfOk, IsOk}
-use Rattle.intent_journal.specs.BadJournals.{bad_place, open_entry, opened_files}
+use Rattle.std.specs.Prelude.{◌≡◌, ◌≢◌, ◌⊎◌, ◌≤◌, ℕ, true, List, [], Option, Some, None, Err, IfOk, IsOk}
+use Rattle.intent_journal.specs.Opened.{bad_place, open_list, opened_files}
 use Rattle.intent_journal.specs.States.{IsCalm}
 use Rattle.journal_codec.specs.declared.files.FileText.{FileText}
 use Rattle.kdb_outside.specs.Faults.{HasRisen}
@@ -31,8 +31,8 @@ Refusing p patterns ended = MayRefuse ended.answer (p.refusals patterns) (p.refu
 pub record PutsQuestion {D P : Type 0} (d : disks.Ghosts D) (p : matchers.Ghosts P) (question : Question) (disk : D) (patterns : P) (ended : Ended D P) : Type 0 where
   pub served : d.tells disk ≡ true → (files : Image) (doubt : Option (List FileText)) → IsCalm (d.seen disk) (d.may_leave disk) files doubt
       → Serve d files doubt (AnswersOver (Refusing p patterns ended) question (opened_files (d.seen disk))) ended.answer disk ended.disk
-  pub untouched : d.tells disk ≡ true → open_entry (d.seen disk) ≡ None → StoresNothing (AnswersOver (Refusing p patterns ended) question (d.seen disk)) → OnlyReads d disk ended.disk
-  pub unstored : d.tells disk ≡ true → open_entry (d.seen disk) ≡ None → ¬ MayStore ended.answer → OnlyReads d disk ended.disk
+  pub untouched : d.tells disk ≡ true → open_list (d.seen disk) ≡ [] → StoresNothing (AnswersOver (Refusing p patterns ended) question (d.seen disk)) → OnlyReads d disk ended.disk
+  pub unstored : d.tells disk ≡ true → open_list (d.seen disk) ≡ [] → ¬ MayStore ended.answer → OnlyReads d disk ended.disk
   pub broken : d.tells disk ≡ true → (at : ℕ) → bad_place (d.seen disk) ≡ Some at → IfOk ended.answer (λ report. report_of report ≡ warned 5 (bad_journal at))
   pub broken_stays : d.tells disk ≡ true → (at : ℕ) → bad_place (d.seen disk) ≡ Some at → OnlyReads d disk ended.disk
   pub status : IfOk ended.answer (λ report. IsStatusOf question report.status)
@@ -52,9 +52,9 @@ pub record CarriesOut {S D P : Type 0} (s : sources.Ghosts S) (d : disks.Ghosts 
   pub calm : d.tells disk ≡ true → (files : Image) (doubt : Option (List FileText)) → IsCalm (d.seen disk) (d.may_leave disk) files doubt → ¬ HasRisen (d.faults disk) (d.faults ended.disk)
       → (stored : Texts) × StaysCalm d files doubt stored disk ended.disk
   -- where no entry is open
-  pub untouched : d.tells disk ≡ true → open_entry (d.seen disk) ≡ None → (given : List ℕ) → IsInput wanted (s.left source) given
+  pub untouched : d.tells disk ≡ true → open_list (d.seen disk) ≡ [] → (given : List ℕ) → IsInput wanted (s.left source) given
       → StoresNothing (AnswersRequest (Refusing p patterns ended) wanted given (d.seen disk)) → OnlyReads d disk ended.disk
-  pub unstored : d.tells disk ≡ true → open_entry (d.seen disk) ≡ None → ¬ MayStore ended.answer → OnlyReads d disk ended.disk
+  pub unstored : d.tells disk ≡ true → open_list (d.seen disk) ≡ [] → ¬ MayStore ended.answer → OnlyReads d disk ended.disk
   -- where the journal is broken
   pub broken : d.tells disk ≡ true → (at : ℕ) → bad_place (d.seen disk) ≡ Some at → (given : List ℕ) → IsInput wanted (s.left source) given
       → IfOk ended.answer (λ report. TellsBroken wanted given at (report_of report))

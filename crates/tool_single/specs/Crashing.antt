@@ -1,9 +1,10 @@
 -- What a crash may leave of the files of a store while a command goes on, and behind it. (This project's own. After crash refinement: a
 -- crash leaves what an acknowledged command stored whole, and what an unfinished one stores whole or absent.)
 use Rattle.std.specs.Prelude.{◌≡◌, ◌≢◌, ◌⊎◌, List, [], ◌∷◌, Option, Some, None}
-use Rattle.intent_journal.specs.BadJournals.{opened_files}
+use Rattle.intent_journal.specs.Opened.{opened_files}
 use Rattle.intent_journal.specs.Journal.{JournalValue}
-use Rattle.intent_journal.specs.Outcomes.{SameFiles, HasOnly, IsEither, IsOutcome}
+use Rattle.intent_journal.specs.Outcomes.{HasOnly}
+use Rattle.journal_steps.specs.Outcomes.{SameFiles, IsEither, IsOutcome}
 use Rattle.intent_journal.specs.States.{IsCalm, IsSettled}
 use Rattle.journal_codec.specs.declared.files.FileText.{FileText}
 use Rattle.kdb_outside.specs.Faults.{HasRisen}

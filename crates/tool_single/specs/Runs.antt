@@ -1,9 +1,10 @@
 -- Many runs of the tool, one after the other, with crashes between them: what each finds, and what they have stored. (This project's own. After
 -- durable linearizability: behind a crash all is there that was acknowledged before it, and what was cut off is there whole or not at all.)
-use Rattle.std.specs.Prelude.{◌≡◌, ◌≢◌, ◌⊎◌, ℕ, ◌-◌, ◌^◌, ◌<◌, List, [], ◌∷◌, Option, Some, None, true}
-use Rattle.intent_journal.specs.BadJournals.{opened_files}
-use Rattle.intent_journal.specs.JournalBytes.{IsShut, gate}
-use Rattle.intent_journal.specs.Outcomes.{SameFiles, IsEither}
+use Rattle.std.specs.Prelude.{◌≡◌, ◌≢◌, ◌⊎◌, ℕ, ◌-◌, ◌^◌, ◌<◌, List, [], ◌∷◌, drop, Option, Some, None, true}
+use Rattle.intent_journal.specs.Lists.{HasGate}
+use Rattle.intent_journal.specs.Opened.{opened_files}
+use Rattle.journal_steps.specs.JournalBytes.{IsShut, gate}
+use Rattle.journal_steps.specs.Outcomes.{SameFiles, IsEither}
 use Rattle.intent_journal.specs.States.{IsCalm}
 use Rattle.journal_codec.specs.Entry.{journal_name}
 use Rattle.journal_codec.specs.declared.files.FileText.{FileText}
@@ -111,21 +112,25 @@ IsHistory g files (run ∷ runs) (texts ∷ stored) last = HasStored g files run
 IsHistory g files (run ∷ runs) [] last = ⊥
 IsHistory g files [] (texts ∷ stored) last = ⊥
 
--- the gate of a journal is closed or open, and no other byte stands for it
+-- a gate is closed or open, and no other byte stands for it; or too few bytes are there for one
+abbrev pub IsClear : List ℕ → Type 0
+IsClear bytes = IsShut bytes ⊎ (gate bytes ≡ 1)
+
+-- each gate that the list of a journal comes to is so
 abbrev pub IsDecided : List ℕ → Type 0
-IsDecided journal = IsShut journal ⊎ (gate journal ≡ 1)
+IsDecided journal = (at : ℕ) → HasGate journal at → IsClear (drop at journal)
 
 -- the disk that is found behind some run: by the next one, or in the end
 abbrev pub found_next : {D : Type 0} → List (OneRun D) → D → D
 found_next [] last = last
 found_next (run ∷ runs) last = run.found
 
--- no crash that cut a run off left the gate of the journal amid its byte
+-- no crash that cut a run off left a gate of the journal amid its byte
 abbrev pub AreDecided : {D : Type 0} → Ghosts D → List (OneRun D) → D → Type 0
 AreDecided g [] last = Unit {0}
 AreDecided g (run ∷ runs) last = (run.ending ≡ CutOff → IsDecided (g.seen (found_next runs last) journal_name)) × AreDecided g runs last
 
--- ---- and where a crash tore the gate
+-- ---- and where a crash tore a gate
 
 -- behind a run the files are those that it found, with what it stored, and nothing is in doubt; where it stored nothing all stands as before
 abbrev pub files_behind : Image → Image → Texts → Image

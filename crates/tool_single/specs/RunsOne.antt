@@ -1,6 +1,6 @@
 -- What the run of a single command promises, in one record. (This project's own.)
-use Rattle.std.specs.Prelude.{◌≡◌, ◌≢◌, ◌≤◌, ℕ, true, List, Option, Some, None}
-use Rattle.intent_journal.specs.BadJournals.{bad_place, open_entry, opened_files}
+use Rattle.std.specs.Prelude.{◌≡◌, ◌≢◌, ◌≤◌, ℕ, true, List, [], Option, Some, None}
+use Rattle.intent_journal.specs.Opened.{bad_place, open_list, opened_files}
 use Rattle.intent_journal.specs.States.{IsCalm}
 use Rattle.journal_codec.specs.declared.files.FileText.{FileText}
 use Rattle.kdb_outside.specs.Faults.{HasRisen}
@@ -25,7 +25,7 @@ use Rattle.tool_single.specs.Untold.{AsksStoreWith, HasAsked}
 
 -- The run of a single command, whose words come without the program's name. The fields that speak of an answer or of files are for a disk that tells and is calm: each
 -- crash would leave the files that it shows, or these with one entry in doubt. A disk that a crash of this store left is calm. `opened_files` are the files that it
--- shows once an entry which the journal's gate is open on is brought in; a command that reads the store brings it in
+-- shows once the open entries of its journal are brought in; a command that reads the store brings them in
 pub record RunsOne {S K E D P : Type 0} (s : sources.Ghosts S) (k : sinks.Ghosts K) (e : sinks.Ghosts E) (d : disks.Ghosts D) (p : matchers.Ghosts P) (line : List (List ℕ)) (source source_now : S) (out out_now : K) (err err_now : E) (disk end : D) (patterns patterns_now : P) (status : ℕ) : Type 0 where
   -- All that a run does it does by one answer to the words, the input and the files: the status, out and err are the answer's, and however the run ends
   -- out has gained a front of the answer's; at every moment since the call began a crash leaves the files as they were found, or these with all that the
@@ -43,7 +43,7 @@ pub record RunsOne {S K E D P : Type 0} (s : sources.Ghosts S) (k : sinks.Ghosts
   -- keys
   pub words : EndsByWords (request line) status (change_of k out out_now) (change_of e err err_now)
   pub unasked : (given : List ℕ) → IsInput (request line) (s.left source) given → (AsksStoreWith (request line) given → ⊥) → (end ≡ disk) × (patterns_now ≡ patterns)
-  -- A journal whose gate is open, and no whole body of an entry behind it, is told in the place of an answer, by its place; an import whose input holds
+  -- A journal with an open gate, and no whole body of an entry behind it, is told in the place of an answer, by its place; an import whose input holds
   -- no keys is told so before that. However the run ends, the disk is only read. No crash of this store leaves such a journal, and so no calm disk has one
   pub broken : d.tells disk ≡ true → (at : ℕ) → bad_place (d.seen disk) ≡ Some at → (given : List ℕ) → IsInput (request line) (s.left source) given
       → EndsBroken (request line) given at status (change_of k out out_now) (change_of e err err_now)
@@ -60,11 +60,11 @@ pub record RunsOne {S K E D P : Type 0} (s : sources.Ghosts S) (k : sinks.Ghosts
   -- holds no open entry that is to be brought in, the disk is only read
   pub unwritten : d.tells disk ≡ true → (files : Image) (doubt : Option (List FileText)) → IsCalm (d.seen disk) (d.may_leave disk) files doubt → status ≡ 70 → Unserved d files doubt disk end
   -- Where no entry is open, and the disk need not be calm for that, nothing is written where no answer stores anything, whatever fails;
-  pub untouched : d.tells disk ≡ true → open_entry (d.seen disk) ≡ None → (given : List ℕ) → IsInput (request line) (s.left source) given
+  pub untouched : d.tells disk ≡ true → open_list (d.seen disk) ≡ [] → (given : List ℕ) → IsInput (request line) (s.left source) given
       → StoresNothing (Answers (λ _. HasRisen (p.refusals patterns) (p.refusals patterns_now)) line given (d.seen disk)) → OnlyReads d disk end
   -- nor does a run write that ends in want of memory or is refused, one that the journal refuses too: that ends neither as a command that was done nor in
   -- a fault
-  pub unstored : d.tells disk ≡ true → open_entry (d.seen disk) ≡ None → status ≢ 0 → status ≢ 74 → OnlyReads d disk end
+  pub unstored : d.tells disk ≡ true → open_list (d.seen disk) ≡ [] → status ≢ 0 → status ≢ 74 → OnlyReads d disk end
   -- An import takes so much of the input, and every other command takes none
   pub input : LeavesInput s (request line) (IsAnswered status) source source_now
   -- The disk tells as much as before, and no count of faults or of refused patterns falls

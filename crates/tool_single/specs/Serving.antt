@@ -1,9 +1,10 @@
 -- What a command does to a store, by how it ended: on the open store, and on the disk from the opening to the close. (This project's own.)
 use Rattle.std.specs.Prelude.{◌≡◌, ◌≢◌, ℕ, true, List, [], ◌∷◌, length, Option, None, Result, Ok, Err}
-use Rattle.intent_journal.specs.BadJournals.{open_entry, opened_files}
+use Rattle.intent_journal.specs.Opened.{open_list, opened_files}
 use Rattle.intent_journal.specs.Journal.{JournalValue}
-use Rattle.intent_journal.specs.Moments.{LeavesOnly}
-use Rattle.intent_journal.specs.Outcomes.{HasOnly, IsEither}
+use Rattle.journal_steps.specs.Moments.{LeavesOnly}
+use Rattle.intent_journal.specs.Outcomes.{HasOnly}
+use Rattle.journal_steps.specs.Outcomes.{IsEither}
 use Rattle.journal_codec.specs.declared.files.FileText.{FileText}
 use Rattle.kdb_outside.specs.Crashes.{EveryImage}
 use Rattle.kdb_outside.specs.Faults.{HasRisen}
@@ -132,7 +133,7 @@ pub record Served {D : Type 0} (g : Ghosts D) (files : Image) (doubt : Option (L
 -- it shows the files of the opening, or what it showed before, and is calm
 pub record Unserved {D : Type 0} (g : Ghosts D) (files : Image) (doubt : Option (List FileText)) (before after : D) : Type 0 where
   pub crash : LeavesOnly g before after (HasOnly (IsEither files doubt))
-  pub untouched : open_entry (g.seen before) ≡ None → OnlyReads g before after
+  pub untouched : open_list (g.seen before) ≡ [] → OnlyReads g before after
   pub shown : ¬ HasRisen (g.faults before) (g.faults after) → Shows [] (opened_files (g.seen before)) (g.seen before) (g.seen after)
   pub calm : ¬ HasRisen (g.faults before) (g.faults after) → StaysCalm g files doubt [] before after
 

@@ -1,15 +1,14 @@
 //! The single commands of the tool: from the words of a command line to what it prints and the status that it ends with.
 #![tactic(auto)]
 
-ghost use Rattle.std.specs.Prelude.{◌≡◌, ◌≢◌, ◌<◌, List, [], All, take, drop, Some, ℕ};
-ghost use Rattle.intent_journal.specs.BadJournals.{bad_place};
-ghost use Rattle.intent_journal.specs.JournalBytes.{open_length};
+ghost use Rattle.std.specs.Prelude.{◌≡◌, ◌≢◌, ◌<◌, List, [], All, Some, ℕ};
+ghost use Rattle.intent_journal.specs.Opened.{bad_place};
 ghost use Rattle.journal_codec.specs.Entry.{journal_name};
 ghost use Rattle.kdb_outside.specs.Faults.{HasRisen};
 ghost use Rattle.kdb_outside.specs.Images.{Image};
 ghost use Rattle.tool_single.specs.Answer.{Answer};
 ghost use Rattle.tool_single.specs.Answers.{Answers};
-ghost use Rattle.tool_single.specs.Broken.{IsBrokenAt};
+ghost use Rattle.tool_single.specs.Broken.{IsBadAt};
 ghost use Rattle.tool_single.specs.OneCommit.{IsOneCommit};
 ghost use Rattle.model_specified.specs.Violations.{IsNoPattern, MayBeRefused};
 
@@ -55,11 +54,10 @@ pub fn what_is_stored_is_one_legal_commit()
     ensures { (words : List (List ℕ)) (input : List ℕ) (files : List ℕ → List ℕ) (answer : Answer) → Answers (λ _. Unit {0}) words input files answer → answer.stored ≢ [] → IsOneCommit files answer.stored }
 {}
 
-/// The place that `run` tells of a broken journal, of one of bytes whose gate is open: a length over that of every entry is told at the front, bytes that
-/// go wrong at the place where they do, and bytes of an entry that are fewer than the length at their end; and at no other place.
+/// The place that `run` tells of a broken journal of bytes: behind open entries that are whole, each followed by the next, stands an open one that isn't.
+/// One that is too many for a list, or that ends behind the last place of one, is told at the front of its body, bytes that go wrong at the place where they
+/// do, and bytes of an entry that are fewer than the length at their end; and at no other place.
 pub fn a_broken_journal_is_told_by_its_place()
-    ensures told { (seen : Image) (size at : ℕ) → All (λ b. b < 256) (take size (drop 5 (seen journal_name))) → open_length (seen journal_name) ≡ Some size
-        → bad_place seen ≡ Some at → IsBrokenAt size (take size (drop 5 (seen journal_name))) at }
-    ensures alone { (seen : Image) (size at : ℕ) → All (λ b. b < 256) (take size (drop 5 (seen journal_name))) → open_length (seen journal_name) ≡ Some size
-        → IsBrokenAt size (take size (drop 5 (seen journal_name))) at → bad_place seen ≡ Some at }
+    ensures told { (seen : Image) (at : ℕ) → All (λ b. b < 256) (seen journal_name) → bad_place seen ≡ Some at → IsBadAt (seen journal_name) at }
+    ensures alone { (seen : Image) (at : ℕ) → All (λ b. b < 256) (seen journal_name) → IsBadAt (seen journal_name) at → bad_place seen ≡ Some at }
 {}

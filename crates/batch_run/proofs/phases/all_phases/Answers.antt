@@ -38,9 +38,10 @@ loop-place-preserved g c =
     let numbered = over number_in before in
     let through : IsThrough formats lock plan (over (steps_in (get_or c.args.phases.now k phase).sessions) numbered) (row_in new) before after =
     subst (λ (rs : List (Vec Reply)). IsThrough formats lock plan (over (steps_in (get_or c.args.phases.now k phase).sessions) numbered) (over told_in rs) before after) (sym items)
-    (subst (λ (ss : List Steps). IsThrough formats lock plan (over (steps_in ss) numbered) (over told_in told) before after) c.as_slice.ensures c.one_phase.ensures) in
+    (subst (λ (ss : List Steps). IsThrough formats lock plan (over (steps_in ss) numbered) (over told_in told) before after) c.as_slice.ensures c.one_phase.ensures.through) in
     record {
       stand = λ procs first. phase-next formats lock plan procs (over number_in c.args.workers.now) c.args.phases.now rooms k phase new before after (omega arith) within (was.stand procs first) was.numbers through;
+      flusher = c.one_phase.ensures.flusher;
       numbers = through.numbers ∙ was.numbers;
       resting = rest-next formats lock plan (over (steps_in (get_or c.args.phases.now k phase).sessions) numbered) (row_in new) before after through;
       left = left-next rooms c.args.rooms.now k new was.left;

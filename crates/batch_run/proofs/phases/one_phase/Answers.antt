@@ -20,10 +20,10 @@ take_all-requires-clause-rooms g c κs within = λ i d lt. ready-rooms c.args.ph
 pub meet_all-requires : goal.meet_all-requires
 meet_all-requires g c = λ i d lt.
     home-handles (formats_of g.F.Formats) (lock_of c.args.store.now) (plan_of c.args.store.now) c.args.phase.now c.exchange.new.workers c.take_all.new.workers
-    c.exchange-2.new.workers c.exchange.new.rooms c.exchange-2.new.rooms (omega arith) (omega (arith, c.requires.rooms.many, length-map c.args.workers.now number_in)) c.take_all.ensures c.exchange-2.ensures i d (omega arith)
+    c.exchange-2.new.workers c.exchange.new.rooms c.exchange-2.new.rooms (omega arith) (omega (arith, c.requires.rooms.many, length-map c.args.workers.now number_in)) c.take_all.ensures.works c.exchange-2.ensures i d (omega arith)
 
-pub returns : goal.returns
-returns g c =
+pub returns-clause-through : goal.returns-clause-through
+returns-clause-through g c =
     let rooms = c.requires.rooms.many ∙ length-map c.args.workers.now number_in in
     through (formats_of g.F.Formats) (lock_of c.args.store.now) (plan_of c.args.store.now) c.args.phase.now c.args.workers.now c.exchange.new.workers
     c.take_all.new.workers c.exchange-2.new.workers c.meet_all.new.workers c.args.rooms.now c.exchange.new.rooms c.exchange-2.new.rooms
@@ -37,7 +37,7 @@ returns g c =
       shown_many = omega (arith, rooms);
       resting = c.requires.resting;
       out = c.exchange.ensures;
-      works = c.take_all.ensures;
+      works = c.take_all.ensures.works;
       home = c.exchange-2.ensures;
       meets = c.meet_all.ensures.each;
       all = c.meet_all.ensures.all;

@@ -6,5 +6,6 @@ abbrev pub invariant-loop : goal.invariant-loop
 invariant-loop g l =
     AreFree l.store.lock l.seats.seats.items (vec_capacity l.seats.seats)
     × All (IsHandle l.store.lock l.store.plan) l.handles.items
-    × (length l.handles.items + length l.seats.seats.items ≡ l.store.lock.seats)
-    × (l.store.lock.seats ≤ vec_capacity l.handles)
+    × (length l.handles.items + length l.seats.seats.items + 1 ≡ l.store.lock.seats)
+    × (l.store.lock.seats ≤ vec_capacity l.handles + 1)
+    × (l.seats.flusher ≡ l.initial.seats.flusher)

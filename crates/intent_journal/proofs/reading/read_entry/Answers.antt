@@ -1,37 +1,29 @@
-use Rattle.std.proofs.Common.{take, drop, List, ℕ, ◌∙◌, sym, subst}
-use Rattle.intent_journal.specs.Opening.{TellsBody}
-use Rattle.std.specs.Prelude.{Ok, Err}
-use Rattle.intent_journal.proofs.Heads.{TellsEntry-bad, TellsEntry-none, TellsEntry-whole}
-use Rattle.kdb_outside.proofs.Frames.{OnlyReads-then}
+use Rattle.std.proofs.Common.{◌≡◌, take, drop, sym, ap, ◌∙◌}
+use Rattle.journal_codec.specs.Forms.{followed, uncounted}
+use Rattle.intent_journal.specs.Grammar.{head_size}
+use Rattle.intent_journal.proofs.OpenReads.{drop_drop, entry_there, told_bad}
 use Rattle.intent_journal.proofs.reading.read_entry.Goals as goal
 
-pub returns-in_ok-read_files-in-Some-clause-told : goal.returns-in_ok-read_files-in-Some-clause-told
-returns-in_ok-read_files-in-Some-clause-told g c tells =
-    let journal = c.args.journal.now in
-    let size = c.in-Some.size in
-    let files = c.in_ok-read_files-in-Some.field-0 in
-    let told = subst (λ (seen : List ℕ → List ℕ). TellsBody size (take size (drop 5 (seen journal))) (Ok files)) (c.read_length.ensures.reads.same tells)
-    (c.in_ok-read_files-in-Some.ensures.told (c.read_length.ensures.reads.tells ∙ tells)) in
-    TellsEntry-whole (g.D.Disk.seen c.args.disk.now journal) size files (sym (c.in_ok-size.ensures.told tells) ∙ c.in-Some.is) told
+pub returns-in_err-entry-clause-bad : goal.returns-in_err-entry-clause-bad
+returns-in_err-entry-clause-bad g c tells at is =
+    let seen = g.D.Disk.seen c.args.disk.now c.args.journal.now in
+    let there = take c.args.size (drop head_size (drop c.args.place seen)) in
+    let body_is : c.in_ok-body.body.items ≡ there = c.in_ok-body.ensures.told tells ∙ ap (take c.args.size) (sym (drop_drop head_size c.args.place seen)) in
+    let plain : uncounted c.deref.result.now ≡ uncounted there = ap uncounted (c.deref.ensures.value ∙ body_is) in
+    entry_there c.args.place c.args.size there (uncounted c.deref.result.now) c.requires plain
+    ∙ told_bad c.args.size (uncounted c.deref.result.now) c.in_err-entry.field-0.0 c.from_residual-in_err-entry.result at c.in_err-entry.ensures.told c.from_residual-in_err-entry.ensures.1 is
 
-pub returns-in_err-read_files-in-Some-clause-told : goal.returns-in_err-read_files-in-Some-clause-told
-returns-in_err-read_files-in-Some-clause-told g c tells =
-    let journal = c.args.journal.now in
-    let size = c.in-Some.size in
-    let fault = c.in_err-read_files-in-Some.field-0.0 in
-    let told = subst (λ (seen : List ℕ → List ℕ). TellsBody size (take size (drop 5 (seen journal))) (Err fault)) (c.read_length.ensures.reads.same tells)
-    (c.in_err-read_files-in-Some.ensures.told (c.read_length.ensures.reads.tells ∙ tells)) in
-    TellsEntry-bad (g.D.Disk.seen c.args.disk.now journal) size fault c.from_residual-in_err-read_files-in-Some.result (sym (c.in_ok-size.ensures.told tells) ∙ c.in-Some.is) told
-    c.from_residual-in_err-read_files-in-Some.ensures.1
+pub returns-clause-found : goal.returns-clause-found
+returns-clause-found g c tells =
+    let seen = g.D.Disk.seen c.args.disk.now c.args.journal.now in
+    let there = take c.args.size (drop head_size (drop c.args.place seen)) in
+    let body_is : c.in_ok-body.body.items ≡ there = c.in_ok-body.ensures.told tells ∙ ap (take c.args.size) (sym (drop_drop head_size c.args.place seen)) in
+    let plain : uncounted c.deref.result.now ≡ uncounted there = ap uncounted (c.deref.ensures.value ∙ body_is) in
+    entry_there c.args.place c.args.size there (uncounted c.deref.result.now) c.requires plain ∙ c.in_ok-entry.ensures.told
 
-pub returns-in-None-clause-told : goal.returns-in-None-clause-told
-returns-in-None-clause-told g c tells =
-    TellsEntry-none (g.D.Disk.seen c.args.disk.now c.args.journal.now) (sym (c.in_ok-size.ensures.told tells) ∙ c.in-None.is)
-
-pub returns-in_err-read_files-in-Some-clause-reads : goal.returns-in_err-read_files-in-Some-clause-reads
-returns-in_err-read_files-in-Some-clause-reads g c =
-    OnlyReads-then g.D.Disk c.args.disk.now c.read_length.new.disk c.read_files.new.disk c.read_length.ensures.reads c.read_files.ensures.reads
-
-pub returns-in_ok-read_files-in-Some-clause-reads : goal.returns-in_ok-read_files-in-Some-clause-reads
-returns-in_ok-read_files-in-Some-clause-reads g c =
-    OnlyReads-then g.D.Disk c.args.disk.now c.read_length.new.disk c.read_files.new.disk c.read_length.ensures.reads c.read_files.ensures.reads
+pub returns-clause-goes_on : goal.returns-clause-goes_on
+returns-clause-goes_on g c tells =
+    let seen = g.D.Disk.seen c.args.disk.now c.args.journal.now in
+    let body_is : c.in_ok-body.body.items ≡ take c.args.size (drop head_size (drop c.args.place seen)) =
+    c.in_ok-body.ensures.told tells ∙ ap (take c.args.size) (sym (drop_drop head_size c.args.place seen)) in
+    c.followed-goes_on.ensures ∙ ap followed (c.deref-2.ensures.value ∙ body_is)

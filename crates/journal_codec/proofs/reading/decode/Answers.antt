@@ -1,28 +1,33 @@
-use Rattle.std.proofs.Common.{◌≡◌, List, length, ap, subst, sym, ◌∙◌, arith}
+use Rattle.std.proofs.Common.{◌≡◌, ℕ, List, length, ap, subst, sym, ◌∙◌, arith}
 use Rattle.journal_codec.specs.declared.files.FileText.{FileText}
 use Rattle.journal_codec.specs.Entry.{IsEntry, spelled}
-use Rattle.journal_codec.specs.Reading.{Reads, Fails, reading_of, read_body}
+use Rattle.journal_codec.specs.Forms.{uncounted}
+use Rattle.journal_codec.specs.Reading.{Reads, Fails, all_of, reading_of, read_body}
 use Rattle.journal_codec.proofs.BodyLemmas.{all_takes}
+use Rattle.journal_codec.proofs.FormLemmas.{length-uncounted, IsBytes-uncounted}
 use Rattle.journal_codec.proofs.PlaceLemmas.{place_of}
 use Rattle.journal_codec.proofs.reading.decode.Goals as goal
 
 pub returns-in-Ok-clause-reads : goal.returns-in-Ok-clause-reads
 unfolding read_body
-returns-in-Ok-clause-reads c = ap (reading_of (length c.args.body.now)) c.in-Ok.ensures ∙ ap Reads (sym c.from_vec.ensures)
+returns-in-Ok-clause-reads c = ap (reading_of (length (uncounted c.args.body.now))) c.in-Ok.ensures ∙ ap Reads (sym c.from_vec.ensures)
 
 pub returns-in-Ok-clause-found : goal.returns-in-Ok-clause-found
 returns-in-Ok-clause-found c =
-    let read = all_takes c.args.body.now c.in-Ok.files.items c.in-Ok.ensures in
-    let whole : IsEntry c.in-Ok.files.items × (spelled c.in-Ok.files.items ≡ c.args.body.now) = (read.entry, read.spelling (λ i. omega (arith, c.type_inv.body i))) in
-    subst (λ (files : List FileText). IsEntry files × (spelled files ≡ c.args.body.now)) (sym c.from_vec.ensures) whole
+    let body = c.args.body.now in
+    let read = all_takes (uncounted body) c.in-Ok.files.items c.in-Ok.ensures in
+    let whole : IsEntry c.in-Ok.files.items × (spelled c.in-Ok.files.items ≡ uncounted body) =
+    (read.entry, read.spelling (IsBytes-uncounted body (λ i. omega (arith, c.type_inv.body i)))) in
+    subst (λ (files : List FileText). IsEntry files × (spelled files ≡ uncounted body)) (sym c.from_vec.ensures) whole
 
 pub returns-in-Err-Before-clause-bad : goal.returns-in-Err-Before-clause-bad
 unfolding read_body
 returns-in-Err-Before-clause-bad c = λ at e.
+    let body = c.args.body.now in
     let all = (rw c.in-Err-Before.field-0-is at c.in-Err-Before.ensures) (λ is. absurd cc) in
     let place : c.saturating_sub.result ≡ at = cc in
-    ap (reading_of (length c.args.body.now)) all ∙ ap Fails (sym c.saturating_sub.ensures ∙ place)
+    ap (λ (n : ℕ). reading_of n (all_of (uncounted body))) (length-uncounted body) ∙ ap (reading_of (length body)) all ∙ ap Fails (sym c.saturating_sub.ensures ∙ place)
 
 pub returns-in-Err-Before-clause-place : goal.returns-in-Err-Before-clause-place
 returns-in-Err-Before-clause-place c = λ at e.
-    place_of c.args.body.now at (λ i. omega (arith, c.type_inv.body i)) (returns-in-Err-Before-clause-bad c at e)
+    place_of (uncounted c.args.body.now) at (IsBytes-uncounted c.args.body.now (λ i. omega (arith, c.type_inv.body i))) (returns-in-Err-Before-clause-bad c at e)

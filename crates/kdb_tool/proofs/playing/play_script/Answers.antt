@@ -2,7 +2,7 @@
 use Rattle.std.proofs.Common.{◌≡◌, Some, ap, arith, refl, subst, sym}
 use Rattle.std.proofs.lemmas.Result.{IfOk-weaker}
 use Rattle.batch_script.specs.declared.steps.Script.{Script}
-use Rattle.intent_journal.specs.BadJournals.{opened_files}
+use Rattle.intent_journal.specs.Opened.{opened_files}
 use Rattle.kdb_outside.specs.Faults.{HasRisen}
 use Rattle.kdb_outside.specs.Frames.{GoesOn, OnlyReads}
 use Rattle.model_maps.specs.KeyMap.{no_keys}
@@ -26,9 +26,10 @@ returns-in-Ok g c = record {
       let refused = g.P.Patterns.refusals in
       let core = c.in-Ok.opened.core in
       let opening = c.in-Ok.ensures in
-      let begun = has_begun g.D.Disk disk files doubt core.journal calm (opening.files tells files doubt calm) (opening.stands tells files doubt calm (λ h. no_keys)).on_disk (λ others other again same. (opening.own tells others other again same (λ h. no_keys)).on_disk) in
+      let begins = opening.stands tells files doubt calm in
+      let begun = has_begun g.D.Disk disk files doubt core.journal calm (opening.files tells files doubt calm) begins.later begins.may_be (begins.stands (λ h. no_keys)).on_disk (λ others other again same. (opening.own tells others other again same (λ h. no_keys)).on_disk) in
       works-ended g.D.Disk refused disk files doubt c.args.script.now c.in-Ok.opened.plan.mounted core c.play_store.result (refused c.args.patterns) tells (opening.opened tells files doubt calm)
-      (record { begun = begun; goes = opening.goes; meanwhile = opening.any_moment tells files doubt calm; alone = λ none. opening.left_alone tells none; wrote = opening.wrote tells; state = opening.doubt })
+      (record { begun = begun; goes = opening.goes; meanwhile = opening.any_moment tells files doubt calm; alone = λ none. opening.left_alone tells none; wrote = opening.wrote tells; fresh = opening.fresh })
       c.play_store.ensures (ap refused opening.patterns) (IsUnopened (opened_files (g.D.Disk.seen disk))) (λ (played : Script). played ≡ c.args.script.now) refl;
   reported = reported-ended g.D.Disk g.P.Patterns.refusals c.args.disk c.args.script.now c.in-Ok.opened.plan.mounted c.in-Ok.opened.core c.play_store.result c.in-Ok.ensures.goes c.play_store.ensures c.requires;
   unstored = λ tells none. stores-none-ended g.D.Disk g.P.Patterns.refusals c.args.disk c.args.script.now c.in-Ok.opened.plan.mounted c.in-Ok.opened.core c.play_store.result c.in-Ok.ensures.goes c.play_store.ensures;

@@ -1,7 +1,7 @@
 -- A script is played, or what there is in its place is told without the store.
 use Rattle.std.proofs.Common.{◌≡◌, Err, refl, sym, ap, subst, arith}
 use Rattle.std.proofs.lemmas.Result.{IfOk-weaker}
-use Rattle.intent_journal.specs.BadJournals.{opened_files}
+use Rattle.intent_journal.specs.Opened.{opened_files}
 use Rattle.kdb_tool.proofs.TaskLemmas.{leaves-more, no_play, play-asks, refused-answers, refused-broken, why_in}
 use Rattle.kdb_outside.proofs.Frames.{OnlyReads-goes_on, OnlyReads-none}
 use Rattle.kdb_tool.proofs.WorkLemmas.{at-rest, broken-asked, handed-reads, made-is, made-not_of_disk, made-reported, made-tells, reads-none, stop-is, stopped-not_of_disk, works-calm, works-more}

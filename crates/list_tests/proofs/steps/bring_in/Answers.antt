@@ -1,5 +1,5 @@
 use Rattle.std.proofs.Common.{◌≡◌, length, sym, subst, ◌∙◌, arith}
-use Rattle.entry_list.specs.Pending.{pending_in, HasBroughtTo}
+use Rattle.intent_journal.specs.Pending.{pending_in, HasBroughtTo}
 use Rattle.list_tests.proofs.steps.bring_in.Goals as goal
 
 pub close_gate-requires-clause-applied : goal.close_gate-requires-clause-applied

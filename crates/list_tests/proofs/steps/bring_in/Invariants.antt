@@ -1,5 +1,5 @@
 use Rattle.std.proofs.Common.{◌≡◌, true, false}
-use Rattle.entry_list.specs.Pending.{HasBroughtTo}
+use Rattle.intent_journal.specs.Pending.{HasBroughtTo}
 use Rattle.list_tests.proofs.steps.bring_in.Given as goal
 
 abbrev pub invariant-loop-i : goal.invariant-loop-i

@@ -3,8 +3,9 @@ use Rattle.std.proofs.Common.{◌≡◌, false, refl, sym, ap, subst, Some, Matc
 use Rattle.general_words.proofs.Lists.{none_is_no_some, some_is}
 use Rattle.kdb_outside.specs.Images.{Image}
 use Rattle.kdb_outside.proofs.Frames.{OnlyReads-then}
-use Rattle.intent_journal.specs.BadJournals.{opened_files, opened_doubt}
-use Rattle.intent_journal.specs.Outcomes.{SameFiles, HasOnly, IsEither}
+use Rattle.intent_journal.specs.Opened.{opened_files}
+use Rattle.intent_journal.specs.Outcomes.{HasOnly}
+use Rattle.journal_steps.specs.Outcomes.{SameFiles, IsEither}
 use Rattle.model_crashes.specs.Runs.{new_run}
 use Rattle.model_store.specs.Store.{formats_of}
 use Rattle.mount_table.specs.Table.{own_mount}
@@ -13,7 +14,7 @@ use Rattle.store_core.specs.Faults.{RefusesBroken, RefusesStore}
 use Rattle.store_core.specs.Opened.{AsOpened, StillRead, disk_of, may_be_of_journal}
 use Rattle.store_core.specs.declared.faults.OpenFault.{OpenFault}
 use Rattle.store_core.specs.declared.faults.OpenFault.TheVariants.{BadJournal}
-use Rattle.store_core.proofs.OpeningLemmas.{calm_read, told_alike, in_doubt, journal_broken, journal_refuses, of_journal-bad, rests_read, stands_opened, still_only, whatever, unread_files}
+use Rattle.store_core.proofs.OpeningLemmas.{begins_opened, calm_read, told_alike, journal_broken, journal_refuses, of_journal-bad, rests_read, stands_opened, still_fresh, still_only, whatever, unread_files}
 use Rattle.store_core.proofs.opening.open_store.Goals as goal
 
 pub returns-in-Ok : goal.returns-in-Ok
@@ -22,19 +23,20 @@ returns-in-Ok g c = record {
   opened = λ tells files doubt calm.
       let journal = c.in-Ok.journal in
       (told_alike g.F.Formats.reads g.F.Formats.is_bad_at (g.D.Disk.seen journal.disk) (opened_files (g.D.Disk.seen c.args.disk)) (c.in-Ok.ensures.shown tells files doubt calm) c.open_files.result
-      (c.open_files.ensures.told (c.in-Ok.ensures.opened tells files doubt calm).rests.tells)).0;
+      (c.open_files.ensures.told (c.in-Ok.ensures.opened tells files doubt calm).store.rests.tells)).0;
   stands = λ tells files doubt calm.
-      let store = c.in-Ok.ensures.opened tells files doubt calm in
-      stands_opened (formats_of g.F.Formats) g.D.Disk g.F.Formats.reads g.F.Formats.is_bad_at c.in-Ok.journal
-      (new_run (opened_files (g.D.Disk.seen c.args.disk)) (g.D.Disk.faults c.args.disk) (opened_doubt (g.D.Disk.seen c.args.disk))) c.open_files.result refl store
-      (c.open_files.ensures.told store.rests.tells) c.open_files.ensures.start c.open_files.ensures.keys c.open_files.ensures.none c.open_files.ensures.journal;
+      let begun = c.in-Ok.ensures.opened tells files doubt calm in
+      begins_opened (formats_of g.F.Formats) g.D.Disk c.args.disk c.in-Ok.journal c.open_files.result begun
+      (stands_opened (formats_of g.F.Formats) g.D.Disk g.F.Formats.reads g.F.Formats.is_bad_at c.in-Ok.journal
+      (new_run (opened_files (g.D.Disk.seen c.args.disk)) (g.D.Disk.faults c.args.disk) begun.later) c.open_files.result refl begun.store
+      (c.open_files.ensures.told begun.store.rests.tells) c.open_files.ensures.start c.open_files.ensures.keys c.open_files.ensures.none c.open_files.ensures.journal);
   own = λ tells files doubt calm same.
       let store = c.in-Ok.ensures.own tells files doubt calm same in
       stands_opened (formats_of g.F.Formats) g.D.Disk g.F.Formats.reads g.F.Formats.is_bad_at c.in-Ok.journal
       (new_run files (g.D.Disk.faults c.args.disk) doubt) c.open_files.result refl store
       (c.open_files.ensures.told store.rests.tells) c.open_files.ensures.start c.open_files.ensures.keys c.open_files.ensures.none c.open_files.ensures.journal;
   shown = λ tells files doubt calm of_files.
-      let store = c.in-Ok.ensures.opened tells files doubt calm in
+      let store = (c.in-Ok.ensures.opened tells files doubt calm).store in
       subst (λ (seen : Image). SameFiles seen (opened_files (g.D.Disk.seen c.args.disk))) (sym (c.open_files.ensures.reads.same store.rests.tells)) (c.in-Ok.ensures.shown tells files doubt calm);
   files = λ tells files doubt calm. whatever c.open_files.result (IsEither files doubt (opened_files (g.D.Disk.seen c.args.disk))) (c.in-Ok.ensures.files tells files doubt calm);
   world = search rules;
@@ -42,7 +44,7 @@ returns-in-Ok g c = record {
   start = search rules;
   none = search rules;
   wrote = search rules;
-  doubt = in_doubt g.D.Disk c.in-Ok.journal c.open_files.result c.in-Ok.ensures.doubt c.open_files.ensures.journal;
+  fresh = still_fresh g.D.Disk c.in-Ok.journal c.open_files.result c.in-Ok.ensures.fresh c.open_files.ensures.journal;
   as_seen = λ tells none.
       let reads = c.in-Ok.ensures.reads tells none in
       subst (λ (seen : Image). MatchResult c.open_files.result (λ o. IsOpened g.F.Formats.reads g.F.Formats.is_bad_at seen o.plan.mounted) (λ r. RefusesStore g.F.Formats.reads g.F.Formats.is_bad_at (seen own_mount.file) r.fault))
@@ -51,7 +53,7 @@ returns-in-Ok g c = record {
   refused = λ tells files doubt calm.
       let journal = c.in-Ok.journal in
       (told_alike g.F.Formats.reads g.F.Formats.is_bad_at (g.D.Disk.seen journal.disk) (opened_files (g.D.Disk.seen c.args.disk)) (c.in-Ok.ensures.shown tells files doubt calm) c.open_files.result
-      (c.open_files.ensures.told (c.in-Ok.ensures.opened tells files doubt calm).rests.tells)).1;
+      (c.open_files.ensures.told (c.in-Ok.ensures.opened tells files doubt calm).store.rests.tells)).1;
   bad = search rules;
   broken = λ tells at is. absurd (none_is_no_some at (sym (c.in-Ok.ensures.good tells) ∙ is));
   calm = search rules;
@@ -61,9 +63,11 @@ returns-in-Ok g c = record {
       (c.in-Ok.ensures.calm_still tells files doubt calm) still;
   left = λ tells files doubt calm still.
       let seen = g.D.Disk.seen c.args.disk in
-      let store = c.in-Ok.ensures.opened tells files doubt calm in
-      AsOpened (subst (λ (now : Image). SameFiles now (opened_files seen)) (sym (c.open_files.ensures.reads.same store.rests.tells)) (c.in-Ok.ensures.shown tells files doubt calm))
-      (calm_read g.D.Disk c.args.disk c.in-Ok.journal.disk (disk_of c.open_files.result) (opened_files seen) (opened_doubt seen) tells c.in-Ok.ensures.goes c.open_files.ensures.reads (store.calm c.in-Ok.ensures.doubt) still);
+      let begun = c.in-Ok.ensures.opened tells files doubt calm in
+      let store = begun.store in
+      AsOpened begun.later begun.may_be
+      (subst (λ (now : Image). SameFiles now (opened_files seen)) (sym (c.open_files.ensures.reads.same store.rests.tells)) (c.in-Ok.ensures.shown tells files doubt calm))
+      (calm_read g.D.Disk c.args.disk c.in-Ok.journal.disk (disk_of c.open_files.result) (opened_files seen) begun.later tells c.in-Ok.ensures.goes c.open_files.ensures.reads (store.calm c.in-Ok.ensures.fresh.1) still);
   any_moment = λ tells files doubt calm.
       still_only g.D.Disk c.args.disk c.in-Ok.journal.disk (disk_of c.open_files.result) (HasOnly (IsEither files doubt)) tells c.in-Ok.ensures.goes (c.in-Ok.ensures.any_moment tells files doubt calm)
       c.open_files.ensures.reads;
@@ -85,7 +89,7 @@ returns-in-Err g c = record {
   start = search rules;
   none = search rules;
   wrote = search rules;
-  doubt = search rules;
+  fresh = search rules;
   as_seen = λ tells none.
       subst (RefusesStore g.F.Formats.reads g.F.Formats.is_bad_at (g.D.Disk.seen c.args.disk own_mount.file)) (sym c.into.ensures)
       (journal_refuses g.F.Formats.reads g.F.Formats.is_bad_at (g.D.Disk.seen c.args.disk own_mount.file) c.in-Err.field-0.fault);

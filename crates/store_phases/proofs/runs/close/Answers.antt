@@ -2,18 +2,19 @@
 use Rattle.std.proofs.Common.{sym, subst, ◌∙◌}
 use Rattle.kdb_outside.specs.Faults.{HasRisen}
 use Rattle.kdb_outside.specs.Images.{Image, IsImage}
-use Rattle.intent_journal.specs.Outcomes.{HasOnly, IsEither}
+use Rattle.intent_journal.specs.Outcomes.{HasOnly}
+use Rattle.journal_steps.specs.Outcomes.{IsEither}
 use Rattle.intent_journal.specs.States.{IsSettled}
 use Rattle.model_crashes.specs.Runs.{files_of, IsReached}
-use Rattle.intent_journal.specs.Moments.{LeavesOnly}
+use Rattle.journal_steps.specs.Moments.{LeavesOnly}
 use Rattle.store_phases.proofs.Resting.{closed_rests, resting_only, unless}
-use Rattle.store_phases.proofs.Stores.{closing_reached}
+use Rattle.store_phases.proofs.Stores.{rests_reached}
 use Rattle.store_phases.proofs.runs.close.Goals as goal
 
 pub returns-clause-always : goal.returns-clause-always
 returns-clause-always g c opened run store =
     subst (λ d. LeavesOnly g.D.Disk opened d (IsReached run.files run.commits run.begun)) (sym c.into_disk.ensures)
-    (closing_reached g.D.Disk opened c.args.journal.disk c.make_clean.new.journal.disk run store.later store.doubt_begun store.always (c.make_clean.ensures.passes (files_of run) run.doubt store.rests).any_moment)
+    (rests_reached g.D.Disk opened c.args.journal.disk c.make_clean.new.journal.disk run store.later store.doubt_begun store.always (c.make_clean.ensures.passes (files_of run) run.doubt store.rests).any_moment)
 
 pub returns-clause-now : goal.returns-clause-now
 returns-clause-now g c opened run store =

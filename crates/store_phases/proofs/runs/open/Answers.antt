@@ -1,31 +1,37 @@
-use Rattle.intent_journal.specs.Opened.{disk_of}
-use Rattle.intent_journal.specs.Outcomes.{HasOnly, IsEither}
-use Rattle.store_phases.proofs.Openings.{given_back_calm, opened_in_doubt, opened_own, opened_run, opened_shown, rests_since}
+use Rattle.intent_journal.specs.Opens.{disk_of}
+use Rattle.intent_journal.specs.Outcomes.{HasOnly}
+use Rattle.journal_steps.specs.Outcomes.{IsEither}
+use Rattle.intent_journal.proofs.Opened.{opened_fresh, opened_kept, opened_cause, opened_good, opened_bad, opened_recovered, opened_reads, opened_either, opened_holds, opened_calm, opened_own, opened_meanwhile, opened_never_bad}
+use Rattle.store_phases.proofs.Openings.{given_back_calm, opened_own_run, opened_run, rests_since, shown_behind}
 use Rattle.store_phases.proofs.runs.open.Goals as goal
 
 pub returns : goal.returns
 returns g c =
     let disk = c.args.disk in
+    let result = c.open.result in
     let opens = c.open.ensures in
+    let goes = opens.opens.goes in
+    let fresh = opened_fresh g.D.Disk disk result opens in
+    let kept = opened_kept g.D.Disk disk result opens in
+    let cause = opened_cause g.D.Disk disk result opens in
     record {
-      files = λ tells files doubt calm. (opens.leaves tells files doubt calm).files;
-      opened = λ tells files doubt calm.
-          let left = opens.leaves tells files doubt calm in
-          opened_run g.D.Disk disk c.open.result files doubt tells opens.goes calm opens.state left.doubtful (opens.recovered tells) opens.left_alone left.settled;
+      files = λ tells files doubt calm. opened_either g.D.Disk disk result opens tells files doubt calm;
+      opened = λ tells files doubt calm. opened_run g.D.Disk disk result tells goes fresh (opened_holds g.D.Disk disk result opens tells files doubt calm);
       own = λ tells files doubt calm same.
-          let left = opens.leaves tells files doubt calm in
-          opened_own g.D.Disk disk c.open.result files doubt tells opens.goes opens.state (left.own same) left.calm_still;
-      shown = λ tells files doubt calm. opened_shown g.D.Disk disk c.open.result tells opens.goes (opens.leaves tells files doubt calm).doubtful;
-      doubt = opened_in_doubt c.open.result opens.state;
-      recovered = opens.recovered;
-      reads = opens.reads;
-      kept = opens.kept;
-      good = opens.good;
-      bad = opens.bad;
-      calm = opens.calm;
-      cause = opens.cause;
-      calm_still = λ tells files doubt calm still. given_back_calm g.D.Disk disk c.open.result files doubt tells calm (opens.leaves tells files doubt calm).calm_still opens.kept opens.cause still;
-      any_moment = λ tells files doubt calm. (opens.leaves tells files doubt calm).any_moment;
-      rests = λ tells files doubt calm. rests_since g.D.Disk disk (disk_of c.open.result) (HasOnly (IsEither files doubt)) tells opens.goes (opens.leaves tells files doubt calm).any_moment;
-      goes = opens.goes;
+          opened_own_run g.D.Disk disk result files doubt tells goes fresh (opened_own g.D.Disk disk result opens tells files doubt calm same) (opened_calm g.D.Disk disk result opens tells files doubt calm);
+      shown = λ tells files doubt calm. shown_behind g.D.Disk disk result tells goes (opened_holds g.D.Disk disk result opens tells files doubt calm);
+      fresh = fresh;
+      recovered = λ tells. opened_recovered g.D.Disk disk result opens tells;
+      reads = λ tells. opened_reads g.D.Disk disk result opens tells;
+      kept = kept;
+      good = λ tells. opened_good g.D.Disk disk result opens tells;
+      bad = λ tells. opened_bad g.D.Disk disk result opens tells;
+      calm = λ tells files doubt calm. opened_never_bad g.D.Disk disk result opens tells files doubt calm;
+      cause = cause;
+      calm_still = λ tells files doubt calm still.
+          given_back_calm g.D.Disk disk result files doubt tells calm (opened_calm g.D.Disk disk result opens tells files doubt calm) kept cause still;
+      any_moment = λ tells files doubt calm. opened_meanwhile g.D.Disk disk result opens tells files doubt calm;
+      rests = λ tells files doubt calm.
+          rests_since g.D.Disk disk (disk_of result) (HasOnly (IsEither files doubt)) tells goes (opened_meanwhile g.D.Disk disk result opens tells files doubt calm);
+      goes = goes;
     }

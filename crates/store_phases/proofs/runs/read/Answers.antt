@@ -5,8 +5,8 @@ use Rattle.store_phases.proofs.Stores.{IsStore-read, read_of_run}
 use Rattle.store_phases.proofs.runs.read.Goals as goal
 
 pub returns-clause-told : goal.returns-clause-told
-returns-clause-told g c opened run store still own =
-    subst (λ (bytes : List ℕ). IfOk c.read_file.result (IsWhole bytes)) (read_of_run g.D.Disk opened c.args.journal.now run c.args.file.now store still own) (c.read_file.ensures.told store.rests.tells)
+returns-clause-told g c opened run store none own =
+    subst (λ (bytes : List ℕ). IfOk c.read_file.result (IsWhole bytes)) (read_of_run g.D.Disk opened c.args.journal.now run c.args.file.now store none own) (c.read_file.ensures.told store.rests.tells)
 
 pub returns-clause-store : goal.returns-clause-store
 returns-clause-store g c opened run store =

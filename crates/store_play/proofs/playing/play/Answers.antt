@@ -24,8 +24,8 @@ loop-event-init g c = record {
   later = omega arith;
 }
 
-pub step-answer-requires : goal.step-answer-requires
-step-answer-requires g c =
+pub turn-answer-requires : goal.turn-answer-requires
+turn-answer-requires g c =
     let w = c.requires.holding in
     let stood = c.loop-event.invariant.stood w.procs w.opened w.known w.world w.run w.holds in
     record { holding = record { procs = w.procs; opened = w.opened; known = stood.known; world = stood.world; run = stood.run; holds = stood.holds } }
@@ -39,17 +39,17 @@ loop-event-preserved g c = record {
   count = omega (arith, c.push_reserved.ensures.len, c.loop-event.invariant.count);
   stood = λ procs opened known world run h.
       stood_next (formats_of g.F.Formats) g.D.Disk c.args.plan.now.mounted procs opened (stage_of c.args.core.now (records_in c.args.handles.now) (places_in c.args.handles.now) known run) c.args.events.now
-      c.loop-event.event-index c.event-item.result c.step-answer.result c.loop-event.answers.items c.push_reserved.new.self.items c.loop-event.core c.step-answer.new.core
-      (records_in c.loop-event.handles) (records_in c.step-answer.new.handles) (places_in c.loop-event.handles) (places_in c.step-answer.new.handles)
-      (at_place c.args.events.now c.loop-event.event-index c.event-item.result c.loop-event-test.true c.event-item.is) c.push_reserved.ensures.items (c.step-answer.ensures.stepped procs opened) (c.loop-event.invariant.stood procs opened known world run h);
+      c.loop-event.event-index c.event-item.result c.turn-answer.result c.loop-event.answers.items c.push_reserved.new.self.items c.loop-event.core c.turn-answer.new.core
+      (records_in c.loop-event.handles) (records_in c.turn-answer.new.handles) (places_in c.loop-event.handles) (places_in c.turn-answer.new.handles)
+      (at_place c.args.events.now c.loop-event.event-index c.event-item.result c.loop-event-test.true c.event-item.is) c.push_reserved.ensures.items (c.turn-answer.ensures.stepped procs opened) (c.loop-event.invariant.stood procs opened known world run h);
   causes =
       let so_far = c.loop-event.invariant in
-      caused_next (g.D.Disk.faults c.args.core.now.journal.disk) (g.D.Disk.faults c.loop-event.core.journal.disk) (g.D.Disk.faults c.step-answer.new.core.journal.disk)
-      (g.P.Patterns.refusals c.args.core.now.patterns) (g.P.Patterns.refusals c.loop-event.core.patterns) (g.P.Patterns.refusals c.step-answer.new.core.patterns)
-      c.loop-event.answers.items c.push_reserved.new.self.items c.step-answer.result so_far.goes.later c.step-answer.ensures.goes.later so_far.later c.step-answer.ensures.later c.push_reserved.ensures.items
-      so_far.causes c.step-answer.ensures.cause;
-  goes = GoesOn-then g.D.Disk c.args.core.now.journal.disk c.loop-event.core.journal.disk c.step-answer.new.core.journal.disk c.loop-event.invariant.goes c.step-answer.ensures.goes;
-  later = omega (arith, c.loop-event.invariant.later, c.step-answer.ensures.later);
+      caused_next (g.D.Disk.faults c.args.core.now.journal.disk) (g.D.Disk.faults c.loop-event.core.journal.disk) (g.D.Disk.faults c.turn-answer.new.core.journal.disk)
+      (g.P.Patterns.refusals c.args.core.now.patterns) (g.P.Patterns.refusals c.loop-event.core.patterns) (g.P.Patterns.refusals c.turn-answer.new.core.patterns)
+      c.loop-event.answers.items c.push_reserved.new.self.items c.turn-answer.result so_far.goes.later c.turn-answer.ensures.goes.later so_far.later c.turn-answer.ensures.later c.push_reserved.ensures.items
+      so_far.causes c.turn-answer.ensures.cause;
+  goes = GoesOn-then g.D.Disk c.args.core.now.journal.disk c.loop-event.core.journal.disk c.turn-answer.new.core.journal.disk c.loop-event.invariant.goes c.turn-answer.ensures.goes;
+  later = omega (arith, c.loop-event.invariant.later, c.turn-answer.ensures.later);
 }
 
 pub returns-clause-played : goal.returns-clause-played

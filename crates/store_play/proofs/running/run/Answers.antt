@@ -1,9 +1,10 @@
 -- From the opening to the close.
-use Rattle.std.proofs.Common.{◌≡◌, ◌≤◌, List, Some, ap, subst, inl, ◌∙◌, rules}
+use Rattle.std.proofs.Common.{◌≡◌, ◌≤◌, Some, None, refl, ap, subst, inl, ◌∙◌, rules}
 use Rattle.std.proofs.lemmas.Result.{IfErr-weaker, IfOk-weaker}
 use Rattle.kdb_outside.proofs.Frames.{GoesOn-then}
-use Rattle.intent_journal.specs.BadJournals.{opened_files}
-use Rattle.intent_journal.specs.Outcomes.{HasOnly, IsEither}
+use Rattle.intent_journal.specs.Opened.{opened_files}
+use Rattle.intent_journal.specs.Outcomes.{HasOnly}
+use Rattle.journal_steps.specs.Outcomes.{IsEither}
 use Rattle.model_crashes.specs.Runs.{Run, new_run}
 use Rattle.model_crashes.proofs.Moments.{only_follows}
 use Rattle.model_store.specs.Store.{formats_of}
@@ -17,16 +18,19 @@ use Rattle.store_play.proofs.running.run.Goals as goal
 pub run_opened-requires-clause-stands : goal.run_opened-requires-clause-stands
 run_opened-requires-clause-stands g c =
     let calm = c.requires.calm in
-    (c.in-Ok.opened.core.journal.disk, opened_run g.D.Disk c.args.disk, c.in-Ok.ensures.stands c.requires.tells calm.0 calm.1 calm.2 (procs_at c.args.procs.now))
+    let begun = c.in-Ok.ensures.stands c.requires.tells calm.0 calm.1 calm.2 in
+    (c.in-Ok.opened.core.journal.disk, opened_run g.D.Disk c.args.disk begun.later, begun.stands (procs_at c.args.procs.now))
 
 pub returns-in-Ok : goal.returns-in-Ok
 returns-in-Ok g c = record {
   sound = search rules;
   ran = λ files doubt calm.
-      let first : Run = opened_run g.D.Disk c.args.disk in
-      ran_files (formats_of g.F.Formats) g.F.Formats.reads g.F.Formats.is_bad_at g.D.Disk c.in-Ok.opened.plan.mounted c.args.procs.now c.args.places c.args.events.now c.args.disk c.in-Ok.opened.core.journal.disk files doubt first
+      let begun = c.in-Ok.ensures.stands c.requires.tells files doubt calm in
+      let first : Run = opened_run g.D.Disk c.args.disk begun.later in
+      IfOk-weaker c.run_opened.result _ _ (λ ran has. (begun.later, begun.may_be, has))
+      (ran_files (formats_of g.F.Formats) g.F.Formats.reads g.F.Formats.is_bad_at g.D.Disk c.in-Ok.opened.plan.mounted c.args.procs.now c.args.places c.args.events.now c.args.disk c.in-Ok.opened.core.journal.disk files doubt first
       c.in-Ok.ensures.goes.moment (c.in-Ok.ensures.any_moment c.requires.tells files doubt calm) c.run_opened.result
-      (c.in-Ok.ensures.opened c.requires.tells files doubt calm) (c.run_opened.ensures.ran c.in-Ok.opened.core.journal.disk first (c.in-Ok.ensures.stands c.requires.tells files doubt calm (procs_at c.args.procs.now)));
+      (c.in-Ok.ensures.opened c.requires.tells files doubt calm) (c.run_opened.ensures.ran c.in-Ok.opened.core.journal.disk first (begun.stands (procs_at c.args.procs.now))));
   own = λ files doubt calm same.
       let first : Run = new_run files (g.D.Disk.faults c.args.disk) doubt in
       ran_files (formats_of g.F.Formats) g.F.Formats.reads g.F.Formats.is_bad_at g.D.Disk c.in-Ok.opened.plan.mounted c.args.procs.now c.args.places c.args.events.now c.args.disk c.in-Ok.opened.core.journal.disk files doubt first
@@ -44,14 +48,17 @@ returns-in-Ok g c = record {
   patterns = IfErr-weaker c.run_opened.result _ _ (λ refused same. same ∙ c.in-Ok.ensures.patterns) c.run_opened.ensures.patterns;
   calm_still = λ files doubt calm.
       let start = c.in-Ok.opened.core.journal.disk in
-      let first : Run = opened_run g.D.Disk c.args.disk in
+      let begun = c.in-Ok.ensures.stands c.requires.tells files doubt calm in
+      let first : Run = opened_run g.D.Disk c.args.disk begun.later in
       refused_calm g.D.Disk c.args.disk start c.run_opened.result files doubt c.in-Ok.ensures.goes c.run_opened.ensures.goes (c.in-Ok.ensures.calm_still c.requires.tells files doubt calm)
-      (c.run_opened.ensures.still start first files doubt (c.in-Ok.ensures.stands c.requires.tells files doubt calm (procs_at c.args.procs.now)) c.in-Ok.ensures.doubt (c.in-Ok.ensures.files c.requires.tells files doubt calm));
+      (c.run_opened.ensures.still start first files doubt (begun.stands (procs_at c.args.procs.now)) c.in-Ok.ensures.fresh (c.in-Ok.ensures.files c.requires.tells files doubt calm));
   any_moment = λ files doubt calm.
-      let first : Run = opened_run g.D.Disk c.args.disk in
-      reached_files (formats_of g.F.Formats) g.F.Formats.reads g.F.Formats.is_bad_at g.D.Disk c.in-Ok.opened.plan.mounted c.args.procs.now c.args.places c.args.events.now c.args.disk c.in-Ok.opened.core.journal.disk files doubt first
+      let begun = c.in-Ok.ensures.stands c.requires.tells files doubt calm in
+      let first : Run = opened_run g.D.Disk c.args.disk begun.later in
+      IfErr-weaker c.run_opened.result _ _ (λ refused only. (begun.later, begun.may_be, only))
+      (reached_files (formats_of g.F.Formats) g.F.Formats.reads g.F.Formats.is_bad_at g.D.Disk c.in-Ok.opened.plan.mounted c.args.procs.now c.args.places c.args.events.now c.args.disk c.in-Ok.opened.core.journal.disk files doubt first
       c.in-Ok.ensures.goes.moment (c.in-Ok.ensures.any_moment c.requires.tells files doubt calm) c.run_opened.result
-      (c.run_opened.ensures.reached c.in-Ok.opened.core.journal.disk first (c.in-Ok.ensures.stands c.requires.tells files doubt calm (procs_at c.args.procs.now)));
+      (c.run_opened.ensures.reached c.in-Ok.opened.core.journal.disk first (begun.stands (procs_at c.args.procs.now))));
   own_any_moment = λ files doubt calm same.
       let first : Run = new_run files (g.D.Disk.faults c.args.disk) doubt in
       reached_files (formats_of g.F.Formats) g.F.Formats.reads g.F.Formats.is_bad_at g.D.Disk c.in-Ok.opened.plan.mounted c.args.procs.now c.args.places c.args.events.now c.args.disk c.in-Ok.opened.core.journal.disk files doubt first
@@ -64,7 +71,7 @@ pub returns-in-Err : goal.returns-in-Err
 returns-in-Err g c = record {
   sound =
       let calm = c.requires.calm in
-      sound_since g.D.Disk c.args.disk c.in-Err.refused.disk (IsEither calm.0 calm.1) c.requires.tells c.in-Err.ensures.goes (c.in-Err.ensures.any_moment c.requires.tells calm.0 calm.1 calm.2);
+      sound_since g.D.Disk c.args.disk c.in-Err.refused.disk calm.0 calm.1 c.requires.tells c.in-Err.ensures.goes (c.in-Err.ensures.any_moment c.requires.tells calm.0 calm.1 calm.2);
   ran = search rules;
   own = search rules;
   causes = search rules;
@@ -77,8 +84,11 @@ returns-in-Err g c = record {
   patterns = search rules;
   calm_still = λ files doubt calm. c.in-Err.ensures.calm_still c.requires.tells files doubt calm;
   any_moment = λ files doubt calm.
-      let first : Run = opened_run g.D.Disk c.args.disk in
-      only_follows g.D.Disk c.args.disk c.in-Err.refused.disk (HasOnly (IsEither files doubt)) (WasOrReached files doubt first) (λ image held. inl held) (c.in-Err.ensures.any_moment c.requires.tells files doubt calm);
+      let first : Run = opened_run g.D.Disk c.args.disk None in (
+        None,
+        λ some. refl,
+        only_follows g.D.Disk c.args.disk c.in-Err.refused.disk (HasOnly (IsEither files doubt)) (WasOrReached files doubt first) (λ image held. inl held) (c.in-Err.ensures.any_moment c.requires.tells files doubt calm),
+      );
   own_any_moment = λ files doubt calm same.
       let first : Run = new_run files (g.D.Disk.faults c.args.disk) doubt in
       only_follows g.D.Disk c.args.disk c.in-Err.refused.disk (HasOnly (IsEither files doubt)) (WasOrReached files doubt first) (λ image held. inl held) (c.in-Err.ensures.any_moment c.requires.tells files doubt calm);

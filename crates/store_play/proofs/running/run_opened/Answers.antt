@@ -1,9 +1,8 @@
 -- What was played, and then closed.
 use Rattle.std.proofs.Common.{◌≡◌, ◌≤◌, inl, ap, subst, sym, ◌∙◌, arith, rules}
 use Rattle.commit_log.specs.Log.{Log}
-use Rattle.intent_journal.specs.Outcomes.{IsEither}
+use Rattle.intent_journal.specs.Opened.{IsFresh}
 use Rattle.intent_journal.specs.States.{IsCalm}
-use Rattle.intent_journal.specs.declared.states.State.TheVariants.{Doubt}
 use Rattle.kdb_outside.specs.Faults.{HasRisen}
 use Rattle.kdb_outside.specs.Frames.{GoesOn}
 use Rattle.kdb_outside.proofs.Frames.{GoesOn-then}
@@ -32,7 +31,7 @@ returns-in-Ok g c = record {
   sound =
       let is = c.requires.stands in
       let played = c.in-Ok.ensures.played is.0 is.1 is.2 in
-      sound_now g.D.Disk c.close-disk.result.disk (IsEither (files_of played.last.run) played.last.run.doubt) (c.close-disk.ensures.now is.0 played.last.run played.stands.on_disk);
+      sound_now g.D.Disk c.close-disk.result.disk (files_of played.last.run) played.last.run.doubt (c.close-disk.ensures.now is.0 played.last.run played.stands.on_disk);
   causes =
       let before = c.args.opened.core in
       let core = c.play_new-played.new.core in
@@ -54,19 +53,19 @@ returns g c = record {
   ran = search rules;
   sound =
       let is = c.requires.stands in
-      sound_now g.D.Disk c.close-disk.result.disk (IsEither (files_of is.1) is.1.doubt)
+      sound_now g.D.Disk c.close-disk.result.disk (files_of is.1) is.1.doubt
       (c.close-disk.ensures.now is.0 is.1 (subst (λ (core : Core g.row.D.Denot g.row.P.Denot). IsStore g.D.Disk is.0 core.journal is.1) (sym c.in-Err.ensures.none) is.2.on_disk));
   causes = search rules;
   later = search rules;
   refused = search rules;
   patterns = c.close-disk.ensures.patterns ∙ ap (λ (core : Core g.row.D.Denot g.row.P.Denot). core.patterns) c.in-Err.ensures.none;
   reached = λ start run stands. c.close-disk.ensures.always start run (subst (λ (core : Core g.row.D.Denot g.row.P.Denot). IsStore g.D.Disk start core.journal run) (sym c.in-Err.ensures.none) stands.on_disk);
-  still = λ start run files doubt stands in_doubt either still calm.
+  still = λ start run files doubt stands fresh either still calm.
       let core = c.play_new-played.new.core in
       let same = sym c.in-Err.ensures.none in
       let store = subst (λ (k : Core g.row.D.Denot g.row.P.Denot). IsStore g.D.Disk start k.journal run) same stands.on_disk in
       closed_calm g.D.Disk core.journal.disk c.close-disk.result.disk run files doubt core.wrote (c.close-disk.ensures.goes.tells ∙ store.rests.tells) either
-      (λ unwritten. c.close-disk.ensures.left_alone unwritten (subst (λ (k : Core g.row.D.Denot g.row.P.Denot). k.journal.state ≡ Doubt) same in_doubt))
+      (λ unwritten. c.close-disk.ensures.left_alone unwritten (subst (λ (k : Core g.row.D.Denot g.row.P.Denot). IsFresh k.journal) same fresh))
       (λ wrote. c.close-disk.ensures.settled start run store (subst (λ (k : Core g.row.D.Denot g.row.P.Denot). ¬ HasRisen (g.D.Disk.faults k.journal.disk) (g.D.Disk.faults c.close-disk.result.disk)) same still) (inl wrote))
       (subst (λ (k : Core g.row.D.Denot g.row.P.Denot). IsCalm (g.D.Disk.seen k.journal.disk) (g.D.Disk.may_leave k.journal.disk) files doubt) same calm);
   goes = subst (λ (core : Core g.row.D.Denot g.row.P.Denot). GoesOn g.D.Disk core.journal.disk c.close-disk.result.disk) c.in-Err.ensures.none c.close-disk.ensures.goes;

@@ -1,7 +1,8 @@
 -- The opening, the answer over the open store and the close make what is done to the disk.
-use Rattle.std.proofs.Common.{ℕ, Ok, Some, ap, is_some, subst, sym, ◌∙◌, arith}
+use Rattle.std.proofs.Common.{ℕ, Ok, Some, ap, subst, sym, ◌∙◌, arith}
 use Rattle.std.proofs.lemmas.Result.{IfOk-weaker}
-use Rattle.intent_journal.specs.BadJournals.{opened_files}
+use Rattle.intent_journal.specs.Opened.{opened_files}
+use Rattle.intent_journal.specs.Opens.{has_any}
 use Rattle.model_maps.specs.KeyMap.{no_keys}
 use Rattle.kdb_outside.specs.Faults.{HasRisen}
 use Rattle.kdb_outside.specs.Frames.{GoesOn, OnlyReads}
@@ -26,7 +27,8 @@ returns-in-Ok g c = record {
       let mounted = c.in-Ok.opened.plan.mounted in
       let question = question_of c.args.question in
       let Refusing = MayRefuse c.answer_in-answer.result (g.P.Patterns.refusals c.in-Ok.opened.core.patterns) (g.P.Patterns.refusals c.answer_in-answer.new.core.patterns) in
-      let begun = has_begun g.D.Disk disk files doubt core.journal calm (c.in-Ok.ensures.files tells files doubt calm) (c.in-Ok.ensures.stands tells files doubt calm (λ h. no_keys)).on_disk
+      let begins = c.in-Ok.ensures.stands tells files doubt calm in
+      let begun = has_begun g.D.Disk disk files doubt core.journal calm (c.in-Ok.ensures.files tells files doubt calm) begins.later begins.may_be (begins.stands (λ h. no_keys)).on_disk
       (λ others other again same. (c.in-Ok.ensures.own tells others other again same (λ h. no_keys)).on_disk) in
       let is_opened = c.in-Ok.ensures.opened tells files doubt calm in
       let serving = c.answer_in-answer.ensures.serving in
@@ -43,7 +45,7 @@ returns-in-Ok g c = record {
         meanwhile = c.in-Ok.ensures.any_moment tells files doubt calm;
         alone = λ none. c.in-Ok.ensures.left_alone tells none;
         wrote = c.in-Ok.ensures.wrote tells;
-        state = c.in-Ok.ensures.doubt;
+        fresh = c.in-Ok.ensures.fresh;
       })
       (record { alone = c.close-disk.ensures.left_alone; shown = c.close-disk.ensures.shown; always = c.close-disk.ensures.always; now = c.close-disk.ensures.now; rests = c.close-disk.ensures.rests; settled = c.close-disk.ensures.settled; goes = c.close-disk.ensures.goes; calm = c.close-disk.ensures.calm })
       (AnswersOver Refusing question seen) c.answer_in-answer.result c.answer_in-answer.ensures.cause
@@ -60,7 +62,7 @@ returns-in-Ok g c = record {
       let result = c.answer_in-answer.result in
       subst (OnlyReads g.D.Disk c.args.disk) (sym c.given_back-disk.ensures)
       (serving_untouched g.D.Disk c.args.disk c.close-disk.result.disk core c.answer_in-answer.new.core
-      (record { alone = c.in-Ok.ensures.left_alone tells none; wrote = c.in-Ok.ensures.wrote tells ∙ ap is_some none; state = c.in-Ok.ensures.doubt }) c.close-disk.ensures.left_alone
+      (record { alone = c.in-Ok.ensures.left_alone tells none; wrote = c.in-Ok.ensures.wrote tells ∙ ap has_any none; fresh = c.in-Ok.ensures.fresh }) c.close-disk.ensures.left_alone
       (AnswersOver Refusing question seen) c.answer_in-answer.result
       (serving_weaker g.D.Disk (AnswersIn Refusing mounted question) (AnswersOver Refusing question seen) c.answer_in-answer.result core c.answer_in-answer.new.core
       (λ answer answers. record { opened = Ok mounted; opens = is_opened; answers = answers }) c.answer_in-answer.ensures.serving)
@@ -74,7 +76,7 @@ returns-in-Ok g c = record {
       let Answered = AnswersIn Refusing c.in-Ok.opened.plan.mounted (question_of c.args.question) in
       subst (OnlyReads g.D.Disk c.args.disk) (sym c.given_back-disk.ensures)
       (serving_unstored g.D.Disk c.args.disk c.close-disk.result.disk core c.answer_in-answer.new.core
-      (record { alone = c.in-Ok.ensures.left_alone tells none; wrote = c.in-Ok.ensures.wrote tells ∙ ap is_some none; state = c.in-Ok.ensures.doubt }) c.close-disk.ensures.left_alone
+      (record { alone = c.in-Ok.ensures.left_alone tells none; wrote = c.in-Ok.ensures.wrote tells ∙ ap has_any none; fresh = c.in-Ok.ensures.fresh }) c.close-disk.ensures.left_alone
       Answered c.answer_in-answer.result c.answer_in-answer.ensures.serving not_done);
   broken = λ tells at is. absurd (c.in-Ok.ensures.broken tells at is);
   broken_stays = λ tells at is. absurd (c.in-Ok.ensures.broken tells at is);

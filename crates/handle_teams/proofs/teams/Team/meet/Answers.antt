@@ -7,5 +7,7 @@ invariant_of-result g c = record {
   started = c.args.self.started;
   free = c.args.self.free;
   each = c.meet_last.ensures.each;
-  all = ap (λ n. n + length c.args.self.seats.seats.items) c.meet_last.ensures.len ∙ c.args.self.all;
+  all = ap (λ n. n + length c.args.self.seats.seats.items + 1) c.meet_last.ensures.len ∙ c.args.self.all;
+  given = c.args.self.given;
+  flushes = c.args.self.flushes;
 }

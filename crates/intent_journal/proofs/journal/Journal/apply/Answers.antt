@@ -1,60 +1,51 @@
-use Rattle.std.proofs.Common.{◌≡◌, ◌<◌, length, slice_index_or, subst, sym, ap, ◌∙◌}
-use Rattle.std.proofs.lemmas.Option.{get_or_from_slice_get}
-use Rattle.std.proofs.lemmas.Result.{on_ok_weaker}
-use Rattle.kdb_outside.specs.Images.{Only, KeepsOtherImages}
+use Rattle.std.proofs.Common.{◌≡◌, ◌<◌, List, ℕ, Some, None, length, slice_get, sym, subst}
+use Rattle.kdb_outside.specs.Images.{KeepsImagesOf}
 use Rattle.journal_codec.specs.declared.files.FileText.{FileText}
-use Rattle.intent_journal.specs.Moments.{KeepsElse, KeepsUnnamed}
-use Rattle.intent_journal.specs.Steps.{PutsFile}
-use Rattle.intent_journal.proofs.Contents.{HasApplied-more}
-use Rattle.intent_journal.proofs.Meanwhile.{else_weaker}
-use Rattle.intent_journal.proofs.Sound.{IsSound-lag, KeepsElse-unnamed, unnamed_kept}
-use Rattle.intent_journal.proofs.Steps.{applying}
+use Rattle.journal_codec.specs.Entry.{journal_name}
+use Rattle.journal_steps.specs.Moments.{AddsOnly, KeepsUnnamed}
+use Rattle.journal_steps.specs.Outcomes.{content_in}
+use Rattle.intent_journal.specs.Lists.{as_one}
+use Rattle.intent_journal.specs.Pending.{pending_in}
+use Rattle.intent_journal.proofs.LeastNames.{brought_step}
+use Rattle.intent_journal.proofs.Passages.{as_one-journal}
+use Rattle.intent_journal.proofs.Sound.{sound_kept}
+use Rattle.intent_journal.proofs.Steps.{keeping}
 use Rattle.intent_journal.proofs.journal.Journal.apply.Goals as goal
+
+pub put_pending-requires : goal.put_pending-requires
+put_pending-requires g c =
+    let within = rw (← c.self.view_is) at c.requires.within in
+    subst (λ (l : List (List FileText)). c.args.i < length (pending_in l)) (sym c.as_slice.ensures.value) within
 
 pub invariant_of-self : goal.invariant_of-self
 invariant_of-self g c =
-    let entry = c.self.inside.entry in
-    let text = c.index-entry-i.result in
-    let place : text ≡ slice_index_or entry c.args.i text = c.index-entry-i.is ∙ ap (λ files. slice_index_or files c.args.i text) c.as_slice-entry.ensures in
-    let within : c.args.i < length entry = subst (λ j. c.args.i < length j.entry) (sym c.self.view_is) c.requires.within in
-    let lag = ap (λ j. j.state) c.self.view_is ∙ c.requires.lag in
-    IsSound-lag (g.D.Disk.tells c.self.inside.disk) _ _ _ (g.D.Disk.may_leave c.self.inside.disk) _ _ _ _ _ c.self.invariant lag c.put_file.ensures.goes.tells
-    (λ tells. unnamed_kept entry c.args.i text _ _ within place (c.put_file.ensures.others tells))
+    let unnamed = subst (λ (l : List (List FileText)). content_in (as_one l) journal_name ≡ None) (sym c.as_slice.ensures.value) (as_one-journal c.self.inside.list.items c.self.invariant.fits.each) in
+    sound_kept (g.D.Disk.tells c.self.inside.disk) _ (g.D.Disk.may_leave c.self.inside.disk) _ _ _ _ _ _ c.self.invariant c.put_pending.ensures.goes.tells
+    (λ tells. (c.put_pending.ensures.others tells journal_name unnamed).no_more)
 
 pub returns-clause-puts : goal.returns-clause-puts
 returns-clause-puts g c =
-    let entry = c.self.inside.entry in
-    let text = c.index-entry-i.result in
-    let place : text ≡ slice_index_or entry c.args.i text = c.index-entry-i.is ∙ ap (λ files. slice_index_or files c.args.i text) c.as_slice-entry.ensures in
-    rw (← c.self.view_is) (λ tells given is.
-    subst (λ (t : FileText). PutsFile g.D.Disk c.self.inside.disk c.put_file.new.disk c.put_file.result t) (place ∙ get_or_from_slice_get entry c.args.i given text is)
-    (record { durable = c.put_file.ensures.durable tells; others = c.put_file.ensures.others tells }))
+    rw (← c.self.view_is) (λ tells content found.
+    c.put_pending.ensures.puts tells content (subst (λ (l : List (List FileText)). slice_get (pending_in l) c.args.i ≡ Some content) (sym c.as_slice.ensures.value) found))
 
 pub returns-clause-applied : goal.returns-clause-applied
 returns-clause-applied g c =
-    let entry = c.self.inside.entry in
-    let text = c.index-entry-i.result in
-    let place : text ≡ slice_index_or entry c.args.i text = c.index-entry-i.is ∙ ap (λ files. slice_index_or files c.args.i text) c.as_slice-entry.ensures in
-    let within : c.args.i < length entry = subst (λ j. c.args.i < length j.entry) (sym c.self.view_is) c.requires.within in
-    let lag = ap (λ j. j.state) c.self.view_is ∙ c.requires.lag in
+    let within = rw (← c.self.view_is) at c.requires.within in
+    let list = c.self.inside.list.items in
     rw (← c.self.view_is) (λ tells so_far.
-    let new = g.D.Disk.may_leave c.put_file.new.disk in
-    let old = g.D.Disk.may_leave c.self.inside.disk in
-    on_ok_weaker c.put_file.result (λ (only : Only text.bytes (new text.file)).
-    HasApplied-more entry old new c.args.i text (c.self.invariant.lag_entry lag) within so_far
-    (subst (λ (t : FileText). Only t.bytes (new t.file)) place only)
-    (subst (λ (t : FileText). KeepsOtherImages t.file old new) place (c.put_file.ensures.others tells)))
-    (c.put_file.ensures.durable tells))
+    brought_step c.put_pending.result (g.D.Disk.may_leave c.self.inside.disk) (g.D.Disk.may_leave c.put_pending.new.disk) list c.args.i so_far
+    (λ content found.
+    (c.put_pending.ensures.puts tells content (subst (λ (l : List (List FileText)). slice_get (pending_in l) c.args.i ≡ Some content) (sym c.as_slice.ensures.value) found)).durable)
+    (λ content found.
+    (c.put_pending.ensures.puts tells content (subst (λ (l : List (List FileText)). slice_get (pending_in l) c.args.i ≡ Some content) (sym c.as_slice.ensures.value) found)).others)
+    within)
 
 pub returns-clause-passes : goal.returns-clause-passes
 returns-clause-passes g c =
-    let entry = c.self.inside.entry in
-    let text = c.index-entry-i.result in
-    let place : text ≡ slice_index_or entry c.args.i text = c.index-entry-i.is ∙ ap (λ files. slice_index_or files c.args.i text) c.as_slice-entry.ensures in
-    let within : c.args.i < length entry = subst (λ j. c.args.i < length j.entry) (sym c.self.view_is) c.requires.within in
-    let lag = ap (λ j. j.state) c.self.view_is ∙ c.requires.lag in
-    rw (← c.self.view_is) (λ tells files state.
-    let old = g.D.Disk.may_leave c.self.inside.disk in
-    applying g.D.Disk c.self.inside.disk c.put_file.new.disk c.put_file.result tells files entry (c.self.invariant.lag_entry lag) state
-    (unnamed_kept entry c.args.i text _ _ within place (c.put_file.ensures.others tells))
-    (else_weaker _ _ _ (KeepsElse text.file old) (KeepsUnnamed entry old) (c.put_file.ensures.time tells) (KeepsElse-unnamed entry c.args.i text old within place)))
+    let old = c.self.inside.disk in
+    let new = c.put_pending.new.disk in
+    let list = c.self.inside.list.items in
+    rw (← c.self.view_is) (λ tells before state.
+    keeping g.D.Disk old new c.put_pending.result tells before list state
+    (subst (λ (l : List (List FileText)). (other : List ℕ) → content_in (as_one l) other ≡ None → KeepsImagesOf other (g.D.Disk.may_leave old) (g.D.Disk.may_leave new)) c.as_slice.ensures.value (c.put_pending.ensures.others tells))
+    (subst (λ (l : List (List FileText)). AddsOnly g.D.Disk old new (KeepsUnnamed (as_one l) (g.D.Disk.may_leave old))) c.as_slice.ensures.value (c.put_pending.ensures.time tells)))

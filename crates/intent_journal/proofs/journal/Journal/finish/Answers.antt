@@ -1,44 +1,56 @@
-use Rattle.std.proofs.Common.{List, ap, subst, ◌∙◌, rules}
+use Rattle.std.proofs.Common.{◌≡◌, true, [], Ok, List, inl, ap, sym, subst, ◌∙◌, rules}
+use Rattle.std.specs.List.{AllByRecursion}
 use Rattle.journal_codec.specs.declared.files.FileText.{FileText}
-use Rattle.intent_journal.specs.Moments.{AddsOnly, KeepsUnnamed}
-use Rattle.intent_journal.proofs.Putting.{KeepsUnnamedImages}
-use Rattle.intent_journal.proofs.Sound.{IsSound-lag}
-use Rattle.intent_journal.proofs.Steps.{applying, finishing, unfinished_doubt, unfinished_lag}
+use Rattle.journal_codec.specs.Entry.{journal_name, IsEntry}
+use Rattle.intent_journal.specs.Bringing.{Brings}
+use Rattle.intent_journal.specs.Lists.{as_one}
+use Rattle.intent_journal.proofs.Passages.{as_one-journal}
+use Rattle.intent_journal.proofs.Sound.{sound_kept}
+use Rattle.intent_journal.proofs.Steps.{bringing, finishing, unfinished_lag, unfinished_doubt}
 use Rattle.intent_journal.proofs.journal.Journal.finish.Goals as goal
+
+pub bring_in-requires : goal.bring_in-requires
+bring_in-requires g c = subst (AllByRecursion IsEntry) (sym c.as_slice.ensures.value) c.self.invariant.fits.each
 
 pub invariant_of-self : goal.invariant_of-self
 invariant_of-self g c =
-    let entry = c.self.inside.entry in
-    let old = g.D.Disk.may_leave c.self.inside.disk in
-    let mid = g.D.Disk.may_leave c.put_files.new.disk in
-    let lag = ap (λ j. j.state) c.self.view_is ∙ c.requires in
-    IsSound-lag (g.D.Disk.tells c.self.inside.disk) _ _ _ old mid _ _ _ _ c.self.invariant lag c.put_files.ensures.goes.tells (λ tells. subst (λ (files : List FileText). KeepsUnnamedImages files old mid) c.as_slice.ensures (c.put_files.ensures.others tells))
-
-pub returns-in_err-put_files-clause-passes : goal.returns-in_err-put_files-clause-passes
-returns-in_err-put_files-clause-passes g c =
-    let entry = c.self.inside.entry in
-    let old = c.self.inside.disk in
-    let mid = c.put_files.new.disk in
-    let lag = ap (λ j. j.state) c.self.view_is ∙ c.requires in
-    rw (← c.self.view_is) (λ tells files state.
-    let passes = applying g.D.Disk old mid c.from_residual.result tells files entry (c.self.invariant.lag_entry lag) state
-    (subst (λ (texts : List FileText). KeepsUnnamedImages texts (g.D.Disk.may_leave old) (g.D.Disk.may_leave mid)) c.as_slice.ensures (c.put_files.ensures.others tells))
-    (subst (λ (texts : List FileText). AddsOnly g.D.Disk old mid (KeepsUnnamed texts (g.D.Disk.may_leave old))) c.as_slice.ensures (c.put_files.ensures.time tells)) in
-    record { ok = search rules; err = unfinished_lag c.self.inside.state files entry (g.D.Disk.may_leave mid) c.from_residual.result lag passes.err; any_moment = passes.any_moment })
+    let list = c.self.inside.list.items in
+    let brings = λ (tells : g.D.Disk.tells c.self.inside.disk ≡ true). subst (λ (l : List (List FileText)). Brings g.D.Disk c.self.inside.disk c.bring_in.new.disk c.bring_in.result (as_one l) []) c.as_slice.ensures.value (c.bring_in.ensures.brings tells) in
+    sound_kept (g.D.Disk.tells c.self.inside.disk) _ (g.D.Disk.may_leave c.self.inside.disk) _ _ _ _ _ _ c.self.invariant c.bring_in.ensures.goes.tells
+    (λ tells. ((brings tells).kept journal_name (inl (as_one-journal list c.self.invariant.fits.each))).no_more)
 
 pub invariant_of-self-2 : goal.invariant_of-self-2
 invariant_of-self-2 g c =
-    let entry = c.self.inside.entry in
-    let old = g.D.Disk.may_leave c.self.inside.disk in
-    let mid = g.D.Disk.may_leave c.put_files.new.disk in
-    let lag = ap (λ j. j.state) c.self.view_is ∙ c.requires in
-    IsSound-lag (g.D.Disk.tells c.self.inside.disk) _ _ _ old mid _ _ _ _ c.self.invariant lag c.put_files.ensures.goes.tells (λ tells. subst (λ (files : List FileText). KeepsUnnamedImages files old mid) c.as_slice.ensures (c.put_files.ensures.others tells))
+    let list = c.self.inside.list.items in
+    let brings = λ (tells : g.D.Disk.tells c.self.inside.disk ≡ true). subst (λ (l : List (List FileText)). Brings g.D.Disk c.self.inside.disk c.bring_in.new.disk c.bring_in.result (as_one l) []) c.as_slice.ensures.value (c.bring_in.ensures.brings tells) in
+    sound_kept (g.D.Disk.tells c.self.inside.disk) _ (g.D.Disk.may_leave c.self.inside.disk) _ _ _ _ _ _ c.self.invariant c.bring_in.ensures.goes.tells
+    (λ tells. ((brings tells).kept journal_name (inl (as_one-journal list c.self.invariant.fits.each))).no_more)
+
+pub returns-in_err-bring_in-clause-passes : goal.returns-in_err-bring_in-clause-passes
+returns-in_err-bring_in-clause-passes g c =
+    let old = c.self.inside.disk in
+    let mid = c.bring_in.new.disk in
+    let list = c.self.inside.list.items in
+    let sure = ap (λ j. j.in_doubt) c.self.view_is ∙ c.requires in
+    rw (← c.self.view_is) (λ tells before state.
+    let brings = subst (λ (l : List (List FileText)). Brings g.D.Disk old mid c.bring_in.result (as_one l) []) c.as_slice.ensures.value (c.bring_in.ensures.brings tells) in
+    let passes = bringing g.D.Disk old mid c.from_residual.result tells c.bring_in.result before list state brings in
+    record {
+      ok = search rules;
+      err = unfinished_lag c.self.inside.in_doubt before list (g.D.Disk.may_leave mid) c.from_residual.result sure passes.err;
+      any_moment = passes.any_moment;
+    })
 
 pub returns-clause-passes : goal.returns-clause-passes
 returns-clause-passes g c =
-    let entry = c.self.inside.entry in
-    let lag = ap (λ j. j.state) c.self.view_is ∙ c.requires in
-    rw (← c.self.view_is) (λ tells files state.
-    let passes = finishing g.D.Disk c.self.inside.disk c.put_files.new.disk c.shut.new.self.disk c.shut.result files entry _ tells c.as_slice.ensures (c.self.invariant.lag_entry lag) state
-    c.put_files.ensures.goes (c.in_ok-put_files.ensures.durable tells) (c.put_files.ensures.others tells) (c.put_files.ensures.time tells) (c.shut.ensures.writes (c.put_files.ensures.goes.tells ∙ tells)) in
-    record { ok = passes.ok; err = unfinished_doubt c.shut.new.self.state files entry (g.D.Disk.may_leave c.shut.new.self.disk) c.shut.result c.shut.ensures.err passes.err; any_moment = passes.any_moment })
+    let old = c.self.inside.disk in
+    let mid = c.bring_in.new.disk in
+    let list = c.self.inside.list.items in
+    rw (← c.self.view_is) (λ tells before state.
+    let brings = subst (λ (l : List (List FileText)). Brings g.D.Disk old mid (Ok tt) (as_one l) []) c.as_slice.ensures.value (c.in_ok-bring_in.ensures.brings tells) in
+    let passes = finishing g.D.Disk old mid c.shut.new.self.disk c.shut.result before list tells state c.bring_in.ensures.goes brings (c.shut.ensures.writes (c.bring_in.ensures.goes.tells ∙ tells)) in
+    record {
+      ok = passes.ok;
+      err = unfinished_doubt c.shut.new.self.in_doubt before list (g.D.Disk.may_leave c.shut.new.self.disk) c.shut.result c.shut.ensures.err passes.err;
+      any_moment = passes.any_moment;
+    })

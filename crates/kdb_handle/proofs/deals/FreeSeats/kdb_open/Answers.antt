@@ -12,6 +12,7 @@ returns g c = record {
   rec = search rules;
   proc = search rules;
   free = record { room_is = search rules; some = search rules; each = λ k lt. let next = c.requires.free.each (k + 1) (omega arith) in grind (arith, common_steps, next) };
+  flusher = search rules;
   fewer = search rules;
   none = search rules;
   same = search rules;

@@ -1,6 +1,0 @@
--- The entries that are left.
-use Rattle.std.proofs.Common.{length}
-use Rattle.entry_list.proofs.bringing.+bring_all.Given as goal
-
-abbrev pub decreases-bring_all : goal.decreases-bring_all
-decreases-bring_all g l = length l.list.now

@@ -1,9 +1,0 @@
-use Rattle.entry_list.specs.Lists.{as_one}
-use Rattle.entry_list.proofs.BringSteps.{brought_first, bringing}
-use Rattle.entry_list.proofs.bringing.bring_in.Goals as goal
-
-pub returns-clause-brought : goal.returns-clause-brought
-returns-clause-brought g c tells = brought_first g.D.Disk c.args.disk.now c.bring_all.new.disk c.bring_all.result (as_one c.args.list.now) (c.bring_all.ensures.brings tells)
-
-pub returns-clause-passes : goal.returns-clause-passes
-returns-clause-passes g c tells before state = bringing g.D.Disk c.args.disk.now c.bring_all.new.disk c.bring_all.result c.args.list.now before tells state (c.bring_all.ensures.brings tells)

@@ -1,7 +1,0 @@
-use Rattle.journal_codec.specs.Entry.{journal_name}
-use Rattle.entry_list.proofs.WrittenLists.{listed_again}
-use Rattle.entry_list.proofs.laws.a_list_is_read_again.Goals as goal
-
-pub returns : goal.returns
-returns g c tells before entries state =
-    listed_again (g.D.Disk.seen c.args.disk.now) before (g.D.Disk.may_leave c.args.disk.now) entries (g.D.Disk.read_is_image c.args.disk.now tells journal_name) state

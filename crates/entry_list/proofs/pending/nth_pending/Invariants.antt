@@ -1,7 +1,0 @@
-use Rattle.std.proofs.Common.{◌≡◌, slice_get}
-use Rattle.std.specs.Option.{option_map}
-use Rattle.entry_list.specs.Pending.{content_of, pending_in}
-use Rattle.entry_list.proofs.pending.nth_pending.Given as goal
-
-abbrev pub invariant-loop : goal.invariant-loop
-invariant-loop l = option_map (λ text. content_of text.now) l.found ≡ slice_get (pending_in l.list) l.counter

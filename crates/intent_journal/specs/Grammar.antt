@@ -1,0 +1,44 @@
+-- The bytes of a list of entries: a gate, the length of a body and the body, and behind a body whose count says so the next gate. This
+-- project's own.
+use Rattle.std.specs.Prelude.{◌≡◌, ℕ, ◌+◌, ◌<◌, ◌≤◌, List, length, take, drop, Result, Ok, Err, if◌then◌else◌, nat_le}
+use Rattle.journal_codec.specs.declared.files.FileText.{FileText}
+use Rattle.journal_codec.specs.Entry.{number_of}
+use Rattle.journal_codec.specs.Forms.{uncounted}
+use Rattle.journal_codec.specs.Reading.{read_body}
+use Rattle.journal_steps.specs.JournalBytes.{body_or_place}
+
+-- a list has no more entries
+abbrev pub most_entries : ℕ
+most_entries = 32
+
+-- each entry of a list ends here or before
+abbrev pub last_place : ℕ
+last_place = 67200005
+
+-- how many bytes a gate and a length have
+abbrev pub head_size : ℕ
+head_size = 5
+
+-- of the bytes behind a gate: the length of a body, the body or what is there of it, and the bytes behind the body
+abbrev pub size_of : List ℕ → ℕ
+size_of tail = number_of (take 4 tail)
+
+abbrev pub body_of : List ℕ → List ℕ
+body_of tail = take (size_of tail) (drop 4 tail)
+
+abbrev pub rest_of : List ℕ → List ℕ
+rest_of tail = drop (size_of tail) (drop 4 tail)
+
+-- the entry that a body of this size spells, with either form of the count, or the place where it isn't whole
+abbrev pub body_in : ℕ → List ℕ → Result (List FileText) ℕ
+body_in size there = body_or_place (read_body (uncounted there)) size (length there)
+
+-- the same of an entry that stands at this place: one that ends too late isn't whole from its beginning on
+unfoldable pub entry_or_place : ℕ → ℕ → List ℕ → Result (List FileText) ℕ
+entry_or_place place size there = if nat_le (place + head_size + size) last_place then body_in size there else Err 0
+
+-- behind a gate at this place, with so many entries before it, stands this entry: not one too many, within the last place, and whole
+pub record IsWhole (number place : ℕ) (tail : List ℕ) (entry : List FileText) : Type 0 where
+  pub few : number < most_entries
+  pub within : place + head_size + size_of tail ≤ last_place
+  pub body : body_in (size_of tail) (body_of tail) ≡ Ok entry

@@ -1,0 +1,10 @@
+pub mod Meanwhile
+pub mod Contents
+pub mod Behind
+pub mod GateBytes
+pub mod Readings
+pub mod Passages
+pub mod Steps
+pub mod Bodies
+pub mod ReadLemmas
+pub mod Heads

@@ -1,0 +1,8 @@
+pub mod JournalBytes
+pub mod Readings
+pub mod Outcomes
+pub mod States
+pub mod Moments
+pub mod BadJournals
+pub mod Opening
+pub mod Steps

@@ -1,0 +1,325 @@
+//! Two entries on their way through a journal, stopped or failed at each call and crashed behind it; and a list whose files fail.
+ghost use Rattle.std.specs.Prelude.{◌≡◌, ◌++◌, ◌∷◌, [], false};
+ghost use Rattle.journal_codec.specs.Entry.{IsEntry};
+ghost use Rattle.journal_codec.specs.Forms.{behind_gate};
+
+use crate::entries::{FIRST, SECOND, add, entry_of, name};
+use disk_memory::MemDisk;
+use intent_journal::Journal;
+use journal_codec::{FileText, encode};
+use journal_steps::State;
+use kdb_outside::{Disk, Failed};
+use key_meta::List;
+use std::alloc::Global;
+use std::test::Fail;
+
+/// What the two files and the journal hold.
+#[derive(Clone, Copy, Debug)]
+struct Held<'a> {
+    first: &'a [u8],
+    second: &'a [u8],
+    journal: &'a [u8],
+}
+
+/// Before the entries: contents of the length of theirs, a longer one and none, and a journal that is too short.
+const ROWS: [Held<'static>; 3] = [
+    Held {
+        first: b"0",
+        second: b"0",
+        journal: b"",
+    },
+    Held {
+        first: b"a much longer content",
+        second: b"",
+        journal: b"",
+    },
+    Held {
+        first: b"",
+        second: b"another one",
+        journal: b"\x00\x00",
+    },
+];
+
+fn disk_with(
+    alloc: Global,
+    held: Held<'_>,
+    failing: Vec<u64>,
+    stop_after: Option<u64>,
+) -> Result<MemDisk, Fail> {
+    let first = name(alloc, "a.ecf")?;
+    let second = name(alloc, "b.ecf")?;
+    let journal = name(alloc, "journal")?;
+    if first == second || first == journal || second == journal {
+        return Err("they are three names")?;
+    }
+    let files = vec![in alloc;
+        (first, held.first.to_vec(alloc)?),
+        (second, held.second.to_vec(alloc)?),
+        (journal, held.journal.to_vec(alloc)?),
+    ]?;
+    Ok(MemDisk::new(alloc, files, failing, stop_after)?)
+}
+
+/// Adds both entries to the list, and brings it in.
+fn store_both<D: Disk>(
+    journal: &mut Journal<D>,
+    one: &[u8],
+    first: List<FileText>,
+    two: &[u8],
+    second: List<FileText>,
+) -> Result<(), Failed>
+    requires first { IsEntry first }
+    requires one { one.now ≡ behind_gate first ++ 0 ∷ [] }
+    requires second { IsEntry second }
+    requires two { two.now ≡ behind_gate second ++ 0 ∷ [] }
+{
+    journal.settle()?;
+    add(journal, one, first)?;
+    add(journal, two, second)?;
+    journal.finish()
+}
+
+/// The disk once both entries were stored on it as far as it let them, and whether they were stored to the end.
+fn stored_on(alloc: Global, disk: MemDisk) -> Result<(bool, MemDisk), Fail> {
+    let first = entry_of(alloc, FIRST)?;
+    let second = entry_of(alloc, SECOND)?;
+    let one = encode(alloc, first.as_slice())?;
+    let two = encode(alloc, second.as_slice())?;
+    match Journal::open(alloc, disk) {
+        Ok(journal) => {
+            let mut journal = journal;
+            let outcome = store_both(&mut journal, &one, first, &two, second);
+            Ok((outcome == Ok(()), journal.into_disk()))
+        }
+        Err(refused) => Ok((false, refused.disk)),
+    }
+}
+
+/// A disk once it was opened and closed again.
+fn reopened(alloc: Global, disk: MemDisk) -> Result<MemDisk, Fail> {
+    match Journal::open(alloc, disk) {
+        Ok(journal) => Ok(journal.into_disk()),
+        Err(_) => Err("a crashed disk opens")?,
+    }
+}
+
+/// How many of both entries the files of a disk have that held this before. Nothing where they have none of these.
+fn left_on(alloc: Global, held: Held<'_>, disk: MemDisk) -> Result<Option<u64>, Fail> {
+    let disk = reopened(alloc, disk)?;
+    let first = name(alloc, "a.ecf")?;
+    let second = name(alloc, "b.ecf")?;
+    let (first, second) = (disk.bytes(&first), disk.bytes(&second));
+    let (one, two) = (b"1".as_slice(), b"2".as_slice());
+    Ok(if first == held.first && second == held.second {
+        Some(0)
+    } else if first == one && second == one {
+        Some(1)
+    } else if first == one && second == two {
+        Some(2)
+    } else {
+        None
+    })
+}
+
+/// The first call opens; two settle; two each put a body and open its gate, so that the seventh and the eleventh sync a gate: a crash at one leaves the entry or not.
+fn fits(failed: u64, left: Option<u64>) -> bool {
+    match left {
+        Some(0) => failed <= 7,
+        Some(1) => (7..12).contains(&failed),
+        Some(2) => 11 <= failed,
+        _ => false,
+    }
+}
+
+/// A disk whose call `failed` is the first to fail, alone or with all behind it.
+fn failing_disk(alloc: Global, held: Held<'_>, failed: u64, alone: bool) -> Result<MemDisk, Fail> {
+    if alone {
+        disk_with(alloc, held, vec![in alloc; failed]?, None)
+    } else {
+        disk_with(alloc, held, Vec::new(alloc), Some(failed.saturating_sub(1)))
+    }
+}
+
+fn choice_fits(
+    alloc: Global,
+    held: Held<'_>,
+    failed: u64,
+    alone: bool,
+    choice: u64,
+) -> Result<bool, Fail> {
+    let disk = failing_disk(alloc, held, failed, alone)?;
+    let (_, disk) = stored_on(alloc, disk)?;
+    Ok(fits(failed, left_on(alloc, held, disk.crash(choice)?)?))
+}
+
+fn every_choice_fits(
+    alloc: Global,
+    held: Held<'_>,
+    failed: u64,
+    alone: bool,
+) -> Result<bool, Fail> {
+    for choice in 0..10 {
+        if !choice_fits(alloc, held, failed, alone, choice)? {
+            return Ok(false);
+        }
+    }
+    Ok(true)
+}
+
+/// Whether each of so many calls may fail, alone or with all behind it.
+fn every_failure_fits(alloc: Global, held: Held<'_>, calls: u64) -> Result<bool, Fail> {
+    for failed in 1..=calls {
+        if !every_choice_fits(alloc, held, failed, false)?
+            || !every_choice_fits(alloc, held, failed, true)?
+        {
+            return Ok(false);
+        }
+    }
+    Ok(true)
+}
+
+/// Whether both entries are stored on a disk whose calls all go through, how many calls that takes, and what the files are then.
+fn stored_whole(alloc: Global, held: Held<'_>) -> Result<(bool, u64, Option<u64>), Fail> {
+    let disk = disk_with(alloc, held, Vec::new(alloc), None)?;
+    let (stored, disk) = stored_on(alloc, disk)?;
+    let calls = disk.calls();
+    Ok((stored, calls, left_on(alloc, held, disk)?))
+}
+
+#[test]
+fn leaves_no_entry_or_whole_ones_in_their_order(rt: HostRuntime) -> Result<(), Fail> {
+    let alloc = rt.alloc();
+    for held in ROWS {
+        assert!(rt; every_failure_fits(alloc, held, 19)?, "{held:?}");
+        assert_eq!(rt; stored_whole(alloc, held)?, (true, 19, Some(2)), "{held:?}");
+    }
+    Ok(())
+}
+
+/// How a list is brought in, at first and once more, and the state behind each.
+fn finished_twice<D: Disk>(
+    journal: &mut Journal<D>,
+    encoded: &[u8],
+    files: List<FileText>,
+) -> Result<[(Result<(), Failed>, State); 2], Failed>
+    requires entry { IsEntry files }
+    requires encoded { encoded.now ≡ behind_gate files ++ 0 ∷ [] }
+{
+    journal.settle()?;
+    add(journal, encoded, files)?;
+    let first = journal.finish();
+    let state = journal.state();
+    journal.settle()?;
+    let second = journal.finish();
+    Ok([(first, state), (second, journal.state())])
+}
+
+#[test]
+fn finishes_a_list_whose_file_failed(rt: HostRuntime) -> Result<(), Fail> {
+    let alloc = rt.alloc();
+    let files = entry_of(alloc, FIRST)?;
+    let encoded = encode(alloc, files.as_slice())?;
+    // Behind the first gate's opening the eighth call writes the first file.
+    let disk = disk_with(alloc, ROWS[0], vec![in alloc; 8]?, None)?;
+    let Ok(mut journal) = Journal::open(alloc, disk) else {
+        return Err("the disk opens")?;
+    };
+    let outcomes = finished_twice(&mut journal, &encoded, files);
+    assert_eq!(rt;
+        outcomes,
+        Ok([(Err(Failed), State::Lag), (Ok(()), State::Clean)])
+    );
+    let left = left_on(alloc, ROWS[0], journal.into_disk())?;
+    assert_eq!(rt; left, Some(1));
+    Ok(())
+}
+
+/// A first gate that is neither open nor closed, on an entry.
+const ODD: &[u8] =
+    b"\x07\x17\x00\x00\x00\x82\x05a.ecf\x01\x00\x00\x001\x05b.ecf\x01\x00\x00\x001\x00";
+
+/// Whether a disk's gate is settled, and the disk then.
+fn settled_on(alloc: Global, disk: MemDisk) -> Result<(bool, MemDisk), Fail> {
+    let Ok(mut journal) = Journal::open(alloc, disk) else {
+        return Err("a gate of 7 is no open one")?;
+    };
+    let settled = journal.settle();
+    Ok((settled == Ok(()), journal.into_disk()))
+}
+
+/// Whether a crash behind so many calls of an opening and a settling leaves the files old, or also new where the gate wasn't settled.
+fn settling_fits(
+    alloc: Global,
+    held: Held<'_>,
+    stop_after: u64,
+    choice: u64,
+) -> Result<bool, Fail> {
+    let disk = disk_with(alloc, held, Vec::new(alloc), Some(stop_after))?;
+    let (settled, disk) = settled_on(alloc, disk)?;
+    match left_on(alloc, held, disk.crash(choice)?)? {
+        Some(0) => Ok(true),
+        Some(1) => Ok(!settled),
+        _ => Ok(false),
+    }
+}
+
+#[test]
+fn closes_a_gate_that_is_neither_open_nor_closed(rt: HostRuntime) -> Result<(), Fail> {
+    let alloc = rt.alloc();
+    let held = Held {
+        journal: ODD,
+        ..ROWS[0]
+    };
+    // Two calls read it, the third writes the gate, and the fourth syncs it.
+    for stop_after in [2, 3, 4] {
+        for choice in 0..10 {
+            let fits = settling_fits(alloc, held, stop_after, choice)?;
+            assert!(rt; fits, "{stop_after} {choice}");
+        }
+    }
+    Ok(())
+}
+
+/// Whether so many bytes fit on a journal once so many entries were added.
+fn fits_behind<D: Disk>(
+    alloc: Global,
+    journal: &mut Journal<D>,
+    entries: usize,
+    body: usize,
+) -> Result<bool, Fail> {
+    for _ in 0..entries {
+        let files = entry_of(alloc, SECOND)?;
+        let encoded = encode(alloc, files.as_slice())?;
+        let Ok(()) = journal.settle() else {
+            return Err("it settles")?;
+        };
+        if add(journal, &encoded, files) != Ok(true) {
+            return Err("it fits")?;
+        }
+    }
+    Ok(journal.fits(body))
+}
+
+#[test]
+fn has_room_for_so_many_entries_and_bytes(rt: HostRuntime) -> Result<(), Fail> {
+    let alloc = rt.alloc();
+    // Each entry has 17 bytes; the next one's gate and length have 5, and it ends at place 67,200,005 at most.
+    let rows = [
+        (0, 67_200_000, true),
+        (0, 67_200_001, false),
+        (1, 67_199_983, true),
+        (1, 67_199_984, false),
+        (31, 67_199_473, true),
+        (31, 67_199_474, false),
+        (32, 12, false),
+    ];
+    for (entries, body, fits) in rows {
+        let disk = MemDisk::new(alloc, Vec::new(alloc), Vec::new(alloc), None)?;
+        let Ok(mut journal) = Journal::open(alloc, disk) else {
+            return Err("it opens")?;
+        };
+        let found = fits_behind(alloc, &mut journal, entries, body)?;
+        assert_eq!(rt; found, fits, "{entries} {body}");
+    }
+    Ok(())
+}
