@@ -59,7 +59,7 @@ pub fn run_sessions<
     ensures fair { (history : List Commit) → Closes (length handles) history result.handles
         → IfSome result.transcripts (λ transcripts. IsFairScript (formats_of F.Formats) (files_in store.now) history script.now transcripts) }
     ensures counts { IfSome result.transcripts (TellOwn script.now result.handles) }
-    ensures kept { result.transcripts ≡ None → result.handles ≡ handles }
+    ensures kept { result.transcripts ≡ None → (result.handles ≡ handles) × (result.flusher ≡ flusher) }
 {
     let handles = handles.into_vec();
     match prepare(alloc, script, handles.len()) {

@@ -99,6 +99,7 @@ impl History {
     pub fn reserve(&mut self, touched: &[u32]) -> Result<(), Memory>
         ensures same { self.new.commits ≡ self.old.commits }
         ensures room { OnOk result (1 ≤ self.new.room) }
+        ensures kept { self.old.room ≤ self.new.room }
         ensures places { OnOk result (All (λ mount. mount < self.new.places) touched.now) }
         ensures more { self.old.places ≤ self.new.places }
     {

@@ -1,5 +1,5 @@
 //! The texts of a file: a key's name, and a value.
-ghost use Rattle.std.specs.Prelude.{◌≡◌, ◌≢◌, ◌∷◌, IfOk, OnOk, MatchOption};
+ghost use Rattle.std.specs.Prelude.{◌≡◌, ◌≢◌, ◌∷◌, IfOk, OnErr, OnOk, MatchOption};
 ghost use Rattle.model_names.specs.Name.{Name};
 ghost use Rattle.model_names.specs.Spells.{Spells};
 ghost use Rattle.model_maps.specs.Entry.{IsValue};
@@ -29,7 +29,8 @@ pub fn name_of(alloc: Global, text: &[u8]) -> Result<Option<KeyName>, Memory>
 
 /// Every fault but want of memory is one of the text.
 pub fn hand_on_memory(fault: NameFault) -> Result<(), Memory>
-    ensures { OnOk result (fault ≢ OutOfMemory) }
+    ensures others { OnOk result (fault ≢ OutOfMemory) }
+    ensures memory { OnErr result (fault ≡ OutOfMemory) }
 {
     match fault {
         NameFault::Memory => Err(AllocError),

@@ -1,5 +1,6 @@
 //! A key's name, seen by contracts as its namespace and its parts.
-ghost use Rattle.std.specs.Prelude.{◌≡◌, ◌<◌, ◌≤◌, ◌+◌, ◌-◌, ◌^◌, ◌∷◌, ◌++◌, IfSome, Some, [], drop, length, None, IfErr, IfOk, OnOk, slice_get, nat_eq, string_bytes, refl, true};
+ghost use Rattle.std.specs.Prelude.{◌≡◌, ◌<◌, ◌≤◌, ◌+◌, ◌-◌, ◌^◌, ◌∷◌, ◌++◌, IfSome, Some, [], drop, length, None, IfErr, IfOk, OnErr, OnOk, slice_get, nat_eq, string_bytes, refl, true};
+ghost use mathlib.Core.List.{IsPrefix};
 ghost use Rattle.std.specs.Bool.{Decides};
 ghost use Rattle.std.specs.Cmp.{partial_equiv_from_equiv, partial_order_from_agreeing_total};
 ghost use Rattle.std.specs.Option.{option_map};
@@ -94,9 +95,10 @@ impl KeyName {
         Ok(text)
     }
 
-    /// Appends what stands behind the first slash of its path to some bytes.
+    /// Appends what stands behind the first slash of its path to some bytes. Behind want of memory a front of it may stand there.
     pub fn push_relative(&self, bytes: &mut Vec<u8>) -> Result<(), Memory>
-        ensures { OnOk result (bytes.new.items ≡ bytes.old.items ++ drop 1 (path self.now)) }
+        ensures ok { OnOk result (bytes.new.items ≡ bytes.old.items ++ drop 1 (path self.now)) }
+        ensures front { OnErr result (IsPrefix bytes.old.items bytes.new.items) }
     {
         // no part of it is escaped where its path has no more bytes than its parts
         if self.parts.bytes() == self.path_bytes() {
@@ -107,7 +109,8 @@ impl KeyName {
 
     /// The same for any name.
     fn push_escaped(&self, bytes: &mut Vec<u8>) -> Result<(), Memory>
-        ensures { OnOk result (bytes.new.items ≡ bytes.old.items ++ drop 1 (path self.now)) }
+        ensures ok { OnOk result (bytes.new.items ≡ bytes.old.items ++ drop 1 (path self.now)) }
+        ensures front { OnErr result (IsPrefix bytes.old.items bytes.new.items) }
     {
         let mut text = String::with_capacity(self.parts.allocator(), self.path_bytes())?;
         push_path(&mut text, &self.parts)?;

@@ -1,5 +1,6 @@
 //! The parts of a name in one text. Each stands behind a NUL, so the order of the lists is that of the bytes.
 ghost use Rattle.std.specs.Prelude.{◌≡◌, ℕ, List, ◌++◌, ◌∷◌, [], ◌==◌, IfNone, IfOk, IfSome, OnErr, OnOk, Some, None, if◌then◌else◌, drop, length, map, nat_eq, refl, slice_get, string_bytes, true, false};
+ghost use mathlib.Core.List.{IsPrefix};
 ghost use Rattle.std.specs.Cmp.{partial_equiv_from_equiv, partial_order_from_agreeing_total};
 ghost use Rattle.std.specs.Cmp.Lexicographic.{lists_equiv, lists_ties, lists_total, nat_list_cmp_total, nat_list_eq_equiv, pointwise, slice_cmp, texts_ties};
 ghost use Rattle.std.specs.Iterator.{YieldsFirstBy, item_count};
@@ -126,7 +127,8 @@ impl PartList {
 
     /// Appends the parts to some bytes, with a slash between each two.
     pub fn push_between_slashes(&self, bytes: &mut Vec<u8>) -> Result<(), Memory>
-        ensures { OnOk result (bytes.new.items ≡ bytes.old.items ++ drop 1 (behind_slashes self.now)) }
+        ensures ok { OnOk result (bytes.new.items ≡ bytes.old.items ++ drop 1 (behind_slashes self.now)) }
+        ensures front { OnErr result (IsPrefix bytes.old.items bytes.new.items) }
     {
         match self.text.as_bytes() {
             [] => Ok(()),
@@ -313,7 +315,8 @@ fn begins_part(text: &str) -> bool
 
 /// Appends some bytes to others, with a slash for each NUL.
 fn push_with_slashes(bytes: &mut Vec<u8>, text: &[u8]) -> Result<(), Memory>
-    ensures { OnOk result (bytes.new.items ≡ bytes.old.items ++ map slash_for_nul text.now) }
+    ensures ok { OnOk result (bytes.new.items ≡ bytes.old.items ++ map slash_for_nul text.now) }
+    ensures front { OnErr result (IsPrefix bytes.old.items bytes.new.items) }
 {
     for b in text {
         bytes.push(slash_for_nul(*b))?;

@@ -46,7 +46,7 @@ returns g c = λ core start.
     let handles = sessions.result.handles in
     let fresh = subst (AreFresh lock plan (procs_of script)) (sym c.from_vec.ensures) c.requires.opened.fresh in
     let many = subst (λ (hs : List HandleValue). length hs ≡ length (sessions_of script)) (sym c.from_vec.ensures) c.requires.all in
-    let done = run-done formats lock plan script given handles sessions.result.transcripts fresh many sessions.ensures.back sessions.ensures.fair sessions.ensures.counts sessions.ensures.kept in
+    let done = run-done formats lock plan script given handles sessions.result.transcripts fresh many sessions.ensures.back sessions.ensures.fair sessions.ensures.counts (λ is. (sessions.ensures.kept is).0) in
     let closed = c.close_store-closed.result in
     let Closes : List HandleValue → Type 0 = λ hs. IsClosed formats g.D.Disk g.P.Patterns.refusals plan.mounted core.journal (opening_in lock.start) (length hs) hs closed in
     played formats g.D.Disk g.row.D.coded g.P.Patterns.refusals lock plan core start script handles sessions.result.transcripts closed done

@@ -24,4 +24,4 @@ returns-in_default c name spells = c.in_default.ensures.cases.0 (utf8-behind 47 
 pub returns-in_ok-hand_on_memory-in-Err : goal.returns-in_ok-hand_on_memory-in-Err
 returns-in_ok-hand_on_memory-in-Err c =
     let same : c.in-Ok.text.now ≡ c.args.text.now = search rules in
-    spells_nothing (47 ∷ c.args.text.now) c.in-Err.fault (subst (λ (text : List ℕ). IsRefusal (47 ∷ text) c.in-Err.fault) same c.in-Err.ensures.refused) c.in_ok-hand_on_memory-in-Err.ensures
+    spells_nothing (47 ∷ c.args.text.now) c.in-Err.fault (subst (λ (text : List ℕ). IsRefusal (47 ∷ text) c.in-Err.fault) same c.in-Err.ensures.refused) c.in_ok-hand_on_memory-in-Err.ensures.others

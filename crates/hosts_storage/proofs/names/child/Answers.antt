@@ -7,4 +7,4 @@ use Rattle.hosts_storage.proofs.names.child.Goals as goal
 pub returns-in_ok-hand_on_memory-in-Err : goal.returns-in_ok-hand_on_memory-in-Err
 returns-in_ok-hand_on_memory-in-Err c =
     let same : c.in-Ok.part.now ≡ c.args.word.now = search rules in
-    refused-no_name c.args.above.now c.args.word.now c.in-Err.fault (subst (λ part. IsChildRefusal c.args.above.now part c.in-Err.fault) same c.in-Err.ensures.refused) c.in_ok-hand_on_memory-in-Err.ensures
+    refused-no_name c.args.above.now c.args.word.now c.in-Err.fault (subst (λ part. IsChildRefusal c.args.above.now part c.in-Err.fault) same c.in-Err.ensures.refused) c.in_ok-hand_on_memory-in-Err.ensures.others

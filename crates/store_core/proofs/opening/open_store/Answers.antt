@@ -50,6 +50,10 @@ returns-in-Ok g c = record {
       subst (λ (seen : Image). MatchResult c.open_files.result (λ o. IsOpened g.F.Formats.reads g.F.Formats.is_bad_at seen o.plan.mounted) (λ r. RefusesStore g.F.Formats.reads g.F.Formats.is_bad_at (seen own_mount.file) r.fault))
       (reads.same tells) (c.open_files.ensures.told (reads.tells ∙ tells));
   left_alone = λ tells none. OnlyReads-then g.D.Disk c.args.disk c.in-Ok.journal.disk (disk_of c.open_files.result) (c.in-Ok.ensures.reads tells none) c.open_files.ensures.reads;
+  told = λ tells.
+      let still = c.in-Ok.ensures.goes.tells ∙ tells in
+      subst (λ (seen : Image). MatchResult c.open_files.result (λ o. IsOpened g.F.Formats.reads g.F.Formats.is_bad_at seen o.plan.mounted) (λ r. RefusesStore g.F.Formats.reads g.F.Formats.is_bad_at (seen own_mount.file) r.fault))
+      (sym (c.open_files.ensures.reads.same still)) (c.open_files.ensures.told still);
   refused = λ tells files doubt calm.
       let journal = c.in-Ok.journal in
       (told_alike g.F.Formats.reads g.F.Formats.is_bad_at (g.D.Disk.seen journal.disk) (opened_files (g.D.Disk.seen c.args.disk)) (c.in-Ok.ensures.shown tells files doubt calm) c.open_files.result
@@ -94,6 +98,9 @@ returns-in-Err g c = record {
       subst (RefusesStore g.F.Formats.reads g.F.Formats.is_bad_at (g.D.Disk.seen c.args.disk own_mount.file)) (sym c.into.ensures)
       (journal_refuses g.F.Formats.reads g.F.Formats.is_bad_at (g.D.Disk.seen c.args.disk own_mount.file) c.in-Err.field-0.fault);
   left_alone = search rules;
+  told = λ tells.
+      let bytes = g.D.Disk.seen c.in-Err.field-0.disk own_mount.file in
+      subst (RefusesStore g.F.Formats.reads g.F.Formats.is_bad_at bytes) (sym c.into.ensures) (journal_refuses g.F.Formats.reads g.F.Formats.is_bad_at bytes c.in-Err.field-0.fault);
   refused = search rules;
   bad = search rules;
   broken = λ tells at is.
