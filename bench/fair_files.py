@@ -15,42 +15,96 @@ DEFAULTS = [((space, ()), NAMESPACES[space] + ".ecf", "dump") for space in (SPEC
 
 
 class NotOpened(Exception):
-    """Why a store isn't opened, as its line has it."""
+    """Why a store isn't opened, as its line has it behind `kdb: `."""
 
 
 # ---- the journal
 
-def body_of(journal):
-    """The files of a whole body, None where there is none."""
-    length = int.from_bytes(journal[1:5], "little")
-    body = journal[5 : 5 + length]
-    if len(journal) < 5 or len(body) < length or not body or not 1 <= body[0] <= 64:
-        return None
-    files, at = {}, 1
-    for _ in range(body[0]):
-        count = body[at] if at < len(body) else 0
-        name = body[at + 1 : at + 1 + count].decode("ascii", "replace")
-        at += 1 + count
-        many = int.from_bytes(body[at : at + 4], "little")
-        content = body[at + 4 : at + 4 + many]
-        at += 4 + many
-        if at > len(body) or not is_file_name(name) or name.startswith("journal") or name <= max(files, default=""):
-            return None
-        files[name] = content
-    return files if at == len(body) else None
+MOST_FILES, MOST_ENTRIES, LAST_PLACE = 64, 32, 67_200_005
+
+
+class BadJournal(Exception):
+    """The place in the body of the first open entry that isn't whole."""
+
+
+def count_in(body):
+    """How many files a body says that it has, with either form of its count."""
+    return body[0] - 128 if body[0] > 128 else body[0]
+
+
+def body_of(body):
+    """The files of a body, or the place of its first field that is missing, cut or against a rule."""
+    if not body or not 1 <= count_in(body) <= MOST_FILES:
+        raise BadJournal(0)
+    files, last, at = {}, "", 1
+    for _ in range(count_in(body)):
+        if at == len(body):
+            raise BadJournal(at)
+        count, at = body[at], at + 1
+        name = body[at : at + count].decode("latin1")
+        if len(name) < count or not is_file_name(name) or name.startswith("journal") or name <= last:
+            raise BadJournal(at)
+        at += count
+        if at + 4 > len(body):
+            raise BadJournal(at)
+        many, at = int.from_bytes(body[at : at + 4], "little"), at + 4
+        if at + many > len(body) or many > LONGEST_FILE:
+            raise BadJournal(at)
+        files[name], last, at = body[at : at + many], name, at + many
+    if at < len(body):
+        raise BadJournal(at)
+    return files
+
+
+def entry_at(journal, at, number):
+    """The entry behind the gate at a place, the size of its body, and whether another gate stands behind it."""
+    size = int.from_bytes(journal[at + 1 : at + 5], "little")
+    body = journal[at + 5 : at + 5 + size]
+    if number == MOST_ENTRIES or at + 5 + size > LAST_PLACE:
+        raise BadJournal(0)
+    files = body_of(body)
+    if len(body) < size:
+        raise BadJournal(len(body))
+    return files, size, body[0] > 128
+
+
+def open_entries(journal):
+    """The open entries of a journal as its opening reads them: a gate that is neither 0 nor 1 counts as closed."""
+    entries, at = [], 0
+    while at + 5 <= len(journal) and journal[at] == 1:
+        files, size, goes_on = entry_at(journal, at, len(entries))
+        entries.append(files)
+        if not goes_on:
+            break
+        at += 5 + size
+    return entries
+
+
+def readings(journal, at=0, number=0):
+    """Each list of entries as which a journal may be read, that of its opening first: a gate that is neither 0 nor 1
+    may be taken as either.
+    """
+    if at + 5 > len(journal) or journal[at] == 0:
+        return [[]]
+    files, size, goes_on = entry_at(journal, at, number)
+    behind = readings(journal, at + 5 + size, number + 1) if goes_on else [[]]
+    return ([[]] if journal[at] != 1 else []) + [[files, *others] for others in behind]
+
+
+def with_entries(files, entries):
+    """The files of a folder but for the journal, with the contents of some entries over them."""
+    held = {name: data for name, data in files.items() if name != "journal"}
+    for entry in entries:
+        held.update(entry)
+    return held
 
 
 def outcomes(files):
-    """What the files of an image stand for: themselves, or with the entry of an open gate over them."""
-    journal = files.get("journal", b"")
-    plain_files = {name: data for name, data in files.items() if name != "journal"}
-    if len(journal) < 5 or journal[0] == 0:
-        return [plain_files]
-    body = body_of(journal)
-    if body is None:
+    """What the files of an image stand for; nothing where its journal is broken."""
+    try:
+        return [with_entries(files, entries) for entries in readings(files.get("journal", b""))]
+    except BadJournal:
         return []
-    with_entry = {**plain_files, **body}
-    return [with_entry] if journal[0] == 1 else [plain_files, with_entry]
 
 
 # ---- the mount table
@@ -108,10 +162,10 @@ class Store:
     """What files mean: the mounts, which of them are bad, what they keep for others, and the visible keys."""
 
     def __init__(self, files):
-        found = outcomes(files)
-        if not found:
-            raise NotOpened("bad-journal")
-        self.files = found[0]
+        try:
+            self.files = with_entries(files, open_entries(files.get("journal", b"")))
+        except BadJournal as why:
+            raise NotOpened(f"C03100 bad-journal {why}") from why
         self.mounts = self.table()
         self.points = [point for point, _, _ in self.mounts]
         self.owner, self.involved = functools.cache(self._owner), functools.cache(self._involved)
@@ -121,18 +175,18 @@ class Store:
         self.weigh()
 
     def table(self):
-        data = self.files.get("elektra.ecf", b"")
+        data, at = self.files.get("elektra.ecf", b""), shown(ELEKTRA)
         if len(data) > LONGEST_FILE:
-            raise NotOpened("too-long")
+            raise NotOpened(f"C01100 too-long {at} {len(data)}")
         try:
             keys = {joined(ELEKTRA, name): entry for name, entry in read_dump(data).items()}
         except BadFile as why:
-            raise NotOpened("bad-file") from why
+            raise NotOpened(f"C03100 bad-file {at} {why}") from why
         if any(path_bytes(name) > LONGEST_PATH for name in keys):
-            raise NotOpened("bad-file")
+            raise NotOpened(f"C03100 bad-file {at} 0")
         mounts, fault = table_of(keys)
         if fault:
-            raise NotOpened("bad-table")
+            raise NotOpened(f"C03200 bad-table {fault}")
         return mounts
 
     def _owner(self, name):

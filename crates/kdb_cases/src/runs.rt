@@ -61,9 +61,10 @@ impl Runs {
             "stop" => self.start.stop(rest.parse().ok()),
             "crash" => self.crash(rest.parse().unwrap_or(0))?,
             "run" => return Ok(Some(self.run(threads, rest)?)),
-            "stops" => {
+            "stops" | "faults" => {
                 let words = words_of(self.alloc, rest)?;
-                return Ok(Some(rows_of(threads, self.alloc, &self.start, &words)?));
+                let rows = rows_of(threads, self.alloc, &self.start, &words, word == "faults")?;
+                return Ok(Some(rows));
             }
             "write" | "cut" | "sync" | "length" | "read" | "whole" => {
                 return Ok(Some(self.call(word, rest)?));

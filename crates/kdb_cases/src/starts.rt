@@ -44,10 +44,13 @@ impl Start {
         self.stop_after = last;
     }
 
-    /// A disk that begins so and is stopped behind so many calls, if at all. All is kept here.
-    pub fn copy_disk(&self, stop: Option<u64>) -> Result<MemDisk, Memory> {
+    /// A disk that begins so and is stopped behind so many calls, or whose call of a number fails, if at all. All is kept here.
+    pub fn copy_disk(&self, stop: Option<u64>, failing: Option<u64>) -> Result<MemDisk, Memory> {
         let mut again = Start::new(self.alloc);
         again.stop_after = stop;
+        if let Some(call) = failing {
+            again.failing.push(call)?;
+        }
         if let Some((name, bytes)) = &self.first {
             again.add(name.copy()?, bytes.clone()?);
         }

@@ -9,13 +9,20 @@ use key_meta::Memory;
 use std::alloc::Global;
 use store_play::{Answer, Event};
 
-/// What came of the crashes behind one run: how many of the commits were answered as stored, and behind how many of them the files are as they are then, at least
-/// and at most. No number where the files are otherwise.
+/// What came of the crashes behind one run: how many of the commits were answered as stored, and behind how many of them
+/// the files are as they are then, at least and at most. No number where a crash isn't allowed to leave them so.
 #[derive(Clone, Copy, PartialEq, Eq)]
 struct Found {
-    told: Option<usize>,
+    told: Option<Told>,
     least: Option<usize>,
     most: Option<usize>,
+}
+
+/// How many of some commits were answered as stored, and which of them is the last of these, by its number from 1.
+#[derive(Clone, Copy, PartialEq, Eq)]
+struct Told {
+    count: usize,
+    last: usize,
 }
 
 /// A row for each range of numbers of calls, from the first to the last, of which the same came: where just so many go through.
@@ -69,14 +76,14 @@ fn found_of(
     ends: &[Vec<u8>],
 ) -> Result<Found, Memory> {
     let told = told_in(alloc, start, steps)?;
-    let first = place_of(&files_behind(alloc, start, steps, 0)?, ends);
+    let first = place_of(&files_behind(alloc, start, steps, 0)?, ends, told);
     let mut found = Found {
         told,
         least: first,
         most: first,
     };
     for choice in 1..CHOICES {
-        let place = place_of(&files_behind(alloc, start, steps, choice)?, ends);
+        let place = place_of(&files_behind(alloc, start, steps, choice)?, ends, told);
         // No number is the least of all, so that it stays.
         found.least = found.least.min(place);
         found.most = found.most.max(place);
@@ -84,8 +91,8 @@ fn found_of(
     Ok(found)
 }
 
-/// How many commits were answered as stored, unless the store wasn't opened.
-fn told_in(alloc: Global, start: &Start, steps: Steps<'_>) -> Result<Option<usize>, Memory> {
+/// Which commits were answered as stored, unless the store wasn't opened.
+fn told_in(alloc: Global, start: &Start, steps: Steps<'_>) -> Result<Option<Told>, Memory> {
     let Some(disk) = first_disk(alloc, start, start.stop_after)? else {
         return Ok(None);
     };
@@ -93,19 +100,31 @@ fn told_in(alloc: Global, start: &Start, steps: Steps<'_>) -> Result<Option<usiz
     let Ok(answers) = answers else {
         return Ok(None);
     };
-    let mut told = 0usize;
+    let mut told = Told { count: 0, last: 0 };
+    let mut number = 0usize;
     for answer in answers.as_slice() {
-        if let Answer::Committed(Ok(_)) = answer {
-            told = told.saturating_add(1);
+        if let Answer::Committed(outcome) = answer {
+            number = number.saturating_add(1);
+            if outcome.is_ok() {
+                told = Told {
+                    count: told.count.saturating_add(1),
+                    last: number,
+                };
+            }
         }
     }
     Ok(Some(told))
 }
 
-/// Behind how many commits the files are as these.
-fn place_of(files: &Vec<u8>, ends: &[Vec<u8>]) -> Option<usize> {
+/// Behind how many commits the files are as these, where a crash is allowed to leave them so: they have all up to the last
+/// that was told, and at most the next one more, which was begun; and none where the store wasn't opened.
+fn place_of(files: &Vec<u8>, ends: &[Vec<u8>], told: Option<Told>) -> Option<usize> {
+    let (least, most) = match told {
+        Some(told) => (told.last, told.last.saturating_add(1)),
+        None => (0, 0),
+    };
     for (place, end) in ends.iter().enumerate() {
-        if files.as_slice() == end.as_slice() {
+        if least <= place && place <= most && files.as_slice() == end.as_slice() {
             return Some(place);
         }
     }
@@ -162,7 +181,9 @@ fn push_row(
 ) -> Result<(), Memory> {
     text.push_str(format!(in alloc; "  {from} to {to}: ")?.as_str())?;
     match found.told {
-        Some(told) => text.push_str(format!(in alloc; "{told} told, ")?.as_str())?,
+        Some(Told { count, .. }) => {
+            text.push_str(format!(in alloc; "{count} told, ")?.as_str())?;
+        }
         None => text.push_str("not opened, ")?,
     }
     match (found.least, found.most) {
@@ -172,6 +193,6 @@ fn push_row(
         (Some(least), Some(most)) => {
             text.push_str(format!(in alloc; "{least} to {most} stored\n")?.as_str())
         }
-        _ => text.push_str("torn\n"),
+        _ => text.push_str("not allowed\n"),
     }
 }
