@@ -12,8 +12,8 @@ thread. What must hold:
 - whatever failed and whenever the run was killed, its files are the old ones or the new ones once the next run has
   opened the store, and the new ones where it told that they are stored; a batch tells a failure in its text, and its
   files are those behind the last set that it told as stored, or behind a later one;
-- each file that a run stores is synced behind its last change, and then its folder; a folder that is made is synced in
-  the one above before anything is put into it.
+- each file that a run stores is synced behind its last change, and its folder behind the last file that the run made in
+  it, and once at least; a folder that is made is synced in the one above before anything is put into it.
 """
 import collections
 import concurrent.futures
@@ -88,23 +88,27 @@ def whole(trace):
 
 def unsynced(trace):
     """What isn't synced in a trace with the paths of descriptors."""
-    changed, made, above, last = set(), 0, 0, None
+    changed, made, above, has_changed, are_names_kept = set(), 0, 0, False, False
     for at, call in enumerate(whole(trace), 1):
         name, path = call.split("(")[0], re.search(r"<([^>]*)>", call)
         if name in ("pwrite64", "ftruncate"):
             changed.add(path[1])
+            has_changed = True
         elif name == "mkdir" and " = 0" in call:
             made = at
         elif name == "openat" and '.lock"' in call and "O_CREAT" in call and made > above:
             yield "a folder was made and not synced above before its lock"
+        elif name == "openat" and "O_CREAT" in call and '.lock"' not in call and " = -1 " not in call:
+            are_names_kept = False
         elif name == "fsync" and " = 0" in call:
-            last = path[1]
-            if last not in changed and not last.endswith("/.kdb"):
+            if path[1].endswith("/.kdb"):
+                are_names_kept = True
+            elif path[1] not in changed:
                 above = at
-            changed.discard(last)
+            changed.discard(path[1])
     yield from (f"{it} was changed and not synced behind it" for it in changed)
-    if last and not last.endswith("/.kdb"):
-        yield "the folder was not synced last"
+    if has_changed and not are_names_kept:
+        yield "a file may have been made, and the folder was not synced behind it"
 
 
 def traced(case, *how):

@@ -40,6 +40,8 @@ pub struct RealDisk {
     lock: Option<File>,
     unlocked: Unlocked,
     found: Found,
+    /// The names of all files of the folder outlast a crash: it was synced since this disk last made a file in it.
+    names_kept: bool,
     overlay: Option<Overlay>,
     faults: u64,
 }
@@ -84,6 +86,7 @@ impl RealDisk {
             lock: None,
             unlocked: Unlocked::Nothing,
             found: Found::Nothing,
+            names_kept: false,
             overlay: None,
             faults: 0,
         })
@@ -314,7 +317,10 @@ impl RealDisk {
         self.take_lock_to_write()?;
         let opened = match self.open_to_change(file)? {
             Some(opened) => opened,
-            None => self.make(file)?,
+            None => {
+                self.names_kept = false;
+                self.make(file)?
+            }
         };
         self.found = Found::Changed;
         write_whole(&opened, at, piece)
@@ -354,7 +360,7 @@ impl RealDisk {
         }
     }
 
-    /// Syncs a file, and then the folder, which has the file's name. What is in memory alone has no more to be kept by.
+    /// Syncs a file, and then its name. What is in memory alone has no more to be kept by.
     fn keep(&mut self, file: &FileName) -> io::Result<()>
         ensures { self.new ≡ self.old }
     {
@@ -365,7 +371,19 @@ impl RealDisk {
         how.read(true);
         if let Some(opened) = self.open_locked(file, &how)? {
             opened.sync_all()?;
+            self.keep_names()?;
+        }
+        Ok(())
+    }
+
+    /// Syncs the folder, unless it was synced since a file was made in it: as long as it is locked no other program makes
+    /// one.
+    fn keep_names(&mut self) -> io::Result<()>
+        ensures { self.new ≡ self.old }
+    {
+        if !self.names_kept {
             File::open(&self.rt, self.folder.as_str())?.sync_all()?;
+            self.names_kept = self.lock.is_some();
         }
         Ok(())
     }
@@ -467,6 +485,7 @@ impl Disk for RealDisk {
         self.lock = None;
         self.unlocked = Unlocked::Nothing;
         self.found = Found::Nothing;
+        self.names_kept = false;
         self.overlay = None;
     }
 }
