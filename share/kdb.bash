@@ -15,7 +15,10 @@ _kdb() {
     COMPREPLY=($(compgen -W "${commands// /$'\n'}" -- "$word"))
     return
   fi
-  case $command:$count in
+  # The option of `mount` is none of its places.
+  local at=$count
+  [[ ${place[2]-} == -k ]] && at=$((count - 1))
+  case $command:$at in
     mount:3) COMPREPLY=($(cd .kdb 2>/dev/null && compgen -f -- "$whole")); return ;;
     mount:5 | export:4 | import:4) COMPREPLY=($(compgen -W $'dump\nsimpleini\nhosts\njson' -- "$whole")); return ;;
     mounts:* | batch:* | gen:*) return ;;
@@ -28,7 +31,7 @@ _kdb() {
   found=$(kdb ls / 2>/dev/null; printf '%s\n' spec:/ dir:/ user:/ system:/)
   COMPREPLY=($(compgen -W "$found" -- "$whole"))
   if [[ $whole == *:* && ${COMP_WORDBREAKS-} == *:* ]]; then
-    local front=${whole%"${whole##*:}"} at
+    local front=${whole%"${whole##*:}"}
     for at in "${!COMPREPLY[@]}"; do COMPREPLY[at]=${COMPREPLY[at]#"$front"}; done
   fi
 }

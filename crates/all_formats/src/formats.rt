@@ -1,5 +1,5 @@
 //! The formats by their kinds.
-ghost use Rattle.std.specs.Prelude.{◌≡◌, MatchResult};
+ghost use Rattle.std.specs.Prelude.{◌≡◌, refl, MatchResult};
 ghost use Rattle.model_maps.specs.Limits.{IsLimited};
 ghost use Rattle.storage_api.specs.Formats.{RefusesToRead, RefusesToWrite};
 ghost use Rattle.all_formats.specs.Meanings.{Reads, IsBadAt, text, Holds, IsStorable, BreaksAt, is_keywise};
@@ -62,6 +62,10 @@ impl Formats for AllFormats {
     ghost held_alone = { held-alone };
 
     ghost by_keys = { by-keys };
+
+    ghost dump_is_keywise = { refl };
+
+    ghost ini_is_keywise = { refl };
 
     fn read(&self, alloc: Global, kind: Kind, bytes: &[u8]) -> Result<KeySet, ReadRefusal>
         ensures { MatchResult result (λ keys. Reads kind bytes.now keys) (RefusesToRead (IsBadAt kind bytes.now)) }

@@ -32,6 +32,7 @@ use Rattle.model_batch.specs.Replies.{failures_told, refusals_told}
 use Rattle.model_batch.specs.Scripts.{IsFairScript, procs_of, reply_rows, sessions_of}
 use Rattle.model_crashes.specs.Runs.{IsReached, Run, files_of}
 use Rattle.model_history.specs.History.{Commit}
+use Rattle.model_store.specs.Records.{no_record}
 use Rattle.model_store.specs.Store.{Formats}
 use Rattle.model_store.specs.Worlds.{first_world}
 use Rattle.mounted_files.specs.declared.files.MountedFile.{MountedFile}
@@ -176,7 +177,7 @@ module _ (formats : Formats) {D P : Type 0} (g : Ghosts D) (code : Coded D) (ref
       }
 
 -- a store that was never shared has the empty story
-pub unplayed : (formats : Formats) {D P : Type 0} (g : Ghosts D) (refused : P → ℕ) (files : List MountedFile) (script : Script) (core : Core D P) (closed : Closed D P) → StandsIn formats (store_at files) core (λ r m. None) (λ p. None) first_world
+pub unplayed : (formats : Formats) {D P : Type 0} (g : Ghosts D) (refused : P → ℕ) (files : List MountedFile) (script : Script) (core : Core D P) (closed : Closed D P) → StandsIn formats (store_at files) core (λ r. no_record) (λ p. None) first_world
     → closed.history ≡ core.history → closed.patterns ≡ core.patterns
     → (core.wrote ≡ false → IsFresh core.journal → closed.disk ≡ core.journal.disk)
     → ((start : D) (run : Run) → IsStore g start core.journal run → ¬ HasRisen (g.faults core.journal.disk) (g.faults closed.disk) → SameFiles (g.seen closed.disk) (files_of run))

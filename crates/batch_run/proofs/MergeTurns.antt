@@ -30,8 +30,6 @@ use Rattle.model_batch.proofs.Telling.{judged-more}
 use Rattle.model_history.specs.History.{Commit}
 use Rattle.model_maps.specs.KeyMap.{KeyMap}
 use Rattle.model_names.specs.Name.{Name}
-use Rattle.model_store.specs.Records.{IsRecord}
-use Rattle.model_store.specs.Sets.{front_in}
 use Rattle.model_store.specs.Store.{Formats, points_of, store_of}
 use Rattle.mounted_files.specs.declared.files.MountedFile.{MountedFile}
 use Rattle.seat_lock.specs.Known.{Place}
@@ -120,7 +118,7 @@ module _ (formats : Formats) (files : List MountedFile) (parent : Name) (strateg
         let between = retry.between in
         let answer : Result Done CommitFault = Err (Conflict item.mount item.by item.front) in
         let gives : Gives (store_of files (λ n. proc_of between.rec)) (commits_of new.seen) between.number parent (record_of between.rec) (record_of new.rec) retry.got = retry.is_got (λ n. proc_of between.rec) refl in
-        let met = judged-then formats files parent ours working old between answer retry.stored told le (λ e. absurd cc) retry.stored.done.kept in
+        let met = judged-then formats files parent ours working old between answer retry.stored told le (λ e. absurd cc) in
         let far = prefix-trans (commits_of between.seen) (commits_of new.seen) history (commits-prefix between.seen new.seen retry.seen) begins in
         let so_far : item.front ≤ length (commits_of between.seen) = within formats files parent ours working old between answer retry.stored told le in
         record {
@@ -159,8 +157,7 @@ module _ (formats : Formats) (files : List MountedFile) (parent : Name) (strateg
           },
         )
 
-  module _ (working : Held) (number tries : ℕ) (last new : HandleValue) (keys : KeyMap) (made tried : List Tried) (told : ℕ) (numbered : last.number ≡ number) (le : told ≤ length (commits_of last.seen))
-      (keeps : IsRecord (store_at files) (commits_of new.seen) (front_in (record_of new.rec)) (record_of new.rec)) where
+  module _ (working : Held) (number tries : ℕ) (last new : HandleValue) (keys : KeyMap) (made tried : List Tried) (told : ℕ) (numbered : last.number ≡ number) (le : told ≤ length (commits_of last.seen)) where
     abbrev present : List Commit
     present = commits_of new.seen
 
@@ -171,7 +168,7 @@ module _ (formats : Formats) (files : List MountedFile) (parent : Name) (strateg
       told_then result told,
       within formats files parent keys working last new result stored told le,
       subst (λ (n : ℕ). MeansSet formats (store_at files) n present parent keys (session_of last working told) (set_reply result) (session_of new working (told_then result told))) numbered
-          (stored-means formats files parent keys working last new result stored told le keeps),
+          (stored-means formats files parent keys working last new result stored told le),
     )
 
     set-ends : (result : Result Done SetFault) → IsSet formats files last new parent keys result
@@ -232,7 +229,7 @@ module _ (formats : Formats) {F : Type 0} (lock : Place Told) (plan : Plan F) (p
           → (later : ℕ) × (later ≤ length (commits_of new.seen)) × Means formats plan.mounted (proc_of old.rec) old.number (commits_of new.seen) (session_of old (held before watching) told) (Merge parent strategy tries) (merge_reply tried end) (session_of new (record { working = after; watching = watching }) later)
       means told watching le =
           let made = tries-go formats plan.mounted parent strategy (held before watching) old.number (commits_of new.seen) old before.keys merged.made merged.last merged.keys told refl le (commits-prefix merged.last.seen new.seen seen) merged.retries in
-          let ended = end-goes formats plan.mounted parent strategy (held before watching) old.number tries merged.last new merged.keys merged.made tried made.0 since.number made.1 is.keeps end merged.ends in (
+          let ended = end-goes formats plan.mounted parent strategy (held before watching) old.number tries merged.last new merged.keys merged.made tried made.0 since.number made.1 end merged.ends in (
             ended.0,
             ended.1,
             inl (record {

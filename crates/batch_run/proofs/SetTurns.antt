@@ -1,7 +1,5 @@
 -- A set: what the handle's turn found is what the step means, whatever the working set is.
 use Rattle.std.proofs.Common.{◌≡◌, ◌≢◌, ◌⊎◌, inl, inr, ℕ, ◌+◌, ◌≤◌, Bool, true, false, cond, List, [], ◌∷◌, ◌++◌, length, Some, None, Result, Ok, Err, refl, sym, ap, ap₂, subst, ◌∙◌, append-nil, length-append, arith}
-use Rattle.std.specs.Option.{option_map}
-use Rattle.std.proofs.lemmas.List.{take_all}
 use mathlib.Core.List.{IsPrefix}
 use Rattle.batch_script.specs.declared.steps.Step.TheVariants.{Set}
 use Rattle.kdb_handle.specs.Handles.{HandleValue}
@@ -17,15 +15,15 @@ use Rattle.kdb_handle.specs.declared.setting.SetFault.TheVariants as set_fault
 use Rattle.kdb_handle.proofs.StoryLemmas.{commits-append, failures-append, refusals-append}
 use Rattle.model_batch.specs.Replies.{failures_told, numbers_told, refusals_told, set_reply, stored_reply}
 use Rattle.model_batch.specs.Sessions.{Session}
-use Rattle.model_batch.specs.Sets.{MeansSet, StandsNext, kept_then, record_then, set_by, told_then, IsJudgedThen}
+use Rattle.model_batch.specs.Sets.{MeansSet, StandsNext, record_then, set_by, told_then, IsJudgedThen}
 use Rattle.model_batch.specs.Told.{numbers_by, numbers_from}
-use Rattle.model_history.specs.History.{Commit, is_among, replay}
+use Rattle.model_history.specs.History.{Commit, replay}
 use Rattle.model_maps.specs.KeyMap.{KeyMap}
 use Rattle.model_names.specs.Name.{Name}
-use Rattle.model_store.specs.Cores.{keeping}
-use Rattle.model_store.specs.Records.{Fetched, IsRecord, Record, fetched_at}
+use Rattle.model_store.specs.Cores.{storing}
+use Rattle.model_store.specs.Records.{Record}
 use Rattle.model_store.specs.Sets as sets
-use Rattle.model_store.specs.Sets.{front_in, wants}
+use Rattle.model_store.specs.Sets.{wants}
 use Rattle.model_store.specs.Store.{Store, Formats, points_of}
 use Rattle.model_store.specs.Verdicts.{IsEarly, commit_of}
 use Rattle.seat_lock.specs.Known.{Place}
@@ -36,10 +34,9 @@ use Rattle.batch_run.specs.declared.workspaces.Workspace.{Workspace}
 use Rattle.batch_run.proofs.EditLemmas.{stays, IsSilent}
 use Rattle.batch_run.proofs.Joining.{goes-keys}
 use Rattle.batch_run.proofs.CommitNumbers.{longer-commits, numbers-one, numbers-same, numbers_from-append, IsSince, numbers-since, since-self}
-use Rattle.set_split.specs.Parts.{owned_by}
 use Rattle.store_core.specs.Answers.{IsJudged}
 use Rattle.store_core.specs.declared.committing.CommitFault.{CommitFault}
-use Rattle.store_core.specs.declared.committing.CommitFault.TheVariants.{Conflict, Invalid, DatabaseFull, HistoryFull, DiskFault, Memory}
+use Rattle.store_core.specs.declared.committing.CommitFault.TheVariants.{Conflict, FileTooLarge, Invalid, DatabaseFull, HistoryFull, DiskFault, Memory}
 use Rattle.store_core.specs.declared.committing.Done.{Done}
 use Rattle.store_core.specs.declared.committing.Done.TheVariants as done
 use Rattle.store_core.specs.declared.cores.Plan.{Plan}
@@ -52,28 +49,12 @@ use Rattle.mounted_files.specs.declared.files.MountedFile.{MountedFile}
 use Rattle.batch_run.proofs.GetTurns.{session_with}
 use Rattle.store_verdict.specs.Preparing.{IsRefused}
 
--- What a record keeps after an own commit, which is what the set wanted, is what the touched mounts own then: the record is that of its fronts
-module _ (store : Store) (history : List Commit) (touched : List ℕ) (keys : KeyMap) (rec new : Record) (is : IsRecord store history (front_in new) new)
-    (kept : new ≡ keeping touched (length history) (wants (points_of store) keys) rec) where
-  abbrev at_end : KeyMap → ℕ → Fetched
-  at_end whole m = record { front = length history; kept = owned_by (points_of store) m whole }
-
-  kept-at : (m : ℕ) (b : Bool) → is_among touched m ≡ b → new m ≡ cond b (Some (at_end (replay store.start history) m)) (rec m)
-  kept-at m false e = ap (λ (r : Record). r m) kept ∙ ap (λ (b : Bool). cond b (Some (at_end keys m)) (rec m)) e
-  kept-at m true e =
-      let here : new m ≡ Some (at_end keys m) = ap (λ (r : Record). r m) kept ∙ ap (λ (b : Bool). cond b (Some (at_end keys m)) (rec m)) e in
-      let front : front_in new m ≡ Some (length history) = ap (option_map (λ (f : Fetched). f.front)) here in
-      is.is m ∙ ap (option_map (fetched_at store history m)) front
-      ∙ ap (λ (past : List Commit). Some (at_end (replay store.start past) m)) (take_all (length history) history (omega arith))
-
-  pub kept-now : new ≡ kept_then store history touched rec
-  kept-now = λ i m. kept-at m (is_among touched m) refl i
-
 -- whether there was no memory for an answer
 memory-or : (result : Result Done CommitFault) → (result ≡ Err Memory) ⊎ (result ≢ Err Memory)
 memory-or (Ok d) = inr (λ e. absurd cc)
 memory-or (Err Memory) = inl refl
 memory-or (Err (Conflict mount by front)) = inr (λ e. absurd cc)
+memory-or (Err (FileTooLarge mount bytes front)) = inr (λ e. absurd cc)
 memory-or (Err (Invalid violation front)) = inr (λ e. absurd cc)
 memory-or (Err (DatabaseFull weight front)) = inr (λ e. absurd cc)
 memory-or (Err (HistoryFull weight front)) = inr (λ e. absurd cc)
@@ -85,6 +66,7 @@ told-failures set (Ok (done.Committed number aside)) = refl
 told-failures set (Ok (done.Same front aside)) = refl
 told-failures set (Err Memory) = refl
 told-failures set (Err (Conflict mount by front)) = refl
+told-failures set (Err (FileTooLarge mount bytes front)) = refl
 told-failures set (Err (Invalid violation front)) = elim (is_refusal violation) as (λ (b : Bool). failures_in (cond b (Refused set.handle ∷ []) []) ≡ 0) [ true ↦ refl | false ↦ refl ]
 told-failures set (Err (DatabaseFull weight front)) = refl
 told-failures set (Err (HistoryFull weight front)) = refl
@@ -95,6 +77,7 @@ told-refusals set (Ok (done.Committed number aside)) = refl
 told-refusals set (Ok (done.Same front aside)) = refl
 told-refusals set (Err Memory) = refl
 told-refusals set (Err (Conflict mount by front)) = refl
+told-refusals set (Err (FileTooLarge mount bytes front)) = refl
 told-refusals set (Err (Invalid violation front)) = elim (is_refusal violation) as (λ (b : Bool). refusals_in (cond b (Refused set.handle ∷ []) []) ≡ cond b 1 0) [ true ↦ refl | false ↦ refl ]
 told-refusals set (Err (DatabaseFull weight front)) = refl
 told-refusals set (Err (HistoryFull weight front)) = refl
@@ -118,6 +101,7 @@ told-within formats store risen found later keys set (Ok (done.Committed number 
 told-within formats store risen found later keys set (Ok (done.Same front aside)) told le is judged = omega (arith, judged.0, ap length is, length-append found [])
 told-within formats store risen found later keys set (Err Memory) told le is judged = omega (arith, le, ap length is, length-append found [])
 told-within formats store risen found later keys set (Err (Conflict mount by front)) told le is judged = omega (arith, judged.2, ap length is, length-append found [])
+told-within formats store risen found later keys set (Err (FileTooLarge mount bytes front)) told le is judged = omega (arith, judged.2, ap length is, length-append found [])
 told-within formats store risen found later keys set (Err (Invalid violation front)) told le is judged =
     omega (arith, judged.0, ap length is, length-append found (commits_of (told_by set (Err (Invalid violation front)))))
 told-within formats store risen found later keys set (Err (DatabaseFull weight front)) told le is judged = omega (arith, judged.0, ap length is, length-append found [])
@@ -125,14 +109,11 @@ told-within formats store risen found later keys set (Err (HistoryFull weight fr
 told-within formats store risen found later keys set (Err (DiskFault front)) told le is judged = omega (arith, judged.1, ap length is, length-append found [])
 
 -- the record that it leaves is that of the definitions
-records-then : (store : Store) (found later : List Commit) (set other : sets.Prepared) (result : Result Done CommitFault) (rec new : Record) → set ≡ other → later ≡ found ++ commits_of (told_by set result)
-    → IsRecord store later (front_in new) new → new ≡ record_by store found set result rec → new ≡ record_then store found other result rec
-records-then store found later set other (Ok (done.Committed number aside)) rec new same is keeps kept =
-    let long : length found + 1 ≡ length later = omega (arith, ap length is, length-append found (commit_of set ∷ [])) in
-    let kept_then_all = kept-now store later set.touched set.keys rec new keeps (kept ∙ ap (λ (n : ℕ). keeping set.touched n (wants (points_of store) set.keys) rec) long) in
-    kept_then_all ∙ ap (λ (l : List Commit). kept_then store l set.touched rec) is ∙ ap (λ (s : sets.Prepared). kept_then store (found ++ commit_of s ∷ []) s.touched rec) same
-records-then store found later set other (Ok (done.Same front aside)) rec new same is keeps kept = kept
-records-then store found later set other (Err why) rec new same is keeps kept = kept
+records-then : (store : Store) (found : List Commit) (set other : sets.Prepared) (result : Result Done CommitFault) (rec new : Record) → set ≡ other → new ≡ record_by store found set result rec → new ≡ record_then store found other result rec
+records-then store found set other (Ok (done.Committed number aside)) rec new same kept =
+    kept ∙ ap (λ (s : sets.Prepared). storing store s.touched (length found + 1) (wants (points_of store) s.keys) rec) same
+records-then store found set other (Ok (done.Same front aside)) rec new same kept = kept
+records-then store found set other (Err why) rec new same kept = kept
 
 -- the commits of its handle are those that it told
 pub new-numbers : (formats : Formats) (store : Store) (risen : Bool) (number : ℕ) (found : List Commit) (keys : KeyMap) (set : sets.Prepared) (result : Result Done CommitFault) → set.handle ≡ number → IsJudged formats store risen found keys set result
@@ -142,6 +123,7 @@ new-numbers formats store risen number found keys set (Ok (done.Committed n asid
 new-numbers formats store risen number found keys set (Ok (done.Same front aside)) own judged = refl
 new-numbers formats store risen number found keys set (Err Memory) own judged = refl
 new-numbers formats store risen number found keys set (Err (Conflict mount by front)) own judged = refl
+new-numbers formats store risen number found keys set (Err (FileTooLarge mount bytes front)) own judged = refl
 new-numbers formats store risen number found keys set (Err (Invalid violation front)) own judged =
     ap (numbers_from number (1 + length found)) (told-commits set (is_refusal violation))
 new-numbers formats store risen number found keys set (Err (DatabaseFull weight front)) own judged = refl
@@ -181,10 +163,9 @@ module _ (formats : Formats) (files : List MountedFile) (parent : Name) (keys : 
   far : length (commits_of old.seen) ≤ length found
   far = longer-commits old.seen stored.done.found stored.done.seen
 
-  -- what the record becomes, where it is that of its fronts
-  record_is : IsRecord store (commits_of new.seen) (front_in (record_of new.rec)) (record_of new.rec)
-      → record_of new.rec ≡ record_then store found (set_by store old.number (session_of old working 0) parent keys) result (record_of old.rec)
-  record_is keeps = records-then store found (commits_of new.seen) view _ result (record_of old.rec) (record_of new.rec) stored.made.is later_is keeps stored.done.kept
+  -- what the record becomes
+  record_is : record_of new.rec ≡ record_then store found (set_by store old.number (session_of old working 0) parent keys) result (record_of old.rec)
+  record_is = records-then store found view _ result (record_of old.rec) (record_of new.rec) stored.made.is stored.done.kept
 
   pub stored-seen : IsPrefix old.seen new.seen
   stored-seen = prefix-trans old.seen stored.done.found new.seen stored.done.seen (told_by view result, sym stored.done.sees)
@@ -193,9 +174,8 @@ module _ (formats : Formats) (files : List MountedFile) (parent : Name) (keys : 
   within told le = told-within formats store (tells_refusal result) found (commits_of new.seen) (replay store.start found) view result told (omega (arith, le, far)) later_is stored.done.judged
 
   pub judged-then : (told : ℕ) → told ≤ length (commits_of old.seen) → result ≢ Err Memory
-      → record_of new.rec ≡ record_then store found (set_by store old.number (session_of old working 0) parent keys) result (record_of old.rec)
       → IsJudgedThen formats store old.number (commits_of new.seen) parent keys (session_of old working told) (set_reply result) (session_of new working (told_then result told))
-  judged-then told le known left = record {
+  judged-then told le known = record {
     past = found;
     no_less = omega (arith, le, far);
     result = result;
@@ -204,22 +184,21 @@ module _ (formats : Formats) (files : List MountedFile) (parent : Name) (keys : 
     judged = subst (λ (s : sets.Prepared). IsJudged formats store (tells_refusal result) found (replay store.start found) s result) stored.made.is stored.done.judged;
     stands = subst (λ (s : sets.Prepared). StandsNext (commits_of new.seen) found s result) stored.made.is (stands found (commits_of new.seen) view result later_is);
     reply_is = refl;
-    new_is = ap (session_with (told_then result told) working) left;
+    new_is = ap (session_with (told_then result told) working) record_is;
   }
 
-  means-judged : (told : ℕ) → told ≤ length (commits_of old.seen) → record_of new.rec ≡ record_then store found (set_by store old.number (session_of old working 0) parent keys) result (record_of old.rec)
-      → (result ≡ Err Memory) ⊎ (result ≢ Err Memory)
+  means-judged : (told : ℕ) → told ≤ length (commits_of old.seen) → (result ≡ Err Memory) ⊎ (result ≢ Err Memory)
       → MeansSet formats store old.number (commits_of new.seen) parent keys (session_of old working told) (set_reply result) (session_of new working (told_then result told))
-  means-judged told le left (inr known) = inl (judged-then told le known left)
-  means-judged told le left (inl memory) = inr (inr (inl (record {
+  means-judged told le (inr known) = inl (judged-then told le known)
+  means-judged told le (inl memory) = inr (inr (inl (record {
     reply_is = ap set_reply memory;
     new_is = ap₂ (λ (n : ℕ) (r : Record). session_with n working r) (ap (λ (r : Result Done CommitFault). told_then r told) memory)
-        (left ∙ ap (λ (r : Result Done CommitFault). record_then store found (set_by store old.number (session_of old working 0) parent keys) r (record_of old.rec)) memory);
+        (record_is ∙ ap (λ (r : Result Done CommitFault). record_then store found (set_by store old.number (session_of old working 0) parent keys) r (record_of old.rec)) memory);
   })))
 
-  pub stored-means : (told : ℕ) → told ≤ length (commits_of old.seen) → IsRecord store (commits_of new.seen) (front_in (record_of new.rec)) (record_of new.rec)
+  pub stored-means : (told : ℕ) → told ≤ length (commits_of old.seen)
       → MeansSet formats store old.number (commits_of new.seen) parent keys (session_of old working told) (set_reply result) (session_of new working (told_then result told))
-  stored-means told le keeps = means-judged told le (record_is keeps) (memory-or result)
+  stored-means told le = means-judged told le (memory-or result)
 
   -- what it made since it was another handle, and nothing before this set
   pub stored-makes : (first : HandleValue) → first.own ≡ made_by maker_of first.number first.seen → IsSince first old → Makes first new (set_reply result)
@@ -261,7 +240,7 @@ module _ (formats : Formats) {F : Type 0} (lock : Place Told) (plan : Plan F) (p
       (λ told watching le. (
         told_then result told,
         within formats plan.mounted parent before.keys (held before watching) old new result stored told le,
-        stored-means formats plan.mounted parent before.keys (held before watching) old new result stored told le is.keeps,
+        stored-means formats plan.mounted parent before.keys (held before watching) old new result stored told le,
       ))
       makes.numbers makes.failures makes.refusals
 

@@ -27,7 +27,7 @@ use Rattle.model_batch.specs.Sessions.{Session, Watching, first_session}
 use Rattle.model_batch.specs.Told.{IsAtLeast, Tells, numbers_by}
 use Rattle.model_batch.proofs.Knowing.{phases-more, phases-next}
 use Rattle.model_batch.proofs.Telling.{all-less, tells-later}
-use Rattle.model_history.specs.History.{Commit}
+use Rattle.model_history.specs.History.{Commit, commits_by}
 use Rattle.model_maps.specs.KeyMap.{KeyMap}
 use Rattle.model_store.specs.Store.{Formats}
 use Rattle.mounted_files.specs.declared.files.MountedFile.{MountedFile}
@@ -35,7 +35,7 @@ use Rattle.seat_lock.specs.Known.{Place}
 use Rattle.batch_run.specs.Stepping.{GoesOn, Leads, held, session_of}
 use Rattle.batch_run.specs.Watching.{StandsFor}
 use Rattle.store_core.specs.declared.cores.Plan.{Plan}
-use Rattle.store_verdict.specs.RecordView.{proc_of}
+use Rattle.store_verdict.specs.RecordView.{proc_of, record_of}
 use Rattle.watch_feed.specs.Watches.{WatchValue}
 
 -- ---- rows
@@ -68,7 +68,9 @@ module _ (formats : Formats) {F : Type 0} (lock : Place Told) (plan : Plan F) wh
   -- one that has a handle that was just opened
   pub taken-first : (procs : KeyMap) (sessions i : ℕ) (worker : Worker) → IsFresh lock plan (i + 1) procs worker.session.handle → IsSeated worker → HasTaken formats lock plan procs sessions i [] [] worker
   taken-first procs sessions i worker fresh seated =
-      let none : commits_of worker.session.handle.seen ≡ [] = ap commits_of (fresh.seen ∙ fresh.handle_is.started.start) in record {
+      let none : commits_of worker.session.handle.seen ≡ [] = ap commits_of (fresh.seen ∙ fresh.handle_is.started.start) in
+      let count : (record_of worker.session.handle.rec).committed ≡ 0 =
+      fresh.handle_is.keeps.count ∙ ap (λ (l : List Commit). length (commits_by worker.session.handle.number l)) none in record {
         handle = fresh.handle_is;
         number_is = fresh.number_is;
         procs_are = fresh.procs_are;
@@ -77,7 +79,7 @@ module _ (formats : Formats) {F : Type 0} (lock : Place Told) (plan : Plan F) wh
           within = omega arith;
           watching = None;
           watches = subst (λ (watch : Option WatchValue). StandsFor (commits_of worker.session.handle.seen) watch None) (sym seated.watch) tt;
-          tells = λ i. record { working = seated.keys i; rec = λ m. fresh.rec m i; told = 0; watching = None };
+          tells = λ i. record { working = seated.keys i; rec = record { fetched = λ m. fresh.rec m i; committed = count i }; told = 0; watching = None };
         };
         own = ap (numbers_by (i + 1)) none;
         failures = ap failures_in fresh.own;

@@ -22,7 +22,7 @@ pub record IsFresh {F : Type 0} (lock : Place Told) (plan : Plan F) (number : �
   pub number_is : handle.number ≡ number
   pub seen : handle.seen ≡ lock.start
   pub own : handle.own ≡ []
-  pub rec : (m : ℕ) → record_of handle.rec m ≡ None
+  pub rec : (m : ℕ) → (record_of handle.rec).fetched m ≡ None
   pub procs_are : proc_of handle.rec ≡ procs
 
 -- handles that were just opened, numbered from 1, each with the keys in `proc` of its number

@@ -7,6 +7,7 @@ ghost use Rattle.kdb_handle.specs.Stores.{AreFree, HasFlusher, IsStarted};
 ghost use Rattle.kdb_handle.specs.Views.{files_in, files_of, first_story, lock_of, plan_of, room_of, seats_of, spare_of};
 ghost use Rattle.model_batch.specs.Scripts.{sessions_of};
 ghost use Rattle.model_maps.specs.KeyMap.{KeyMap};
+ghost use Rattle.model_store.specs.Records.{no_record};
 ghost use Rattle.model_store.specs.Store.{store_of, formats_of};
 ghost use Rattle.model_store.specs.Worlds.{first_world};
 ghost use Rattle.store_core.specs.Cores.{StandsIn};
@@ -42,7 +43,7 @@ pub fn play_on<
     R: Threads + Wait + Sync,
 >(rt: &R, alloc: Global, gate: &G, plan: Plan<F>, core: Core<D, P>, script: &Script) -> Played<D, P>
     requires script { IsPlayable script.now }
-    requires world { (procs : ℕ → KeyMap) → StandsIn (formats_of F.Formats) (store_of (files_of plan) procs) core (λ r m. None) (λ p. None) first_world }
+    requires world { (procs : ℕ → KeyMap) → StandsIn (formats_of F.Formats) (store_of (files_of plan) procs) core (λ r. no_record) (λ p. None) first_world }
     ensures { IsPlayed (formats_of F.Formats) D.Disk P.refusals (files_of plan) script.now core result }
 {
     match places_of(alloc, script) {
@@ -68,7 +69,7 @@ fn play_shared<
     places: Places,
 ) -> Played<D, P>
     requires script { IsPlayable script.now }
-    requires world { (procs : ℕ → KeyMap) → StandsIn (formats_of F.Formats) (store_of (files_of plan) procs) core (λ r m. None) (λ p. None) first_world }
+    requires world { (procs : ℕ → KeyMap) → StandsIn (formats_of F.Formats) (store_of (files_of plan) procs) core (λ r. no_record) (λ p. None) first_world }
     requires places { HasPlaces script.now places }
     ensures { IsPlayed (formats_of F.Formats) D.Disk P.refusals (files_of plan) script.now core result }
 {
@@ -171,7 +172,7 @@ fn play_with_handles<
 fn close_unplayed<D: Disk, F: Formats + Drop, P: Patterns + Drop>(
     unshared: NotShared<D, F, P>,
 ) -> Played<D, P>
-    requires { (procs : ℕ → KeyMap) → StandsIn (formats_of F.Formats) (store_of (files_of unshared.plan) procs) unshared.core (λ r m. None) (λ p. None) first_world }
+    requires { (procs : ℕ → KeyMap) → StandsIn (formats_of F.Formats) (store_of (files_of unshared.plan) procs) unshared.core (λ r. no_record) (λ p. None) first_world }
     ensures { (script : Script) → IsPlayed (formats_of F.Formats) D.Disk P.refusals (files_of unshared.plan) script unshared.core result }
 {
     let NotShared { core, .. } = unshared;

@@ -1,17 +1,19 @@
 -- A history with one more commit: what it makes of keys, what it weighs, which commit is the first behind a front, and its index.
-use Rattle.std.proofs.Common.{◌≡◌, ℕ, zero, suc, ◌+◌, ◌-◌, ◌<◌, ◌≤◌, Bool, true, false, cond, List, [], ◌∷◌, ◌++◌, length, drop, take, get_or, map, slice_get, Option, Some, None, refl, sym, ap, subst, ◌∙◌, arith, nat_lt, ◌^◌, min, All}
-use Rattle.std.proofs.lemmas.List.{take_all, take-append-le, map_push}
+use Rattle.std.proofs.Common.{◌≡◌, ℕ, zero, suc, ◌+◌, ◌-◌, ◌<◌, ◌≤◌, Bool, true, false, cond, ◌||◌, List, [], ◌∷◌, ◌++◌, length, drop, take, get_or, map, slice_get, Option, Some, None, refl, sym, ap, subst, ◌∙◌, arith, nat_lt, ◌^◌, min, All}
+use Rattle.std.proofs.lemmas.List.{drop-map, length-drop, take_all, take-append-le, map_push, length-map}
 use Rattle.std.proofs.lemmas.Bool.{ltb-true, ltb-false}
 use Rattle.std.proofs.lemmas.List.Elements.{All-push}
+use Rattle.std.proofs.lemmas.List.Folds.{list_any-append}
 use Rattle.std.proofs.lemmas.List.Sums.{sum_by-append}
 use Rattle.std.proofs.lemmas.Option.{slice_get-map}
-use Rattle.std.specs.List.{position_from}
+use Rattle.std.specs.List.{list_any, position_from}
 use Rattle.std.specs.Option.{option_map}
 use Rattle.general_words.proofs.Lists.{some_is, at_place, take-next, same_default}
 use Rattle.general_words.proofs.Places.{there_is, before-last, at-last}
+use Rattle.model_names.specs.Name.{Name}
 use Rattle.model_maps.specs.KeyMap.{KeyMap}
 use Rattle.model_history.specs.Changes.{changed, changed_by}
-use Rattle.model_history.specs.History.{Commit, replay, touches, is_among, first_after, history_weight, weight_of_commit}
+use Rattle.model_history.specs.History.{Commit, replay, touches, is_among, first_after, changes_beside, first_change_after, history_weight, weight_of_commit}
 use Rattle.model_history.proofs.HistoryLemmas.{replay-append, first_after-behind, first_after-within, first_after-there}
 use Rattle.model_history.proofs.ChangeLemmas.{changed_by-snoc}
 use Rattle.commit_log.specs.CommitView.{change_of, commit_of}
@@ -32,6 +34,12 @@ replay-next cs i c keys lt is =
     ap (λ xs. replay keys (map commit_of xs)) (take-next cs i c (at_place cs i c lt is))
     ∙ ap (replay keys) (map_push commit_of (take i cs) c)
     ∙ replay-append keys (map commit_of (take i cs)) (commit_of c ∷ [])
+
+-- the rest of a list by its length is the rest
+pub rest_whole : (n : ℕ) (cs : List logged.Commit) → map commit_of (take (length cs - n) (drop n cs)) ≡ drop n (map commit_of cs)
+rest_whole n cs =
+    let count = length-drop n cs in
+    ap (map commit_of) (take_all (length cs - n) (drop n cs) (omega arith)) ∙ sym (drop-map commit_of n cs)
 
 -- ---- the first behind a front
 
@@ -110,3 +118,34 @@ covered-next mounts i old new lt le one all =
 
 pub covered-all : (mounts : List ℕ) (i n : ℕ) → length mounts ≤ i → All (λ m. m < n) (take i mounts) → All (λ m. m < n) mounts
 covered-all mounts i n le all = subst (All (λ m. m < n)) (take_all i mounts le) all
+
+-- ---- the changes of a commit
+
+-- the change at a place, as the definitions have it
+pub change-at : (cs : List code.Change) (i : ℕ) (c : code.Change) → i < length cs → c ≡ get_or cs i c → slice_get (map change_of cs) i ≡ Some (change_of c)
+change-at cs i c lt is = slice_get-map change_of cs i ∙ ap (option_map change_of) (sym (at_place cs i c lt is))
+
+-- none of the first elements passes, and the next one doesn't
+pub none-next : {A : Type 0} (test : A → Bool) (xs : List A) (i : ℕ) (x : A) → slice_get xs i ≡ Some x → list_any test (take i xs) ≡ false → test x ≡ false → list_any test (take (i + 1) xs) ≡ false
+none-next test xs i x there before not =
+    ap (list_any test) (take-next xs i x (sym there))
+    ∙ list_any-append test (take i xs) (x ∷ [])
+    ∙ ap (λ b. b || (test x || false)) before
+    ∙ ap (λ b. b || false) not
+
+-- where the first elements are all, none passes
+pub none-whole : {A B : Type 0} (test : B → Bool) (f : A → B) (xs : List A) (i : ℕ) → length xs ≤ i → list_any test (take i (map f xs)) ≡ false → list_any test (map f xs) ≡ false
+none-whole test f xs i le none = let long = length-map xs f in ap (list_any test) (sym (take_all i (map f xs) (omega arith))) ∙ none
+
+-- ---- the first commit behind a front that another handle made and that changes a name
+
+module _ (history : List Commit) (name : Name) (i handle : ℕ) (commit : Commit) (there : slice_get history i ≡ Some commit) where
+  pub first_change-here : changes_beside name handle commit ≡ true → first_change_after history name i handle ≡ Some (i + 1)
+  first_change-here on =
+      ap (position_from (changes_beside name handle) (i + 1)) (drop-at history i commit there)
+      ∙ ap (λ b. cond b (Some (i + 1)) (position_from (changes_beside name handle) (i + 1 + 1) (drop (i + 1) history))) on
+
+  pub first_change-next : changes_beside name handle commit ≡ false → first_change_after history name i handle ≡ first_change_after history name (i + 1) handle
+  first_change-next off =
+      ap (position_from (changes_beside name handle) (i + 1)) (drop-at history i commit there)
+      ∙ ap (λ b. cond b (Some (i + 1)) (position_from (changes_beside name handle) (i + 1 + 1) (drop (i + 1) history))) off

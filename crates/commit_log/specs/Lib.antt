@@ -2,3 +2,4 @@ pub use Rattle.model_history.specs.History
 pub mod CommitView
 pub mod Log
 pub mod Index
+pub mod Naming

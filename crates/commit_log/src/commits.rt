@@ -1,7 +1,7 @@
 //! What one commit is.
 ghost use Rattle.std.specs.Prelude.{◌≡◌};
 ghost use Rattle.general_words.specs.Saturated.{saturated};
-ghost use Rattle.model_history.specs.History.{is_among, weight_of_commit};
+ghost use Rattle.model_history.specs.History.{changes_beside, changes_name, is_among, weight_of_commit};
 ghost use Rattle.commit_log.specs.CommitView.{commit_of};
 
 use crate::weighing::weight_of;
@@ -39,6 +39,25 @@ pub fn is_among(touched: &[u32], mount: usize) -> bool
 {
     for other in touched {
         if mount == *other as usize {
+            return true;
+        }
+    }
+    false
+}
+
+/// Whether another handle made a commit that changes a name.
+pub fn changes_beside(commit: &Commit, name: &KeyName, not_by: u32) -> bool
+    ensures { result ≡ changes_beside name.now not_by (commit_of commit.now) }
+{
+    commit.handle != not_by && changes_name(commit, name)
+}
+
+/// Whether a commit changes a name.
+fn changes_name(commit: &Commit, name: &KeyName) -> bool
+    ensures { result ≡ changes_name name.now (commit_of commit.now) }
+{
+    for change in commit.changes.as_slice() {
+        if *name == change.name {
             return true;
         }
     }

@@ -1,24 +1,32 @@
 //! The history of an opening. Its index says of each mount behind which commit none touches it, so that most questions are
-//! answered without a look at the commits.
-ghost use Rattle.std.specs.Prelude.{◌≡◌, ◌+◌, ◌-◌, ◌<◌, ◌≤◌, ◌++◌, [], ◌∷◌, All, IfOk, OnOk, None, if◌then◌else◌, ◌==◌, length, take, drop, slice_get, map};
+//! answered without a look at the commits. An index by names is made where a caller wants it: it tells of each name the
+//! commits that change it.
+ghost use Rattle.std.specs.Prelude.{◌≡◌, ◌+◌, ◌-◌, ◌<◌, ◌≤◌, ◌++◌, [], ◌∷◌, All, IfOk, OnOk, None, if◌then◌else◌, ◌==◌, nat_lt, length, take, drop, slice_get, map};
 ghost use Rattle.std.specs.Option.{option_map};
-ghost use Rattle.model_history.specs.History.{first_after, replay, history_weight, heaviest_history};
+ghost use Rattle.model_history.specs.History.{first_after, first_change_after, replay, history_weight, heaviest_history};
 ghost use Rattle.commit_log.specs.CommitView.{commit_of};
 
 use crate::Commit;
-use crate::commits::is_among;
+use crate::commits::{changes_beside, is_among};
 use crate::indexes::{cover, last_of, mark};
+use crate::naming::{Names, first_mark, note_commits};
 use crate::replaying::make_commits;
 use key_meta::Memory;
+use key_name::KeyName;
 use key_set::KeySet;
 use std::alloc::Global;
+use std::collections::BTreeMap;
 use std::marker::Model;
+use std::mem;
 
 /// Commits one after the other, numbered from 1.
 #[derive(Debug, Drop)]
 pub struct History {
     commits: Vec<Commit>,
     last: Vec<u64>,
+    names: Names,
+    /// How many of the first commits stand in the index by names.
+    named: u64,
     weight: u64,
 }
 
@@ -29,6 +37,7 @@ impl Model for History {
     ghost use Rattle.commit_log.specs.CommitView.{commit_of};
     ghost use Rattle.commit_log.specs.Index.{IsIndex};
     ghost use Rattle.commit_log.specs.Log.{Log, coded_log};
+    ghost use Rattle.commit_log.specs.Naming.{IsNaming};
 
     ghost Value = { Log };
 
@@ -36,7 +45,7 @@ impl Model for History {
 
     ghost view = { λ h. record { commits = map commit_of h.commits.items; places = vec_len h.last; room = vec_capacity h.commits - vec_len h.commits } };
 
-    ghost invariant = { λ h. (h.weight ≡ history_weight (map commit_of h.commits.items)) × (h.weight ≤ heaviest_history) × IsIndex (map commit_of h.commits.items) h.last.items };
+    ghost invariant = { λ h. (h.weight ≡ history_weight (map commit_of h.commits.items)) × (h.weight ≤ heaviest_history) × IsIndex (map commit_of h.commits.items) h.last.items × IsNaming (map commit_of h.commits.items) h.named h.names };
 }
 
 impl History {
@@ -48,6 +57,8 @@ impl History {
         Ok(History {
             commits: Vec::new(alloc),
             last: vec![in alloc; 0; mounts]?,
+            names: BTreeMap::new(alloc),
+            named: 0,
             weight: 0,
         })
     }
@@ -86,6 +97,36 @@ impl History {
             return None;
         }
         first_behind(&self.commits, mount, front as usize)
+    }
+
+    /// The number of the first commit behind a front that another handle made and that changes a name. It looks at the
+    /// marks of the name behind the front, and at the commits that aren't in the index by names.
+    pub fn first_change_after(&self, name: &KeyName, front: u64, not_by: u32) -> Option<u64>
+        ensures { result ≡ first_change_after self.now.commits name.now front not_by }
+    {
+        if let Some(number) = first_mark(&self.names, name, front, not_by) {
+            return Some(number);
+        }
+        let from = later_of(front, self.named);
+        first_change_behind(&self.commits, name, from as usize, not_by)
+    }
+
+    /// Brings the index by names up to the last commit. Where memory is wanting, it begins anew with the next call.
+    pub fn index_names(&mut self) -> Result<(), Memory>
+        ensures { self.new ≡ self.old }
+    {
+        let alloc = *self.commits.allocator();
+        let mut names = mem::replace(&mut self.names, BTreeMap::new(alloc));
+        let named = mem::replace(&mut self.named, 0);
+        note_commits(
+            alloc,
+            &mut names,
+            &self.commits[named as usize..],
+            named + 1,
+        )?;
+        self.names = names;
+        self.named = self.commits.len() as u64;
+        Ok(())
     }
 
     /// What the commits weigh.
@@ -142,4 +183,23 @@ fn first_behind(commits: &[Commit], mount: usize, front: usize) -> Option<u64>
         }
     }
     None
+}
+
+/// The number of the first commit from a place on that another handle made and that changes a name.
+fn first_change_behind(commits: &[Commit], name: &KeyName, front: usize, not_by: u32) -> Option<u64>
+    ensures { result ≡ first_change_after (map commit_of commits.now) name.now front not_by }
+{
+    for i in front..commits.len() {
+        if changes_beside(&commits[i], name, not_by) {
+            return Some(i as u64 + 1);
+        }
+    }
+    None
+}
+
+/// The larger of two numbers.
+fn later_of(front: u64, other: u64) -> u64
+    ensures { result ≡ (if nat_lt front other then other else front) }
+{
+    if front < other { other } else { front }
 }

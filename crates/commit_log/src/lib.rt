@@ -4,6 +4,7 @@
 mod commits;
 mod histories;
 mod indexes;
+mod naming;
 mod replaying;
 mod weighing;
 

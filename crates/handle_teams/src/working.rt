@@ -102,7 +102,7 @@ fn work_at<D: Disk, F: Formats + Drop, P: Patterns + Drop, R: Wait>(
     }
 }
 
-/// A handle makes so many commits at a parent, each of the next value of its own key there.
+/// A handle makes so many commits at a parent, each of its own key there. The value is the number of the handle's tries so far.
 fn make_commits<D: Disk, F: Formats + Drop, P: Patterns + Drop, R: Wait>(
     rt: &R,
     alloc: Global,
@@ -118,14 +118,14 @@ fn make_commits<D: Disk, F: Formats + Drop, P: Patterns + Drop, R: Wait>(
     let number = handle.number();
     let word = format!(in alloc; "handle{number}").ok()?;
     let name = parent.child(&word).ok()?;
-    for commit in 0..commits {
-        let value = format!(in alloc; "{commit}").ok()?;
-        make_commit(rt, alloc, store, handle, parent, &name, &value, tries);
+    let mut tried: u64 = 0;
+    for _ in 0..commits {
+        tried = make_commit(rt, alloc, store, handle, parent, &name, tried, tries);
     }
     Some(())
 }
 
-/// A handle sets a value at a parent, and gets it anew after each refusal.
+/// A handle sets the number of its try at a parent, and gets it anew after each refusal. Tells how many tries there were so far.
 fn make_commit<D: Disk, F: Formats + Drop, P: Patterns + Drop, R: Wait>(
     rt: &R,
     alloc: Global,
@@ -133,22 +133,25 @@ fn make_commit<D: Disk, F: Formats + Drop, P: Patterns + Drop, R: Wait>(
     handle: &mut Handle,
     parent: &KeyName,
     name: &KeyName,
-    value: &str,
+    before: u64,
     tries: u32,
-)
+) -> u64
     requires { IsHandle store.now.lock store.now.plan handle.old }
     ensures { IsHandle store.now.lock store.now.plan handle.new }
 {
+    let mut tried = before;
     for _ in 0..tries {
+        tried = tried.saturating_add(1);
         if let Some(Done::Committed { .. }) = put_one(
-            rt, alloc, store, handle, parent, name, value,
+            rt, alloc, store, handle, parent, name, tried,
         ) {
-            return;
+            return tried;
         }
     }
+    tried
 }
 
-/// A get, one key more, and a set.
+/// A get, one key more with a number as its value, and a set.
 fn put_one<D: Disk, F: Formats + Drop, P: Patterns + Drop, R: Wait>(
     rt: &R,
     alloc: Global,
@@ -156,7 +159,7 @@ fn put_one<D: Disk, F: Formats + Drop, P: Patterns + Drop, R: Wait>(
     handle: &mut Handle,
     parent: &KeyName,
     name: &KeyName,
-    value: &str,
+    number: u64,
 ) -> Option<Done>
     requires { IsHandle store.now.lock store.now.plan handle.old }
     ensures { IsHandle store.now.lock store.now.plan handle.new }
@@ -165,6 +168,7 @@ fn put_one<D: Disk, F: Formats + Drop, P: Patterns + Drop, R: Wait>(
         return None;
     };
     let mut keys = got.keys;
-    put(alloc, &mut keys, name.copy().ok()?, value).ok()?;
+    let value = format!(in alloc; "{number}").ok()?;
+    put(alloc, &mut keys, name.copy().ok()?, &value).ok()?;
     handle.kdb_set(rt, alloc, store, parent, &keys).ok()
 }

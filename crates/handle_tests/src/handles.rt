@@ -252,11 +252,31 @@ fn worked_apart<R: Threads + Wait + Sync>(
     commits: u64,
 ) -> Result<Closed<MemDisk, RegexPatterns>, Fail> {
     let parents = points_of(alloc, handles)?;
-    let disk = disk_with_mounts(alloc, handles)?;
+    let disk = disk_with_mounts(alloc, handles, false)?;
     let team = Team::open(alloc, disk, AllFormats, RegexPatterns::new(), parents.len()).ok_or(
         "it is opened",
     )?;
     Ok(team.work(rt, alloc, &parents, commits, 1).close())
+}
+
+/// So many handles make so many commits between them at one file, each of its own key.
+fn worked_at_one<R: Threads + Wait + Sync>(
+    rt: &R,
+    alloc: Global,
+    handles: u32,
+    commits: u64,
+    by_key: bool,
+    tries: u32,
+) -> Result<Closed<MemDisk, RegexPatterns>, Fail> {
+    let mut parents = Vec::new(alloc);
+    for _ in 0..handles {
+        parents.push(KeyName::parse(alloc, "user:/m000")?)?;
+    }
+    let disk = disk_with_mounts(alloc, 1, by_key)?;
+    let team = Team::open(alloc, disk, AllFormats, RegexPatterns::new(), parents.len()).ok_or(
+        "it is opened",
+    )?;
+    Ok(team.work(rt, alloc, &parents, commits, tries).close())
 }
 
 #[test]
@@ -311,10 +331,36 @@ fn handles_that_meet_at_one_mount_try_again(rt: HostRuntime) -> Result<(), Fail>
 
 #[test]
 fn the_files_are_those_of_the_history_of_32_handles(rt: HostRuntime) -> Result<(), Fail> {
-    let start = keys_of(rt.alloc(), disk_with_mounts(rt.alloc(), 32)?)?;
+    let start = keys_of(rt.alloc(), disk_with_mounts(rt.alloc(), 32, false)?)?;
     let closed = worked_apart(&rt, rt.alloc(), 32, 1000)?;
     assert_eq!(rt; closed.history.len(), 1000);
     assert!(rt; has_files_of(rt.alloc(), &start, closed, 64)?);
+    Ok(())
+}
+
+/// Each set is tried once, so a conflict would leave a commit out.
+#[test]
+fn handles_that_change_their_own_keys_of_a_file_by_key_meet_no_conflict(
+    rt: HostRuntime,
+) -> Result<(), Fail> {
+    let start = keys_of(rt.alloc(), disk_with_mounts(rt.alloc(), 1, true)?)?;
+    let closed = worked_at_one(&rt, rt.alloc(), 32, 640, true, 1)?;
+    assert_eq!(rt; closed.history.len(), 640);
+    for handle in 1..=32 {
+        assert_eq!(rt; made_by(&closed.history, handle), 20);
+    }
+    assert!(rt; has_files_of(rt.alloc(), &start, closed, 32 + 2)?);
+    Ok(())
+}
+
+#[test]
+fn handles_that_change_their_own_keys_of_a_file_by_its_backend_try_again(
+    rt: HostRuntime,
+) -> Result<(), Fail> {
+    let start = keys_of(rt.alloc(), disk_with_mounts(rt.alloc(), 1, false)?)?;
+    let closed = worked_at_one(&rt, rt.alloc(), 32, 320, false, 100_000)?;
+    assert_eq!(rt; closed.history.len(), 320);
+    assert!(rt; has_files_of(rt.alloc(), &start, closed, 32 + 1)?);
     Ok(())
 }
 

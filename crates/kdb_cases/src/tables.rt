@@ -22,7 +22,7 @@ pub fn added(alloc: Global, keys: &mut KeySet, rest: &str) -> Result<String, Mem
         return String::from_str(alloc, "  no words\n");
     };
     match name_of(alloc, &at)? {
-        Some(at) => changed(alloc, add(alloc, keys, &at, &file, Kind::Dump)),
+        Some(at) => changed(alloc, add(alloc, keys, &at, &file, Kind::Dump, false)),
         None => String::from_str(alloc, "  no name\n"),
     }
 }
@@ -48,7 +48,8 @@ fn lines(alloc: Global, table: &MountTable) -> Result<String, Memory> {
         if let Some(mount) = table.mount(i) {
             let at = mount.at.text()?;
             let (file, word) = (mount.file.text(), mount.kind.word());
-            all.push_str(&format!(in alloc; "  {at} {file} {word}\n")?)?;
+            let counting = if mount.by_key { " keys" } else { "" };
+            all.push_str(&format!(in alloc; "  {at} {file} {word}{counting}\n")?)?;
         }
     }
     Ok(all)
@@ -61,6 +62,7 @@ fn told(alloc: Global, fault: TableFault) -> Result<String, Memory> {
         TableFault::BadPath { entry } => ("bad path", entry),
         TableFault::UnknownPlugin { entry } => ("unknown plugin", entry),
         TableFault::FileTwice { entry } => ("file twice", entry),
+        TableFault::BadConflicts { entry } => ("bad conflicts", entry),
         TableFault::AlreadyMounted { entry } => ("already mounted", entry),
         TableFault::NotMounted { entry } => ("not mounted", entry),
         TableFault::TooMany { count } => return format!(in alloc; "  too many {count}\n"),

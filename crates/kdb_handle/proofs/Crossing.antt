@@ -4,6 +4,7 @@
 use denote.RattleType.{RattleType}
 use denote.Param.Send.{IsSend, IsSync, sendable}
 use Rattle.std.proofs.Crossing.{crosses}
+use Rattle.std.proofs.MapsCrossing.{BTreeMap-send}
 use Rattle.kdb_outside.specs.declared.disks.Disk as Disk
 use Rattle.commit_log.specs.contracts.histories.History as History
 use Rattle.intent_journal.specs.contracts.journal.Journal as Journal
@@ -12,6 +13,7 @@ use Rattle.kdb_handle.specs.contracts.shared.Shared as Shared
 use Rattle.kdb_handle.specs.contracts.shared.SharedStoried.TheImpl.{ghosts, no_dict}
 use Rattle.kdb_handle.specs.contracts.stores.Locked as Locked
 use Rattle.kdb_handle.proofs.stores.Locked.TheSendSync as locked
+use Rattle.key_name.specs.contracts.names.KeyName as KeyName
 use Rattle.key_set.specs.contracts.key_sets.KeySet as KeySet
 use Rattle.regex_check.specs.declared.patterns.Patterns as Patterns
 use Rattle.seat_lock.specs.declared.story.Storied as Storied
@@ -21,8 +23,12 @@ use Rattle.store_core.specs.contracts.cores.Core as Core
 keys_send : IsSend KeySet.the_row
 keys_send = search (sendable, crosses) depth 60 fits 20000
 
+name_send : IsSend KeyName.the_row
+name_send = search (sendable, crosses) depth 60
+
+-- its index by names is a map
 history_send : IsSend History.the_row
-history_send = search (sendable, crosses) depth 60 fits 20000
+history_send = let n = name_send in search (BTreeMap-send, sendable, crosses) depth 60 fits 20000
 
 module _ (D : RattleType) (disk : Disk.Ghosts D.Denot) where
   module _ (d : IsSend D) where

@@ -17,9 +17,9 @@ use Rattle.kdb_handle.specs.Sets.{IsDone, tells_refusal}
 use Rattle.kdb_handle.specs.Turns.{IsPrepared, MayCommit, told_by, is_refusal, record_by}
 use Rattle.kdb_handle.specs.UndoTurns.{MayUndo}
 use Rattle.model_store.proofs.Accepting.{put-here}
-use Rattle.kdb_handle.proofs.CoverLemmas.{cover-got, cover-judged, cover-seen}
-use Rattle.kdb_handle.proofs.RecordLemmas.{own_fronts, record-seen}
-use Rattle.kdb_handle.proofs.StoryLemmas.{commits-append, commits-prefix, one_opening, prefix-both}
+use Rattle.kdb_handle.proofs.CoverLemmas.{cover-got, cover-judged, cover-seen, others-behind}
+use Rattle.kdb_handle.proofs.RecordLemmas.{numbered, own_fronts, record-seen}
+use Rattle.kdb_handle.proofs.StoryLemmas.{commits-append, commits-behind, commits-prefix, one_opening, prefix-both}
 use Rattle.model_history.specs.History as past
 use Rattle.model_history.specs.History.{is_among, replay}
 use Rattle.model_maps.specs.KeyMap.{KeyMap, no_keys}
@@ -31,7 +31,7 @@ use Rattle.model_store.specs.Events as event
 use Rattle.model_store.specs.Events.{first_bad, if_bad, put}
 use Rattle.model_store.specs.Records as model
 use Rattle.model_store.specs.Legal.{IsLegal}
-use Rattle.model_store.specs.Records.{IsRecord, seen_at}
+use Rattle.model_store.specs.Records.{IsRecord, seen_at, no_record}
 use Rattle.model_store.specs.Sets as sets
 use Rattle.model_store.specs.Sets.{front_in, wants}
 use Rattle.model_store.specs.Store.{Store, Formats, points_of, store_of}
@@ -89,6 +89,10 @@ shared_legal formats g code refused files core entries log shared same =
     subst (λ (cs : List past.Commit). IsLegal formats (store_at files) cs) (sym (ap commits_of shared.log_is))
     (subst (λ (fs : List MountedFile). IsLegal formats (store_at fs) (commits_of shared.rest)) same shared.legal)
 
+-- who made nothing more gains no commit of its own in the history
+none-gained : (number : ℕ) (seen found : List Told) (p : IsPrefix seen found) → made_by maker_of number found ≡ made_by maker_of number seen → past.commits_by number (commits-prefix seen found p).0 ≡ []
+none-gained number seen found p same = ap (past.commits_by number) (commits-behind seen found p) ∙ others-behind number seen found p same
+
 -- ---- a get
 
 module _ (store : Store) (files : List MountedFile) (history : List past.Commit) {D P : Type 0} (core : Core D P) (history_is : core.history.commits ≡ history) (keys_are : core.keys ≡ replay store.start history) (known : ℕ → Option sets.Prepared) (parent : Name) (old new : Record) where
@@ -96,7 +100,7 @@ module _ (store : Store) (files : List MountedFile) (history : List past.Commit)
   n = handle_of old
 
   abbrev records : ℕ → model.Record
-  records = put (handle_of old) (record_of old) (λ r m. None)
+  records = put (handle_of old) (record_of old) (λ r. no_record)
 
   abbrev before : cores.Core
   before = core_with core records known
@@ -105,7 +109,7 @@ module _ (store : Store) (files : List MountedFile) (history : List past.Commit)
   after = core_with core (put (handle_of old) (record_of new) records) known
 
   here : records (handle_of old) ≡ record_of old
-  here = put-here (handle_of old) (record_of old) (λ r m. None)
+  here = put-here (handle_of old) (record_of old) (λ r. no_record)
 
   same_record : after ≡ before → record_of new ≡ record_of old
   same_record is = sym (put-here (handle_of old) (record_of new) records) ∙ ap (λ (c : cores.Core). c.records (handle_of old)) is ∙ here
@@ -139,21 +143,21 @@ module _ (store : Store) (files : List MountedFile) (history : List past.Commit)
     got_at (Err why) has = got_err why has.answer has.is_answer has.made
 
 -- the record after a get is that of its fronts
-module _ (store : Store) (files : List MountedFile) (history : List past.Commit) (parent : Name) (number : ℕ) (old new : model.Record) (h : IsRecord store history (front_in old) old) where
-  pub record_got : (result : Result Got GetFault) → IsGotAt store files history number parent old new result → IsRecord store history (front_in new) new
+module _ (store : Store) (files : List MountedFile) (history : List past.Commit) (parent : Name) (number handle : ℕ) (old new : model.Record) (h : IsRecord store history handle (front_in old) old) where
+  pub record_got : (result : Result Got GetFault) → IsGotAt store files history number parent old new result → IsRecord store history handle (front_in new) new
   record_got (Ok got) gives =
       let involved : List ℕ = involved_in (points_of store) parent in
-      own_fronts store history _ new
-      (subst (λ (r : model.Record). IsRecord store history (seen_at involved (length history) (front_in old)) r) (sym gives.kept)
-      (record-moves store history (front_in old) old involved (length history) (wants (points_of store) (replay store.start history)) h refl (λ m among. good m gives.good among) (λ m among. refl)))
+      own_fronts store history handle _ new
+      (subst (λ (r : model.Record). IsRecord store history handle (seen_at involved (length history) (front_in old)) r) (sym gives.kept)
+      (record-moves store history handle (front_in old) old involved (length history) (wants (points_of store) (replay store.start history)) h refl (λ m among. good m gives.good among) (λ m among. refl)))
     where
       good : (m : ℕ) → first_bad store parent ≡ None → is_among (involved_in (points_of store) parent) m ≡ true → store.is_bad m ≡ false
       good m none among = good_mount store m (nothing_at (if_bad store) (involved_in (points_of store) parent) m none among)
-  record_got (Err why) refused = subst (λ (r : model.Record). IsRecord store history (front_in r) r) (sym refused.1) h
+  record_got (Err why) refused = subst (λ (r : model.Record). IsRecord store history handle (front_in r) r) (sym refused.1) h
 
 -- whose keys are in `proc` doesn't matter to a record
-pub record-procs : (files : List MountedFile) (procs other : ℕ → KeyMap) (history : List past.Commit) (fronts : model.Fronts) (rec : model.Record) → IsRecord (store_of files procs) history fronts rec → IsRecord (store_of files other) history fronts rec
-record-procs files procs other history fronts rec h = record { within = h.within; good = h.good; is = h.is }
+pub record-procs : (files : List MountedFile) (procs other : ℕ → KeyMap) (history : List past.Commit) (handle : ℕ) (fronts : model.Fronts) (rec : model.Record) → IsRecord (store_of files procs) history handle fronts rec → IsRecord (store_of files other) history handle fronts rec
+record-procs files procs other history handle fronts rec h = record { within = h.within; good = h.good; is = h.is; count = h.count }
 
 -- ---- the end of a turn
 
@@ -165,6 +169,7 @@ pub one_turn : (number : ℕ) (set : sets.Prepared) (result : Result Done Commit
 one_turn number set (Ok (done.Committed commit aside)) is = inr (Committed (commit_of set), is, refl)
 one_turn number set (Ok (done.Same front aside)) is = inl refl
 one_turn number set (Err (fault.Conflict mount by front)) is = inl refl
+one_turn number set (Err (fault.FileTooLarge mount bytes front)) is = inl refl
 one_turn number set (Err (fault.Invalid violation front)) is = by (is_refusal violation)
   where
     by : (b : Bool) → IsOneTurn maker_of number (cond b (Refused set.handle ∷ []) [])
@@ -182,7 +187,8 @@ made-turn number told (inr one) = subst (λ (l : List Told). made_by maker_of nu
 -- a handle is one of its store's after a turn
 pub handle_moved : {F : Type 0} (lock : Place Told) (plan : Plan F) (old new : HandleValue) (found told : List Told) → IsHandle lock plan old → new.place ≡ old.place → new.number ≡ old.number → IsPrefix old.seen found
     → made_by maker_of old.number found ≡ old.own → new.seen ≡ found ++ told → new.own ≡ old.own ++ told → IsOneTurn maker_of old.number told → places_of new.rec ≡ places_of old.rec → proc_of new.rec ≡ proc_of old.rec
-    → IsRecord (store_at plan.mounted) (commits_of (found ++ told)) (front_in (record_of new.rec)) (record_of new.rec) → Cover old.number (commits_of (found ++ told)) (front_in (record_of new.rec)) → IsHandle lock plan new
+    → IsRecord (store_at plan.mounted) (commits_of (found ++ told)) old.number (front_in (record_of new.rec)) (record_of new.rec) → Cover (store_at plan.mounted) old.number (commits_of (found ++ told)) (front_in (record_of new.rec))
+    → IsHandle lock plan new
 handle_moved lock plan old new found told is place number seen own sees gains one places procs keeps covers = record {
   started = is.started;
   place = place ∙ is.place;
@@ -191,10 +197,12 @@ handle_moved lock plan old new found told is place number seen own sees gains on
       gains ∙ ap₂ (λ (xs ys : List Told). xs ++ ys) (sym own) (sym (made-turn old.number told one)) ∙ sym (made-append maker_of old.number found told)
       ∙ ap₂ (λ (n : ℕ) (l : List Told). made_by maker_of n l) (sym number) (sym sees);
   places = subst (λ n. length plan.mounted ≤ n) (sym places) is.places;
-  keeps = subst (λ (l : List Told). IsRecord (store_at plan.mounted) (commits_of l) (front_in (record_of new.rec)) (record_of new.rec)) (sym sees) keeps;
+  keeps =
+      numbered (store_at plan.mounted) (commits_of new.seen) old.number new.number (record_of new.rec) (sym number)
+      (subst (λ (l : List Told). IsRecord (store_at plan.mounted) (commits_of l) old.number (front_in (record_of new.rec)) (record_of new.rec)) (sym sees) keeps);
   covers =
-      subst (λ n. Cover n (commits_of new.seen) (front_in (record_of new.rec))) (sym number)
-      (subst (λ (l : List Told). Cover old.number (commits_of l) (front_in (record_of new.rec))) (sym sees) covers);
+      subst (λ n. Cover (store_at plan.mounted) n (commits_of new.seen) (front_in (record_of new.rec))) (sym number)
+      (subst (λ (l : List Told). Cover (store_at plan.mounted) old.number (commits_of l) (front_in (record_of new.rec))) (sym sees) covers);
   procs = subst AreProc (sym procs) is.procs;
 }
 
@@ -203,6 +211,7 @@ pub judged-as : (formats : Formats) (store : Store) (risen : Bool) (history : Li
 judged-as formats store risen history keys set (Ok (done.Committed number aside)) judged = judged
 judged-as formats store risen history keys set (Ok (done.Same front aside)) judged = judged
 judged-as formats store risen history keys set (Err (fault.Conflict mount by front)) judged = judged
+judged-as formats store risen history keys set (Err (fault.FileTooLarge mount bytes front)) judged = judged
 judged-as formats store risen history keys set (Err (fault.Invalid violation front)) judged =
     (judged.0, breach-as formats store history keys set violation risen (is_refusal violation) (λ six short rose. both (nat_eq violation.rule 6) _ (true_is _ (eq-eqb violation.rule 6 six)) (true_is _ (le-leb (length violation.given) longest_pattern short))) judged.1)
 judged-as formats store risen history keys set (Err (fault.DatabaseFull weight front)) judged = judged
@@ -215,33 +224,39 @@ module _ {D P : Type 0} (formats : Formats) (g : Ghosts D) (code : Coded D) (ref
   opening : shared.opening.files ≡ plan.mounted
   opening = same_opening formats g code refused lock plan old core entries found is seen shared
 
-  keeps : IsRecord (store_at plan.mounted) (commits_of found) (front_in (record_of old.rec)) (record_of old.rec)
-  keeps = record-seen (store_at plan.mounted) (commits_of old.seen) (commits_of found) (record_of old.rec) (commits-prefix old.seen found seen) is.keeps
+  keeps : made_by maker_of old.number found ≡ old.own → IsRecord (store_at plan.mounted) (commits_of found) old.number (front_in (record_of old.rec)) (record_of old.rec)
+  keeps made =
+      record-seen (store_at plan.mounted) (commits_of old.seen) (commits_of found) old.number (record_of old.rec) (commits-prefix old.seen found seen)
+      (none-gained old.number old.seen found seen (made ∙ is.own)) is.keeps
+
+  keeps_by : handle_of old.rec ≡ old.number → made_by maker_of old.number found ≡ old.own → IsRecord (store_at plan.mounted) (commits_of found) (handle_of old.rec) (front_in (record_of old.rec)) (record_of old.rec)
+  keeps_by number made = numbered (store_at plan.mounted) (commits_of found) old.number (handle_of old.rec) (record_of old.rec) (sym number) (keeps made)
 
   pub legal_found : IsLegal formats (store_at plan.mounted) (commits_of found)
   legal_found = shared_legal formats g code refused plan.mounted core entries found shared opening
 
   -- what a get gave, and that its record is kept
-  pub get_found : (procs : ℕ → KeyMap) (parent : Name) (new : Record) (result : Result Got GetFault) → HasGot formats (store_of plan.mounted procs) plan.mounted core (put (handle_of old.rec) (record_of old.rec) (λ r m. None)) (λ p. None) parent old.rec new result
+  pub get_found : (procs : ℕ → KeyMap) (parent : Name) (new : Record) (result : Result Got GetFault) → HasGot formats (store_of plan.mounted procs) plan.mounted core (put (handle_of old.rec) (record_of old.rec) (λ r. no_record)) (λ p. None) parent old.rec new result
       → IsGotAt (store_of plan.mounted procs) plan.mounted (commits_of found) (handle_of old.rec) parent (record_of old.rec) (record_of new) result
   get_found procs parent new result has =
       got_at (store_of plan.mounted procs) plan.mounted (commits_of found) core (shared_history formats g code refused core entries found shared) (shared_keys formats g code refused plan.mounted core entries found shared opening)
       (λ p. None) parent old.rec new formats result has
 
-  pub get_keeps : (procs : ℕ → KeyMap) (parent : Name) (new : Record) (result : Result Got GetFault) → HasGot formats (store_of plan.mounted procs) plan.mounted core (put (handle_of old.rec) (record_of old.rec) (λ r m. None)) (λ p. None) parent old.rec new result
-      → IsRecord (store_at plan.mounted) (commits_of found) (front_in (record_of new)) (record_of new)
-  get_keeps procs parent new result has =
-      record-procs plan.mounted procs (λ r. no_keys) (commits_of found) (front_in (record_of new)) (record_of new)
-      (record_got (store_of plan.mounted procs) plan.mounted (commits_of found) parent (handle_of old.rec) (record_of old.rec) (record_of new)
-      (record-procs plan.mounted (λ r. no_keys) procs (commits_of found) (front_in (record_of old.rec)) (record_of old.rec) keeps) result (get_found procs parent new result has))
+  pub get_keeps : made_by maker_of old.number found ≡ old.own → (procs : ℕ → KeyMap) (parent : Name) (new : Record) (result : Result Got GetFault) → HasGot formats (store_of plan.mounted procs) plan.mounted core (put (handle_of old.rec) (record_of old.rec) (λ r. no_record)) (λ p. None) parent old.rec new result
+      → IsRecord (store_at plan.mounted) (commits_of found) old.number (front_in (record_of new)) (record_of new)
+  get_keeps made procs parent new result has =
+      record-procs plan.mounted procs (λ r. no_keys) (commits_of found) old.number (front_in (record_of new)) (record_of new)
+      (record_got (store_of plan.mounted procs) plan.mounted (commits_of found) parent (handle_of old.rec) old.number (record_of old.rec) (record_of new)
+      (record-procs plan.mounted (λ r. no_keys) procs (commits_of found) old.number (front_in (record_of old.rec)) (record_of old.rec) (keeps made)) result (get_found procs parent new result has))
 
   -- a set that was prepared for the handle may be committed
-  pub may_commit : (set : Prepared) → IsPrepared formats plan.mounted (handle_of old.rec) (record_of old.rec) set → MayCommit formats g code refused plan.mounted core entries found old.rec set
-  may_commit set prepared = record { shared = shared; opening = opening; keeps = keeps; places = is.places; prepared = prepared }
+  pub may_commit : handle_of old.rec ≡ old.number → made_by maker_of old.number found ≡ old.own → (set : Prepared) → IsPrepared formats plan.mounted (handle_of old.rec) (record_of old.rec) set
+      → MayCommit formats g code refused plan.mounted core entries found old.rec set
+  may_commit number made set prepared = record { shared = shared; opening = opening; keeps = keeps_by number made; places = is.places; prepared = prepared }
 
   -- and a commit may be taken back
-  pub may_undo : MayUndo formats g code refused plan.mounted core entries found old.rec
-  may_undo = record { shared = shared; opening = opening; keeps = keeps; places = is.places; procs = is.procs }
+  pub may_undo : handle_of old.rec ≡ old.number → made_by maker_of old.number found ≡ old.own → MayUndo formats g code refused plan.mounted core entries found old.rec
+  may_undo number made = record { shared = shared; opening = opening; keeps = keeps_by number made; places = is.places; procs = is.procs }
 
   -- what a commit did
   pub is_done : (new : HandleValue) (set : Prepared) (result : Result Done CommitFault) (told : List Told) → made_by maker_of old.number found ≡ old.own → told ≡ told_by (prepared_of set) result → new.seen ≡ found ++ told → new.own ≡ old.own ++ told
@@ -274,12 +289,14 @@ handle_met lock plan old new is place number seen own rec within = record {
   own = own ∙ made ∙ ap (λ n. made_by maker_of n new.seen) (sym number);
   places = subst (λ (r : Record). length plan.mounted ≤ places_of r) (sym rec) is.places;
   keeps =
-      subst (λ (r : Record). IsRecord (store_at plan.mounted) (commits_of new.seen) (front_in (record_of r)) (record_of r)) (sym rec)
-      (record-seen (store_at plan.mounted) (commits_of old.seen) (commits_of new.seen) (record_of old.rec) (commits-prefix old.seen new.seen seen) is.keeps);
+      subst (λ (r : Record). IsRecord (store_at plan.mounted) (commits_of new.seen) new.number (front_in (record_of r)) (record_of r)) (sym rec)
+      (numbered (store_at plan.mounted) (commits_of new.seen) old.number new.number (record_of old.rec) (sym number)
+      (record-seen (store_at plan.mounted) (commits_of old.seen) (commits_of new.seen) old.number (record_of old.rec) (commits-prefix old.seen new.seen seen)
+      (none-gained old.number old.seen new.seen seen (sym made ∙ is.own)) is.keeps));
   covers =
-      subst (λ (r : Record). Cover new.number (commits_of new.seen) (front_in (record_of r))) (sym rec)
-      (subst (λ n. Cover n (commits_of new.seen) (front_in (record_of old.rec))) (sym number)
-      (cover-seen old.number old.seen new.seen (front_in (record_of old.rec)) seen (sym made ∙ is.own) is.covers));
+      subst (λ (r : Record). Cover (store_at plan.mounted) new.number (commits_of new.seen) (front_in (record_of r))) (sym rec)
+      (subst (λ n. Cover (store_at plan.mounted) n (commits_of new.seen) (front_in (record_of old.rec))) (sym number)
+      (cover-seen (store_at plan.mounted) old.number old.seen new.seen (front_in (record_of old.rec)) seen (sym made ∙ is.own) is.covers));
   procs = subst (λ (r : Record). AreProc (proc_of r)) (sym rec) is.procs;
 }
   where
@@ -320,7 +337,8 @@ module _ {F : Type 0} (lock : Place Told) (plan : Plan F) (old : HandleValue) (s
   -- the handle behind its turn
   pub ended : (new : Record) (place : TableId) (number : ℕ) (found own told : List Told) (left : Known Told) → left ≡ knowledge place number (found ++ told) (own ++ told) → (place ≡ seat.place) × (number ≡ seat.number) × (own ≡ seat.own)
       → IsPrefix seat.seen found → made_by maker_of seat.number found ≡ seat.own → IsOneTurn maker_of seat.number told → places_of new ≡ places_of rec → proc_of new ≡ proc_of rec
-      → IsRecord (store_at plan.mounted) (commits_of (found ++ told)) (front_in (record_of new)) (record_of new) → Cover seat.number (commits_of (found ++ told)) (front_in (record_of new)) → IsHandle lock plan (handle_with (Some left) new)
+      → IsRecord (store_at plan.mounted) (commits_of (found ++ told)) seat.number (front_in (record_of new)) (record_of new) → Cover (store_at plan.mounted) seat.number (commits_of (found ++ told)) (front_in (record_of new))
+      → IsHandle lock plan (handle_with (Some left) new)
   ended new place number found own told left left_is same seen made one places procs kept covers =
       handle_moved lock plan taken (handle_with (Some left) new) found told taken_is (ap (λ (k : Known Told). k.place) left_is ∙ same.0) (ap (λ (k : Known Told). k.number) left_is ∙ same.1) seen made
       (ap (λ (k : Known Told). k.seen) left_is) (ap (λ (k : Known Told). k.own) left_is ∙ ap (λ (l : List Told). l ++ told) same.2) one places procs kept covers
@@ -332,16 +350,17 @@ module _ {F : Type 0} (lock : Place Told) (plan : Plan F) (old : HandleValue) (s
         → HasGot formats (store_of plan.mounted procs) plan.mounted core records prepared parent rec new result
 
     has_got : (parent : Name) (new : Record) (result : Result Got GetFault) → GotClause parent new result → (procs : ℕ → KeyMap) → procs (handle_of rec) ≡ proc_of rec
-        → HasGot formats (store_of plan.mounted procs) plan.mounted core (put (handle_of rec) (record_of rec) (λ r m. None)) (λ p. None) parent rec new result
-    has_got parent new result clause procs own = clause procs (put (handle_of rec) (record_of rec) (λ r m. None)) (λ p. None) own (put-here (handle_of rec) (record_of rec) (λ r m. None))
+        → HasGot formats (store_of plan.mounted procs) plan.mounted core (put (handle_of rec) (record_of rec) (λ r. no_record)) (λ p. None) parent rec new result
+    has_got parent new result clause procs own = clause procs (put (handle_of rec) (record_of rec) (λ r. no_record)) (λ p. None) own (put-here (handle_of rec) (record_of rec) (λ r. no_record))
 
-    pub got_keeps : (parent : Name) (new : Record) (result : Result Got GetFault) → GotClause parent new result → IsRecord (store_at plan.mounted) (commits_of found) (front_in (record_of new)) (record_of new)
-    got_keeps parent new result clause =
-        get_keeps formats g code refused lock plan taken core entries found taken_is seen shared (λ r. proc_of rec) parent new result (has_got parent new result clause (λ r. proc_of rec) refl)
+    pub got_keeps : made_by maker_of seat.number found ≡ seat.own → (parent : Name) (new : Record) (result : Result Got GetFault) → GotClause parent new result
+        → IsRecord (store_at plan.mounted) (commits_of found) seat.number (front_in (record_of new)) (record_of new)
+    got_keeps made parent new result clause =
+        get_keeps formats g code refused lock plan taken core entries found taken_is seen shared made (λ r. proc_of rec) parent new result (has_got parent new result clause (λ r. proc_of rec) refl)
 
     -- the commits of the seat that the turn found are those that its handle had seen
-    pub covers_found : made_by maker_of seat.number found ≡ seat.own → Cover seat.number (commits_of found) (front_in (record_of rec))
-    covers_found made = cover-seen seat.number seat.seen found (front_in (record_of rec)) seen (made ∙ taken_is.own) taken_is.covers
+    pub covers_found : made_by maker_of seat.number found ≡ seat.own → Cover (store_at plan.mounted) seat.number (commits_of found) (front_in (record_of rec))
+    covers_found made = cover-seen (store_at plan.mounted) seat.number seat.seen found (front_in (record_of rec)) seen (made ∙ taken_is.own) taken_is.covers
 
     -- a turn that looks at the commits alone leaves the record
     pub looked : (place : TableId) (number : ℕ) (own told : List Told) (left : Known Told) → left ≡ knowledge place number (found ++ told) (own ++ told) → (place ≡ seat.place) × (number ≡ seat.number) × (own ≡ seat.own)
@@ -349,9 +368,9 @@ module _ {F : Type 0} (lock : Place Told) (plan : Plan F) (old : HandleValue) (s
     looked place number own told left left_is same made none =
         let all : found ≡ found ++ told = sym (append-nil found) ∙ ap (λ (l : List Told). found ++ l) (sym none) in
         ended rec place number found own told left left_is same seen made (inl none) refl refl
-        (subst (λ (l : List Told). IsRecord (store_at plan.mounted) (commits_of l) (front_in (record_of rec)) (record_of rec)) all
-        (record-seen (store_at plan.mounted) (commits_of seat.seen) (commits_of found) (record_of rec) (commits-prefix seat.seen found seen) taken_is.keeps))
-        (subst (λ (l : List Told). Cover seat.number (commits_of l) (front_in (record_of rec))) all (covers_found made))
+        (subst (λ (l : List Told). IsRecord (store_at plan.mounted) (commits_of l) seat.number (front_in (record_of rec)) (record_of rec)) all
+        (keeps formats g code refused lock plan taken core entries found taken_is seen shared made))
+        (subst (λ (l : List Told). Cover (store_at plan.mounted) seat.number (commits_of l) (front_in (record_of rec))) all (covers_found made))
 
     -- and what it looks at are the commits that the handle has then seen, which begin with those that it had seen
     pub looked_at : (now told : List Told) → now ≡ found ++ told → told ≡ [] → core.history.commits ≡ commits_of now
@@ -366,9 +385,9 @@ module _ {F : Type 0} (lock : Place Told) (plan : Plan F) (old : HandleValue) (s
         omega (arith, before, long, ap (λ (cs : List past.Commit). length cs) (shared_history formats g code refused core entries found shared))
 
     pub got_covers : made_by maker_of seat.number found ≡ seat.own → (parent : Name) (new : Record) (result : Result Got GetFault) → GotClause parent new result → (told : List Told) → told ≡ []
-        → Cover seat.number (commits_of (found ++ told)) (front_in (record_of new))
+        → Cover (store_at plan.mounted) seat.number (commits_of (found ++ told)) (front_in (record_of new))
     got_covers made parent new result clause told none =
-        subst (λ (l : List Told). Cover seat.number (commits_of l) (front_in (record_of new))) (sym (append-nil found) ∙ ap (λ (l : List Told). found ++ l) (sym none))
+        subst (λ (l : List Told). Cover (store_at plan.mounted) seat.number (commits_of l) (front_in (record_of new))) (sym (append-nil found) ∙ ap (λ (l : List Told). found ++ l) (sym none))
         (cover-got (store_of plan.mounted (λ r. proc_of rec)) plan.mounted (commits_of found) seat.number (handle_of rec) parent (record_of rec) (record_of new) result
         (get_found formats g code refused lock plan taken core entries found taken_is seen shared (λ r. proc_of rec) parent new result (has_got parent new result clause (λ r. proc_of rec) refl)) (covers_found made))
 
@@ -389,8 +408,8 @@ module _ {F : Type 0} (lock : Place Told) (plan : Plan F) (old : HandleValue) (s
           subst (λ n. IsPrepared formats plan.mounted n (record_of rec) set) (sym number)
           (subst (λ (o : HandleValue). IsPrepared formats plan.mounted o.number (record_of o.rec) set) (sym old_is) prepared)
 
-      pub may : MayCommit formats g code refused plan.mounted core entries found rec set
-      may = may_commit formats g code refused lock plan taken core entries found taken_is seen shared set own_set
+      pub may : made_by maker_of seat.number found ≡ seat.own → MayCommit formats g code refused plan.mounted core entries found rec set
+      may made = may_commit formats g code refused lock plan taken core entries found taken_is seen shared number made set own_set
 
       -- the set is the seat's own
       pub set_turn : (result : Result Done CommitFault) (told : List Told) → told ≡ told_by (prepared_of set) result → IsOneTurn maker_of seat.number told
@@ -398,11 +417,12 @@ module _ {F : Type 0} (lock : Place Told) (plan : Plan F) (old : HandleValue) (s
           subst (IsOneTurn maker_of seat.number) (sym told_is) (one_turn seat.number (prepared_of set) result (ap (λ (s : sets.Prepared). s.handle) own_set.made.is ∙ number))
 
       pub done_covers : (new : Record) (result : Result Done CommitFault) (told : List Told) → made_by maker_of seat.number found ≡ seat.own → told ≡ told_by (prepared_of set) result
-          → record_of new ≡ record_by (store_at plan.mounted) core.history.commits (prepared_of set) result (record_of rec) → Cover seat.number (commits_of (found ++ told)) (front_in (record_of new))
+          → record_of new ≡ record_by (store_at plan.mounted) core.history.commits (prepared_of set) result (record_of rec)
+          → Cover (store_at plan.mounted) seat.number (commits_of (found ++ told)) (front_in (record_of new))
       done_covers new result told made told_is kept =
-          subst (λ (r : model.Record). Cover seat.number (commits_of (found ++ told)) (front_in r))
+          subst (λ (r : model.Record). Cover (store_at plan.mounted) seat.number (commits_of (found ++ told)) (front_in r))
           (sym (kept ∙ ap (λ (cs : List past.Commit). record_by (store_at plan.mounted) cs (prepared_of set) result (record_of rec)) (shared_history formats g code refused core entries found shared)))
-          (subst (λ (cs : List past.Commit). Cover seat.number cs (front_in (record_by (store_at plan.mounted) (commits_of found) (prepared_of set) result (record_of rec))))
+          (subst (λ (cs : List past.Commit). Cover (store_at plan.mounted) seat.number cs (front_in (record_by (store_at plan.mounted) (commits_of found) (prepared_of set) result (record_of rec))))
           (sym (commits-append found told ∙ ap (λ (l : List Told). commits_of found ++ commits_of l) told_is))
           (cover-judged (store_at plan.mounted) (commits_of found) seat.number (prepared_of set) (record_of rec) result (covers_found made)))
 

@@ -89,7 +89,7 @@ module _ (formats : Formats) {F : Type 0} (lock : Place Told) (plan : Plan F) (p
         record { between = between; stored = met; numbered = numbered; base_is = base_is; number = number; proc = proc; seen = seen; own = own; legal = legal; got = got; is_got = is_got; again = refl; theirs_is = theirs_is }
 
     no_base : (name : Name) → is_reached points parent name ≡ false → map.get base name ≡ None
-    no_base = base-outside (store_at plan.mounted) (commits_of between.seen) (record_of between.rec) parent base is.keeps base_is
+    no_base = base-outside (store_at plan.mounted) (commits_of between.seen) between.number (record_of between.rec) parent base is.keeps base_is
 
     no_theirs : (name : Name) → is_reached points parent name ≡ false → map.get theirs name ≡ None
     no_theirs name off = ap (λ (k : KeyMap). map.get k name) theirs_is ∙ reach-outside points parent (replay (store_at plan.mounted).start (commits_of new.seen)) name off

@@ -14,16 +14,16 @@ use Rattle.key_merge.specs.declared.strategies.Strategy.TheVariants.{Abort}
 use Rattle.key_set.specs.WithAll.{with_all}
 use Rattle.key_set.proofs.WithAllLemmas.{get-with_all}
 use Rattle.kdb_handle.specs.Remaking.{AreInTheWay, IsKept, IsRemade}
-use Rattle.model_history.specs.History.{Commit, is_among, replay}
+use Rattle.model_history.specs.History.{Commit, is_among}
 use Rattle.model_maps.specs.Entry.{Entry}
 use Rattle.model_maps.specs.KeyMap.{KeyMap, no_keys}
 use Rattle.model_names.specs.Name.{Name}
 use Rattle.model_names.specs.Order.{name_cmp}
 use Rattle.model_names.proofs.OrderLemmas.{name_cmp_total, name_cmp-IsAntisymmetric}
 use Rattle.model_store.specs.Cores.{keeping}
-use Rattle.model_store.specs.Records.{Fetched, IsRecord, Record, fetched_at}
+use Rattle.model_store.specs.Records.{Fetched, IsRecord, Record, fetched_at, seen_from}
 use Rattle.model_store.specs.Sets.{front_in, kept, wants}
-use Rattle.model_store.specs.Store.{Store, points_of}
+use Rattle.model_store.specs.Store.{Store, counts_keys, points_of}
 use Rattle.model_store.proofs.Members.{among-first, among-rest}
 use Rattle.model_store.proofs.Owners.{get-other}
 use Rattle.set_split.specs.Involved.{involved_in, owns}
@@ -35,11 +35,11 @@ use Rattle.set_split.proofs.UnionLemmas.{IsUnion-next, united-again}
 
 -- the keys of a mount are added, if some are kept
 module _ (rec : Record) (m : ℕ) (old : KeyMap) where
-  pub kept-some : (keys new : KeyMap) → option_map (λ (f : Fetched). f.kept) (rec m) ≡ Some keys → new ≡ with_all keys old → (name : Name) → map.get new name ≡ option_or (map.get (kept rec m) name) (map.get old name)
+  pub kept-some : (keys new : KeyMap) → option_map (λ (f : Fetched). f.kept) (rec.fetched m) ≡ Some keys → new ≡ with_all keys old → (name : Name) → map.get new name ≡ option_or (map.get (kept rec m) name) (map.get old name)
   kept-some keys new there is name =
       ap (λ (k : KeyMap). map.get k name) is ∙ get-with_all keys old name ∙ ap (λ (o : Option KeyMap). option_or (map.get (unwrap_or o no_keys) name) (map.get old name)) (sym there)
 
-  pub kept-none : option_map (λ (f : Fetched). f.kept) (rec m) ≡ None → (name : Name) → map.get old name ≡ option_or (map.get (kept rec m) name) (map.get old name)
+  pub kept-none : option_map (λ (f : Fetched). f.kept) (rec.fetched m) ≡ None → (name : Name) → map.get old name ≡ option_or (map.get (kept rec m) name) (map.get old name)
   kept-none none name =
       sym (ap (λ (o : Option KeyMap). option_or (map.get (unwrap_or o no_keys) name) (map.get old name)) none ∙ ap (λ (o : Option Entry). option_or o (map.get old name)) (map.get-empty name_cmp name))
 
@@ -60,19 +60,19 @@ module _ (points : List Name) where
       ap₂ option_or (last-none rec each mounts name parts.1) (each m name parts.0)
 
 -- a record keeps of a mount what it owns alone
-keeps-owned : (store : Store) (history : List Commit) (rec : Record) → IsRecord store history (front_in rec) rec → (m : ℕ) (name : Name) → owns (points_of store) m name ≡ false → map.get (kept rec m) name ≡ None
-keeps-owned store history rec is m name off = by (front_in rec m) (is.is m)
+keeps-owned : (store : Store) (history : List Commit) (handle : ℕ) (rec : Record) → IsRecord store history handle (front_in rec) rec → (m : ℕ) (name : Name) → owns (points_of store) m name ≡ false → map.get (kept rec m) name ≡ None
+keeps-owned store history handle rec is m name off = by (front_in rec m) (is.is m)
   where
-    by : (front : Option ℕ) → rec m ≡ option_map (fetched_at store history m) front → map.get (kept rec m) name ≡ None
+    by : (front : Option ℕ) → rec.fetched m ≡ option_map (fetched_at store history handle m) front → map.get (kept rec m) name ≡ None
     by None there = ap (λ (o : Option Fetched). map.get (unwrap_or (option_map (λ (f : Fetched). f.kept) o) no_keys) name) there ∙ map.get-empty name_cmp name
     by (Some front) there =
         ap (λ (o : Option Fetched). map.get (unwrap_or (option_map (λ (f : Fetched). f.kept) o) no_keys) name) there
-        ∙ get-other (points_of store) m (replay store.start (take front history)) name off
+        ∙ get-other (points_of store) m (seen_from (counts_keys store m) store.start history handle front) name off
 
 -- what no involved mount owns isn't in the base
-pub base-outside : (store : Store) (history : List Commit) (rec : Record) (parent : Name) (base : KeyMap) → IsRecord store history (front_in rec) rec → IsKept (points_of store) parent rec base → (name : Name) → is_reached (points_of store) parent name ≡ false → map.get base name ≡ None
-base-outside store history rec parent base is base_is name off =
-    base_is name ∙ last-none (points_of store) rec (keeps-owned store history rec is) (involved_in (points_of store) parent) name off
+pub base-outside : (store : Store) (history : List Commit) (handle : ℕ) (rec : Record) (parent : Name) (base : KeyMap) → IsRecord store history handle (front_in rec) rec → IsKept (points_of store) parent rec base → (name : Name) → is_reached (points_of store) parent name ≡ false → map.get base name ≡ None
+base-outside store history handle rec parent base is base_is name off =
+    base_is name ∙ last-none (points_of store) rec (keeps-owned store history handle rec is) (involved_in (points_of store) parent) name off
 
 -- what is kept of mounts that were just got is what they own
 each-alike : (f g : ℕ → KeyMap) (mounts : List ℕ) → ((m : ℕ) → is_among mounts m ≡ true → f m ≡ g m) → over f mounts ≡ over g mounts
@@ -87,7 +87,7 @@ kept-now points parent front present old new theirs is kept_is =
     each : (m : ℕ) → is_among (involved_in points parent) m ≡ true → kept new m ≡ owned_by points m present
     each m among =
         ap (λ (r : Record). kept r m) is
-        ∙ ap (λ (b : Bool). unwrap_or (option_map (λ (f : Fetched). f.kept) (cond b (Some (record { front = front; kept = owned_by points m present })) (old m))) no_keys) among
+        ∙ ap (λ (b : Bool). unwrap_or (option_map (λ (f : Fetched). f.kept) (cond b (Some (record { front = front; kept = owned_by points m present })) (old.fetched m))) no_keys) among
 
     seen : (mounts : List ℕ) → over (λ m. owned_by points m present) mounts ≡ over (λ (part : ℕ × KeyMap). part.1) (over (λ m. (m, owned_by points m present)) mounts)
     seen [] = refl

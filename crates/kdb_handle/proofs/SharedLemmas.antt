@@ -16,7 +16,7 @@ use Rattle.kdb_handle.specs.Shares.{IsShared}
 use Rattle.kdb_handle.specs.Story.{Told, Opened, Committed, Failed, Refused, BeginsNone, commits_of, failures_in, refusals_in}
 use Rattle.kdb_handle.specs.Turns.{MayCommit, told_by, is_refusal, record_by}
 use Rattle.model_store.proofs.Accepting.{put-here}
-use Rattle.kdb_handle.proofs.BelongLemmas.{records, known, world, rest_is, stands_in, belongs_in}
+use Rattle.kdb_handle.proofs.BelongLemmas.{others, records, known, world, rest_is, stands_in, belongs_in}
 use Rattle.kdb_handle.proofs.RecordLemmas.{own_fronts}
 use Rattle.kdb_handle.proofs.RunLemmas.{runs-committed, runs-failed, runs-refused, risen-once, risen-still}
 use Rattle.kdb_handle.proofs.StoryLemmas.{begins-commit, begins-failure, begins_none-before, commits-append, failures-append, refusals-append}
@@ -33,7 +33,7 @@ use Rattle.model_store.specs.Events as event
 use Rattle.model_store.specs.Events.{put}
 use Rattle.model_store.specs.Legal.{IsLegal}
 use Rattle.model_store.specs.Records as model
-use Rattle.model_store.specs.Records.{IsRecord}
+use Rattle.model_store.specs.Records.{IsRecord, no_record}
 use Rattle.model_store.specs.Sets as sets
 use Rattle.model_store.specs.Sets.{front_in}
 use Rattle.model_store.specs.Store.{Store, Formats, store_of}
@@ -68,7 +68,7 @@ shared_same formats {D} {P} g code refused core next entries count log told same
     (subst (λ (l : List Told). IsShared formats g code refused core entries l) (sym (append-nil log) ∙ ap (λ (l : List Told). log ++ l) (sym none)) shared))
 
 -- a core that was just opened stands for its opening alone
-pub shared_first : (formats : Formats) {D P : Type 0} (g : Ghosts D) (code : Coded D) (refused : P → ℕ) (files held : List MountedFile) (core : Core D P) → held ≡ files → StandsIn formats (store_at files) core (λ r m. None) (λ p. None) first_world
+pub shared_first : (formats : Formats) {D P : Type 0} (g : Ghosts D) (code : Coded D) (refused : P → ℕ) (files held : List MountedFile) (core : Core D P) → held ≡ files → StandsIn formats (store_at files) core (λ r. no_record) (λ p. None) first_world
     → IsShared formats g code refused core 1 (Opened (opening_of code held core.journal (refused core.patterns) core.wrote) ∷ [])
 shared_first formats g code refused files held core same st =
     subst (λ (fs : List MountedFile). IsShared formats g code refused core 1 (Opened (opening_of code fs core.journal (refused core.patterns) core.wrote) ∷ [])) (sym same) (record {
@@ -81,6 +81,7 @@ shared_first formats g code refused files held core same st =
       start = st.start;
       keys = st.stands.keys;
       legal = st.stands.legal;
+      sound = st.stands.sound;
       journal = core.journal;
       journal_is = refl;
       goes = record { tells = refl; moment = omega arith; later = omega arith };
@@ -103,6 +104,7 @@ shared_flushed formats {D} {P} g code refused core next result entries log flush
   start = flushed.start ∙ shared.start;
   keys = flushed.keys ∙ shared.keys;
   legal = shared.legal;
+  sound = shared.sound;
   journal = shared.journal;
   journal_is = shared.journal_is;
   goes = GoesOn-then g shared.journal.disk core.journal.disk next.journal.disk shared.goes flushed.goes;
@@ -152,6 +154,7 @@ module _ (formats : Formats) {D P : Type 0} (g : Ghosts D) (code : Coded D) (ref
   next_by (Ok (done.Committed number aside)) has = judged_next (length core.history.commits) aside (made_of has.answer _ has.is_answer.1 has.is_made)
   next_by (Ok (done.Same front aside)) has = (made_of has.answer _ has.is_answer has.is_made).next_is
   next_by (Err (fault.Conflict mount by front)) has = (made_of has.answer _ has.is_answer.2 has.is_made).next_is
+  next_by (Err (fault.FileTooLarge mount bytes front)) has = (made_of has.answer _ has.is_answer.2 has.is_made).next_is
   next_by (Err (fault.Invalid violation front)) has = (made_of has.answer _ has.is_answer has.is_made).next_is
   next_by (Err (fault.DatabaseFull weight front)) has = (made_of has.answer _ has.is_answer has.is_made).next_is
   next_by (Err (fault.HistoryFull weight front)) has = (made_of has.answer _ has.is_answer has.is_made).next_is
@@ -159,7 +162,7 @@ module _ (formats : Formats) {D P : Type 0} (g : Ghosts D) (code : Coded D) (ref
   next_by (Err fault.Memory) has = made_of has.answer _ has.is_answer has.is_made
 
   here : recs (handle_of rec) ≡ record_of rec
-  here = put-here (handle_of rec) (record_of rec) (λ n m. None)
+  here = put-here (handle_of rec) (record_of rec) (others formats g code refused files core entries log rec set may)
 
   -- a refused pattern adds nothing to the history
   untold : (b : Bool) → core.history.commits ≡ core.history.commits ++ commits_of (cond b (Refused now.handle ∷ []) [])
@@ -171,6 +174,7 @@ module _ (formats : Formats) {D P : Type 0} (g : Ghosts D) (code : Coded D) (ref
   history_by (Ok (done.Committed number aside)) = refl
   history_by (Ok (done.Same front aside)) = sym (append-nil core.history.commits)
   history_by (Err (fault.Conflict mount by front)) = sym (append-nil core.history.commits)
+  history_by (Err (fault.FileTooLarge mount bytes front)) = sym (append-nil core.history.commits)
   history_by (Err (fault.Invalid violation front)) = untold (is_refusal violation)
   history_by (Err (fault.DatabaseFull weight front)) = sym (append-nil core.history.commits)
   history_by (Err (fault.HistoryFull weight front)) = sym (append-nil core.history.commits)
@@ -211,6 +215,7 @@ module _ (formats : Formats) {D P : Type 0} (g : Ghosts D) (code : Coded D) (ref
         (runs-committed formats store (visible_keys files) first last may.shared.rest (commit_of now) runs)
     runs_by (Ok (done.Same front aside)) answer is on = runs_still (on_by answer (event.Judged front (late.Same aside)) is on)
     runs_by (Err (fault.Conflict mount by front)) answer is on = runs_still (on_by answer (event.Judged front (late.Conflict is.0 by)) is.2 on)
+    runs_by (Err (fault.FileTooLarge mount bytes front)) answer is on = runs_still (on_by answer (event.Judged front (late.TooLarge is.0 bytes)) is.2 on)
     runs_by (Err (fault.Invalid violation front)) answer is on = runs_refused (is_refusal violation) (on_by answer (event.Judged front (late.Invalid violation risen)) is on)
     runs_by (Err (fault.DatabaseFull weight front)) answer is on = runs_still (on_by answer (event.Judged front (late.DatabaseFull weight)) is on)
     runs_by (Err (fault.HistoryFull weight front)) answer is on = runs_still (on_by answer (event.Judged front (late.HistoryFull weight)) is on)
@@ -237,6 +242,7 @@ module _ (formats : Formats) {D P : Type 0} (g : Ghosts D) (code : Coded D) (ref
   faults_by (Ok (done.Committed number aside)) n before rose later cause = still n before rose later
   faults_by (Ok (done.Same front aside)) n before rose later cause = still n before rose later
   faults_by (Err (fault.Conflict mount by front)) n before rose later cause = still n before rose later
+  faults_by (Err (fault.FileTooLarge mount bytes front)) n before rose later cause = still n before rose later
   faults_by (Err (fault.Invalid violation front)) n before rose later cause = by (is_refusal violation)
     where
       by : (b : Bool) → HasRisenBy (n + failures_in (cond b (Refused now.handle ∷ []) [])) before (g.faults after.journal.disk)
@@ -257,6 +263,7 @@ module _ (formats : Formats) {D P : Type 0} (g : Ghosts D) (code : Coded D) (ref
   refusals_by (Ok (done.Committed number aside)) n before rose later cause = unrefused n before rose later
   refusals_by (Ok (done.Same front aside)) n before rose later cause = unrefused n before rose later
   refusals_by (Err (fault.Conflict mount by front)) n before rose later cause = unrefused n before rose later
+  refusals_by (Err (fault.FileTooLarge mount bytes front)) n before rose later cause = unrefused n before rose later
   refusals_by (Err (fault.Invalid violation front)) n before rose later cause = by (is_refusal violation) refl
     where
       by : (b : Bool) → is_refusal violation ≡ b → HasRisenBy (n + refusals_in (cond b (Refused now.handle ∷ []) [])) before (refused after.patterns)
@@ -284,6 +291,7 @@ module _ (formats : Formats) {D P : Type 0} (g : Ghosts D) (code : Coded D) (ref
   idle_by (Ok (done.Committed number aside)) unwritten none empty = absurd (begins-commit may.shared.rest (commit_of now) none)
   idle_by (Ok (done.Same front aside)) unwritten none empty = idle_still [] (unwritten refl) none empty
   idle_by (Err (fault.Conflict mount by front)) unwritten none empty = idle_still [] (unwritten refl) none empty
+  idle_by (Err (fault.FileTooLarge mount bytes front)) unwritten none empty = idle_still [] (unwritten refl) none empty
   idle_by (Err (fault.Invalid violation front)) unwritten none empty = idle_still (told_by now (Err (fault.Invalid violation front))) (unwritten refl) none empty
   idle_by (Err (fault.DatabaseFull weight front)) unwritten none empty = idle_still [] (unwritten refl) none empty
   idle_by (Err (fault.HistoryFull weight front)) unwritten none empty = idle_still [] (unwritten refl) none empty
@@ -316,6 +324,7 @@ module _ (formats : Formats) {D P : Type 0} (g : Ghosts D) (code : Coded D) (ref
         start = stays ∙ shared.start;
         keys = on.stands.keys ∙ ap₂ (λ (fs : List MountedFile) (cs : List past.Commit). replay (visible_keys fs) cs) (sym may.opening) past_is;
         legal = subst (λ (fs : List MountedFile). IsLegal formats (store_at fs) (commits_of (shared.rest ++ told))) (sym may.opening) (subst (λ (cs : List past.Commit). IsLegal formats store cs) past_is on.stands.legal);
+        sound = shared.sound;
         journal = shared.journal;
         journal_is = shared.journal_is;
         goes = GoesOn-then g shared.journal.disk core.journal.disk after.journal.disk shared.goes goes;
@@ -343,7 +352,7 @@ module _ (formats : Formats) {D P : Type 0} (g : Ghosts D) (code : Coded D) (ref
 
   -- and the record is that of its fronts in the history then
   pub record_kept : (result : Result Done CommitFault) (told : List Told) → told ≡ told_by now result → HasMade formats store core after recs sets_known 0 rec new set risen result
-      → IsRecord store (commits_of (log ++ told)) (front_in (record_of new)) (record_of new)
+      → IsRecord store (commits_of (log ++ told)) (handle_of rec) (front_in (record_of new)) (record_of new)
   record_kept result told told_is has =
       let shared = may.shared in
       let w = world formats g code refused files core entries log rec set may in
@@ -351,9 +360,10 @@ module _ (formats : Formats) {D P : Type 0} (g : Ghosts D) (code : Coded D) (ref
       let gained : after.history.commits ≡ commits_of (log ++ told) =
       ap (λ (c : cores.Core). c.history) (next_by result has) ∙ history_by result
       ∙ ap₂ (λ (cs : List past.Commit) (ts : List Told). cs ++ commits_of ts) (shared.history ∙ rest_is formats g code refused files core entries log rec set may) (sym told_is) ∙ sym (commits-append log told) in
-      let there : IsRecord store on.after.history (on.after.fronts (handle_of rec)) (record_of new) =
-      subst (λ (r : model.Record). IsRecord store on.after.history (on.after.fronts (handle_of rec)) r) (put-here (handle_of rec) (record_of new) recs) (on.stands.records (handle_of rec)) in
-      subst (λ (cs : List past.Commit). IsRecord store cs (front_in (record_of new)) (record_of new)) (sym on.stands.history ∙ gained) (own_fronts store on.after.history (on.after.fronts (handle_of rec)) (record_of new) there)
+      let there : IsRecord store on.after.history (handle_of rec) (on.after.fronts (handle_of rec)) (record_of new) =
+      subst (λ (r : model.Record). IsRecord store on.after.history (handle_of rec) (on.after.fronts (handle_of rec)) r) (put-here (handle_of rec) (record_of new) recs) (on.stands.records (handle_of rec)) in
+      subst (λ (cs : List past.Commit). IsRecord store cs (handle_of rec) (front_in (record_of new)) (record_of new)) (sym on.stands.history ∙ gained)
+      (own_fronts store on.after.history (handle_of rec) (on.after.fronts (handle_of rec)) (record_of new) there)
 
   -- ---- the same, from the clauses of the call
 
@@ -373,7 +383,7 @@ module _ (formats : Formats) {D P : Type 0} (g : Ghosts D) (code : Coded D) (ref
       shared_next result told count told_is (counted ∙ ap (λ (l : List Told). entries + length l) (sym told_is)) (made_here result made)
       (λ start run b. answered (λ r. no_keys) start recs sets_known (world formats g code refused files core entries log rec set may) run 0 b) goes cause more refusal unwritten stays
 
-  pub next_kept : (result : Result Done CommitFault) (told : List Told) → told ≡ told_by now result → MadeClause result → IsRecord store (commits_of (log ++ told)) (front_in (record_of new)) (record_of new)
+  pub next_kept : (result : Result Done CommitFault) (told : List Told) → told ≡ told_by now result → MadeClause result → IsRecord store (commits_of (log ++ told)) (handle_of rec) (front_in (record_of new)) (record_of new)
   next_kept result told told_is made = record_kept result told told_is (made_here result made)
 
   pub next_record : (result : Result Done CommitFault) → MadeClause result → record_of new ≡ record_by store core.history.commits now result (record_of rec)

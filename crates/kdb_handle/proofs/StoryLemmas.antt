@@ -45,6 +45,11 @@ begins-failure log commit none = let one : failures_in (log ++ Failed commit ∷
 pub commits-prefix : (log longer : List Told) → IsPrefix log longer → IsPrefix (commits_of log) (commits_of longer)
 commits-prefix log longer p = (commits_of p.0, sym (commits-append log p.0) ∙ ap commits_of p.1)
 
+-- it gains the commits of what the story gains
+pub commits-behind : (log longer : List Told) → (p : IsPrefix log longer) → (commits-prefix log longer p).0 ≡ commits_of p.0
+unfolding commits-prefix
+commits-behind log longer p = refl
+
 -- a story has one opening
 abbrev opened_by : Opening → List Told → Opening
 opened_by other [] = other

@@ -2,10 +2,12 @@
 use Rattle.std.proofs.Common.{◌≡◌, ℕ, ◌+◌, ◌++◌, Bool, List, length, Result, sym, subst}
 use Rattle.std.specs.Coded.{Coded}
 use Rattle.kdb_outside.specs.declared.disks.Disk.{Ghosts}
+use Rattle.kdb_handle.specs.Opened.{store_at}
 use Rattle.kdb_handle.specs.Shares.{IsShared, told_now}
-use Rattle.kdb_handle.specs.Story.{Told}
+use Rattle.kdb_handle.specs.Story.{Told, commits_of}
 use Rattle.kdb_handle.specs.Turns.{Commits, told_by}
 use Rattle.kdb_handle.specs.declared.shared.Shared.{Shared}
+use Rattle.kdb_handle.proofs.RecordLemmas.{numbered}
 use Rattle.kdb_handle.proofs.SharedLemmas.{next_shared, next_kept, next_record}
 use Rattle.model_maps.specs.KeyMap.{no_keys}
 use Rattle.model_store.specs.Rules.{has_risen}
@@ -16,6 +18,7 @@ use Rattle.store_core.specs.declared.committing.CommitFault.{CommitFault}
 use Rattle.store_core.specs.declared.committing.Done.{Done}
 use Rattle.store_core.specs.declared.cores.Core.{Core}
 use Rattle.store_verdict.specs.PreparedView.{prepared_of}
+use Rattle.store_verdict.specs.RecordView.{handle_of, record_of}
 use Rattle.store_verdict.specs.declared.prepared.Prepared.{Prepared}
 use Rattle.store_verdict.specs.declared.records.Record.{Record}
 
@@ -30,7 +33,9 @@ turn_commits formats {D} {F} {P} g code refused files old new after rec left set
           subst (λ (core : Core D P). IsShared formats g code refused core new.entries (log ++ told)) (sym core_is)
           (next_shared formats g code refused files old.core old.entries log rec set may after left risen result told new.entries told_is counted
           call.made call.committed call.goes call.cause call.later call.refused call.unwritten call.start);
-      keeps = λ log may. next_kept formats g code refused files old.core old.entries log rec set may after left risen result told told_is call.made;
+      keeps = λ log may.
+          numbered (store_at files) (commits_of (log ++ told)) (handle_of rec) (handle_of left) (record_of left) (sym call.handle)
+          (next_kept formats g code refused files old.core old.entries log rec set may after left risen result told told_is call.made);
       told = told_is;
       judged = (risen, call.judged (λ r. no_keys));
       kept = λ log may. next_record formats g code refused files old.core old.entries log rec set may after left risen result call.made;

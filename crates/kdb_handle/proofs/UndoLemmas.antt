@@ -24,6 +24,7 @@ use Rattle.kdb_handle.specs.declared.taking_back.Fetching.{Fetching}
 use Rattle.kdb_handle.specs.declared.undoing.UndoFault.{UndoFault}
 use Rattle.kdb_handle.specs.declared.undoing.UndoFault.TheVariants as undo_fault
 use Rattle.kdb_handle.proofs.HandleLemmas.{got_at, judged-as, record_got, shared_history, shared_keys, shared_legal}
+use Rattle.kdb_handle.proofs.RecordLemmas.{numbered}
 use Rattle.kdb_handle.proofs.SharedLemmas.{shared_same}
 use Rattle.key_name.specs.Owner.{IsPoints}
 use Rattle.model_history.specs.Changes.{changed_by}
@@ -36,7 +37,7 @@ use Rattle.model_store.specs.Fitting.{Early}
 use Rattle.model_store.specs.Fitting as early
 use Rattle.model_store.specs.Legal.{IsLegal}
 use Rattle.model_store.specs.Records as model
-use Rattle.model_store.specs.Records.{IsRecord}
+use Rattle.model_store.specs.Records.{IsRecord, no_record}
 use Rattle.model_store.specs.Sets as sets
 use Rattle.model_store.specs.Sets.{front_in, prepared}
 use Rattle.model_store.specs.Store.{Store, Formats, points_at, points_of, store_of}
@@ -155,7 +156,7 @@ module _ (formats : Formats) {D P : Type 0} (g : Ghosts D) (code : Coded D) (ref
       got_here : IsGotAt (store_of files own) files history (handle_of rec) (parent_of undo) (record_of rec) (record_of new) result
       got_here =
           let here = got_at (store_of files own) files history core history_is keys_are (λ p. None) parent copied new formats result
-          (clause own (put (handle_of copied) (record_of copied) (λ r m. None)) (λ p. None) (sym procs) (put-here (handle_of copied) (record_of copied) (λ r m. None))) in
+          (clause own (put (handle_of copied) (record_of copied) (λ r. no_record)) (λ p. None) (sym procs) (put-here (handle_of copied) (record_of copied) (λ r. no_record))) in
           subst (λ (p : Name). IsGotAt (store_of files own) files history (handle_of rec) p (record_of rec) (record_of new) result) parent_so
           (subst (λ (r : model.Record). IsGotAt (store_of files own) files history (handle_of rec) parent r (record_of new) result) kept
           (subst (λ n. IsGotAt (store_of files own) files history n parent (record_of copied) (record_of new) result) handle here))
@@ -207,9 +208,10 @@ module _ (formats : Formats) {D P : Type 0} (g : Ghosts D) (code : Coded D) (ref
     shared = may.shared;
     opening = may.opening;
     keeps =
-        record_got store files history (parent_of undo) (handle_of rec) (record_of rec) (record_of fetching.rec) may.keeps
+        numbered store history (handle_of rec) (handle_of fetching.rec) (record_of fetching.rec) (sym is.handle)
+        (record_got store files history (parent_of undo) (handle_of rec) (handle_of rec) (record_of rec) (record_of fetching.rec) may.keeps
         (Ok (record { front = length history; keys = event.got store present (handle_of rec) (parent_of undo) }))
-        (record { good = is.got.good; front = refl; keys = refl; kept = is.rec_is });
+        (record { good = is.got.good; front = refl; keys = refl; kept = is.rec_is }));
     places = subst (λ n. length files ≤ n) (sym is.places) may.places;
     procs = subst AreProc (sym is.procs) may.procs;
   }
@@ -243,6 +245,7 @@ module _ (formats : Formats) {D P : Type 0} (g : Ghosts D) (code : Coded D) (ref
     pub can_commit : (why : CommitFault) → wants_memory (set_fault.Commit why) ≡ false → IsJudged formats store (tells_refusal (Err why)) history present (set_made undo) (Err why) → CanRefuse (set_fault.Commit why)
     can_commit (commit_fault.Conflict mount by front) known judged =
         never-blocked formats store history (handle_of rec) (parent_of undo) (record_of rec) (keys_got undo) number can judged.0 by judged.3
+    can_commit (commit_fault.FileTooLarge mount bytes front) known judged = tt
     can_commit (commit_fault.Invalid violation front) known judged = tt
     can_commit (commit_fault.DatabaseFull weight front) known judged = tt
     can_commit (commit_fault.HistoryFull weight front) known judged = tt

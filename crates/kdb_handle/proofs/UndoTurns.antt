@@ -101,12 +101,12 @@ module _ (formats : Formats) {D F P : Type 0} (g : Ghosts D) (code : Coded D) (r
     sets_shared (Err (set_fault.Commit why)) set = set.commits.shared log (given (Err why) set)
     sets_shared (Err (set_fault.Prepare why)) set = shared_same formats g code refused old.core new.core old.entries new.entries log (told_now new.fresh) set.core set.entries set.told may.shared
 
-    sets_keeps : (result : Result Done SetFault) → Sets result → IsRecord store (commits_of (log ++ told_now new.fresh)) (front_in (record_of left)) (record_of left)
+    sets_keeps : (result : Result Done SetFault) → Sets result → IsRecord store (commits_of (log ++ told_now new.fresh)) (handle_of left) (front_in (record_of left)) (record_of left)
     sets_keeps (Ok made) set = set.commits.keeps log (given (Ok made) set)
     sets_keeps (Err (set_fault.Commit why)) set = set.commits.keeps log (given (Err why) set)
     sets_keeps (Err (set_fault.Prepare why)) set =
-        subst (λ (r : Record). IsRecord store (commits_of (log ++ told_now new.fresh)) (front_in (record_of r)) (record_of r)) (sym set.left_is)
-        (subst (λ (l : List Told). IsRecord store (commits_of l) (front_in (record_of fetching.rec)) (record_of fetching.rec)) (untold log (told_now new.fresh) set.told) may_here.keeps)
+        subst (λ (r : Record). IsRecord store (commits_of (log ++ told_now new.fresh)) (handle_of r) (front_in (record_of r)) (record_of r)) (sym set.left_is)
+        (subst (λ (l : List Told). IsRecord store (commits_of l) (handle_of fetching.rec) (front_in (record_of fetching.rec)) (record_of fetching.rec)) (untold log (told_now new.fresh) set.told) may_here.keeps)
 
     committed : (keys : KeyMap) (made : Done) → Sets (Ok made) → IsUndoneBy formats undo keys (record_of left) fetching.made (Ok made)
     committed keys (done.Committed commit aside) set = record {
@@ -154,6 +154,7 @@ module _ (formats : Formats) {D F P : Type 0} (g : Ghosts D) (code : Coded D) (r
     told_none (set_fault.Prepare why) set lacks = set.told
     told_none (set_fault.Commit commit_fault.Memory) set lacks = told (Err commit_fault.Memory) set
     told_none (set_fault.Commit (commit_fault.Conflict mount by front)) set lacks = absurd cc
+    told_none (set_fault.Commit (commit_fault.FileTooLarge mount bytes front)) set lacks = absurd cc
     told_none (set_fault.Commit (commit_fault.Invalid violation front)) set lacks = absurd cc
     told_none (set_fault.Commit (commit_fault.DatabaseFull weight front)) set lacks = absurd cc
     told_none (set_fault.Commit (commit_fault.HistoryFull weight front)) set lacks = absurd cc
@@ -209,7 +210,7 @@ module _ (formats : Formats) {D F P : Type 0} (g : Ghosts D) (code : Coded D) (r
     undoes_none why set lacks = record {
       shared = λ log may. sets_shared log may (fetched log may) (Err why) set;
       keeps = λ log may.
-          subst (λ (l : List Told). IsRecord store (commits_of l) (front_in (record_of rec)) (record_of rec)) (untold log (told_now new.fresh) (told_none log may (fetched log may) why set lacks)) may.keeps;
+          subst (λ (l : List Told). IsRecord store (commits_of l) (handle_of rec) (front_in (record_of rec)) (record_of rec)) (untold log (told_now new.fresh) (told_none log may (fetched log may) why set lacks)) may.keeps;
       told = λ log may. told_none log may (fetched log may) why set lacks;
       undone = λ log may. (tt, refl, refl);
       handle = refl;
@@ -224,7 +225,7 @@ pub undoes_barred : (formats : Formats) {D F P : Type 0} (g : Ghosts D) (code : 
     → Undoes formats g code refused files old new rec rec number keys keys (Err why)
 undoes_barred formats g code refused files old new rec number keys why core entries none bars = record {
   shared = λ log may. shared_same formats g code refused old.core new.core old.entries new.entries log (told_now new.fresh) core entries none may.shared;
-  keeps = λ log may. subst (λ (l : List Told). IsRecord (store_at files) (commits_of l) (front_in (record_of rec)) (record_of rec)) (untold log (told_now new.fresh) none) may.keeps;
+  keeps = λ log may. subst (λ (l : List Told). IsRecord (store_at files) (commits_of l) (handle_of rec) (front_in (record_of rec)) (record_of rec)) (untold log (told_now new.fresh) none) may.keeps;
   told = λ log may. none ∙ barred_told formats g code refused files old.core old.entries log rec number may why (bars log may);
   undone = λ log may. barred formats g code refused files old.core old.entries log rec number may why (bars log may) keys;
   handle = refl;

@@ -34,7 +34,7 @@ pub record OpensHandle {F : Type 0} (lock : Place Told) (plan : Plan F) (keys : 
   pub number : IfOk result (λ handle. handle.number ≡ lock.seats - length (seats_of old))
   pub seen : IfOk result (λ handle. handle.seen ≡ lock.start)
   pub own : IfOk result (λ handle. handle.own ≡ [])
-  pub rec : IfOk result (λ handle. (m : ℕ) → record_of handle.rec m ≡ None)
+  pub rec : IfOk result (λ handle. (m : ℕ) → (record_of handle.rec).fetched m ≡ None)
   pub proc : IfOk result (λ handle. proc_of handle.rec ≡ keys)
   pub free : AreFree lock (seats_of new) (room_of new)
   pub flusher : spare_of new ≡ spare_of old

@@ -29,6 +29,7 @@ use Rattle.store_verdict.specs.declared.prepared.Prepared.{Prepared}
 abbrev pub tells_refusal : Result Done CommitFault → Bool
 tells_refusal (Ok done) = false
 tells_refusal (Err (commit_fault.Conflict mount by front)) = false
+tells_refusal (Err (commit_fault.FileTooLarge mount bytes front)) = false
 tells_refusal (Err (commit_fault.Invalid violation front)) = is_refusal violation
 tells_refusal (Err (commit_fault.DatabaseFull weight front)) = false
 tells_refusal (Err (commit_fault.HistoryFull weight front)) = false

@@ -15,6 +15,7 @@ use Rattle.model_crashes.specs.Runs.{Run}
 use Rattle.model_files.specs.Files.{HaveFiles}
 use Rattle.model_history.specs.History.{replay}
 use Rattle.model_store.specs.Legal.{IsLegal}
+use Rattle.model_store.specs.Sound.{IsSound}
 use Rattle.model_store.specs.Store.{Formats}
 use Rattle.model_store.specs.Verdicts.{commit_of}
 use Rattle.mounted_files.specs.Visible.{visible_keys}
@@ -29,7 +30,7 @@ told_now (fresh.Committed set) = Committed (commit_of (prepared_of set.value)) �
 told_now (fresh.Failed set) = Failed (commit_of (prepared_of set.value)) ∷ []
 told_now (fresh.Refused set) = Refused (prepared_of set.value).handle ∷ []
 
--- A core with a count of entries stands for a story that begins with its opening. It has the history of the story, which is legal, the keys that the
+-- A core with a count of entries stands for a story that begins with its opening, whose store is sound. It has the history of the story, which is legal, the keys that the
 -- opening found, and the keys after the history. The disk's count of faults rose by at least the sets that failed, and the matcher's count of refusals
 -- by at least those with a refused pattern. Where no set was begun, and no entry waited from the first, the journal and its disk are as the opening left them. And for whatever run the
 -- journal stood at the opening, it stands now for the run that went on by the story.
@@ -43,6 +44,7 @@ pub record IsShared (formats : Formats) {D P : Type 0} (g : Ghosts D) (code : Co
   pub start : core.start ≡ visible_keys opening.files
   pub keys : core.keys ≡ replay (visible_keys opening.files) (commits_of rest)
   pub legal : IsLegal formats (store_at opening.files) (commits_of rest)
+  pub sound : IsSound formats (store_at opening.files)
   pub journal : JournalValue D
   pub journal_is : opening.journal ≡ (coded_journal code).code journal
   pub goes : GoesOn g journal.disk core.journal.disk

@@ -27,8 +27,8 @@ pub record IsHandle {F : Type 0} (lock : Place Told) (plan : Plan F) (handle : H
   pub begins : IsPrefix lock.start handle.seen
   pub own : handle.own ≡ made_by maker_of handle.number handle.seen
   pub places : length plan.mounted ≤ places_of handle.rec
-  pub keeps : IsRecord (store_at plan.mounted) (commits_of handle.seen) (front_in (record_of handle.rec)) (record_of handle.rec)
-  pub covers : Cover handle.number (commits_of handle.seen) (front_in (record_of handle.rec))
+  pub keeps : IsRecord (store_at plan.mounted) (commits_of handle.seen) handle.number (front_in (record_of handle.rec)) (record_of handle.rec)
+  pub covers : Cover (store_at plan.mounted) handle.number (commits_of handle.seen) (front_in (record_of handle.rec))
   pub procs : AreProc (proc_of handle.rec)
 
 -- The seats that no handle has yet, by their numbers: the last ones of the lock but its very last, which is the flusher's. Each has seen the

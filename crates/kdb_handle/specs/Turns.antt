@@ -11,7 +11,7 @@ use Rattle.model_maps.specs.KeyMap.{KeyMap}
 use Rattle.model_names.specs.Name.{Name}
 use Rattle.model_rules.specs.Rules.{longest_pattern}
 use Rattle.model_specified.specs.declared.violations.Violation.{Violation}
-use Rattle.model_store.specs.Cores.{keeping}
+use Rattle.model_store.specs.Cores.{storing}
 use Rattle.model_store.specs.Records as model
 use Rattle.model_store.specs.Records.{IsRecord}
 use Rattle.model_store.specs.Sets as sets
@@ -41,7 +41,7 @@ pub record IsPrepared (formats : Formats) (files : List MountedFile) (number : �
 pub record MayCommit (formats : Formats) {D P : Type 0} (g : Ghosts D) (code : Coded D) (refused : P → ℕ) (files : List MountedFile) (core : Core D P) (entries : ℕ) (log : List Told) (rec : Record) (set : Prepared) : Type 0 where
   pub shared : IsShared formats g code refused core entries log
   pub opening : shared.opening.files ≡ files
-  pub keeps : IsRecord (store_at files) (commits_of log) (front_in (record_of rec)) (record_of rec)
+  pub keeps : IsRecord (store_at files) (commits_of log) (handle_of rec) (front_in (record_of rec)) (record_of rec)
   pub places : length files ≤ places_of rec
   pub prepared : IsPrepared formats files (handle_of rec) (record_of rec) set
 
@@ -58,14 +58,15 @@ told_by set (Ok (done.Committed number aside)) = Committed (commit_of set) ∷ [
 told_by set (Ok (done.Same front aside)) = []
 told_by set (Err (fault.DiskFault front)) = Failed (commit_of set) ∷ []
 told_by set (Err (fault.Conflict mount by front)) = []
+told_by set (Err (fault.FileTooLarge mount bytes front)) = []
 told_by set (Err (fault.Invalid violation front)) = told_of_refusal set violation
 told_by set (Err (fault.DatabaseFull weight front)) = []
 told_by set (Err (fault.HistoryFull weight front)) = []
 told_by set (Err fault.Memory) = []
 
--- what the record keeps then: on a commit what was wanted for each touched mount, with the commit's number
+-- what the record keeps then: on a commit what was wanted for each touched mount, with the commit's number where the mount counts by its backend
 abbrev pub record_by : Store → List past.Commit → sets.Prepared → Result Done CommitFault → model.Record → model.Record
-record_by store history set (Ok (done.Committed number aside)) rec = keeping set.touched (length history + 1) (wants (points_of store) set.keys) rec
+record_by store history set (Ok (done.Committed number aside)) rec = storing store set.touched (length history + 1) (wants (points_of store) set.keys) rec
 record_by store history set (Ok (done.Same front aside)) rec = rec
 record_by store history set (Err why) rec = rec
 
@@ -74,7 +75,7 @@ record_by store history set (Err why) rec = rec
 pub record Commits (formats : Formats) {D F P : Type 0} (g : Ghosts D) (code : Coded D) (refused : P → ℕ) (files : List MountedFile) (old new : Shared D F P) (rec left : Record) (set : Prepared) (result : Result Done CommitFault) : Type 0 where
   pub shared : (log : List Told) → MayCommit formats g code refused files old.core old.entries log rec set → IsShared formats g code refused new.core new.entries (log ++ told_now new.fresh)
   pub keeps : (log : List Told) → MayCommit formats g code refused files old.core old.entries log rec set
-      → IsRecord (store_at files) (commits_of (log ++ told_now new.fresh)) (front_in (record_of left)) (record_of left)
+      → IsRecord (store_at files) (commits_of (log ++ told_now new.fresh)) (handle_of left) (front_in (record_of left)) (record_of left)
   pub told : told_now new.fresh ≡ told_by (prepared_of set) result
   pub judged : (risen : Bool) × IsJudged formats (store_at files) risen old.core.history.commits old.core.keys (prepared_of set) result
   pub kept : (log : List Told) → MayCommit formats g code refused files old.core old.entries log rec set

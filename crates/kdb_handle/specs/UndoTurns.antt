@@ -39,7 +39,7 @@ use Rattle.store_verdict.specs.declared.records.Record.{Record}
 pub record MayUndo (formats : Formats) {D P : Type 0} (g : Ghosts D) (code : Coded D) (refused : P → ℕ) (files : List MountedFile) (core : Core D P) (entries : ℕ) (log : List Told) (rec : Record) : Type 0 where
   pub shared : IsShared formats g code refused core entries log
   pub opening : shared.opening.files ≡ files
-  pub keeps : IsRecord (store_at files) (commits_of log) (front_in (record_of rec)) (record_of rec)
+  pub keeps : IsRecord (store_at files) (commits_of log) (handle_of rec) (front_in (record_of rec)) (record_of rec)
   pub places : length files ≤ places_of rec
   pub procs : AreProc (proc_of rec)
 
@@ -104,7 +104,7 @@ wants_memory why = false
 pub record Undoes (formats : Formats) {D F P : Type 0} (g : Ghosts D) (code : Coded D) (refused : P → ℕ) (files : List MountedFile) (old new : Shared D F P) (rec left : Record) (number : ℕ) (keys after : KeyMap) (result : Result Done UndoFault) : Type 0 where
   pub shared : (log : List Told) → MayUndo formats g code refused files old.core old.entries log rec → IsShared formats g code refused new.core new.entries (log ++ told_now new.fresh)
   pub keeps : (log : List Told) → MayUndo formats g code refused files old.core old.entries log rec
-      → IsRecord (store_at files) (commits_of (log ++ told_now new.fresh)) (front_in (record_of left)) (record_of left)
+      → IsRecord (store_at files) (commits_of (log ++ told_now new.fresh)) (handle_of left) (front_in (record_of left)) (record_of left)
   pub told : (log : List Told) → MayUndo formats g code refused files old.core old.entries log rec → told_now new.fresh ≡ told_by_undo (set_made (undo_in files rec log number)) result
   pub undone : (log : List Told) → MayUndo formats g code refused files old.core old.entries log rec → IsUndoneBy formats (undo_in files rec log number) keys (record_of left) after result
   pub handle : handle_of left ≡ handle_of rec

@@ -37,17 +37,17 @@ ghost use Rattle.store_verdict.specs.declared.prepared.Prepared.{Prepared};
 
 use storage_api::Formats;
 
-/// A set that a handle prepared earlier is one that its record makes now, where the record accepts it: what is kept of a mount goes by its front. The
-/// history may have grown since.
+/// A set that a handle prepared earlier is one that its record makes now, where the record accepts it: what is kept of a mount goes by its front and the
+/// handle's own commits. The history may have grown since.
 pub fn an_accepted_set_is_still_prepared<F: Formats>(_formats: &F)
     ensures { (files : List MountedFile) (earlier later : List Commit) (number handle : ℕ) (before rec : Record) (parent : Name) (keys : KeyMap) (set : Prepared)
-        → IsPrefix earlier later → IsRecord (store_at files) earlier (front_in before) before → IsRecord (store_at files) later (front_in rec) rec
+        → IsPrefix earlier later → IsRecord (store_at files) earlier handle (front_in before) before → IsRecord (store_at files) later number (front_in rec) rec
         → IsMade (formats_of F.Formats) (store_at files) handle before parent keys set
         → accepts rec number (prepared_of set) ≡ true
         → IsPrepared (formats_of F.Formats) files number rec set }
 {}
 
-/// The commit that blocks a set of a handle is another's: the handle's fronts cover its own commits.
+/// The commit that blocks a set of a handle is another's: the handle's fronts cover its own commits, and a mount by key passes over them.
 pub fn the_blocking_commit_is_anothers<F: Formats + Drop>(_formats: &F)
     ensures { (lock : Place Told) (plan : Plan F) (old new : HandleValue) (set : Prepared) (mount : Name) (by front : ℕ)
         → IsHandle lock plan old → IsPrepared (formats_of F.Formats) plan.mounted old.number (record_of old.rec) set

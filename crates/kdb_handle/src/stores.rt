@@ -3,6 +3,7 @@ ghost use Rattle.std.specs.Prelude.{◌≡◌, ◌≤◌, ◌<◌, ℕ, None};
 ghost use Rattle.kdb_handle.specs.NewStores.{SharesStore};
 ghost use Rattle.kdb_handle.specs.Views.{files_of, plan_of};
 ghost use Rattle.model_maps.specs.KeyMap.{KeyMap};
+ghost use Rattle.model_store.specs.Records.{no_record};
 ghost use Rattle.model_store.specs.Store.{store_of, formats_of};
 ghost use Rattle.model_store.specs.Worlds.{first_world};
 ghost use Rattle.store_core.specs.Cores.{StandsIn};
@@ -48,7 +49,7 @@ impl<D: Disk, F: Formats + Drop, P: Patterns + Drop> NewStore<D, F, P> {
         handles: u32,
     ) -> Result<NewStore<D, F, P>, NotShared<D, F, P>>
         requires handles { (0 < handles) × (handles ≤ 32) }
-        requires world { (procs : ℕ → KeyMap) → StandsIn (formats_of F.Formats) (store_of (files_of plan) procs) core (λ r m. None) (λ p. None) first_world }
+        requires world { (procs : ℕ → KeyMap) → StandsIn (formats_of F.Formats) (store_of (files_of plan) procs) core (λ r. no_record) (λ p. None) first_world }
         ensures { SharesStore D.row.coded P.refusals plan core handles result }
     {
         let shared = Shared {

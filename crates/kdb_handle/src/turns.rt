@@ -124,6 +124,7 @@ impl<D: Disk, F: Formats + Drop, P: Patterns + Drop> Shared<D, F, P> {
             Ok(Done::Same { .. })
             | Err(
                 CommitFault::Conflict { .. }
+                | CommitFault::FileTooLarge { .. }
                 | CommitFault::DatabaseFull { .. }
                 | CommitFault::HistoryFull { .. }
                 | CommitFault::Memory,

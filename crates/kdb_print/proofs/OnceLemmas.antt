@@ -62,6 +62,9 @@ table-same (table.UnknownPlugin entry) (table.UnknownPlugin entry') h k e _ =
 table-same (table.FileTwice entry) (table.FileTwice entry') h k e _ =
     let same_entry = quoted-once entry entry' (ap (word_at 4) e) in
     λ i. table.FileTwice (same_entry i)
+table-same (table.BadConflicts entry) (table.BadConflicts entry') h k e _ =
+    let same_entry = quoted-once entry entry' (ap (word_at 4) e) in
+    λ i. table.BadConflicts (same_entry i)
 table-same (table.TooMany count) (table.TooMany count') h k e _ =
     let same_count = decimal_injective count count' h k (ap (word_at 4) e) in
     λ i. table.TooMany (same_count i)
@@ -83,6 +86,11 @@ commit-same (committing.Conflict mount by front) (committing.Conflict mount' by'
     let same_by = decimal_injective by by' h.1 k.1 (ap (word_at 3) e) in
     let same_front = decimal_injective front front' h.2 k.2 (ap (word_at 5) e) in
     λ i. committing.Conflict (same_mount i) (same_by i) (same_front i)
+commit-same (committing.FileTooLarge mount bytes front) (committing.FileTooLarge mount' bytes' front') h k e _ =
+    let same_mount = shown-once mount mount' h.0 k.0 (ap (word_at 3) e) in
+    let same_bytes = decimal_injective bytes bytes' h.1 k.1 (ap (word_at 4) e) in
+    let same_front = decimal_injective front front' h.2 k.2 (ap (word_at 6) e) in
+    λ i. committing.FileTooLarge (same_mount i) (same_bytes i) (same_front i)
 commit-same (committing.Invalid violation front) (committing.Invalid violation' front') h k e _ =
     let same_key = shown-once violation.key violation'.key h.0.0 k.0.0 (ap (word_at 3) e) in
     let same_rule = decimal_injective violation.rule violation'.rule h.0.1 k.0.1 (ap (word_at 5) e) in
@@ -127,6 +135,7 @@ table_large (table.NoPath entry) = tt
 table_large (table.BadPath entry) = tt
 table_large (table.UnknownPlugin entry) = tt
 table_large (table.FileTwice entry) = tt
+table_large (table.BadConflicts entry) = tt
 table_large (table.TooMany count) = tt
 table_large (table.AlreadyMounted entry) = tt
 table_large (table.NotMounted entry) = tt

@@ -64,9 +64,10 @@ table_tag_of word =
     (if is_text word (codes "too-many") then 25 else
     (if is_text word (codes "already-mounted") then 26 else
     (if is_text word (codes "not-mounted") then 27 else
-    0)))))))
+    (if is_text word (codes "bad-conflicts") then 28 else
+    0))))))))
 
--- which refusal a line tells, by its third word
+-- which refusal a line tells, by its third word; a file that is too large is told by a commit with the front, and by a prepare without
 abbrev pub refusal_tag_of : Line → ℕ
 refusal_tag_of line =
     if is_text (word_at 2 line) (codes "bad-file") then 5 else
@@ -75,7 +76,7 @@ refusal_tag_of line =
     (if is_text (word_at 2 line) (codes "not-fetched") then 8 else
     (if is_text (word_at 2 line) (codes "value-too-long") then 9 else
     (if is_text (word_at 2 line) (codes "not-storable") then 10 else
-    (if is_text (word_at 2 line) (codes "file-too-large") then 11 else
+    (if is_text (word_at 2 line) (codes "file-too-large") then (if is_text (word_at 5 line) (codes "front") then 19 else 11) else
     (if is_text (word_at 2 line) (codes "invalid") then 12 else
     (if is_text (word_at 2 line) (codes "database-full") then 13 else
     (if is_text (word_at 2 line) (codes "history-full") then 14 else
@@ -106,6 +107,7 @@ words_of_table (table.NoPath entry) = (codes "refused", codes "C03200" ∷ codes
 words_of_table (table.BadPath entry) = (codes "refused", codes "C03200" ∷ codes "bad-table" ∷ codes "bad-path" ∷ quoted entry ∷ [])
 words_of_table (table.UnknownPlugin entry) = (codes "refused", codes "C03200" ∷ codes "bad-table" ∷ codes "unknown-plugin" ∷ quoted entry ∷ [])
 words_of_table (table.FileTwice entry) = (codes "refused", codes "C03200" ∷ codes "bad-table" ∷ codes "file-twice" ∷ quoted entry ∷ [])
+words_of_table (table.BadConflicts entry) = (codes "refused", codes "C03200" ∷ codes "bad-table" ∷ codes "bad-conflicts" ∷ quoted entry ∷ [])
 words_of_table (table.TooMany count) = (codes "refused", codes "C03200" ∷ codes "bad-table" ∷ codes "too-many" ∷ decimal count ∷ [])
 words_of_table (table.AlreadyMounted entry) = (codes "refused", codes "C03200" ∷ codes "bad-table" ∷ codes "already-mounted" ∷ quoted entry ∷ [])
 words_of_table (table.NotMounted entry) = (codes "refused", codes "C03200" ∷ codes "bad-table" ∷ codes "not-mounted" ∷ quoted entry ∷ [])
@@ -121,6 +123,7 @@ words_of_prepare preparing.Memory = (codes "memory", [])
 
 abbrev pub words_of_commit : CommitFault → Line
 words_of_commit (committing.Conflict mount by front) = (codes "conflict", shown mount ∷ codes "by" ∷ decimal by ∷ codes "front" ∷ decimal front ∷ [])
+words_of_commit (committing.FileTooLarge mount bytes front) = (codes "refused", codes "C01100" ∷ codes "file-too-large" ∷ shown mount ∷ decimal bytes ∷ codes "front" ∷ decimal front ∷ [])
 words_of_commit (committing.Invalid violation front) = (codes "refused", codes "C03200" ∷ codes "invalid" ∷ shown violation.key ∷ codes "rule" ∷ decimal violation.rule ∷ codes "given" ∷ quoted violation.given ∷ codes "front" ∷ decimal front ∷ [])
 words_of_commit (committing.DatabaseFull weight front) = (codes "refused", codes "C01100" ∷ codes "database-full" ∷ decimal weight ∷ codes "front" ∷ decimal front ∷ [])
 words_of_commit (committing.HistoryFull weight front) = (codes "refused", codes "C01100" ∷ codes "history-full" ∷ decimal weight ∷ codes "front" ∷ decimal front ∷ [])
@@ -194,6 +197,7 @@ table-kind (table.NoPath entry) = refl
 table-kind (table.BadPath entry) = refl
 table-kind (table.UnknownPlugin entry) = refl
 table-kind (table.FileTwice entry) = refl
+table-kind (table.BadConflicts entry) = refl
 table-kind (table.TooMany count) = refl
 table-kind (table.AlreadyMounted entry) = refl
 table-kind (table.NotMounted entry) = refl
@@ -209,6 +213,7 @@ prepare-kind preparing.Memory = refl
 
 commit-kind : (fault : CommitFault) → kind_of (words_of_commit fault) ≡ 5
 commit-kind (committing.Conflict mount by front) = refl
+commit-kind (committing.FileTooLarge mount bytes front) = refl
 commit-kind (committing.Invalid violation front) = refl
 commit-kind (committing.DatabaseFull weight front) = refl
 commit-kind (committing.HistoryFull weight front) = refl
@@ -294,6 +299,7 @@ table-spells (table.NoPath entry) rest = simp append_assoc
 table-spells (table.BadPath entry) rest = simp append_assoc
 table-spells (table.UnknownPlugin entry) rest = simp append_assoc
 table-spells (table.FileTwice entry) rest = simp append_assoc
+table-spells (table.BadConflicts entry) rest = simp append_assoc
 table-spells (table.TooMany count) rest = simp append_assoc
 table-spells (table.AlreadyMounted entry) rest = simp append_assoc
 table-spells (table.NotMounted entry) rest = simp append_assoc
@@ -309,6 +315,7 @@ prepare-spells preparing.Memory rest = refl
 
 commit-spells : (fault : CommitFault) → Spells (words_of_commit fault) (line_of_commit fault)
 commit-spells (committing.Conflict mount by front) rest = simp append_assoc
+commit-spells (committing.FileTooLarge mount bytes front) rest = simp append_assoc
 commit-spells (committing.Invalid violation front) rest = simp append_assoc
 commit-spells (committing.DatabaseFull weight front) rest = simp append_assoc
 commit-spells (committing.HistoryFull weight front) rest = simp append_assoc
@@ -374,6 +381,7 @@ table-HasWords (table.NoPath entry) = (Plain refl, (Plain refl, (Plain refl, (Pl
 table-HasWords (table.BadPath entry) = (Plain refl, (Plain refl, (Plain refl, (Plain refl, (quoted-IsWord entry, tt)))))
 table-HasWords (table.UnknownPlugin entry) = (Plain refl, (Plain refl, (Plain refl, (Plain refl, (quoted-IsWord entry, tt)))))
 table-HasWords (table.FileTwice entry) = (Plain refl, (Plain refl, (Plain refl, (Plain refl, (quoted-IsWord entry, tt)))))
+table-HasWords (table.BadConflicts entry) = (Plain refl, (Plain refl, (Plain refl, (Plain refl, (quoted-IsWord entry, tt)))))
 table-HasWords (table.TooMany count) = (Plain refl, (Plain refl, (Plain refl, (Plain refl, (number-IsWord count, tt)))))
 table-HasWords (table.AlreadyMounted entry) = (Plain refl, (Plain refl, (Plain refl, (Plain refl, (quoted-IsWord entry, tt)))))
 table-HasWords (table.NotMounted entry) = (Plain refl, (Plain refl, (Plain refl, (Plain refl, (quoted-IsWord entry, tt)))))
@@ -389,6 +397,7 @@ prepare-HasWords preparing.Memory = (Plain refl, tt)
 
 commit-HasWords : (fault : CommitFault) → HasWords (words_of_commit fault)
 commit-HasWords (committing.Conflict mount by front) = (Plain refl, (name-IsWord mount, (Plain refl, (number-IsWord by, (Plain refl, (number-IsWord front, tt))))))
+commit-HasWords (committing.FileTooLarge mount bytes front) = (Plain refl, (Plain refl, (Plain refl, (name-IsWord mount, (number-IsWord bytes, (Plain refl, (number-IsWord front, tt)))))))
 commit-HasWords (committing.Invalid violation front) = (Plain refl, (Plain refl, (Plain refl, (name-IsWord (violation.key), (Plain refl, (number-IsWord (violation.rule), (Plain refl, (quoted-IsWord (violation.given), (Plain refl, (number-IsWord front, tt))))))))))
 commit-HasWords (committing.DatabaseFull weight front) = (Plain refl, (Plain refl, (Plain refl, (number-IsWord weight, (Plain refl, (number-IsWord front, tt))))))
 commit-HasWords (committing.HistoryFull weight front) = (Plain refl, (Plain refl, (Plain refl, (number-IsWord weight, (Plain refl, (number-IsWord front, tt))))))

@@ -52,6 +52,7 @@ IsTableFault (table.NoPath entry) = Unit {0}
 IsTableFault (table.BadPath entry) = Unit {0}
 IsTableFault (table.UnknownPlugin entry) = Unit {0}
 IsTableFault (table.FileTwice entry) = Unit {0}
+IsTableFault (table.BadConflicts entry) = Unit {0}
 IsTableFault (table.TooMany count) = IsNumber count
 IsTableFault (table.AlreadyMounted entry) = Unit {0}
 IsTableFault (table.NotMounted entry) = Unit {0}
@@ -67,6 +68,7 @@ IsPrepareFault preparing.Memory = Unit {0}
 
 abbrev pub IsCommitFault : CommitFault → Type 0
 IsCommitFault (committing.Conflict mount by front) = IsName mount × IsNumber by × IsNumber front
+IsCommitFault (committing.FileTooLarge mount bytes front) = IsName mount × IsNumber bytes × IsNumber front
 IsCommitFault (committing.Invalid violation front) = IsViolation violation × IsNumber front
 IsCommitFault (committing.DatabaseFull weight front) = IsNumber weight × IsNumber front
 IsCommitFault (committing.HistoryFull weight front) = IsNumber weight × IsNumber front

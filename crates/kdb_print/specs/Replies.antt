@@ -64,6 +64,7 @@ line_of_prepare preparing.Memory = memory
 abbrev pub line_of_commit : CommitFault → List ℕ
 line_of_commit (committing.Conflict mount by front) =
     codes "conflict " ++ (shown mount ++ (codes " by " ++ (decimal by ++ (codes " front " ++ decimal front))))
+line_of_commit (committing.FileTooLarge mount bytes front) = refused_at (store.file_too_large mount bytes) front
 line_of_commit (committing.Invalid violation front) = refused_at (store.invalid violation) front
 line_of_commit (committing.DatabaseFull weight front) = refused_at (store.database_full weight) front
 line_of_commit (committing.HistoryFull weight front) = refused_at (store.history_full weight) front

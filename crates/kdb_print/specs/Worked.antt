@@ -21,7 +21,7 @@ abbrev pub name : Namespace → List (List ℕ) → Name
 name namespace parts = record { namespace = namespace; parts = parts }
 
 abbrev pub mount : Namespace → List ℕ → Mount
-mount namespace file = record { at = name namespace []; file = file; kind = Dump }
+mount namespace file = record { at = name namespace []; file = file; kind = Dump; by_key = false }
 
 -- two mounts, numbered 0 and 1
 abbrev pub mounts : List Mount

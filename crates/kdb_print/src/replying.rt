@@ -236,6 +236,11 @@ fn line_of_commit(alloc: Global, fault: &CommitFault) -> Result<String, Memory>
             let mount = shown(alloc, mount)?;
             format!(in alloc; "conflict {mount} by {by} front {front}")
         }
+        CommitFault::FileTooLarge {
+            mount,
+            bytes,
+            front,
+        } => refused_at(alloc, file_too_large(alloc, mount, *bytes)?, *front),
         CommitFault::Invalid { violation, front } => {
             refused_at(alloc, invalid(alloc, violation)?, *front)
         }

@@ -30,7 +30,7 @@ use Rattle.model_history.specs.History.{Commit, is_among}
 use Rattle.model_maps.specs.KeyMap.{KeyMap, not_below}
 use Rattle.model_names.specs.Name.{Name}
 use Rattle.model_specified.specs.Specified.{specified}
-use Rattle.model_store.specs.Store.{Formats, points_of}
+use Rattle.model_store.specs.Store.{Formats, Store, points_of}
 use Rattle.model_store.proofs.Members.{from_all}
 use Rattle.mounted_files.specs.declared.files.MountedFile.{MountedFile}
 use Rattle.mounted_files.specs.declared.refusals.GetFault.TheVariants as get_fault
@@ -52,28 +52,30 @@ looked None = refl
 looked (Some one) = refl
 
 module _ (formats : Formats) (files : List MountedFile) (procs : KeyMap) (number : ℕ) (history : List Commit) where
+  abbrev store : Store
+  store = store_at files
+
   -- ---- one step
 
-  same-covers : (said : Reply) (old new made : Session) (answer : Reply) → conflicts_told said ≡ [] → answer ≡ said → new ≡ made → made.rec ≡ old.rec → made.told ≡ old.told → Covers number history old.rec old.told → Leaves number history answer new
+  same-covers : (said : Reply) (old new made : Session) (answer : Reply) → conflicts_told said ≡ [] → answer ≡ said → new ≡ made → made.rec ≡ old.rec → made.told ≡ old.told → Covers number history store old.rec old.told → Leaves number history store answer new
   same-covers said old new made answer none reply_is new_is rec_is told_is covers =
-      leaves-same number history said old new answer none reply_is (ap (λ (s : Session). s.rec) new_is ∙ rec_is) (ap (λ (s : Session). s.told) new_is ∙ told_is) covers
+      leaves-same number history store said old new answer none reply_is (ap (λ (s : Session). s.rec) new_is ∙ rec_is) (ap (λ (s : Session). s.told) new_is ∙ told_is) covers
 
-  edit-covers : (edited : KeyMap) (old new : Session) (answer : Reply) → Edits edited old answer new ⊎ Lacks reply.Memory old answer new → Covers number history old.rec old.told → Leaves number history answer new
+  edit-covers : (edited : KeyMap) (old new : Session) (answer : Reply) → Edits edited old answer new ⊎ Lacks reply.Memory old answer new → Covers number history store old.rec old.told → Leaves number history store answer new
   edit-covers edited old new answer (inl h) covers = same-covers reply.Quiet old new (record old { working = edited }) answer refl h.reply_is h.new_is refl refl covers
-  edit-covers edited old new answer (inr h) covers = lacks-covers number history reply.Memory old new answer refl h covers
+  edit-covers edited old new answer (inr h) covers = lacks-covers number history store reply.Memory old new answer refl h covers
 
-  step-covers : (old new : Session) (step : Step) (answer : Reply) → Means formats files procs number history old step answer new → Covers number history old.rec old.told
-      → AreTold number history old.told (numbers_told answer) new.told → Leaves number history answer new
+  step-covers : (old new : Session) (step : Step) (answer : Reply) → Means formats files procs number history old step answer new → Covers number history store old.rec old.told
+      → AreTold number history old.told (numbers_told answer) new.told → Leaves number history store answer new
   step-covers old new (Get parent) answer (inl h) covers told =
-      let store = store_at files in
       let involved = involved_in (points_of store) parent in
       let keys : KeyMap = got_then files procs number h.past parent in
       let made : Session = record old { working = keys; rec = kept_then store h.past involved old.rec; told = length h.past } in
-      leaves number history old.told (reply.Got (length h.past) (length (map.entries keys))) answer made new h.reply_is h.new_is
+      leaves number history store old.told (reply.Got (length h.past) (length (map.entries keys))) answer made new h.reply_is h.new_is
       (λ told. (covers-kept number history store h.past involved old.rec old.told h.begins (none-behind number history old.told (length h.past) (length h.past) [] tt (omega arith) told) covers, tt)) told
   step-covers old new (Get parent) answer (inr (inl h)) covers told = same-covers (reply.GetRefused h.why) old new old answer refl h.reply_is h.new_is refl refl covers
-  step-covers old new (Get parent) answer (inr (inr (inl h))) covers told = lacks-covers number history (reply.GetRefused get_fault.Memory) old new answer refl h covers
-  step-covers old new (Get parent) answer (inr (inr (inr h))) covers told = lacks-covers number history reply.Memory old new answer refl h covers
+  step-covers old new (Get parent) answer (inr (inr (inl h))) covers told = lacks-covers number history store (reply.GetRefused get_fault.Memory) old new answer refl h covers
+  step-covers old new (Get parent) answer (inr (inr (inr h))) covers told = lacks-covers number history store reply.Memory old new answer refl h covers
   step-covers old new (Put name value) answer h covers told = edit-covers (put_value old.working name value) old new answer h covers
   step-covers old new (MetaStep name meta value) answer h covers told = edit-covers (put_meta old.working name meta value) old new answer h covers
   step-covers old new (Del name) answer h covers told = edit-covers (map.remove old.working name) old new answer h covers
@@ -81,24 +83,24 @@ module _ (formats : Formats) (files : List MountedFile) (procs : KeyMap) (number
   step-covers old new (Look name) answer (inl h) covers told =
       let one = found (specified old.working) name in
       same-covers (look_reply one) old new old answer (looked one) h.reply_is h.new_is refl refl covers
-  step-covers old new (Look name) answer (inr h) covers told = lacks-covers number history reply.Memory old new answer refl h covers
-  step-covers old new (Set parent) answer h covers told = set-covers number history (store_at files) parent formats old.working old new answer h covers told
+  step-covers old new (Look name) answer (inr h) covers told = lacks-covers number history store reply.Memory old new answer refl h covers
+  step-covers old new (Set parent) answer h covers told = set-covers number history store parent formats old.working old new answer h covers told
   step-covers old new (Merge parent strategy tries) answer (inl h) covers told = merges-cover number history formats files parent strategy tries old new answer h covers told
-  step-covers old new (Merge parent strategy tries) answer (inr h) covers told = lacks-covers number history reply.Memory old new answer refl h covers
+  step-covers old new (Merge parent strategy tries) answer (inr h) covers told = lacks-covers number history store reply.Memory old new answer refl h covers
   step-covers old new (Watch parent room) answer (inl h) covers told =
       let made : Session = record old { told = length h.past; watching = Some (record { parent = parent; room = room; from = length h.past }) } in
-      leaves number history old.told (reply.Watching (length h.past)) answer made new h.reply_is h.new_is
-      (λ told. (covers-later number history h.past old.rec old.told h.begins told covers, tt)) told
-  step-covers old new (Watch parent room) answer (inr h) covers told = lacks-covers number history reply.Memory old new answer refl h covers
+      leaves number history store old.told (reply.Watching (length h.past)) answer made new h.reply_is h.new_is
+      (λ told. (covers-later number history store h.past old.rec old.told h.begins told covers, tt)) told
+  step-covers old new (Watch parent room) answer (inr h) covers told = lacks-covers number history store reply.Memory old new answer refl h covers
   step-covers old new Poll answer (inl h) covers told = same-covers reply.NoWatch old new old answer refl h.reply_is h.new_is refl refl covers
   step-covers old new Poll answer (inr (inl h)) covers told =
       let made : Session = record old { told = length h.past; watching = Some (record h.watched { from = length h.past }) } in
-      leaves number history old.told (reply.News (news_then h.watched h.past)) answer made new h.reply_is h.new_is
-      (λ told. (covers-later number history h.past old.rec old.told h.begins told covers, tt)) told
-  step-covers old new Poll answer (inr (inr h)) covers told = lacks-covers number history reply.Memory old new answer refl h covers
+      leaves number history store old.told (reply.News (news_then h.watched h.past)) answer made new h.reply_is h.new_is
+      (λ told. (covers-later number history store h.past old.rec old.told h.begins told covers, tt)) told
+  step-covers old new Poll answer (inr (inr h)) covers told = lacks-covers number history store reply.Memory old new answer refl h covers
   step-covers old new (Undo undone) answer (inl h) covers told = undo-covers number history formats files procs undone old new answer h covers told
-  step-covers old new (Undo undone) answer (inr (inl h)) covers told = lacks-covers number history (reply.UndoRefused undo_fault.Memory) old new answer refl h covers
-  step-covers old new (Undo undone) answer (inr (inr h)) covers told = lacks-covers number history reply.Memory old new answer refl h covers
+  step-covers old new (Undo undone) answer (inr (inl h)) covers told = lacks-covers number history store (reply.UndoRefused undo_fault.Memory) old new answer refl h covers
+  step-covers old new (Undo undone) answer (inr (inr h)) covers told = lacks-covers number history store reply.Memory old new answer refl h covers
 
   -- ---- step by step
 
@@ -117,10 +119,10 @@ module _ (formats : Formats) (files : List MountedFile) (procs : KeyMap) (number
     pub old : Session
     pub new : Session
     pub means : Means formats files procs number history old step answer new
-    pub covers : Covers number history old.rec old.told
+    pub covers : Covers number history store old.rec old.told
     pub told : AreTold number history old.told (numbers_told answer) new.told
 
-  pub amid : (old new : Session) (steps : List Step) (answers : List Reply) → Tells formats files procs number history old steps answers new → Covers number history old.rec old.told → AreComing old.told answers
+  pub amid : (old new : Session) (steps : List Step) (answers : List Reply) → Tells formats files procs number history old steps answers new → Covers number history store old.rec old.told → AreComing old.told answers
       → (at : ℕ) (answer : Reply) → slice_get answers at ≡ Some answer → Amid steps at answer
   amid old new [] [] h covers coming at answer there = absurd cc
   amid old new [] (one ∷ answers) h covers coming at answer there = absurd h
@@ -152,7 +154,7 @@ module _ (formats : Formats) (files : List MountedFile) (procs : KeyMap) (number
               absurd (omega (arith, near, least))
           split (inr among) = among
 
-      by : (Covers number history mid.rec mid.told → AreComing mid.told answers → (at : ℕ) (answer : Reply) → slice_get answers at ≡ Some answer → Amid steps at answer)
+      by : (Covers number history store mid.rec mid.told → AreComing mid.told answers → (at : ℕ) (answer : Reply) → slice_get answers at ≡ Some answer → Amid steps at answer)
           → (at : ℕ) → slice_get (one ∷ answers) at ≡ Some answer → Amid (step ∷ steps) at answer
       by behind zero there = let same = some_is one answer there in subst (Amid (step ∷ steps) zero) same (record { step = step; there = refl; old = old; new = mid; means = h.1; covers = covers; told = told })
       by behind (suc at) there =
@@ -166,7 +168,7 @@ module _ (formats : Formats) (files : List MountedFile) (sessions : ℕ) (procs 
   fair-amid : (i : ℕ) → i < sessions → (at : ℕ) (answer : Reply) → slice_get (of_session i replies) at ≡ Some answer → Amid formats files (procs (i + 1)) (i + 1) history (of_session i steps) at answer
   fair-amid i lt at answer there =
       let tells = fair-flat formats files sessions procs history steps replies fair i lt in
-      amid formats files (procs (i + 1)) (i + 1) history first_session tells.0 (of_session i steps) (of_session i replies) tells.1 (λ place m commit here own touched before. absurd (omega (arith, before)))
+      amid formats files (procs (i + 1)) (i + 1) history first_session tells.0 (of_session i steps) (of_session i replies) tells.1 (λ place m commit here own touched whole before. absurd (omega (arith, before)))
       (λ place commit here own least.
       subst (λ (numbers : List ℕ). is_among numbers (place + 1) ≡ true) (fair.own i lt) (own-among (i + 1) 1 history place (place + 1) commit here own (omega arith)))
       at answer there

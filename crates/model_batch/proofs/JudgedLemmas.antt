@@ -13,7 +13,7 @@ use Rattle.seat_lock.proofs.Prefixes.{prefix-trans}
 use Rattle.std.specs.Prelude.{Bool}
 use Rattle.store_core.specs.Answers.{IsJudged}
 use Rattle.store_core.specs.declared.committing.CommitFault.{CommitFault}
-use Rattle.store_core.specs.declared.committing.CommitFault.TheVariants.{Conflict, Invalid, DatabaseFull, HistoryFull, DiskFault, Memory}
+use Rattle.store_core.specs.declared.committing.CommitFault.TheVariants.{Conflict, FileTooLarge, Invalid, DatabaseFull, HistoryFull, DiskFault, Memory}
 use Rattle.store_core.specs.declared.committing.Done.{Done}
 use Rattle.store_core.specs.declared.committing.Done.TheVariants.{Committed, Same}
 
@@ -28,6 +28,7 @@ pub judged-front : (formats : Formats) (store : Store) (risen : Bool) (past : Li
 judged-front formats store risen past keys set floor (Ok (Committed number aside)) le h = (omega (arith, h.0), (omega (arith, h.0), tt))
 judged-front formats store risen past keys set floor (Ok (Same front aside)) le h = (omega (arith, h.0), (omega (arith, h.0), tt))
 judged-front formats store risen past keys set floor (Err (Conflict mount by front)) le h = (omega (arith, h.2), (omega (arith, h.2), tt))
+judged-front formats store risen past keys set floor (Err (FileTooLarge mount bytes front)) le h = (omega (arith, h.2), (omega (arith, h.2), tt))
 judged-front formats store risen past keys set floor (Err (Invalid violation front)) le h = (omega (arith, h.0), (omega (arith, h.0), tt))
 judged-front formats store risen past keys set floor (Err (DatabaseFull weight front)) le h = (omega (arith, h.0), (omega (arith, h.0), tt))
 judged-front formats store risen past keys set floor (Err (HistoryFull weight front)) le h = (omega (arith, h.0), (omega (arith, h.0), tt))

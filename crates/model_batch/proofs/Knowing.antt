@@ -33,7 +33,7 @@ use Rattle.model_store.specs.Store.{Formats, Store, points_of}
 use Rattle.mounted_files.specs.declared.files.MountedFile.{MountedFile}
 use Rattle.mounted_files.specs.declared.refusals.GetFault.TheVariants as get_fault
 use Rattle.store_core.specs.declared.committing.CommitFault.{CommitFault}
-use Rattle.store_core.specs.declared.committing.CommitFault.TheVariants.{Conflict, Invalid, DatabaseFull, HistoryFull, DiskFault, Memory}
+use Rattle.store_core.specs.declared.committing.CommitFault.TheVariants.{Conflict, FileTooLarge, Invalid, DatabaseFull, HistoryFull, DiskFault, Memory}
 use Rattle.store_core.specs.declared.committing.Done.{Done}
 use Rattle.store_core.specs.declared.committing.Done.TheVariants.{Committed, Same}
 use Rattle.store_verdict.specs.declared.faults.PrepareFault.TheVariants as early_fault
@@ -57,6 +57,7 @@ told-below : (low high : ℕ) (result : Result Done CommitFault) → low ≤ hig
 told-below low high (Ok (Committed n aside)) le = omega arith
 told-below low high (Ok (Same front aside)) le = omega arith
 told-below low high (Err (Conflict mount by front)) le = omega arith
+told-below low high (Err (FileTooLarge mount bytes front)) le = omega arith
 told-below low high (Err (Invalid violation front)) le = omega arith
 told-below low high (Err (DatabaseFull weight front)) le = omega arith
 told-below low high (Err (HistoryFull weight front)) le = omega arith

@@ -4,7 +4,7 @@ use Rattle.std.specs.List.{AllByRecursion}
 use mathlib.Core.List.{IsPrefix}
 use Rattle.general_words.proofs.Lists.{all_append, all_map}
 use Rattle.key_merge.specs.declared.strategies.Strategy.{Strategy}
-use Rattle.kdb_handle.specs.Fronts.{IsAnothers}
+use Rattle.kdb_handle.specs.Fronts.{Cover, IsAnothers}
 use Rattle.kdb_handle.specs.Opened.{store_at}
 use Rattle.kdb_handle.specs.Remaking.{AreTries, IsCutBy, IsTryBy}
 use Rattle.kdb_handle.specs.Sets.{tells_refusal}
@@ -89,6 +89,7 @@ module _ (number : ℕ) (history : List Commit) (formats : Formats) (files : Lis
     pub no_less : old.told ≤ length past
     pub mount : ℕ
     pub set : Prepared
+    pub handle : set.handle ≡ number
     pub fronts : set.fronts ≡ front_in (only involved old.rec)
     pub blocks : blocking store past set mount ≡ Some by
     pub rec_is : new.rec ≡ old.rec
@@ -108,6 +109,7 @@ module _ (number : ℕ) (history : List Commit) (formats : Formats) (files : Lis
         no_less = h.no_less;
         mount = judged.0;
         set = set;
+        handle = refl;
         fronts = refl;
         blocks = blocked_at store h.past set set.touched judged.0 by (is_blocked judged.0 by formats store h.past (replay store.start h.past) set judged.3);
         rec_is = rec_is ∙ ap (λ (r : Result Done CommitFault). record_then store h.past set r old.rec) same;
@@ -119,11 +121,13 @@ module _ (number : ℕ) (history : List Commit) (formats : Formats) (files : Lis
     pub anothers : IsAnothers number history by
     pub more : count_of_others number (take from history) + 1 ≤ count_of_others number (take to history)
 
-  counts : (old new : Session) (by : ℕ) (meets : Meets old new by) (from to : ℕ) → NoneBetween number history old.told (length meets.past) → Covers number history old.rec old.told → SeesTo involved from old.rec
+  counts : (old new : Session) (by : ℕ) (meets : Meets old new by) (from to : ℕ) → NoneBetween number history old.told (length meets.past) → Covers number history store old.rec old.told → SeesTo involved from old.rec
       → new.told ≤ to → Counts from to by
   counts old new by meets from to none covers sees le =
-      let cover = past-cover number history meets.past old.rec old.told meets.begins none covers in
-      let other = anothers-longer number meets.past history by meets.begins (another store meets.past meets.set number old.rec involved meets.mount by meets.fronts cover meets.blocks) in
+      let cover : Cover store number meets.past (front_in old.rec) = past-cover number history store meets.past old.rec old.told meets.begins none covers in
+      let own : Cover store meets.set.handle meets.past (front_in old.rec) = subst (λ n. Cover store n meets.past (front_in old.rec)) (sym meets.handle) cover in
+      let blocks : IsAnothers meets.set.handle meets.past by = another store meets.past meets.set old.rec involved meets.mount by meets.fronts own meets.blocks in
+      let other = anothers-longer number meets.past history by meets.begins (subst (λ n. IsAnothers n meets.past by) meets.handle blocks) in
       let behind = blocks-behind store meets.past meets.set involved old.rec meets.mount by from meets.fronts sees meets.blocks in
       record {
         anothers = other;
@@ -136,13 +140,13 @@ module _ (number : ℕ) (history : List Commit) (formats : Formats) (files : Lis
     -- what tries leave: the commit in the way of each is another's, and the others made so many
     record Way (before : List Tried) (s : Session) : Type 0 where
       pub least : from ≤ s.told
-      pub covers : Covers number history s.rec s.told
+      pub covers : Covers number history store s.rec s.told
       pub anothers : MetOthers before
       pub reach : ℕ
       pub sees : SeesTo involved reach s.rec
       pub enough : length before ≤ count_of_others number (take reach history)
 
-    no-way : (s : Session) → from ≤ s.told → Covers number history s.rec s.told → Way [] s
+    no-way : (s : Session) → from ≤ s.told → Covers number history store s.rec s.told → Way [] s
     no-way s le covers = record { least = le; covers = covers; anothers = tt; reach = 0; sees = λ m front among is. omega arith; enough = omega arith }
 
     retry-back : (top : ℕ) (old new : Session) (ours : KeyMap) (item : Tried) (base theirs : KeyMap) → Retry old ours item new base theirs → new.told ≤ top → old.told ≤ top
@@ -158,11 +162,11 @@ module _ (number : ℕ) (history : List Commit) (formats : Formats) (files : Lis
         let now : new.told ≡ length h.past = ap (λ (s : Session). s.told) h.new_is in
         let counted : Counts way.reach (length h.past) item.by = counts old h.mid item.by meets way.reach (length h.past) (none_set h le way meets) way.covers way.sees h.no_less in
         let wanted : ℕ → KeyMap = wants (points_of store) (replay store.start h.past) in
-        let covers : Covers number history (kept_then store h.past involved h.mid.rec) (length h.past) =
-        covers-kept number history store h.past involved h.mid.rec old.told h.begins (none_got h le way) (subst (λ (r : Record). Covers number history r old.told) (sym meets.rec_is) way.covers) in
+        let covers : Covers number history store (kept_then store h.past involved h.mid.rec) (length h.past) =
+        covers-kept number history store h.past involved h.mid.rec old.told h.begins (none_got h le way) (subst (λ (r : Record). Covers number history store r old.told) (sym meets.rec_is) way.covers) in
         record {
           least = omega (arith, way.least, meets.no_less, meets.told_is, h.no_less, now);
-          covers = subst (λ (s : Session). Covers number history s.rec s.told) (sym h.new_is) covers;
+          covers = subst (λ (s : Session). Covers number history store s.rec s.told) (sym h.new_is) covers;
           anothers = all_append (λ (it : Tried). IsAnothers number history it.by) before (item ∷ []) way.anothers (counted.anothers, tt);
           reach = length h.past;
           sees = subst (λ (s : Session). SeesTo involved (length h.past) s.rec) (sym h.new_is) (sees-keeping involved (length h.past) wanted h.mid.rec);
@@ -184,7 +188,7 @@ module _ (number : ℕ) (history : List Commit) (formats : Formats) (files : Lis
   -- ---- the end
 
   module _ (strategy : Strategy) (tries : ℕ) (old last new : Session) (keys : KeyMap) (made tried : List Tried)
-      (retries : AreTries (IsTryBy Retry (points_of store) parent strategy) old old.working made last keys) (covers : Covers number history old.rec old.told) where
+      (retries : AreTries (IsTryBy Retry (points_of store) parent strategy) old old.working made last keys) (covers : Covers number history store old.rec old.told) where
     abbrev Tells : List ℕ → Type 0
     Tells numbers = AreTold number history old.told numbers new.told
 
@@ -195,7 +199,7 @@ module _ (number : ℕ) (history : List Commit) (formats : Formats) (files : Lis
 
     -- the fronts cover as before, and all that was in the way was another's
     record Comes (more : List ℕ) : Type 0 where
-      pub fronts : Covers number history new.rec new.told
+      pub fronts : Covers number history store new.rec new.told
       pub anothers : AreAnothers number history (met_by tried)
       pub others : AreAnothers number history more
 
@@ -234,13 +238,13 @@ module _ (number : ℕ) (history : List Commit) (formats : Formats) (files : Lis
     by_idle : tried ≡ made → Stays last new → Tells [] → Comes []
     by_idle same idle told =
         let ways = way new.told (none-told told) (omega (arith, ap (λ (s : Session). s.told) idle)) in
-        record { fronts = subst (λ (s : Session). Covers number history s.rec s.told) (sym idle) ways.covers; anothers = items last same ways; others = tt }
+        record { fronts = subst (λ (s : Session). Covers number history store s.rec s.told) (sym idle) ways.covers; anothers = items last same ways; others = tt }
 
-    both : (more : List ℕ) → Comes more → Covers number history new.rec new.told × AreAnothers number history (met_by tried ++ more)
+    both : (more : List ℕ) → Comes more → Covers number history store new.rec new.told × AreAnothers number history (met_by tried ++ more)
     both more comes = (comes.fronts, all_append (IsAnothers number history) (met_by tried) more comes.anothers comes.others)
 
     end-covers : (end : Result Done MergeEnd) → EndsSo formats files number history parent strategy tries last keys made new tried end → Tells (numbers_told (merge_reply tried end))
-        → Leaves number history (merge_reply tried end) new
+        → Leaves number history store (merge_reply tried end) new
     end-covers (Ok done) h told = let comes = by_set (Ok done) h.0 h.1 told in (comes.fronts, comes.anothers)
     end-covers (Err (merge_end.TriesSpent mount by front)) h told = both (by ∷ []) (by_set (Err (set_fault.Commit (Conflict mount by front))) h.0 h.1 told)
     end-covers (Err (merge_end.Set why)) h told = both (conflicts_told (stored_reply (Err why))) (by_set (Err why) h.0 h.1 told)
@@ -271,16 +275,16 @@ module _ (number : ℕ) (history : List Commit) (formats : Formats) (files : Lis
         judged (inr (inr (inr (inl h)))) = no (reply.SetRefused (set_fault.Prepare early_fault.Memory)) refl h.reply_is
         judged (inr (inr (inr (inr h)))) = no reply.Memory refl h.reply_is
 
-  pub merges-cover : (strategy : Strategy) (tries : ℕ) (old new : Session) (answer : Reply) → Merges formats files number history parent strategy tries old answer new → Covers number history old.rec old.told
-      → AreTold number history old.told (numbers_told answer) new.told → Leaves number history answer new
+  pub merges-cover : (strategy : Strategy) (tries : ℕ) (old new : Session) (answer : Reply) → Merges formats files number history parent strategy tries old answer new → Covers number history store old.rec old.told
+      → AreTold number history old.told (numbers_told answer) new.told → Leaves number history store answer new
   merges-cover strategy tries old new answer h covers told =
       let merged = h.merged in
-      leaves number history old.told (merge_reply h.tried h.end) answer (record h.after { working = h.keys }) new h.reply_is h.new_is
+      leaves number history store old.told (merge_reply h.tried h.end) answer (record h.after { working = h.keys }) new h.reply_is h.new_is
       (end-covers strategy tries old merged.last h.after merged.keys merged.made h.tried merged.retries covers h.end merged.ends) told
 
   -- where a reply tells that all tries are spent
   pub merges-spent : (strategy : Strategy) (tries : ℕ) (old new : Session) (tried : List Tried) (mount : Name) (by front : ℕ)
-      → Merges formats files number history parent strategy tries old (merge_reply tried (Err (merge_end.TriesSpent mount by front))) new → Covers number history old.rec old.told
+      → Merges formats files number history parent strategy tries old (merge_reply tried (Err (merge_end.TriesSpent mount by front))) new → Covers number history store old.rec old.told
       → AreTold number history old.told [] new.told → tries ≤ count_of_others number history
   merges-spent strategy tries old new tried mount by front h covers told = by_end h.end h.merged.ends (subst (AreTold number history old.told []) (ap (λ (s : Session). s.told) h.new_is) told) h.reply_is
     where

@@ -13,7 +13,7 @@ use Rattle.kdb_handle.specs.declared.undoing.UndoFault.{UndoFault}
 use Rattle.kdb_handle.specs.declared.undoing.UndoFault.TheVariants as undo_fault
 use Rattle.spec_cascade.specs.declared.founds.Found.{Found}
 use Rattle.store_core.specs.declared.committing.CommitFault.{CommitFault}
-use Rattle.store_core.specs.declared.committing.CommitFault.TheVariants.{Conflict, Invalid, DatabaseFull, HistoryFull, DiskFault}
+use Rattle.store_core.specs.declared.committing.CommitFault.TheVariants.{Conflict, FileTooLarge, Invalid, DatabaseFull, HistoryFull, DiskFault}
 use Rattle.store_core.specs.declared.committing.Done.{Done}
 use Rattle.store_core.specs.declared.committing.Done.TheVariants.{Committed, Same}
 
@@ -61,6 +61,7 @@ fronts_of_done (Same front aside) = front ∷ []
 
 abbrev pub fronts_of_fault : SetFault → List ℕ
 fronts_of_fault (Commit (Conflict mount by front)) = front ∷ []
+fronts_of_fault (Commit (FileTooLarge mount bytes front)) = front ∷ []
 fronts_of_fault (Commit (Invalid violation front)) = front ∷ []
 fronts_of_fault (Commit (DatabaseFull weight front)) = front ∷ []
 fronts_of_fault (Commit (HistoryFull weight front)) = front ∷ []

@@ -2,7 +2,7 @@
 use Rattle.std.specs.Prelude.{ℕ, Option, None}
 use Rattle.model_maps.specs.KeyMap.{KeyMap, no_keys}
 use Rattle.model_names.specs.Name.{Name}
-use Rattle.model_store.specs.Records.{Record}
+use Rattle.model_store.specs.Records.{Record, no_record}
 
 -- what a session watches: a parent, how many changes it is told of at once, and how many commits it was told of when it last asked
 pub record Watching : Type 0 where
@@ -20,4 +20,4 @@ pub record Session : Type 0 where
 
 -- one that has made no step
 abbrev pub first_session : Session
-first_session = record { working = no_keys; rec = λ m. None; told = 0; watching = None }
+first_session = record { working = no_keys; rec = no_record; told = 0; watching = None }

@@ -1,6 +1,6 @@
 -- What a set of some keys at a parent means to a session, by the history that the store comes to have. The first so many commits are a list
 -- with which that history begins. (This project's own.)
-use Rattle.std.specs.Prelude.{◌≡◌, ◌≢◌, ◌⊎◌, ℕ, ◌≤◌, List, [], ◌∷◌, ◌++◌, length, None, Result, Ok, Err}
+use Rattle.std.specs.Prelude.{◌≡◌, ◌≢◌, ◌⊎◌, ℕ, ◌+◌, ◌≤◌, List, [], ◌∷◌, ◌++◌, length, None, Result, Ok, Err}
 use mathlib.Core.List.{IsPrefix}
 use Rattle.kdb_handle.specs.Sets.{tells_refusal}
 use Rattle.kdb_handle.specs.declared.replies.Reply.{Reply}
@@ -11,14 +11,14 @@ use Rattle.model_batch.specs.Sessions.{Session}
 use Rattle.model_history.specs.History.{Commit, replay}
 use Rattle.model_maps.specs.KeyMap.{KeyMap}
 use Rattle.model_names.specs.Name.{Name}
-use Rattle.model_store.specs.Cores.{keeping}
+use Rattle.model_store.specs.Cores.{keeping, storing}
 use Rattle.model_store.specs.Records.{Record}
 use Rattle.model_store.specs.Sets.{Prepared, prepared, wants}
 use Rattle.model_store.specs.Store.{Store, Formats, points_of}
 use Rattle.model_store.specs.Verdicts.{IsEarly, commit_of}
 use Rattle.store_core.specs.Answers.{IsJudged}
 use Rattle.store_core.specs.declared.committing.CommitFault.{CommitFault}
-use Rattle.store_core.specs.declared.committing.CommitFault.TheVariants.{Conflict, Invalid, DatabaseFull, HistoryFull, DiskFault, Memory}
+use Rattle.store_core.specs.declared.committing.CommitFault.TheVariants.{Conflict, FileTooLarge, Invalid, DatabaseFull, HistoryFull, DiskFault, Memory}
 use Rattle.store_core.specs.declared.committing.Done.{Done}
 use Rattle.store_core.specs.declared.committing.Done.TheVariants.{Committed, Same}
 use Rattle.store_verdict.specs.Preparing.{IsRefused}
@@ -34,9 +34,9 @@ pub record Lacks (memory : Reply) (old : Session) (answer : Reply) (new : Sessio
 abbrev pub kept_then : Store → List Commit → List ℕ → Record → Record
 kept_then store past mounts rec = keeping mounts (length past) (wants (points_of store) (replay store.start past)) rec
 
--- a record after an answer: an own commit is seen in the mounts that it touches
+-- a record after an answer: on a commit it keeps what was wanted for each touched mount, with the commit's number where the mount counts by its backend
 abbrev pub record_then : Store → List Commit → Prepared → Result Done CommitFault → Record → Record
-record_then store past set (Ok (Committed number aside)) rec = kept_then store (past ++ commit_of set ∷ []) set.touched rec
+record_then store past set (Ok (Committed number aside)) rec = storing store set.touched (length past + 1) (wants (points_of store) set.keys) rec
 record_then store past set (Ok (Same front aside)) rec = rec
 record_then store past set (Err why) rec = rec
 
@@ -45,6 +45,7 @@ abbrev pub told_then : Result Done CommitFault → ℕ → ℕ
 told_then (Ok (Committed number aside)) told = number
 told_then (Ok (Same front aside)) told = front
 told_then (Err (Conflict mount by front)) told = front
+told_then (Err (FileTooLarge mount bytes front)) told = front
 told_then (Err (Invalid violation front)) told = front
 told_then (Err (DatabaseFull weight front)) told = front
 told_then (Err (HistoryFull weight front)) told = front

@@ -20,13 +20,14 @@ pub fn commits_go_by_their_handles()
     ensures second { numbers_by 2 (record { handle = 1; touched = 0 ∷ []; changes = [] } ∷ record { handle = 2; touched = 0 ∷ []; changes = [] } ∷ record { handle = 1; touched = 1 ∷ []; changes = [] } ∷ []) ≡ 2 ∷ [] }
 {}
 
-/// A commit tells its number, and that it found one fewer; a set that the disk failed tells how many it found, and so do a watch and a poll.
+/// A commit tells its number, and that it found one fewer; a set that the disk failed, or whose file would be too large, tells how many it found, and so do a watch and a poll.
 pub fn replies_tell_fronts()
     ensures number { numbers_told (reply.SetDone (done.Committed 3 0)) ≡ 3 ∷ [] }
     ensures commit { fronts_told (reply.SetDone (done.Committed 3 0)) ≡ 2 ∷ [] }
     ensures got { fronts_told (reply.Got 4 2) ≡ 4 ∷ [] }
     ensures failed { failures_told (reply.SetRefused (fault.Commit (commit.DiskFault 5))) ≡ 1 }
     ensures found { fronts_told (reply.SetRefused (fault.Commit (commit.DiskFault 5))) ≡ 5 ∷ [] }
+    ensures large { (mount : Name) → fronts_told (reply.SetRefused (fault.Commit (commit.FileTooLarge mount 1048577 5))) ≡ 5 ∷ [] }
     ensures watching { fronts_told (reply.Watching 4) ≡ 4 ∷ [] }
     ensures news { fronts_told (reply.News (record { front = 6; missed = 1; changes = [] })) ≡ 6 ∷ [] }
     ensures quiet { fronts_told reply.Quiet ≡ [] }

@@ -98,7 +98,7 @@ changed_by-snoc [] change keys = refl
 changed_by-snoc (first ∷ changes) change keys = changed_by-snoc changes change (changed keys first)
 
 -- one change: at its name what it gives, and elsewhere what was there
-get-changed : (keys : KeyMap) (change : Change) (q : Name) → map.get (changed keys change) q ≡ cond (eq_by_cmp name_cmp q change.0) change.1 (map.get keys q)
+pub get-changed : (keys : KeyMap) (change : Change) (q : Name) → map.get (changed keys change) q ≡ cond (eq_by_cmp name_cmp q change.0) change.1 (map.get keys q)
 get-changed keys change q = by change.1
   where
     by : (o : Option Entry) → map.get (changed keys (change.0, o)) q ≡ cond (eq_by_cmp name_cmp q change.0) o (map.get keys q)

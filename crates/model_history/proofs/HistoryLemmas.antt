@@ -4,9 +4,10 @@ use Rattle.std.specs.List.{position_from}
 use Rattle.std.proofs.lemmas.Bool.{ltb-true, ltb-false}
 use Rattle.std.proofs.lemmas.List.{drop_all}
 use Rattle.general_words.proofs.Lists.{some_is}
+use Rattle.model_names.specs.Name.{Name}
 use Rattle.model_maps.specs.KeyMap.{KeyMap}
 use Rattle.model_history.specs.Changes.{changed_by}
-use Rattle.model_history.specs.History.{Commit, replay, touches, first_after}
+use Rattle.model_history.specs.History.{Commit, replay, touches, first_after, changes_beside, first_change_after}
 
 -- ---- positions
 
@@ -66,7 +67,7 @@ module _ {A : Type 0} (test : A → Bool) where
 -- ---- places behind a front
 
 -- what stands behind a front
-behind : {A : Type 0} (xs : List A) (front n : ℕ) → slice_get (drop front xs) n ≡ slice_get xs (front + n)
+pub behind : {A : Type 0} (xs : List A) (front n : ℕ) → slice_get (drop front xs) n ≡ slice_get xs (front + n)
 behind xs zero n = let same : n ≡ 0 + n = omega arith in ap (λ m. slice_get xs m) same
 behind [] (suc front) n = refl
 behind (x ∷ xs) (suc front) n = let same : suc (front + n) ≡ suc front + n = omega arith in behind xs front n ∙ ap (λ m. slice_get (x ∷ xs) m) same
@@ -76,34 +77,71 @@ length-behind xs zero lt = omega arith
 length-behind [] (suc front) lt = absurd (omega arith)
 length-behind (x ∷ xs) (suc front) lt = omega (arith, length-behind xs front (omega arith))
 
-module _ (history : List Commit) (mount front : ℕ) where
+module _ {A : Type 0} (test : A → Bool) (xs : List A) (front : ℕ) where
   at_front : (at : ℕ) → front ≤ at → front + (at - front) ≡ at
   at_front at le = omega arith
 
-  pub first_after-behind : (number : ℕ) → first_after history mount front ≡ Some number → front < number
-  first_after-behind number e = omega (arith, position-from (touches mount) (front + 1) (drop front history) number e)
+  -- numbered from 1, the first behind a front that passes stands behind the front,
+  pub found-behind : (number : ℕ) → position_from test (front + 1) (drop front xs) ≡ Some number → front < number
+  found-behind number e = omega (arith, position-from test (front + 1) (drop front xs) number e)
 
-  pub first_after-within : (number : ℕ) → first_after history mount front ≡ Some number → number ≤ length history
-  first_after-within number e = elim (nat_lt front (length history)) as (λ b. nat_lt front (length history) ≡ b → number ≤ length history) [
-    | true ↦ λ lt. omega (arith, position-within (touches mount) (front + 1) (drop front history) number e, length-behind history front (ltb-true _ _ lt))
+  -- in the list,
+  pub found-within : (number : ℕ) → position_from test (front + 1) (drop front xs) ≡ Some number → number ≤ length xs
+  found-within number e = elim (nat_lt front (length xs)) as (λ b. nat_lt front (length xs) ≡ b → number ≤ length xs) [
+    | true ↦ λ lt. omega (arith, position-within test (front + 1) (drop front xs) number e, length-behind xs front (ltb-true _ _ lt))
     | false ↦ λ le. absurd (nowhere (ltb-false _ _ le))
   ] refl
     where
-      nowhere : length history ≤ front → ⊥
-      nowhere le = let none : position_from (touches mount) (front + 1) (drop front history) ≡ None = ap (position_from (touches mount) (front + 1)) (drop_all front history le) in absurd cc
+      nowhere : length xs ≤ front → ⊥
+      nowhere le = let none : position_from test (front + 1) (drop front xs) ≡ None = ap (position_from test (front + 1)) (drop_all front xs le) in absurd cc
+
+  -- it passes,
+  pub found-there : (number : ℕ) (x : A) → position_from test (front + 1) (drop front xs) ≡ Some (number + 1) → slice_get xs number ≡ Some x → test x ≡ true
+  found-there number x e there =
+      let le : front ≤ number = omega (arith, found-behind (number + 1) e) in
+      position-passes test (front + 1) (drop front xs) (number + 1) (number - front) x e (omega arith) (behind xs front (number - front) ∙ ap (λ m. slice_get xs m) (at_front number le) ∙ there)
+
+  -- none between does,
+  pub found-first : (number at : ℕ) (x : A) → position_from test (front + 1) (drop front xs) ≡ Some number → front ≤ at → at + 1 < number → slice_get xs at ≡ Some x → test x ≡ false
+  found-first number at x e le lt there =
+      position-before test (front + 1) (drop front xs) number (at - front) x e (omega arith) (behind xs front (at - front) ∙ ap (λ m. slice_get xs m) (at_front at le) ∙ there)
+
+  -- and where there is none, none behind the front does
+  pub found-none : (at : ℕ) (x : A) → position_from test (front + 1) (drop front xs) ≡ None → front ≤ at → slice_get xs at ≡ Some x → test x ≡ false
+  found-none at x e le there =
+      position-none test (front + 1) (drop front xs) (at - front) x e (behind xs front (at - front) ∙ ap (λ m. slice_get xs m) (at_front at le) ∙ there)
+
+module _ (history : List Commit) (mount front : ℕ) where
+  pub first_after-behind : (number : ℕ) → first_after history mount front ≡ Some number → front < number
+  first_after-behind = found-behind (touches mount) history front
+
+  pub first_after-within : (number : ℕ) → first_after history mount front ≡ Some number → number ≤ length history
+  first_after-within = found-within (touches mount) history front
 
   pub first_after-there : (number : ℕ) (commit : Commit) → first_after history mount front ≡ Some (number + 1) → slice_get history number ≡ Some commit → touches mount commit ≡ true
-  first_after-there number commit e there =
-      let le : front ≤ number = omega (arith, first_after-behind (number + 1) e) in
-      position-passes (touches mount) (front + 1) (drop front history) (number + 1) (number - front) commit e (omega arith) (behind history front (number - front) ∙ ap (λ m. slice_get history m) (at_front number le) ∙ there)
+  first_after-there = found-there (touches mount) history front
 
   pub first_after-first : (number at : ℕ) (commit : Commit) → first_after history mount front ≡ Some number → front ≤ at → at + 1 < number → slice_get history at ≡ Some commit → touches mount commit ≡ false
-  first_after-first number at commit e le lt there =
-      position-before (touches mount) (front + 1) (drop front history) number (at - front) commit e (omega arith) (behind history front (at - front) ∙ ap (λ m. slice_get history m) (at_front at le) ∙ there)
+  first_after-first = found-first (touches mount) history front
 
   pub first_after-none : (at : ℕ) (commit : Commit) → first_after history mount front ≡ None → front ≤ at → slice_get history at ≡ Some commit → touches mount commit ≡ false
-  first_after-none at commit e le there =
-      position-none (touches mount) (front + 1) (drop front history) (at - front) commit e (behind history front (at - front) ∙ ap (λ m. slice_get history m) (at_front at le) ∙ there)
+  first_after-none = found-none (touches mount) history front
+
+module _ (history : List Commit) (name : Name) (front handle : ℕ) where
+  pub first_change-behind : (number : ℕ) → first_change_after history name front handle ≡ Some number → front < number
+  first_change-behind = found-behind (changes_beside name handle) history front
+
+  pub first_change-within : (number : ℕ) → first_change_after history name front handle ≡ Some number → number ≤ length history
+  first_change-within = found-within (changes_beside name handle) history front
+
+  pub first_change-there : (number : ℕ) (commit : Commit) → first_change_after history name front handle ≡ Some (number + 1) → slice_get history number ≡ Some commit → changes_beside name handle commit ≡ true
+  first_change-there = found-there (changes_beside name handle) history front
+
+  pub first_change-first : (number at : ℕ) (commit : Commit) → first_change_after history name front handle ≡ Some number → front ≤ at → at + 1 < number → slice_get history at ≡ Some commit → changes_beside name handle commit ≡ false
+  first_change-first = found-first (changes_beside name handle) history front
+
+  pub first_change-none : (at : ℕ) (commit : Commit) → first_change_after history name front handle ≡ None → front ≤ at → slice_get history at ≡ Some commit → changes_beside name handle commit ≡ false
+  first_change-none = found-none (changes_beside name handle) history front
 
 -- ---- a history that goes on
 

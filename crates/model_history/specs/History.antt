@@ -1,7 +1,9 @@
 -- The commits of an opening, one after the other: what they make of a map, which of them touch a mount, and what they weigh. (This
 -- project's own.)
-use Rattle.std.specs.Prelude.{ℕ, nat_eq, ◌+◌, Bool, List, [], ◌∷◌, length, sum_by, drop, Option, Some, None}
+use Rattle.std.specs.Prelude.{ℕ, nat_eq, ◌+◌, Bool, not, ◌&&◌, List, [], ◌∷◌, length, filter, sum_by, drop, Option, Some, None}
 use Rattle.std.specs.List.{list_any, position_from}
+use Rattle.model_names.specs.Name.{Name}
+use Rattle.model_names.specs.Order.{name_eq}
 use Rattle.model_names.specs.Spelling.{spelling}
 use Rattle.model_maps.specs.Entry.{Entry, meta_bytes}
 use Rattle.model_maps.specs.KeyMap.{KeyMap}
@@ -29,6 +31,26 @@ touches mount commit = is_among commit.touched mount
 -- commits are numbered from 1: the number of the first commit behind a front that touches a mount
 abbrev pub first_after : List Commit → ℕ → ℕ → Option ℕ
 first_after history mount front = position_from (touches mount) (front + 1) (drop front history)
+
+-- a commit is that of a handle
+abbrev pub is_by : ℕ → Commit → Bool
+is_by handle commit = nat_eq handle commit.handle
+
+-- it changes a name
+abbrev pub changes_name : Name → Commit → Bool
+changes_name name commit = list_any (λ change. name_eq name change.0) commit.changes
+
+-- another handle made it, and it changes a name
+abbrev pub changes_beside : Name → ℕ → Commit → Bool
+changes_beside name handle commit = not (is_by handle commit) && changes_name name commit
+
+-- the number of the first commit behind a front that another handle made and that changes a name
+abbrev pub first_change_after : List Commit → Name → ℕ → ℕ → Option ℕ
+first_change_after history name front handle = position_from (changes_beside name handle) (front + 1) (drop front history)
+
+-- the commits of a handle
+abbrev pub commits_by : ℕ → List Commit → List Commit
+commits_by handle commits = filter (is_by handle) commits
 
 -- what a change weighs beside its texts, and what a commit weighs beside its changes
 abbrev pub change_weight : ℕ

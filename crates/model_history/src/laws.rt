@@ -6,7 +6,7 @@ ghost use Rattle.model_names.specs.Name.{Name};
 ghost use Rattle.model_maps.specs.Entry.{Entry};
 ghost use Rattle.model_maps.specs.KeyMap.{KeyMap};
 ghost use Rattle.model_history.specs.Changes.{Changes, after, change_at, difference};
-ghost use Rattle.model_history.specs.History.{Commit, first_after, touches};
+ghost use Rattle.model_history.specs.History.{Commit, changes_beside, first_after, first_change_after, touches};
 
 /// The changes from one map to another, made on the first, give the second.
 pub fn a_difference_leads_from_map_to_map()
@@ -34,4 +34,14 @@ pub fn the_first_commit_after_a_front_touches_the_mount()
     ensures within { (history : List Commit) (mount front number : ℕ) → first_after history mount front ≡ Some number → number ≤ length history }
     ensures first { (history : List Commit) (mount front number at : ℕ) (commit : Commit) → first_after history mount front ≡ Some number → front ≤ at → at + 1 < number → slice_get history at ≡ Some commit → touches mount commit ≡ false }
     ensures none { (history : List Commit) (mount front at : ℕ) (commit : Commit) → first_after history mount front ≡ None → front ≤ at → slice_get history at ≡ Some commit → touches mount commit ≡ false }
+{}
+
+/// The first change of a name behind a front that isn't by a handle is another handle's, stands behind the front, and none between
+/// them is such; where none is told, none behind the front is.
+pub fn the_first_change_after_a_front_is_anothers()
+    ensures behind { (history : List Commit) (name : Name) (front handle number : ℕ) → first_change_after history name front handle ≡ Some number → front < number }
+    ensures there { (history : List Commit) (name : Name) (front handle number : ℕ) → first_change_after history name front handle ≡ Some (number + 1) → (commit : Commit) → slice_get history number ≡ Some commit → changes_beside name handle commit ≡ true }
+    ensures within { (history : List Commit) (name : Name) (front handle number : ℕ) → first_change_after history name front handle ≡ Some number → number ≤ length history }
+    ensures first { (history : List Commit) (name : Name) (front handle number at : ℕ) (commit : Commit) → first_change_after history name front handle ≡ Some number → front ≤ at → at + 1 < number → slice_get history at ≡ Some commit → changes_beside name handle commit ≡ false }
+    ensures none { (history : List Commit) (name : Name) (front handle at : ℕ) (commit : Commit) → first_change_after history name front handle ≡ None → front ≤ at → slice_get history at ≡ Some commit → changes_beside name handle commit ≡ false }
 {}

@@ -18,12 +18,18 @@ use Rattle.model_store.proofs.Owners.{one_owner, same_owned, owner_among}
 use Rattle.set_split.specs.Involved.{owns}
 use Rattle.set_split.specs.Parts.{owned_by}
 
+-- a history makes what its first commits make, and then the others
+pub replay-cut : (n : ℕ) (keys : KeyMap) (commits : List Commit) → replay keys commits ≡ replay (replay keys (take n commits)) (drop n commits)
+replay-cut zero keys commits = refl
+replay-cut (suc n) keys [] = refl
+replay-cut (suc n) keys (commit ∷ commits) = replay-cut n (changed_by commit.changes keys) commits
+
 module _ (formats : Formats) (store : Store) where
-  -- a legal commit leaves what is owned by a mount that it doesn't touch
-  pub untouched : (before : KeyMap) (commit : Commit) (m : ℕ) → IsLegalCommit formats store before commit → touches m commit ≡ false → owned_by (points_of store) m (changed_by commit.changes before) ≡ owned_by (points_of store) m before
-  untouched before commit m legal off = same_owned (points_of store) m _ _ (λ q mine. get-changed_by commit.changes before q (true_is _ legal.names) ∙ by q mine (find name_cmp q commit.changes) refl)
+  -- a legal commit leaves what is owned by a mount that it doesn't touch, also in another map than that on which it is legal
+  pub untouched : (before keys : KeyMap) (commit : Commit) (m : ℕ) → IsLegalCommit formats store before commit → touches m commit ≡ false → owned_by (points_of store) m (changed_by commit.changes keys) ≡ owned_by (points_of store) m keys
+  untouched before keys commit m legal off = same_owned (points_of store) m _ _ (λ q mine. get-changed_by commit.changes keys q (true_is _ legal.names) ∙ by q mine (find name_cmp q commit.changes) refl)
     where
-      by : (q : Name) → owns (points_of store) m q ≡ true → (o : Option (Option Entry)) → find name_cmp q commit.changes ≡ o → unwrap_or o (map.get before q) ≡ map.get before q
+      by : (q : Name) → owns (points_of store) m q ≡ true → (o : Option (Option Entry)) → find name_cmp q commit.changes ≡ o → unwrap_or o (map.get keys q) ≡ map.get keys q
       by q mine None is = refl
       by q mine (Some new) is =
           let owner = owner_among (points_of store) commit.touched q (legal.owned q new is) in
@@ -35,7 +41,7 @@ module _ (formats : Formats) (store : Store) where
   all_untouched before i [] m legal none = refl
   all_untouched before i (commit ∷ commits) m legal none = elim (touches m commit) as (λ b. touches m commit ≡ b → cond b (Some i) (position_from (touches m) (i + 1) commits) ≡ None → owned_by (points_of store) m (replay before (commit ∷ commits)) ≡ owned_by (points_of store) m before) [
     | true ↦ λ is h. absurd cc
-    | false ↦ λ is h. all_untouched (changed_by commit.changes before) (i + 1) commits m legal.1 h ∙ untouched before commit m legal.0 is
+    | false ↦ λ is h. all_untouched (changed_by commit.changes before) (i + 1) commits m legal.1 h ∙ untouched before before commit m legal.0 is
   ] refl none
 
   pub legal-drop : (n : ℕ) (before : KeyMap) (commits : List Commit) → AreLegal formats store before commits → AreLegal formats store (replay before (take n commits)) (drop n commits)
@@ -52,8 +58,3 @@ module _ (formats : Formats) (store : Store) where
   unblocked history m front legal none =
       ap (owned_by (points_of store) m) (replay-cut front store.start history)
       ∙ all_untouched (replay store.start (take front history)) (front + 1) (drop front history) m (legal-drop front store.start history legal) none
-    where
-      replay-cut : (n : ℕ) (keys : KeyMap) (commits : List Commit) → replay keys commits ≡ replay (replay keys (take n commits)) (drop n commits)
-      replay-cut zero keys commits = refl
-      replay-cut (suc n) keys [] = refl
-      replay-cut (suc n) keys (commit ∷ commits) = replay-cut n (changed_by commit.changes keys) commits

@@ -1,15 +1,25 @@
 pub mod Members
+pub mod Kept
 pub mod Accepting
 pub mod Owners
 pub mod Histories
+pub mod ByName
 pub mod Touched
+pub mod Relatives
 pub mod VerdictLemmas
+pub mod Unseen
 pub mod FirstSets
+pub mod ByBackend
 pub mod Judged
-pub mod Kept
-mod Committing
+pub mod Stored
+pub mod Fitted
+pub mod Lasting
+pub mod Committing
+pub mod Present
+pub mod Remade
 pub mod Owning
-mod Others
+pub mod Others
 pub mod OneVerdict
 pub mod Risen
 mod Weights
+pub mod SoundLemmas

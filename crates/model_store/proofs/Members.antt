@@ -1,14 +1,15 @@
 -- Numbers in lists: what holds of each, and what a search among them tells.
-use Rattle.std.proofs.Common.{◌≡◌, ℕ, ◌+◌, ◌<◌, zero, suc, Bool, true, false, cond, ◌||◌, nat_eq, List, [], ◌∷◌, filter, Option, Some, None, refl, sym, ap, subst, ◌∙◌, arith, eqb-true, eq-eqb, lt-ltb, ◌==◌}
+use Rattle.std.proofs.Common.{◌≡◌, ℕ, ◌+◌, ◌<◌, zero, suc, Bool, true, false, cond, ◌&&◌, ◌||◌, nat_eq, List, [], ◌∷◌, filter, Option, Some, None, refl, sym, ap, subst, ◌∙◌, arith, eqb-true, eq-eqb, lt-ltb, ◌==◌}
 use Rattle.std.specs.List.{AllByRecursion, list_all, range_with_len}
 use Rattle.std.specs.List.Sorted.{IsStrictlySortedBy}
-use Rattle.std.specs.Option.{option_eq}
+use Rattle.std.specs.Option.{option_eq, option_or}
 use Rattle.std.specs.Ordering.{nat_cmp}
 use Rattle.std.specs.declared.cmp.Ordering.TheVariants.{Less, Equal, Greater}
-use Rattle.std.proofs.lemmas.Bool.{and_parts, or_right}
+use Rattle.std.proofs.lemmas.Bool.{and_parts, and_right, or_right}
 use Rattle.general_words.specs.Searches.{first_some}
 use Rattle.general_words.proofs.Searches.{none_before, none_behind}
 use Rattle.model_history.specs.History.{is_among}
+use Rattle.model_store.specs.Records.{Record}
 use Rattle.model_store.specs.Sets.{only}
 
 pub same_numbers : (o p : Option ℕ) → option_eq nat_eq o p ≡ true → o ≡ p
@@ -53,6 +54,11 @@ nothing_at f (n ∷ ms) m none among = elim (nat_eq m n) as (λ b. nat_eq m n �
   | false ↦ λ is e. nothing_at f ms m (none_behind (f n) (first_some f ms) none) e
 ] refl among
 
+-- and where nothing is told of each, a search tells nothing
+pub nothing_of : {B : Type 0} (f : ℕ → Option B) (ms : List ℕ) → ((m : ℕ) → is_among ms m ≡ true → f m ≡ None) → first_some f ms ≡ None
+nothing_of f [] each = refl
+nothing_of f (m ∷ ms) each = ap (λ o. option_or o (first_some f ms)) (each m (among-first m ms)) ∙ nothing_of f ms (λ n among. each n (among-rest m n ms among))
+
 -- what is among those that pass is among all, and passes
 pub among-filter : (p : ℕ → Bool) (ms : List ℕ) (m : ℕ) → is_among (filter p ms) m ≡ true → (is_among ms m ≡ true) × (p m ≡ true)
 among-filter p [] m e = absurd cc
@@ -64,18 +70,28 @@ among-filter p (n ∷ ms) m e = elim (p n) as (λ b. p n ≡ b → is_among (con
   | false ↦ λ passes h. let rest = among-filter p ms m h in (among-rest n m ms rest.0, rest.1)
 ] refl e
 
--- two tellings that agree on some numbers are the same of these alone
-pub only-alike : {A : Type 0} (ms : List ℕ) (f g : ℕ → Option A) → ((m : ℕ) → is_among ms m ≡ true → f m ≡ g m) → only ms f ≡ only ms g
-only-alike {A = A} ms f g alike = λ i m. at m i
+pub is_among-filter : (p : ℕ → Bool) (ms : List ℕ) (m : ℕ) → is_among (filter p ms) m ≡ (is_among ms m && p m)
+is_among-filter p [] m = refl
+is_among-filter p (n ∷ ms) m = by (p n) refl (nat_eq m n) refl (is_among-filter p ms m)
   where
-    at : (m : ℕ) → only ms f m ≡ only ms g m
-    at m = elim (is_among ms m) as (λ b. is_among ms m ≡ b → cond b (f m) None ≡ cond b (g m) None) [
+    by : (b : Bool) → p n ≡ b → (e : Bool) → nat_eq m n ≡ e → is_among (filter p ms) m ≡ (is_among ms m && p m) → is_among (cond b (n ∷ filter p ms) (filter p ms)) m ≡ ((e || is_among ms m) && p m)
+    by true passes true is rest = ap (λ t. t || is_among (filter p ms) m) is ∙ sym (ap p (eqb-true m n is) ∙ passes)
+    by true passes false is rest = ap (λ t. t || is_among (filter p ms) m) is ∙ rest
+    by false fails true is rest = rest ∙ and_right (is_among ms m) (p m) (ap p (eqb-true m n is) ∙ fails) ∙ sym (ap p (eqb-true m n is) ∙ fails)
+    by false fails false is rest = rest
+
+-- two records that agree on some mounts, and of which as many commits were made, are the same of these alone
+pub only-alike : (ms : List ℕ) (rec other : Record) → ((m : ℕ) → is_among ms m ≡ true → rec.fetched m ≡ other.fetched m) → rec.committed ≡ other.committed → only ms rec ≡ only ms other
+only-alike ms rec other alike count = λ i. record { fetched = λ m. at m i; committed = count i }
+  where
+    at : (m : ℕ) → (only ms rec).fetched m ≡ (only ms other).fetched m
+    at m = elim (is_among ms m) as (λ b. is_among ms m ≡ b → cond b (rec.fetched m) None ≡ cond b (other.fetched m) None) [
       | true ↦ λ is. alike m is
       | false ↦ λ is. refl
     ] refl
 
-pub only-there : {A : Type 0} (ms : List ℕ) (f : ℕ → Option A) (m : ℕ) → is_among ms m ≡ true → only ms f m ≡ f m
-only-there ms f m is = ap (λ b. cond b (f m) None) is
+pub only-there : (ms : List ℕ) (rec : Record) (m : ℕ) → is_among ms m ≡ true → (only ms rec).fetched m ≡ rec.fetched m
+only-there ms rec m is = ap (λ b. cond b (rec.fetched m) None) is
 
 -- numbers from a start on ascend
 less-than : (a b : ℕ) → a < b → nat_cmp a b ≡ Less

@@ -19,9 +19,9 @@ use Rattle.model_specified.proofs.Refusals.{AreOfKeys-none, first-as, first-caus
 use Rattle.model_store.specs.Fitting.{Early, NotStorable, IsStorableAt, BreaksAtMount}
 use Rattle.model_store.specs.Sets.{Prepared}
 use Rattle.model_store.specs.Store.{Store, Formats, contents, points_of}
-use Rattle.model_store.specs.Verdicts.{Late, Invalid, Commits, Follows, Checks, BreaksRules, IsEarly, IsLate, BreaksFirst, FromFormats, wanted_in, before_formats, behind_formats, conflict, commit_of, if_untouched, if_heavy, if_full, is_certain}
+use Rattle.model_store.specs.Verdicts.{Late, Invalid, Commits, Follows, Checks, BreaksRules, IsEarly, IsLate, BreaksFirst, FromFormats, wanted_in, before_formats, behind_formats, conflict, commit_of, if_untouched, if_heavy, if_full, is_certain, too_large}
 use Rattle.model_store.proofs.Judged.{is_breach, is_invalid}
-use Rattle.model_store.proofs.VerdictLemmas.{not_conflict, not_same}
+use Rattle.model_store.proofs.VerdictLemmas.{not_conflict, not_large, not_same}
 
 -- what follows a step is told once where it is told once without it
 follows-once : {A : Type 0} (o : Option A) (a b : Option A) (P Q : Type 0) → (P → Q → a ≡ b) → Follows o a P → Follows o b Q → a ≡ b
@@ -158,8 +158,11 @@ module _ (formats : Formats) (store : Store) (history : List Commit) (keys : Key
   abbrev Checked : Late → Type 0
   Checked answer = Checks points keys set answer (Heavy answer)
 
+  abbrev Large : Late → Type 0
+  Large answer = Follows (too_large formats store keys set) (Some answer) (Checked answer)
+
   abbrev Blocked : Late → Type 0
-  Blocked answer = Follows (conflict store history set) (Some answer) (Checked answer)
+  Blocked answer = Follows (conflict store history set) (Some answer) (Large answer)
 
   -- a certain violation was found without a refusal
   sure : (answer : Late) → is_certain answer ≡ true → (breaks : BreaksRules points keys set answer) → BeginWith ⊥ chosen breaks.violation
@@ -187,14 +190,15 @@ module _ (formats : Formats) (store : Store) (history : List Commit) (keys : Key
   IsLate-once late other c d p q =
       some_is late other
       (follows-once (if_untouched set.touched set.aside) (Some late) (Some other) (Blocked late) (Blocked other)
-      (follows-once (conflict store history set) (Some late) (Some other) (Checked late) (Checked other)
+      (follows-once (conflict store history set) (Some late) (Some other) (Large late) (Large other)
+      (follows-once (too_large formats store keys set) (Some late) (Some other) (Checked late) (Checked other)
       (λ a b. ap Some (checked_once late other c d
       (λ x y. some_is late other
       (follows-once (if_heavy (weight later)) (Some late) (Some other) (Full late) (Full other)
       (follows-once (if_full (history_weight (history ++ commit_of set ∷ []))) (Some late) (Some other) (late ≡ Commits (commit_of set) set.aside) (other ≡ Commits (commit_of set) set.aside)
       (λ a b. ap Some (a ∙ sym b)))
       x y))
-      a b)))
+      a b))))
       p q)
 
   -- it is absurd that no verdict is one of a kind
@@ -204,11 +208,12 @@ module _ (formats : Formats) (store : Store) (history : List Commit) (keys : Key
   pub IsLate-some : ((late : Late) → IsLate formats store history keys set late → ⊥) → ⊥
   IsLate-some =
       step (if_untouched set.touched set.aside) Blocked
-      (step (conflict store history set) Checked
+      (step (conflict store history set) Large
+      (step (too_large formats store keys set) Checked
       (checks
       (step (if_heavy (weight later)) Full
       (step (if_full (history_weight (history ++ commit_of set ∷ []))) (λ late. late ≡ Commits (commit_of set) set.aside)
-      (λ off. off (Commits (commit_of set) set.aside) refl)))))
+      (λ off. off (Commits (commit_of set) set.aside) refl))))))
     where
       step : (o : Option Late) (P : Late → Type 0) → Has P → Has (λ late. Follows o (Some late) (P late))
       step None P other off = other off
@@ -232,7 +237,8 @@ module _ (formats : Formats) (store : Store) (history : List Commit) (keys : Key
   breach-as violation risen other so late =
       passes (if_untouched set.touched set.aside) (λ e. true≢false (not_same is_invalid set.touched set.aside (Invalid violation risen) refl e))
       (passes (conflict store history set) (λ e. true≢false (not_conflict is_invalid store history set set.touched (Invalid violation risen) (λ m by. refl) e))
-      (λ _. inl (record { violation = violation; risen = other; first = first-as (T risen) (T other) chosen violation so (is_breach formats store history keys set violation risen late); is = refl }))) late
+      (passes (too_large formats store keys set) (λ e. true≢false (not_large is_invalid formats store later set.touched (Invalid violation risen) (λ m size. refl) e))
+      (λ _. inl (record { violation = violation; risen = other; first = first-as (T risen) (T other) chosen violation so (is_breach formats store history keys set violation risen late); is = refl })))) late
     where
       passes : {P Q : Type 0} (o : Option Late) → (o ≡ Some (Invalid violation risen) → ⊥) → (P → Q) → Follows o (Some (Invalid violation risen)) P → Follows o (Some (Invalid violation other)) Q
       passes None off more h = more h

@@ -1,48 +1,49 @@
 -- Each step of a core is a step of the world for which it stands, and so is every run.
-use Rattle.std.proofs.Common.{◌≡◌, ℕ, ◌+◌, true, nat_eq, List, [], ◌∷◌, ◌++◌, length, Option, Some, None, refl, sym, ap, subst, ◌∙◌, arith, length-append, eqb-true}
-use Rattle.std.specs.Option.{option_eq, option_map}
-use Rattle.std.proofs.lemmas.Bool.{and_parts}
+use Rattle.std.proofs.Common.{◌≡◌, ℕ, ◌+◌, false, cond, nat_eq, List, [], ◌∷◌, ◌++◌, length, take, take_all, Option, Some, None, refl, sym, ap, subst, ◌∙◌, arith}
 use Rattle.model_names.specs.Name.{Name}
 use Rattle.model_maps.specs.KeyMap.{KeyMap}
 use Rattle.model_history.specs.History as past
 use Rattle.model_history.specs.History.{replay}
 use Rattle.model_history.proofs.HistoryLemmas.{replay-append}
-use Rattle.model_store.specs.Store.{Store, Formats, points_of}
+use Rattle.model_store.specs.Store.{Store, Formats, by_backend, points_of}
 use Rattle.model_store.specs.Legal.{IsLegal, IsLegalCommit}
-use Rattle.model_store.specs.Records.{Fronts, Record, Fetched, IsRecord, record_of, seen_at}
-use Rattle.model_store.specs.Sets.{Prepared, only, wants, front_in, set_of}
-use Rattle.model_store.specs.Verdicts.{Late, Same, Conflict, Invalid, DatabaseFull, HistoryFull, Commits, IsEarly, IsLate, commit_of}
+use Rattle.model_store.specs.Records.{Fronts, Record, IsRecord, record_of, seen_at}
+use Rattle.model_store.specs.Sets.{Prepared, wants, set_of}
+use Rattle.model_store.specs.Sound.{IsSound}
+use Rattle.model_store.specs.Verdicts.{Late, Same, Conflict, TooLarge, Invalid, DatabaseFull, HistoryFull, Commits, IsEarly, IsLate, commit_of}
 use Rattle.model_store.specs.Events.{Event, Get, Prepare, Commit, Answer, Memory, Bad, Got, Refused, Ready, Judged, Failed, if_bad, put}
 use Rattle.model_store.specs.Worlds.{World, Asked, first_world, Judges, Meant, set_now, world_after}
-use Rattle.model_store.specs.Cores.{Core, first_core, accepts, GetMade, PreparationMade, JudgementMade, CommitMade, Made, core_after}
-use Rattle.model_store.specs.Promise.{Runs, IsAsked, IsSet, Stands, IsOneOwner}
-use Rattle.model_store.proofs.Members.{from_list_all, nothing_at, same_numbers, only-there}
+use Rattle.model_store.specs.Cores.{Core, first_core, storing, GetMade, PreparationMade, JudgementMade, CommitMade, Made, core_after}
+use Rattle.model_store.specs.Promise.{Runs, IsSet, Stands, IsOneOwner}
+use Rattle.model_store.proofs.Committing.{backend_kept, beside_kept, good_at, key_kept, legal_commit}
 use Rattle.model_store.proofs.Histories.{legal-more}
 use Rattle.model_store.proofs.Judged.{HasPassed, has_passed, IsCommitted, is_committed}
-use Rattle.model_store.proofs.Kept.{put-each, record-stays, record-moves, set-stays, front-of, set-alike, good_mount}
-use Rattle.model_store.proofs.Committing.{legal_commit, stored_at, good_at}
+use Rattle.model_store.proofs.Kept.{put-each, record-own, record-stays, record-moves, record-whole, set-stays, good_mount}
+use Rattle.model_store.proofs.Members.{itself_number, nothing_at}
+use Rattle.model_store.proofs.Present.{IsPresent, present_set}
+use Rattle.model_store.proofs.Stored.{record-stores}
 use Rattle.set_split.specs.Involved.{involved_in}
-use Rattle.set_split.specs.Parts.{owned_by}
 
 module _ (formats : Formats) (store : Store) where
   -- the core of a world: its history, the map after it, and the records of its fronts
   abbrev core_at : World → (ℕ → Option Prepared) → Core
-  core_at world sets = record { history = world.history; keys = replay store.start world.history; records = λ r. record_of store world.history (world.fronts r); sets = sets }
+  core_at world sets = record { history = world.history; keys = replay store.start world.history; records = λ r. record_of store world.history r (world.fronts r); sets = sets }
 
   -- a core stands for its world
   record Known (world : World) (sets : ℕ → Option Prepared) : Type 0 where
+    sound : IsSound formats store
     legal : IsLegal formats store world.history
-    records : (r : ℕ) → IsRecord store world.history (world.fronts r) (record_of store world.history (world.fronts r))
+    records : (r : ℕ) → IsRecord store world.history r (world.fronts r) (record_of store world.history r (world.fronts r))
     asked : (p : ℕ) → IsSet formats store world.history (world.asked p) (sets p)
 
   known : (world : World) (core : Core) → Stands formats store world core → Known world core.sets
-  known world core st = record { legal = st.legal; records = λ r. record { within = (st.records r).within; good = (st.records r).good; is = λ m. refl }; asked = st.sets }
+  known world core st = record { sound = st.sound; legal = st.legal; records = λ r. record-own store world.history r (world.fronts r) (st.records r).within (st.records r).good; asked = st.sets }
 
   whole : (world : World) (core : Core) → Stands formats store world core → core ≡ core_at world core.sets
-  whole world core st = λ i. record { history = st.history i; keys = st.keys i; records = λ r m. (st.records r).is m i; sets = core.sets }
+  whole world core st = λ i. record { history = st.history i; keys = st.keys i; records = λ r. record-whole store world.history r (world.fronts r) (core.records r) (st.records r) i; sets = core.sets }
 
   stand : (world : World) (sets : ℕ → Option Prepared) → Known world sets → Stands formats store world (core_at world sets)
-  stand world sets k = record { history = refl; keys = refl; legal = k.legal; records = k.records; sets = k.asked }
+  stand world sets k = record { sound = k.sound; history = refl; keys = refl; legal = k.legal; records = k.records; sets = k.asked }
 
   -- the world goes on as the core does
   pub record Goes (world : World) (event : Event) (answer : Answer) (next : Core) : Type 0 where
@@ -60,14 +61,15 @@ module _ (formats : Formats) (store : Store) where
     after = moved;
     meant = record { good = made.good; front_is = made.front_is; keys_are = made.keys_are; next_is = refl };
     stands = subst (λ (core : Core). Stands formats store moved core) (sym made.next_is) (record {
+      sound = k.sound;
       history = refl;
       keys = refl;
       legal = k.legal;
       sets = k.asked;
-      records = put-each (λ (f : Fronts) (rec : Record). IsRecord store world.history f rec) r _ _ world.fronts (λ n. record_of store world.history (world.fronts n))
-          (record-moves store world.history (world.fronts r) (record_of store world.history (world.fronts r)) involved (length world.history) (wants (points_of store) (replay store.start world.history)) (k.records r) refl
+      records = put-each (λ n (f : Fronts) (rec : Record). IsRecord store world.history n f rec) r _ _ world.fronts (λ n. record_of store world.history n (world.fronts n))
+          (record-moves store world.history r (world.fronts r) (record_of store world.history r (world.fronts r)) involved (length world.history) (wants (points_of store) (replay store.start world.history)) (k.records r) refl
           (λ m among. good_mount store m (nothing_at (if_bad store) involved m made.good among)) (λ m among. refl))
-          k.records;
+          (λ n other. k.records n);
     });
   }
     where
@@ -84,51 +86,31 @@ module _ (formats : Formats) (store : Store) where
     after = asked;
     meant = record { early = made.early; next_is = refl };
     stands = subst (λ (core : Core). Stands formats store asked core) (sym made.next_is) (record {
+      sound = k.sound;
       history = refl;
       keys = refl;
       legal = k.legal;
       records = k.records;
-      sets = put-each (λ (a : Option Asked) (s : Option Prepared). IsSet formats store world.history a s) p _ _ world.asked sets
-          (record { within = (k.records r).within; is = refl; passed = made.early })
-          k.asked;
+      sets = put-each (λ n (a : Option Asked) (s : Option Prepared). IsSet formats store world.history a s) p _ _ world.asked sets
+          (record { found = omega arith; within = (k.records r).within; is = as_found; passed = made.early })
+          (λ n other. k.asked n);
     });
   }
     where
       asked : World
-      asked = record world { asked = put p (Some (record { handle = r; fronts = world.fronts r; parent = parent; keys = keys })) world.asked }
+      asked = record world { asked = put p (Some (record { handle = r; found = length world.history; fronts = world.fronts r; parent = parent; keys = keys })) world.asked }
+
+      -- the history that was found is the present one
+      as_found : set_now store world r parent keys ≡ set_of store (take (length world.history) world.history) r (world.fronts r) parent keys
+      as_found = ap (λ (found : List past.Commit). set_of store found r (world.fronts r) parent keys) (sym (take_all (length world.history) world.history (omega arith)))
 
   -- ---- a commit
 
-  -- what was asked with a set that is still accepted, and that it is what the definitions make of it now
-  record IsPresent (world : World) (r p : ℕ) (set : Prepared) : Type 0 where
-    asked : Asked
-    was_asked : world.asked p ≡ Some asked
-    is : set ≡ set_now store world r asked.parent asked.keys
-    early : IsEarly formats store (set_now store world r asked.parent asked.keys) None
+  -- the set that a judgement is of is the present one
+  is_present : (world : World) (sets : ℕ → Option Prepared) (r p front : ℕ) (late : Late) → Known world sets → (made : JudgementMade formats store (core_at world sets) r p front late) → IsPresent formats store world r p made.set
+  is_present world sets r p front late k made = present_set formats store world r p made.set (subst (λ (s : Option Prepared). IsSet formats store world.history (world.asked p) s) made.is_set (k.asked p)) made.accepted
 
-  accepted : (world : World) (sets : ℕ → Option Prepared) (r : ℕ) (asked : Asked) (set : Prepared) → IsAsked formats store world.history asked set → accepts (record_of store world.history (world.fronts r)) r set ≡ true → set ≡ set_now store world r asked.parent asked.keys
-  accepted world sets r asked set h ok =
-      let involved : List ℕ = involved_in (points_of store) asked.parent in
-      let ok' : accepts (record_of store world.history (world.fronts r)) r (set_of store world.history asked.handle asked.fronts asked.parent asked.keys) ≡ true = subst (λ (s : Prepared). accepts (record_of store world.history (world.fronts r)) r s ≡ true) h.is ok in
-      let handle : asked.handle ≡ r = sym (eqb-true r asked.handle (and_parts _ _ ok').0) in
-      let each = (and_parts (nat_eq r asked.handle) _ ok').1 in
-      h.is ∙ set-alike store world.history asked.handle r asked.fronts (world.fronts r) asked.parent asked.keys handle (λ m among.
-      sym (sym (front-of store world.history (world.fronts r) m)
-      ∙ same_numbers _ _ (from_list_all (λ n. option_eq nat_eq (front_in (record_of store world.history (world.fronts r)) n) (front_in (only involved (record_of store world.history asked.fronts)) n)) involved m each among)
-      ∙ ap (option_map (λ (f : Fetched). f.front)) (only-there involved (record_of store world.history asked.fronts) m among)
-      ∙ front-of store world.history asked.fronts m))
-
-  is_present : (world : World) (sets : ℕ → Option Prepared) (r p front : ℕ) (late : Late) → Known world sets → (made : JudgementMade formats store (core_at world sets) r p front late) → IsPresent world r p made.set
-  is_present world sets r p front late k made = by (world.asked p) refl (subst (λ (s : Option Prepared). IsSet formats store world.history (world.asked p) s) made.is_set (k.asked p))
-    where
-      by : (o : Option Asked) → world.asked p ≡ o → IsSet formats store world.history (world.asked p) (Some made.set) → IsPresent world r p made.set
-      by None is h = absurd (subst (λ (o : Option Asked). IsSet formats store world.history o (Some made.set)) is h)
-      by (Some asked) is h =
-          let a : IsAsked formats store world.history asked made.set = subst (λ (o : Option Asked). IsSet formats store world.history o (Some made.set)) is h in
-          let same : made.set ≡ set_now store world r asked.parent asked.keys = accepted world sets r asked made.set a made.accepted in
-          record { asked = asked; was_asked = is; is = same; early = subst (λ (s : Prepared). IsEarly formats store s None) same a.passed }
-
-  judges : (world : World) (sets : ℕ → Option Prepared) (r p front : ℕ) (late : Late) → (made : JudgementMade formats store (core_at world sets) r p front late) → IsPresent world r p made.set → Judges formats store world r p front late
+  judges : (world : World) (sets : ℕ → Option Prepared) (r p front : ℕ) (late : Late) → (made : JudgementMade formats store (core_at world sets) r p front late) → IsPresent formats store world r p made.set → Judges formats store world r p front late
   judges world sets r p front late made at = record {
     asked = at.asked;
     was_asked = at.was_asked;
@@ -140,28 +122,46 @@ module _ (formats : Formats) (store : Store) where
   -- the core after the commit of a set stands for the world after it
   commits : (world : World) (sets : ℕ → Option Prepared) (r : ℕ) (parent : Name) (keys : KeyMap) (commit : past.Commit) (aside : ℕ) → Known world sets
       → IsEarly formats store (set_now store world r parent keys) None → IsLate formats store world.history (replay store.start world.history) (set_now store world r parent keys) (Commits commit aside)
-      → Stands formats store (world_after world r (Commits commit aside)) (core_after store (core_at world sets) r (set_now store world r parent keys) (Commits commit aside))
+      → Stands formats store (world_after store world r (Commits commit aside)) (core_after store (core_at world sets) r (set_now store world r parent keys) (Commits commit aside))
   commits world sets r parent keys commit aside k early late =
-      let set : Prepared = set_now store world r parent keys in
-      let rec : Record = record_of store world.history (world.fronts r) in
-      let passed : HasPassed formats store (set_now store world r parent keys) = has_passed formats store (set_now store world r parent keys) early in
-      let done : IsCommitted store world.history (replay store.start world.history) (set_now store world r parent keys) commit = is_committed formats store world.history (replay store.start world.history) (set_now store world r parent keys) commit aside late in
-      let legal : IsLegalCommit formats store (replay store.start world.history) (commit_of (set_now store world r parent keys)) = legal_commit formats store world.history r (world.fronts r) parent keys rec (k.records r) k.legal.each passed commit done in
-      let kept : (n : ℕ) → IsRecord store (world.history ++ commit_of (set_now store world r parent keys) ∷ []) (world.fronts n) (record_of store world.history (world.fronts n)) = λ n. record-stays store world.history (commit_of (set_now store world r parent keys) ∷ []) (world.fronts n) (record_of store world.history (world.fronts n)) (k.records n) in
-      subst (λ (c : past.Commit). Stands formats store (world_after world r (Commits c aside)) (core_after store (core_at world sets) r set (Commits c aside))) (sym done.is) (record {
+      subst (λ (c : past.Commit). Stands formats store (world_after store world r (Commits c aside)) (core_after store (core_at world sets) r set (Commits c aside))) (sym done.is) (record {
+        sound = k.sound;
         history = refl;
-        keys = sym (replay-append store.start world.history (commit_of set ∷ []));
-        legal = record { each = legal-more formats store store.start world.history (commit_of set) k.legal.each legal; not_full = done.not_full };
-        records = put-each (λ (f : Fronts) (rec : Record). IsRecord store (world.history ++ commit_of set ∷ []) f rec) r _ _ world.fronts (λ n. record_of store world.history (world.fronts n))
-            (record-moves store (world.history ++ commit_of set ∷ []) (world.fronts r) (record_of store world.history (world.fronts r)) set.touched (length world.history + 1) (wants (points_of store) keys) (kept r)
-            (omega (arith, length-append world.history (commit_of set ∷ [])))
-            (good_at formats store world.history r (world.fronts r) parent keys rec (k.records r) k.legal.each passed commit done)
-            (λ m among. sym (ap (owned_by (points_of store) m) (replay-append store.start world.history (commit_of set ∷ [])) ∙ stored_at formats store world.history r (world.fronts r) parent keys rec (k.records r) k.legal.each passed commit done m among)))
-            kept;
-        sets = λ p. set-stays store formats world.history (commit_of set ∷ []) (world.asked p) (sets p) (k.asked p);
+        keys = sym (replay-append store.start world.history (made ∷ []));
+        legal = record { each = legal-more formats store store.start world.history made k.legal.each legal; not_full = done.not_full };
+        records = put-each (λ n (f : Fronts) (rec : Record). IsRecord store (world.history ++ made ∷ []) n f rec) r _ _ world.fronts (λ n. record_of store world.history n (world.fronts n)) own others;
+        sets = λ p. set-stays store formats world.history (made ∷ []) (world.asked p) (sets p) (k.asked p);
       })
+    where
+      set : Prepared
+      set = set_now store world r parent keys
 
-  unchanged : (world : World) (sets : ℕ → Option Prepared) (r p front : ℕ) (late : Late) (next : Core) → Known world sets → (made : JudgementMade formats store (core_at world sets) r p front late) → next ≡ core_at world sets → world ≡ world_after world r late → Goes world (Commit r p) (Judged front late) next
+      passed : HasPassed formats store (set_now store world r parent keys)
+      passed = has_passed formats store (set_now store world r parent keys) early
+
+      done : IsCommitted formats store world.history (replay store.start world.history) (set_now store world r parent keys) commit
+      done = is_committed formats store world.history (replay store.start world.history) (set_now store world r parent keys) commit aside late
+
+      made : past.Commit
+      made = commit_of (set_now store world r parent keys)
+
+      legal : IsLegalCommit formats store (replay store.start world.history) (commit_of (set_now store world r parent keys))
+      legal = legal_commit formats store world.history r (world.fronts r) parent keys (k.records r) k.legal.each passed done.free k.sound commit done
+
+      own : IsRecord store (world.history ++ commit_of (set_now store world r parent keys) ∷ []) r (seen_at (by_backend store (set_now store world r parent keys).touched) (length world.history + 1) (world.fronts r))
+          (storing store (set_now store world r parent keys).touched (length world.history + 1) (wants (points_of store) keys) (record_of store world.history r (world.fronts r)))
+      own = record-stores store world.history (commit_of (set_now store world r parent keys)) r (world.fronts r) (record_of store world.history r (world.fronts r)) (wants (points_of store) keys) (k.records r) (itself_number r)
+          (good_at formats store world.history r (world.fronts r) parent keys (k.records r) k.legal.each passed done.free)
+          (backend_kept formats store world.history r (world.fronts r) parent keys (k.records r) k.legal.each passed done.free)
+          (key_kept formats store world.history r (world.fronts r) parent keys (k.records r) k.legal.each passed done.free)
+          (beside_kept formats store world.history r (world.fronts r) parent keys (k.records r).within legal)
+
+      others : (n : ℕ) → nat_eq n r ≡ false → IsRecord store (world.history ++ commit_of (set_now store world r parent keys) ∷ []) n (world.fronts n) (record_of store world.history n (world.fronts n))
+      others n other =
+          record-stays store world.history (commit_of (set_now store world r parent keys) ∷ []) n (world.fronts n) (record_of store world.history n (world.fronts n)) (k.records n)
+          (ap (λ b. cond b (commit_of (set_now store world r parent keys) ∷ []) []) other)
+
+  unchanged : (world : World) (sets : ℕ → Option Prepared) (r p front : ℕ) (late : Late) (next : Core) → Known world sets → (made : JudgementMade formats store (core_at world sets) r p front late) → next ≡ core_at world sets → world ≡ world_after store world r late → Goes world (Commit r p) (Judged front late) next
   unchanged world sets r p front late next k made is same = record {
     after = world;
     meant = (judges world sets r p front late made (is_present world sets r p front late k made), same);
@@ -171,6 +171,7 @@ module _ (formats : Formats) (store : Store) where
   judged : (world : World) (sets : ℕ → Option Prepared) (r p front : ℕ) (late : Late) (next : Core) → Known world sets → CommitMade formats store (core_at world sets) r p front late next → Goes world (Commit r p) (Judged front late) next
   judged world sets r p front (Same aside) next k made = unchanged world sets r p front (Same aside) next k made.judged made.next_is refl
   judged world sets r p front (Conflict m by) next k made = unchanged world sets r p front (Conflict m by) next k made.judged made.next_is refl
+  judged world sets r p front (TooLarge m size) next k made = unchanged world sets r p front (TooLarge m size) next k made.judged made.next_is refl
   judged world sets r p front (Invalid violation risen) next k made = unchanged world sets r p front (Invalid violation risen) next k made.judged made.next_is refl
   judged world sets r p front (DatabaseFull n) next k made = unchanged world sets r p front (DatabaseFull n) next k made.judged made.next_is refl
   judged world sets r p front (HistoryFull n) next k made = unchanged world sets r p front (HistoryFull n) next k made.judged made.next_is refl
@@ -180,9 +181,9 @@ module _ (formats : Formats) (store : Store) where
       let late_is : IsLate formats store world.history (replay store.start world.history) (set_now store world r at.asked.parent at.asked.keys) (Commits commit aside) =
       subst (λ (s : Prepared). IsLate formats store world.history (replay store.start world.history) s (Commits commit aside)) at.is made.judged.late_is in
       record {
-        after = world_after world r (Commits commit aside);
+        after = world_after store world r (Commits commit aside);
         meant = (meant, refl);
-        stands = subst (λ (core : Core). Stands formats store (world_after world r (Commits commit aside)) core)
+        stands = subst (λ (core : Core). Stands formats store (world_after store world r (Commits commit aside)) core)
             (sym (made.next_is ∙ ap (λ (s : Prepared). core_after store (core_at world sets) r s (Commits commit aside)) at.is))
             (commits world sets r at.asked.parent at.asked.keys commit aside k at.early late_is);
       }
@@ -224,14 +225,15 @@ module _ (formats : Formats) (store : Store) where
       let rest = all_follow calls one.after runs.0 last one.stands runs.2 in
       record { last = rest.last; meant = (one.after, one.meant, rest.meant); stands = rest.stands }
 
-  pub first_stands : Stands formats store first_world (first_core store)
-  first_stands = record {
+  pub first_stands : IsSound formats store → Stands formats store first_world (first_core store)
+  first_stands sound = record {
+    sound = sound;
     history = refl;
     keys = refl;
     legal = record { each = tt; not_full = omega arith };
-    records = λ r. record { within = λ m front e. absurd cc; good = λ m front e. absurd cc; is = λ m. refl };
+    records = λ r. record { within = λ m front e. absurd cc; good = λ m front e. absurd cc; is = λ m. refl; count = refl };
     sets = λ p. tt;
   }
 
-  pub one_owner : (calls : List (Event × Answer)) (core : Core) → Runs (Made formats store) (first_core store) calls core → IsOneOwner formats store calls core
-  one_owner calls core runs = let all = all_follow calls first_world (first_core store) core first_stands runs in record { world = all.last; meant = all.meant; stands = all.stands }
+  pub one_owner : IsSound formats store → (calls : List (Event × Answer)) (core : Core) → Runs (Made formats store) (first_core store) calls core → IsOneOwner formats store calls core
+  one_owner sound calls core runs = let all = all_follow calls first_world (first_core store) core (first_stands sound) runs in record { world = all.last; meant = all.meant; stands = all.stands }

@@ -1,5 +1,5 @@
 -- What the changes of the touched mounts are, name by name, and what a map is after them.
-use Rattle.std.proofs.Common.{◌≡◌, ℕ, Bool, true, false, cond, not, ◌||◌, nat_eq, List, [], ◌∷◌, Option, Some, None, refl, sym, ap, ◌∙◌, eqb-true, eq-eqb}
+use Rattle.std.proofs.Common.{◌≡◌, ◌⊎◌, ℕ, Bool, true, false, cond, not, ◌||◌, nat_eq, List, [], ◌∷◌, Option, Some, None, refl, sym, ap, ◌∙◌, eqb-true, eq-eqb, inl, inr}
 use Rattle.std.specs.FinMap as map
 use Rattle.std.specs.FinMap.{find}
 use Rattle.std.specs.Option.{option_or, unwrap_or}
@@ -15,11 +15,11 @@ use Rattle.model_maps.specs.Entry.{Entry}
 use Rattle.model_maps.specs.KeyMap.{KeyMap}
 use Rattle.model_history.specs.Changes.{Change, change_at, difference, changed_by, after}
 use Rattle.model_history.specs.History.{is_among}
-use Rattle.model_history.proofs.ChangeLemmas.{get-difference, get-after, change_made, change_at-same, change_at-differs, after-difference}
+use Rattle.model_history.proofs.ChangeLemmas.{get-difference, get-after, change_made, change_at-same, change_at-to, change_at-differs, after-difference}
 use Rattle.model_store.specs.Legal.{HasChange}
 use Rattle.model_store.specs.Sets.{differs, changes_of, changes_at}
 use Rattle.model_store.proofs.Members.{among-first, among-rest}
-use Rattle.model_store.proofs.Owners.{one_owner, get-owned, get-mine}
+use Rattle.model_store.proofs.Owners.{one_owner, get-owned, get-mine, get-other}
 use Rattle.set_split.specs.Involved.{owns}
 use Rattle.set_split.specs.Parts.{owned_by}
 
@@ -108,12 +108,35 @@ module _ (points : List Name) (before wanted : ℕ → KeyMap) where
             ∙ change_made (before m) (wanted m) q
         by q false off = sym (owned.nothing_wanted m q off)
 
-    -- a change gives what the map has not
-    pub change-differs : (present : KeyMap) (ms : List ℕ) → ((m : ℕ) → is_among ms m ≡ true → owned_by points m present ≡ before m) → (q : Name) (new : Option Entry) → find name_cmp q (map.entries (changes_at before wanted ms)) ≡ Some new → new ≡ map.get present q → ⊥
+    -- in any case it has at each name what it had, or what is wanted
+    pub mixed-after : (present : KeyMap) (ms : List ℕ) (m : ℕ) (q : Name) → is_among ms m ≡ true
+        → (map.get (owned_by points m (after present (changes_at before wanted ms))) q ≡ map.get (owned_by points m present) q) ⊎ (map.get (owned_by points m (after present (changes_at before wanted ms))) q ≡ map.get (wanted m) q)
+    mixed-after present ms m q among = by (owns points m q) refl
+      where
+        made : KeyMap
+        made = after present (changes_at before wanted ms)
+
+        at : (o : Option (Option Entry)) → change_at (before m) (wanted m) q ≡ o → owns points m q ≡ true → map.get (owned_by points m made) q ≡ unwrap_or o (map.get present q)
+            → (map.get (owned_by points m made) q ≡ map.get (owned_by points m present) q) ⊎ (map.get (owned_by points m made) q ≡ map.get (wanted m) q)
+        at None is mine got = inl (got ∙ sym (get-mine points m present q mine))
+        at (Some new) is mine got = inr (got ∙ change_at-to (before m) (wanted m) q new is)
+
+        by : (b : Bool) → owns points m q ≡ b → (map.get (owned_by points m made) q ≡ map.get (owned_by points m present) q) ⊎ (map.get (owned_by points m made) q ≡ map.get (wanted m) q)
+        by true mine =
+            at (change_at (before m) (wanted m) q) refl mine
+            (get-mine points m made q mine ∙ get-after present (changes_at before wanted ms) q ∙ ap (λ o. unwrap_or o (map.get present q)) (get-changes ms m q mine among))
+        by false off = inl (get-other points m made q off ∙ sym (get-other points m present q off))
+
+    -- a change gives what the map has not, where this has at the changed names what their mounts had before
+    pub change-differs : (present : KeyMap) (ms : List ℕ) → ((m : ℕ) (q : Name) (new : Option Entry) → is_among ms m ≡ true → owns points m q ≡ true → find name_cmp q (map.entries (changes_at before wanted ms)) ≡ Some new → map.get present q ≡ map.get (before m) q)
+        → (q : Name) (new : Option Entry) → find name_cmp q (map.entries (changes_at before wanted ms)) ≡ Some new → new ≡ map.get present q → ⊥
     change-differs present ms same q new e is =
         let at = changed-at ms q new e in
-        change_at-differs (before at.mount) (wanted at.mount) q new at.is
-        (is ∙ sym (get-mine points at.mount present q at.mine) ∙ ap (λ keys. map.get keys q) (same at.mount at.among))
+        change_at-differs (before at.mount) (wanted at.mount) q new at.is (is ∙ same at.mount q new at.among at.mine e)
+
+    -- what changes to an entry is wanted there
+    pub change-wanted : (ms : List ℕ) (q : Name) (new : Option Entry) → find name_cmp q (map.entries (changes_at before wanted ms)) ≡ Some new → (m : ℕ) × (is_among ms m ≡ true) × (new ≡ map.get (wanted m) q)
+    change-wanted ms q new e = let at = changed-at ms q new e in (at.mount, at.among, change_at-to (before at.mount) (wanted at.mount) q new at.is)
 
     -- a mount whose keys differ has a change
     pub has-change : (ms : List ℕ) (m : ℕ) → is_among ms m ≡ true → differs before wanted m ≡ true → HasChange points (map.entries (changes_at before wanted ms)) m

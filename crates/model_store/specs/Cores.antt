@@ -2,15 +2,15 @@
 -- project's own.)
 use Rattle.std.specs.Prelude.{◌≡◌, ℕ, nat_eq, ◌+◌, Bool, true, ◌&&◌, if◌then◌else◌, List, [], ◌∷◌, ◌++◌, length, Option, Some, None}
 use Rattle.std.specs.List.{list_all}
-use Rattle.std.specs.Option.{option_eq}
+use Rattle.std.specs.Option.{option_eq, option_map}
 use Rattle.model_names.specs.Name.{Name}
 use Rattle.model_maps.specs.KeyMap.{KeyMap}
 use Rattle.model_history.specs.Changes.{after}
 use Rattle.model_history.specs.History as past
 use Rattle.model_history.specs.History.{is_among}
-use Rattle.model_store.specs.Store.{Store, Formats, points_of}
+use Rattle.model_store.specs.Store.{Store, Formats, counts_keys, points_of}
 use Rattle.model_store.specs.Fitting.{Early}
-use Rattle.model_store.specs.Records.{Record}
+use Rattle.model_store.specs.Records.{Fetched, Record, no_record}
 use Rattle.model_store.specs.Sets.{Prepared, prepared, wants, front_in}
 use Rattle.model_store.specs.Verdicts.{Late, Commits, IsEarly, IsLate}
 use Rattle.model_store.specs.Events.{Event, Get, Prepare, Commit, Answer, Memory, Bad, Got, Refused, Ready, Judged, Failed, first_bad, got, put}
@@ -23,15 +23,32 @@ pub record Core : Type 0 where
   pub sets : ℕ → Option Prepared
 
 abbrev pub first_core : Store → Core
-first_core store = record { history = []; keys = store.start; records = λ r m. None; sets = λ p. None }
+first_core store = record { history = []; keys = store.start; records = λ r. no_record; sets = λ p. None }
 
 -- a record that keeps some keys of some mounts from a front on, and of the others what it kept
 abbrev pub keeping : List ℕ → ℕ → (ℕ → KeyMap) → Record → Record
-keeping mounts front keys rec m = if is_among mounts m then Some (record { front = front; kept = keys m }) else rec m
+keeping mounts front keys rec = record {
+  fetched = λ m. if is_among mounts m then Some (record { front = front; kept = keys m }) else rec.fetched m;
+  committed = rec.committed;
+}
 
--- a prepared set was made for this handle, with the fronts that its record still has of the involved mounts
+-- what a record has of a mount that its handle's commit touched: what was wanted there, from the commit's number on; of a mount by key, from the
+-- front on that it has
+abbrev pub kept_from : Bool → ℕ → KeyMap → Option Fetched → Option Fetched
+kept_from by_key number keys fetched = if by_key then option_map (λ had. record { front = had.front; kept = keys }) fetched else Some (record { front = number; kept = keys })
+
+-- a record after its handle's commit of a number, with what was wanted for each touched mount
+abbrev pub storing : Store → List ℕ → ℕ → (ℕ → KeyMap) → Record → Record
+storing store mounts number keys rec = record {
+  fetched = λ m. if is_among mounts m then kept_from (counts_keys store m) number (keys m) (rec.fetched m) else rec.fetched m;
+  committed = rec.committed + 1;
+}
+
+-- a prepared set was made for this handle, with the fronts that its record still has of the involved mounts, and the handle has committed nothing
+-- since
 abbrev pub accepts : Record → ℕ → Prepared → Bool
-accepts rec handle set = nat_eq handle set.handle && list_all (λ m. option_eq nat_eq (front_in rec m) (set.fronts m)) set.involved
+accepts rec handle set =
+    nat_eq handle set.handle && (nat_eq rec.committed set.committed && list_all (λ m. option_eq nat_eq (front_in rec m) (set.fronts m)) set.involved)
 
 pub record GetMade (store : Store) (core : Core) (r : ℕ) (parent : Name) (front : ℕ) (keys : KeyMap) (next : Core) : Type 0 where
   pub good : first_bad store parent ≡ None
@@ -56,7 +73,7 @@ abbrev pub core_after : Store → Core → ℕ → Prepared → Late → Core
 core_after store core r set (Commits commit aside) = record {
   history = core.history ++ commit ∷ [];
   keys = after core.keys set.changes;
-  records = put r (keeping set.touched (length core.history + 1) (wants (points_of store) set.keys) (core.records r)) core.records;
+  records = put r (storing store set.touched (length core.history + 1) (wants (points_of store) set.keys) (core.records r)) core.records;
   sets = core.sets;
 }
 core_after store core r set late = core

@@ -5,8 +5,11 @@ pub mod Sets
 pub mod Rules
 pub mod Verdicts
 pub mod Legal
+pub mod Sound
 pub mod Events
 pub mod Worlds
 pub mod Cores
 pub mod Promise
 pub mod First
+pub mod Remaking
+pub mod Worked

@@ -12,10 +12,11 @@ use Rattle.model_store.specs.Store.{Store, points_of}
 use Rattle.set_split.specs.Involved.{involved_in}
 use Rattle.set_split.specs.Parts.{owned_by, left_aside}
 
--- a prepared set: whose it is, the mounts that its parent involves and their fronts, the keys, the touched mounts, what changes, and how
--- many keys no involved mount owns
+-- a prepared set: whose it is, how many commits of this handle there were, the mounts that its parent involves and their fronts, the keys,
+-- the touched mounts, what changes, and how many keys no involved mount owns
 pub record Prepared : Type 0 where
   pub handle : ℕ
+  pub committed : ℕ
   pub involved : List ℕ
   pub fronts : Fronts
   pub keys : KeyMap
@@ -23,9 +24,9 @@ pub record Prepared : Type 0 where
   pub changes : Changes
   pub aside : ℕ
 
--- something of some mounts alone
-abbrev pub only : {A : Type 0} → List ℕ → (ℕ → Option A) → ℕ → Option A
-only mounts told m = if is_among mounts m then told m else None
+-- what a record has of some mounts alone
+abbrev pub only : List ℕ → Record → Record
+only mounts rec = record { fetched = λ m. if is_among mounts m then rec.fetched m else None; committed = rec.committed }
 
 -- what is wanted for a mount: the keys that it owns
 abbrev pub wants : List Name → KeyMap → ℕ → KeyMap
@@ -33,11 +34,11 @@ wants points keys m = owned_by points m keys
 
 -- what a record keeps of a mount
 abbrev pub kept : Record → ℕ → KeyMap
-kept rec m = unwrap_or (option_map (λ fetched. fetched.kept) (rec m)) no_keys
+kept rec m = unwrap_or (option_map (λ fetched. fetched.kept) (rec.fetched m)) no_keys
 
 -- the front that a record has of a mount
 abbrev pub front_in : Record → ℕ → Option ℕ
-front_in rec m = option_map (λ fetched. fetched.front) (rec m)
+front_in rec m = option_map (λ fetched. fetched.front) (rec.fetched m)
 
 -- a mount is touched where what is wanted for it isn't what is kept of it
 abbrev pub differs : (ℕ → KeyMap) → (ℕ → KeyMap) → ℕ → Bool
@@ -55,7 +56,16 @@ changes_at before wanted mounts = map.from_entries (changes_of before wanted mou
 abbrev pub prepared_by : List Name → ℕ → List ℕ → Record → KeyMap → ℕ → Prepared
 prepared_by points handle involved rec keys aside =
     let touched = filter (differs (kept rec) (wants points keys)) involved in
-    record { handle = handle; involved = involved; fronts = front_in rec; keys = keys; touched = touched; changes = changes_at (kept rec) (wants points keys) touched; aside = aside }
+    record {
+      handle = handle;
+      committed = rec.committed;
+      involved = involved;
+      fronts = front_in rec;
+      keys = keys;
+      touched = touched;
+      changes = changes_at (kept rec) (wants points keys) touched;
+      aside = aside;
+    }
 
 -- the set that a record makes of some keys at a parent
 abbrev pub prepared : List Name → ℕ → Record → Name → KeyMap → Prepared
@@ -64,4 +74,4 @@ prepared points handle rec parent keys =
 
 -- the set that fronts make in a history
 abbrev pub set_of : Store → List Commit → ℕ → Fronts → Name → KeyMap → Prepared
-set_of store history handle fronts parent keys = prepared (points_of store) handle (record_of store history fronts) parent keys
+set_of store history handle fronts parent keys = prepared (points_of store) handle (record_of store history handle fronts) parent keys

@@ -1,6 +1,6 @@
 -- What an opening fixes: the mounts, which of them are bad, the keys that each file keeps for other mounts, the map of all visible keys,
 -- and the keys in `proc` of each handle. (After Elektra's page on mounting.)
-use Rattle.std.specs.Prelude.{ℕ, Bool, true, false, List, map as over, slice_get}
+use Rattle.std.specs.Prelude.{ℕ, Bool, true, false, not, List, filter, map as over, slice_get}
 use Rattle.std.specs.List.{list_any}
 use Rattle.std.specs.Option.{option_map_or}
 use Rattle.kdb_outside.specs.declared.kinds.Kind.{Kind}
@@ -49,6 +49,17 @@ formats_of g = record { text = g.text; IsStorable = g.is_storable; BreaksAt = g.
 -- what the file of a mount is to hold where some keys are wanted for it: these and its shadow, under relative names
 abbrev pub contents : Store → ℕ → Mount → KeyMap → KeyMap
 contents store m mount wanted = relative mount.at (with_all wanted (store.shadow m))
+
+-- a mount counts conflicts by key; where there is no such mount, none does
+abbrev pub counts_in : List Mount → ℕ → Bool
+counts_in mounts m = option_map_or (λ mount. mount.by_key) (slice_get mounts m) false
+
+abbrev pub counts_keys : Store → ℕ → Bool
+counts_keys store = counts_in store.mounts
+
+-- of some mounts those that count by their whole backend
+abbrev pub by_backend : Store → List ℕ → List ℕ
+by_backend store mounts = filter (λ m. not (counts_keys store m)) mounts
 
 -- ---- what an opening fixes
 

@@ -1,18 +1,22 @@
 -- What comes of a set: the first of its refusals, nothing to do, or a commit. A relation, since which keys a format can hold is one. (After
--- Elektra's kdbSet, whose conflict is another's change since the own get; the order and the limits are this project's own.)
-use Rattle.std.specs.Prelude.{◌≡◌, ◌⊎◌, ℕ, nat_lt, Bool, true, not, if◌then◌else◌, List, [], ◌∷◌, ◌++◌, Option, Some, None, option_and_then}
+-- Elektra's kdbSet, whose conflict is another's change since the own get; the order, the limits and conflicts by key are this project's own.)
+use Rattle.std.specs.Prelude.{◌≡◌, ◌⊎◌, ℕ, nat_lt, ◌+◌, Bool, true, not, ◌&&◌, if◌then◌else◌, List, [], ◌∷◌, ◌++◌, length, drop, slice_get, Option, Some, None, option_and_then}
 use Rattle.std.specs.FinMap as map
-use Rattle.std.specs.List.{AllByRecursion}
+use Rattle.std.specs.List.{AllByRecursion, list_any, position_from}
 use Rattle.std.specs.Option.{option_map, option_or}
+use Rattle.backend_files.specs.WholeFile.{longest_file}
 use Rattle.general_words.specs.Saturated.{saturated}
 use Rattle.general_words.specs.Searches.{first_some}
 use Rattle.model_names.specs.Name.{Name}
 use Rattle.model_maps.specs.KeyMap.{KeyMap, weight, heaviest_map}
 use Rattle.model_history.specs.Changes.{after}
-use Rattle.model_history.specs.History.{Commit, first_after, history_weight, heaviest_history}
+use Rattle.model_history.specs.History.{Commit, changes_beside, first_after, history_weight, heaviest_history}
 use Rattle.model_specified.specs.declared.violations.Violation.{Violation}
+use Rattle.mount_table.specs.declared.mounts.Mount.{Mount}
 use Rattle.mounted_files.specs.Setting.{first_long_in}
-use Rattle.model_store.specs.Store.{Store, Formats, points_of}
+use Rattle.set_split.specs.Involved.{owns}
+use Rattle.set_split.specs.Parts.{owned_by}
+use Rattle.model_store.specs.Store.{Store, Formats, contents, counts_keys, points_of}
 use Rattle.model_store.specs.Fitting.{Early, NotFetched, ValueTooLong, NotStorable, too_heavy, too_long, bad_table, IsStorableAt, BreaksAtMount}
 use Rattle.model_store.specs.Rules.{FirstBreach, KeepRules}
 use Rattle.model_store.specs.Sets.{Prepared, wants}
@@ -70,18 +74,31 @@ IsEarly formats store set answer = Follows (before_formats store set) answer (Fr
 
 -- ---- blocking commits
 
--- the commit that blocks a mount of a set: the first behind its front of the mount that touches it
+-- a commit changes a name that a set changes of a mount, and another handle made it
+abbrev pub changes_same : List Name → Prepared → ℕ → Commit → Bool
+changes_same points set m commit = list_any (λ change. owns points m change.0 && changes_beside change.0 set.handle commit) (map.entries set.changes)
+
+-- the first such commit behind a front
+abbrev pub first_same : List Name → List Commit → Prepared → ℕ → ℕ → Option ℕ
+first_same points history set m front = position_from (changes_same points set m) (front + 1) (drop front history)
+
+-- the commit that blocks a mount of a set, by its front of the mount: the first behind it that touches the mount; of a mount by key, the first
+-- of another handle behind it that changes a name which the set changes there
+abbrev pub blocking_behind : Store → List Commit → Prepared → ℕ → ℕ → Option ℕ
+blocking_behind store history set m front = if counts_keys store m then first_same (points_of store) history set m front else first_after history m front
+
 abbrev pub blocking : Store → List Commit → Prepared → ℕ → Option ℕ
-blocking store history set m = option_and_then (first_after history m) (set.fronts m)
+blocking store history set m = option_and_then (blocking_behind store history set m) (set.fronts m)
 
 -- ---- what the history decides
 
--- no mount is touched, with the number of keys left aside; a commit blocks a mount; a key of a touched mount breaks a rule after the set, with
--- whether the matcher's count of refusals rose; the map after the set, or the history with it, weighs too much; or the set is a commit, with the
--- number of keys left aside
+-- no mount is touched, with the number of keys left aside; a commit blocks a mount; the file of a mount by key would be too large after the set,
+-- with the weight of its keys or the length of its text; a key of a touched mount breaks a rule after the set, with whether the matcher's count
+-- of refusals rose; the map after the set, or the history with it, weighs too much; or the set is a commit, with the number of keys left aside
 pub data Late : Type 0 where
   Same : ℕ → Late
   Conflict : ℕ → ℕ → Late
+  TooLarge : ℕ → ℕ → Late
   Invalid : Violation → Bool → Late
   DatabaseFull : ℕ → Late
   HistoryFull : ℕ → Late
@@ -101,6 +118,25 @@ conflict_at store history set m = option_map (Conflict m) (blocking store histor
 
 abbrev pub conflict : Store → List Commit → Prepared → Option Late
 conflict store history set = first_some (conflict_at store history set) set.touched
+
+-- how much too large a file with some keys would be: the weight of the keys where they are too heavy, and else the length of their text where
+-- that is too long
+abbrev pub oversize : Formats → Mount → KeyMap → Option ℕ
+oversize formats mount keys =
+    if nat_lt heaviest_map (weight keys) then Some (saturated (weight keys)) else (
+    if nat_lt longest_file (length (formats.text mount.kind keys)) then Some (length (formats.text mount.kind keys)) else None)
+
+-- the file of a mount by key with what it is to hold of some keys. That of a mount by its backend holds what the set wants, and was found small enough
+abbrev pub too_large_file : Formats → Store → KeyMap → ℕ → Mount → Option Late
+too_large_file formats store keys m mount =
+    if mount.by_key then option_map (TooLarge m) (oversize formats mount (contents store m mount (owned_by (points_of store) m keys))) else None
+
+abbrev pub too_large_at : Formats → Store → KeyMap → ℕ → Option Late
+too_large_at formats store keys m = option_and_then (too_large_file formats store keys m) (slice_get store.mounts m)
+
+-- the lowest touched mount by key whose file would be too large after the set
+abbrev pub too_large : Formats → Store → KeyMap → Prepared → Option Late
+too_large formats store keys set = first_some (too_large_at formats store (after keys set.changes)) set.touched
 
 -- a key that a touched mount owns breaks a rule in the map after the set: the first violation
 pub record BreaksRules (points : List Name) (keys : KeyMap) (set : Prepared) (answer : Late) : Type 0 where
@@ -124,15 +160,17 @@ abbrev pub IsLate : Formats → Store → List Commit → KeyMap → Prepared �
 IsLate formats store history keys set answer =
     Follows (if_untouched set.touched set.aside) (Some answer)
     (Follows (conflict store history set) (Some answer)
+    (Follows (too_large formats store keys set) (Some answer)
     (Checks (points_of store) keys set answer
     (Follows (if_heavy (weight (after keys set.changes))) (Some answer)
     (Follows (if_full (history_weight (history ++ commit_of set ∷ []))) (Some answer)
-    (answer ≡ Commits (commit_of set) set.aside)))))
+    (answer ≡ Commits (commit_of set) set.aside))))))
 
 -- a verdict that no refusal of a pattern can have changed: it is no violation that was found while the matcher's count of refusals rose
 abbrev pub is_certain : Late → Bool
 is_certain (Same aside) = true
 is_certain (Conflict m by) = true
+is_certain (TooLarge m size) = true
 is_certain (Invalid violation risen) = not risen
 is_certain (DatabaseFull n) = true
 is_certain (HistoryFull n) = true

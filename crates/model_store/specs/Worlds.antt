@@ -4,7 +4,7 @@ use Rattle.model_names.specs.Name.{Name}
 use Rattle.model_maps.specs.KeyMap.{KeyMap}
 use Rattle.model_history.specs.History as past
 use Rattle.model_history.specs.History.{replay}
-use Rattle.model_store.specs.Store.{Store, Formats, points_of}
+use Rattle.model_store.specs.Store.{Store, Formats, by_backend, points_of}
 use Rattle.model_store.specs.Fitting.{Early}
 use Rattle.model_store.specs.Records.{Fronts, no_fronts, seen_at}
 use Rattle.model_store.specs.Sets.{Prepared, set_of}
@@ -12,9 +12,10 @@ use Rattle.model_store.specs.Verdicts.{Late, Commits, IsEarly, IsLate}
 use Rattle.model_store.specs.Events.{Event, Get, Prepare, Commit, Answer, Memory, Bad, Got, Refused, Ready, Judged, Failed, first_bad, got, put}
 use Rattle.set_split.specs.Involved.{involved_in}
 
--- what was asked with a prepared set: whose it is, the fronts then, the parent and the keys
+-- what was asked with a prepared set: whose it is, the length of the history and the fronts then, the parent and the keys
 pub record Asked : Type 0 where
   pub handle : ℕ
+  pub found : ℕ
   pub fronts : Fronts
   pub parent : Name
   pub keys : KeyMap
@@ -49,16 +50,17 @@ pub record Refuses (formats : Formats) (store : Store) (world : World) (r : ℕ)
 
 pub record Prepares (formats : Formats) (store : Store) (world : World) (r p : ℕ) (parent : Name) (keys : KeyMap) (next : World) : Type 0 where
   pub early : IsEarly formats store (set_now store world r parent keys) None
-  pub next_is : next ≡ record world { asked = put p (Some (record { handle = r; fronts = world.fronts r; parent = parent; keys = keys })) world.asked }
+  pub next_is : next ≡ record world { asked = put p (Some (record { handle = r; found = length world.history; fronts = world.fronts r; parent = parent; keys = keys })) world.asked }
 
--- a commit joins the history, and its handle has then seen it of the mounts that it touches; any other verdict changes nothing
-abbrev pub world_after : World → ℕ → Late → World
-world_after world r (Commits commit aside) = record {
+-- a commit joins the history, and its handle has then seen it of the mounts that it touches and that count by their backend; any other verdict
+-- changes nothing
+abbrev pub world_after : Store → World → ℕ → Late → World
+world_after store world r (Commits commit aside) = record {
   history = world.history ++ commit ∷ [];
-  fronts = put r (seen_at commit.touched (length world.history + 1) (world.fronts r)) world.fronts;
+  fronts = put r (seen_at (by_backend store commit.touched) (length world.history + 1) (world.fronts r)) world.fronts;
   asked = world.asked;
 }
-world_after world r late = world
+world_after store world r late = world
 
 -- what was asked is judged by the present history and the present fronts
 pub record Judges (formats : Formats) (store : Store) (world : World) (r p front : ℕ) (late : Late) : Type 0 where
@@ -83,6 +85,6 @@ Meant formats store world (Prepare r p parent keys) Memory next = next ≡ world
 Meant formats store world (Prepare r p parent keys) (Refused why) next = Refuses formats store world r parent keys why next
 Meant formats store world (Prepare r p parent keys) Ready next = Prepares formats store world r p parent keys next
 Meant formats store world (Commit r p) Memory next = next ≡ world
-Meant formats store world (Commit r p) (Judged front late) next = Judges formats store world r p front late × (next ≡ world_after world r late)
+Meant formats store world (Commit r p) (Judged front late) next = Judges formats store world r p front late × (next ≡ world_after store world r late)
 Meant formats store world (Commit r p) (Failed front) next = Fails formats store world r p front next
 Meant formats store world event answer next = ⊥

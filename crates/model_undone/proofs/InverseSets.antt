@@ -1,15 +1,14 @@
 -- What the set that undoes a commit changes, name by name, and what the verdict tells of it.
-use Rattle.std.proofs.Common.{◌≡◌, ◌≢◌, ℕ, ◌+◌, ◌-◌, nat_eq, nat_lt, Bool, true, false, T, cond, not, ◌&&◌, ◌||◌, is_some, List, [], ◌∷◌, ◌++◌, filter, length, take, map as over, Option, Some, None, refl, sym, ap, ap₂, ◌∙◌, eqb-true, arith}
+use Rattle.std.proofs.Common.{◌≡◌, ◌≢◌, ℕ, ◌+◌, ◌-◌, nat_eq, nat_lt, Bool, true, false, T, cond, not, ◌&&◌, ◌||◌, is_some, List, [], ◌∷◌, ◌++◌, drop, filter, length, take, map as over, Option, Some, None, refl, sym, ap, ap₂, ◌∙◌, eqb-true, arith}
 use Rattle.std.specs.FinMap as map
 use Rattle.std.specs.FinMap.{find, is_sorted}
 use Rattle.std.specs.FinMap.Entries.{below_all}
 use Rattle.std.specs.List.{AllByRecursion, position_from}
-use Rattle.std.specs.Option.{option_and_then, option_map, option_or, unwrap_or}
+use Rattle.std.specs.Option.{option_and_then, option_map, unwrap_or}
 use Rattle.std.specs.Ordering.{eq_by_cmp, is_lt}
 use Rattle.std.proofs.lemmas.Bool.{or_right}
 use Rattle.std.proofs.lemmas.List.{drop_all}
 use Rattle.general_words.specs.Saturated.{saturated}
-use Rattle.general_words.specs.Searches.{first_some}
 use Rattle.general_words.proofs.Lists.{take-next}
 use Rattle.general_words.proofs.Orders.{tied}
 use Rattle.general_words.proofs.Tests.{true_is}
@@ -28,13 +27,13 @@ use Rattle.model_store.specs.Fitting.{NotFetched}
 use Rattle.model_store.specs.Legal.{HasChange}
 use Rattle.model_store.specs.Records.{Fetched, Record}
 use Rattle.model_store.specs.Sets.{Prepared, differs, kept, only, wants}
-use Rattle.model_store.specs.Store.{Store, Formats, points_of}
-use Rattle.model_store.specs.Verdicts.{Late, Same, Conflict, Invalid, DatabaseFull, HistoryFull, Commits, IsEarly, IsLate, commit_of, conflict, conflict_at, if_full, if_heavy, if_unseen, if_untouched, not_fetched}
-use Rattle.model_store.proofs.FirstSets.{never_unseen}
-use Rattle.model_store.proofs.Members.{among-filter, among-first, among-rest}
+use Rattle.model_store.specs.Store.{Store, Formats, counts_keys, points_of}
+use Rattle.model_store.specs.Verdicts.{Late, Same, Conflict, TooLarge, Invalid, DatabaseFull, HistoryFull, Commits, IsEarly, IsLate, blocking_behind, changes_same, commit_of, conflict, conflict_at, first_same, if_full, if_heavy, if_unseen, if_untouched, not_fetched, too_large}
+use Rattle.model_store.proofs.Members.{among-filter, nothing_of}
 use Rattle.model_store.proofs.Owners.{IsOwner, get-mine, get-other, owner_among}
 use Rattle.model_store.proofs.Touched.{AreOwned, changed-at, get-changes}
-use Rattle.model_store.proofs.VerdictLemmas.{is_blocked, not_conflict, not_limited, skipped, told, unruled}
+use Rattle.model_store.proofs.Unseen.{never_unseen}
+use Rattle.model_store.proofs.VerdictLemmas.{is_blocked, not_conflict, not_large, not_limited, skipped, told, unruled}
 use Rattle.model_undo.specs.Undoing.{changes_made, commit_at, inverse, is_changed, turned_back}
 use Rattle.model_undo.proofs.UndoLemmas.{get-turned_back, made-there, stands-at, stands-still}
 use Rattle.model_undone.specs.UndoSets.{CanUndo, record_got, taken_back, undo_set}
@@ -42,10 +41,6 @@ use Rattle.set_split.specs.Involved.{involved_in, owns}
 use Rattle.set_split.specs.Parts.{owned_by}
 
 -- ---- searches among numbers
-
-none_of : {B : Type 0} (f : ℕ → Option B) (ms : List ℕ) → ((m : ℕ) → is_among ms m ≡ true → f m ≡ None) → first_some f ms ≡ None
-none_of f [] each = refl
-none_of f (m ∷ ms) each = ap (λ o. option_or o (first_some f ms)) (each m (among-first m ms)) ∙ none_of f ms (λ n among. each n (among-rest m n ms among))
 
 -- what is among all and passes is among those that pass
 pub into-filter : (p : ℕ → Bool) (ms : List ℕ) (m : ℕ) → is_among ms m ≡ true → p m ≡ true → is_among (filter p ms) m ≡ true
@@ -125,16 +120,16 @@ module _ (formats : Formats) (store : Store) (history : List Commit) (handle : �
 
   -- what the record keeps of an involved mount, and its front
   had : (m : ℕ) → is_among involved m ≡ true → before m ≡ owned_by points m present
-  had m among = ap (λ b. unwrap_or (option_map (λ (f : Fetched). f.kept) (cond b (cond b (Some (seen_of m)) (rec m)) None)) no_keys) among
+  had m among = ap (λ b. unwrap_or (option_map (λ (f : Fetched). f.kept) (cond b (cond b (Some (seen_of m)) (rec.fetched m)) None)) no_keys) among
 
   front-is : (m : ℕ) → is_among involved m ≡ true → set.fronts m ≡ Some (length history)
-  front-is m among = ap (λ b. option_map (λ (f : Fetched). f.front) (cond b (cond b (Some (seen_of m)) (rec m)) None)) among
+  front-is m among = ap (λ b. option_map (λ (f : Fetched). f.front) (cond b (cond b (Some (seen_of m)) (rec.fetched m)) None)) among
 
   owned : AreOwned points before wanted
   owned = record { nothing_before = none; nothing_wanted = λ m q off. get-other points m made_keys q off }
     where
       none : (m : ℕ) (q : Name) → owns points m q ≡ false → map.get (before m) q ≡ None
-      none m q off = elim (is_among involved m) as (λ b. map.get (unwrap_or (option_map (λ (f : Fetched). f.kept) (cond b (cond b (Some (seen_of m)) (rec m)) None)) no_keys) q ≡ None) [
+      none m q off = elim (is_among involved m) as (λ b. map.get (unwrap_or (option_map (λ (f : Fetched). f.kept) (cond b (cond b (Some (seen_of m)) (rec.fetched m)) None)) no_keys) q ≡ None) [
         | true ↦ get-other points m present q off
         | false ↦ map.get-empty name_cmp q
       ]
@@ -235,15 +230,23 @@ module _ (formats : Formats) (store : Store) (history : List Commit) (handle : �
   -- ---- what the verdict tells
 
   pub fetched : not_fetched set ≡ None
-  fetched = none_of (λ m. if_unseen m (set.fronts m)) involved (λ m among. ap (if_unseen m) (front-is m among))
+  fetched = nothing_of (λ m. if_unseen m (set.fronts m)) involved (λ m among. ap (if_unseen m) (front-is m among))
 
-  nothing-after : (m : ℕ) → first_after history m (length history) ≡ None
-  nothing-after m = ap (position_from (touches m) (length history + 1)) (drop_all (length history) history (omega arith))
+  -- behind the whole history there is no commit
+  nothing-after : (m : ℕ) → blocking_behind store history set m (length history) ≡ None
+  nothing-after m = by (counts_keys store m)
+    where
+      end : drop (length history) history ≡ []
+      end = drop_all (length history) history (omega arith)
+
+      by : (own : Bool) → cond own (first_same points history set m (length history)) (first_after history m (length history)) ≡ None
+      by false = ap (position_from (touches m) (length history + 1)) end
+      by true = ap (position_from (changes_same points set m) (length history + 1)) end
 
   pub free : conflict store history set ≡ None
-  free = none_of (conflict_at store history set) set.touched (λ m among.
+  free = nothing_of (conflict_at store history set) set.touched (λ m among.
       let reached : is_among involved m ≡ true = (among-filter (differs before wanted) involved m among).0 in
-      ap (λ o. option_map (Conflict m) (option_and_then (first_after history m) o)) (front-is m reached) ∙ ap (option_map (Conflict m)) (nothing-after m))
+      ap (λ o. option_map (Conflict m) (option_and_then (blocking_behind store history set m) o)) (front-is m reached) ∙ ap (option_map (Conflict m)) (nothing-after m))
 
   pub touches-some : set.touched ≢ []
   touches-some none = by can.commit.touched can.legal.some can.legal.each
@@ -261,6 +264,7 @@ module _ (formats : Formats) (store : Store) (history : List Commit) (handle : �
 abbrev is_same : Late → Bool
 is_same (Same aside) = true
 is_same (Conflict m by) = false
+is_same (TooLarge m size) = false
 is_same (Invalid violation risen) = false
 is_same (DatabaseFull n) = false
 is_same (HistoryFull n) = false
@@ -277,7 +281,8 @@ never_same formats store history keys set aside some late =
     let h : ℕ = history_weight (history ++ commit_of set ∷ []) in
     some (none_touched set.touched set.aside is (told (if_untouched set.touched set.aside) is _ (λ rest.
     let open_now = skipped (conflict store history set) is _ (λ e. let off : is_same is ≡ false = not_conflict is_same store history set set.touched is (λ m by. refl) e in absurd cc) rest in
-    let valid = unruled (points_of store) keys set is _ (λ violation risen e. let off : is_same is ≡ false = ap is_same e in absurd cc) open_now.1 in
+    let small = skipped (too_large formats store keys set) is _ (λ e. let off : is_same is ≡ false = not_large is_same formats store (after keys set.changes) set.touched is (λ m size. refl) e in absurd cc) open_now.1 in
+    let valid = unruled (points_of store) keys set is _ (λ violation risen e. let off : is_same is ≡ false = ap is_same e in absurd cc) small.1 in
     let light = skipped (if_heavy w) is _ (λ e. let off : is_same is ≡ false = not_limited is_same (nat_lt heaviest_map w) (DatabaseFull (saturated w)) is refl e in absurd cc) valid.1 in
     let full = skipped (if_full h) is _ (λ e. let off : is_same is ≡ false = not_limited is_same (nat_lt heaviest_history h) (HistoryFull (saturated h)) is refl e in absurd cc) light.1 in
     let off : is_same is ≡ false = ap is_same full.1 in

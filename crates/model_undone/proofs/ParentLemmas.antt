@@ -1,5 +1,5 @@
 -- The parent of the mounts that a commit touched involves each of them, and a get of it shows what they have: so the commit can be undone from that.
-use Rattle.std.proofs.Common.{◌≡◌, ℕ, zero, suc, ◌+◌, ◌-◌, ◌<◌, ◌≤◌, nat_eq, Bool, true, false, true≢false, cond, ◌&&◌, ◌||◌, ◌==◌, List, [], ◌∷◌, filter, length, take, get_or, map as over, slice_get, Option, Some, None, refl, sym, ap, subst, ◌∙◌, eqb-true, inl, inr, arith}
+use Rattle.std.proofs.Common.{◌≡◌, ℕ, zero, suc, ◌+◌, ◌-◌, ◌<◌, ◌≤◌, nat_eq, Bool, true, false, true≢false, cond, ◌||◌, ◌==◌, List, [], ◌∷◌, length, take, get_or, slice_get, Option, Some, None, refl, sym, ap, subst, ◌∙◌, eqb-true, inl, inr, arith}
 use Rattle.std.specs.FinMap as map
 use Rattle.std.specs.List.{list_any, range_with_len}
 use Rattle.std.specs.Option.{option_map_or, option_or, unwrap_or}
@@ -26,13 +26,13 @@ use Rattle.model_history.specs.History.{Commit, is_among, replay}
 use Rattle.model_store.specs.Events.{got, shows_proc}
 use Rattle.model_store.specs.Legal.{AreLegal, HasChange, IsLegal, IsLegalCommit}
 use Rattle.model_store.specs.Store.{Store, Formats, points_of}
-use Rattle.model_store.proofs.Members.{among-first, among-rest, from_all}
+use Rattle.model_store.proofs.Members.{among-first, from_all}
 use Rattle.model_store.proofs.Owners.{owned-among, same_owned}
 use Rattle.model_undo.specs.Undoing.{IsThere, commit_at}
 use Rattle.model_undo.proofs.UndoLemmas.{stands-at}
-use Rattle.model_undone.specs.UndoSets.{CanUndo, cascading_root, parent_over, touched_by, undo_parent}
+use Rattle.model_undone.specs.UndoSets.{CanUndo, cascading_root, parent_over, undo_parent}
 use Rattle.model_undone.proofs.InverseSets.{into-filter}
-use Rattle.set_split.specs.Involved.{involved_in, is_involved, is_involved_at, owns, roots_of, stands_below}
+use Rattle.set_split.specs.Involved.{involved_in, is_involved, is_involved_at, owns, stands_below}
 use Rattle.set_split.specs.Parts.{in_reach, is_reached, owned_by}
 use Rattle.set_split.proofs.MountLemmas.{any-map}
 use Rattle.set_split.proofs.OwningLemmas.{owner_is}

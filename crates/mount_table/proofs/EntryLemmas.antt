@@ -8,7 +8,7 @@ use Rattle.std.specs.Option.{option_map, option_or}
 use Rattle.std.specs.Ordering.{eq_by_cmp}
 use Rattle.std.specs.declared.cmp.Ordering.{Ordering}
 use Rattle.std.specs.declared.cmp.Ordering.TheVariants.{Less, Equal, Greater}
-use Rattle.std.proofs.lemmas.Bool.{cond-false, true≢false}
+use Rattle.std.proofs.lemmas.Bool.{cond-false, or_parts, true≢false}
 use Rattle.std.proofs.lemmas.Cmp.{nat_list_cmp_total}
 use Rattle.general_words.specs.Texts.{text_cmp}
 use Rattle.general_words.proofs.Lists.{some_is}
@@ -25,9 +25,9 @@ use Rattle.model_names.proofs.OrderLemmas.{name_cmp_total, name_cmp-IsAntisymmet
 use Rattle.model_maps.specs.Entry.{Entry}
 use Rattle.model_maps.specs.KeyMap.{KeyMap}
 use Rattle.mount_table.specs.Entries.{Entries, AreNames, Notes, entries_of, has_entry, said_by, value_at}
-use Rattle.mount_table.specs.Places.{entry_name, child_name, path_word, plugin_word, text_of_entry}
+use Rattle.mount_table.specs.Places.{entry_name, child_name, path_word, plugin_word, conflicts_word, text_of_entry}
 use Rattle.mount_table.specs.declared.entries.MountEntry.{MountEntry}
-use Rattle.mount_table.proofs.PlaceLemmas.{is_found, at_or_below-entry}
+use Rattle.mount_table.proofs.PlaceLemmas.{is_found, at_or_below-entry, own-entry}
 
 -- ---- what the entries have at a text
 
@@ -126,6 +126,20 @@ absent keys name never are = sym (ap (option_map (λ entry. entry.value)) (map.g
         other (inl differ) = differ
         other (inr same) = absurd (never (subst IsName (sym same.1) are.0))
 
+-- an entry that isn't there has no child
+pub free-child : (keys : KeyMap) (text word : Part) → has_entry keys text ≡ false → value_at keys (child_name text word) ≡ None
+free-child keys text word free = ap (option_map (λ entry. entry.value)) (map.get-entries keys (child_name text word) ∙ by (map.entries keys) free)
+  where
+    by : (some : List (Name × Entry)) → list_any (λ key. is_at_or_below (entry_name text) key.0) some ≡ false → find name_cmp (child_name text word) some ≡ None
+    by [] free = refl
+    by (key ∷ some) free =
+        let parts = or_parts (is_at_or_below (entry_name text) key.0) (list_any (λ key. is_at_or_below (entry_name text) key.0) some) free in
+        cond-false _ _ _ (other parts.0 (tied_or_not {R = name_cmp} name_cmp-IsAntisymmetric (child_name text word) key.0)) ∙ by some parts.1
+      where
+        other : is_at_or_below (entry_name text) key.0 ≡ false → (eq_by_cmp name_cmp (child_name text word) key.0 ≡ false) ⊎ ((eq_by_cmp name_cmp (child_name text word) key.0 ≡ true) × (child_name text word ≡ key.0)) → eq_by_cmp name_cmp (child_name text word) key.0 ≡ false
+        other none (inl differ) = differ
+        other none (inr same) = absurd (true≢false (sym (own-entry text (child_name text word) refl) ∙ ap (is_at_or_below (entry_name text)) same.1 ∙ none))
+
 -- ---- one more child
 
 or_swap : (a b c : Bool) → (a || (b || c)) ≡ (b || (a || c))
@@ -164,7 +178,7 @@ module _ (keys : KeyMap) (own word : Part) (entry : Entry) where
   at : (text : Part) → (eq_by_cmp text_cmp text own ≡ false) ⊎ ((eq_by_cmp text_cmp text own ≡ true) × (text ≡ own)) → if_there (eq_by_cmp text_cmp text own || has_entry keys text) (said_by more text) ≡ cond (eq_by_cmp text_cmp text own) (Some (said_by more own)) (map.get (entries_of keys) text)
   at text (inl differ) =
       let apart : text ≢ own = λ e. true≢false (sym (ap (λ t. eq_by_cmp text_cmp t own) e ∙ itself nat_list_cmp_total own) ∙ differ) in
-      rw differ ((λ i. if_there (has_entry keys text) (record { path = value_at-other text path_word apart i; plugin = value_at-other text plugin_word apart i })) ∙ sym (get-entries_of keys text))
+      rw differ ((λ i. if_there (has_entry keys text) (record { path = value_at-other text path_word apart i; plugin = value_at-other text plugin_word apart i; conflicts = value_at-other text conflicts_word apart i })) ∙ sym (get-entries_of keys text))
   at text (inr same) = rw same.0 (ap (λ t. Some (said_by more t)) same.1)
 
   -- the entry is there, with what it says now

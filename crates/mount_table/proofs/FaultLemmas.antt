@@ -4,13 +4,14 @@ use Rattle.std.specs.FinMap as map
 use Rattle.model_names.specs.Name.{Part}
 use Rattle.model_maps.specs.KeyMap.{KeyMap}
 use Rattle.mount_table.specs.Answers.{IsOfTable}
+use Rattle.mount_table.specs.Counting.{counting_said}
 use Rattle.mount_table.specs.Entries.{entries_of}
 use Rattle.mount_table.specs.Points.{point_of, file_of}
-use Rattle.mount_table.specs.Reading.{◌>>=◌, kind_said, mount_at, mount_of, next_mount, is_taken, mounts_from}
+use Rattle.mount_table.specs.Reading.{◌>>=◌, counted, kind_said, mount_at, mount_of, next_mount, is_taken, mounts_from}
 use Rattle.mount_table.specs.Table.{remaining, in_order, most_mounts, limited, table_of}
 use Rattle.mount_table.specs.declared.entries.MountEntry.{MountEntry}
 use Rattle.mount_table.specs.declared.faults.TableFault.{TableFault}
-use Rattle.mount_table.specs.declared.faults.TableFault.TheVariants.{BadMountpoint, NoPath, BadPath, UnknownPlugin, FileTwice, TooMany}
+use Rattle.mount_table.specs.declared.faults.TableFault.TheVariants.{BadMountpoint, NoPath, BadPath, UnknownPlugin, FileTwice, BadConflicts, TooMany}
 use Rattle.mount_table.specs.declared.mounts.Mount.{Mount}
 
 -- its fault, if there is one, is a table's
@@ -44,12 +45,15 @@ of_mount text said =
     of_then (ok_or (file_of path) (BadPath text)) _ (of_ok_or (file_of path) (BadPath text) tt) (λ file.
     of_then (ok_or (kind_said said.plugin) (UnknownPlugin text)) _ (of_ok_or (kind_said said.plugin) (UnknownPlugin text) tt) (λ kind. of_ok _))))
 
+of_counted : (text : Part) (said : MountEntry) (mount : Mount) → OfTable (counted text said mount)
+of_counted text said mount = of_then (ok_or (counting_said mount.kind said.conflicts) (BadConflicts text)) _ (of_ok_or (counting_said mount.kind said.conflicts) (BadConflicts text) tt) (λ by_key. of_ok _)
+
 of_next : (taken : List ℕ → Bool) (text : Part) (said : MountEntry) → OfTable (next_mount taken text said)
 of_next taken text said = of_then (mount_of text said) _ (of_mount text said) (λ mount. by (taken mount.file) mount)
   where
-    by : (b : Bool) (mount : Mount) → OfTable {A = Mount} (cond b (Err (FileTwice text)) (Ok mount))
+    by : (b : Bool) (mount : Mount) → OfTable (cond b (Err (FileTwice text)) (counted text said mount))
     by true mount = of_err (FileTwice text) tt
-    by false mount = of_ok mount
+    by false mount = of_counted text said mount
 
 of_mounts : (mounts : List Mount) (entries : List (Part × MountEntry)) → OfTable (mounts_from mounts entries)
 of_mounts mounts [] = of_ok mounts

@@ -7,4 +7,5 @@ pub mod ChangingLemmas
 pub mod FaultLemmas
 pub mod CountLemmas
 pub mod OwnFileLemmas
+pub mod ByKeyLemmas
 pub mod RootLemmas

@@ -120,15 +120,15 @@ module _ (keys : KeyMap) (mounts : List Mount) (ok : table_of keys ≡ Ok mounts
   pub own_files : (i j : ℕ) (one other : Mount) → slice_get mounts i ≡ Some one → slice_get mounts j ≡ Some other → one.file ≡ other.file → i ≡ j
   own_files = subst (λ (ms : List Mount). (i j : ℕ) (one other : Mount) → slice_get ms i ≡ Some one → slice_get ms j ≡ Some other → one.file ≡ other.file → i ≡ j) table.ordered (own_at (by_point table.all) (own_made (entries_of keys) table.all table.made))
 
-  good : (i : ℕ) (mount : Mount) → slice_get mounts i ≡ Some mount → IsGood mount
-  good = subst (λ (ms : List Mount). (i : ℕ) (mount : Mount) → slice_get ms i ≡ Some mount → IsGood mount) table.ordered
+  pub good_mounts : (i : ℕ) (mount : Mount) → slice_get mounts i ≡ Some mount → IsGood mount
+  good_mounts = subst (λ (ms : List Mount). (i : ℕ) (mount : Mount) → slice_get ms i ≡ Some mount → IsGood mount) table.ordered
       (good_at (by_point table.all) (λ point mount found. (by_point-each IsGood table.all (all_good (entries_of keys) table.all table.made) point mount found).1))
 
   pub free_files : (i : ℕ) (mount : Mount) → slice_get mounts i ≡ Some mount → starts_with nat_eq mount.file (codes "journal") ≡ false
-  free_files i mount there = (good i mount there).free
+  free_files i mount there = (good_mounts i mount there).free
 
   pub named_files : (i : ℕ) (mount : Mount) → slice_get mounts i ≡ Some mount → IsFileName mount.file
-  named_files i mount there = (is_file_name-Decides mount.file).0 (good i mount there).named
+  named_files i mount there = (is_file_name-Decides mount.file).0 (good_mounts i mount there).named
 
   pub few_mounts : length mounts ≤ most_mounts
   few_mounts = table.few

@@ -11,7 +11,7 @@ use Rattle.general_words.specs.Texts.{is_text, text_cmp}
 use Rattle.kdb_outside.specs.declared.kinds.Kind.{Kind}
 use Rattle.mount_table.specs.Answers.{IsFault}
 use Rattle.mount_table.specs.Points.{point_of, file_of}
-use Rattle.mount_table.specs.Reading.{◌>>=◌, kind_said, mount_of, next_mount, is_taken, mounts_from}
+use Rattle.mount_table.specs.Reading.{◌>>=◌, counted, kind_said, mount_of, next_mount, is_taken, mounts_from}
 use Rattle.mount_table.specs.declared.entries.MountEntry.{MountEntry}
 use Rattle.mount_table.specs.declared.faults.TableFault.{TableFault}
 use Rattle.mount_table.specs.declared.faults.TableFault.TheVariants.{BadMountpoint, NoPath, BadPath, UnknownPlugin, FileTwice}
@@ -21,7 +21,7 @@ use Rattle.mount_table.specs.declared.mounts.Mount.{Mount}
 
 -- the mount of an entry, by what is read one after another
 abbrev with_kind : Part → Name → List ℕ → Option Kind → Result Mount TableFault
-with_kind text point file kind = ok_or kind (UnknownPlugin text) >>= (λ kind. Ok (record { at = point; file = file; kind = kind }))
+with_kind text point file kind = ok_or kind (UnknownPlugin text) >>= (λ kind. Ok (record { at = point; file = file; kind = kind; by_key = false }))
 
 abbrev with_file : Part → Option (List ℕ) → Name → Option (List ℕ) → Result Mount TableFault
 with_file text plugin point file = ok_or file (BadPath text) >>= (λ file. with_kind text point file (kind_said plugin))
@@ -38,7 +38,7 @@ no_path text entry said point at none same = ap₂ (with_parts text said.plugin)
 pub no_file : (text entry : Part) (said : MountEntry) (point : Name) (path : List ℕ) → Some point ≡ point_of text → Some path ≡ said.path → None ≡ file_of path → entry ≡ text → mount_of text said ≡ Err (BadPath entry)
 no_file text entry said point path at given none same = ap₂ (with_parts text said.plugin) (sym at) (sym given) ∙ ap (with_file text said.plugin point) (sym none) ∙ ap (λ t. Err (BadPath t)) (sym same)
 
-pub by_kind : (text : Part) (said : MountEntry) (point : Name) (path file : List ℕ) (kind : Option Kind) → Some point ≡ point_of text → Some path ≡ said.path → Some file ≡ file_of path → kind ≡ kind_said said.plugin → mount_of text said ≡ (ok_or kind (UnknownPlugin text) >>= (λ kind. Ok (record { at = point; file = file; kind = kind })))
+pub by_kind : (text : Part) (said : MountEntry) (point : Name) (path file : List ℕ) (kind : Option Kind) → Some point ≡ point_of text → Some path ≡ said.path → Some file ≡ file_of path → kind ≡ kind_said said.plugin → mount_of text said ≡ (ok_or kind (UnknownPlugin text) >>= (λ kind. Ok (record { at = point; file = file; kind = kind; by_key = false })))
 by_kind text said point path file kind at given named is = ap₂ (with_parts text said.plugin) (sym at) (sym given) ∙ ap (with_file text said.plugin point) (sym named) ∙ ap (with_kind text point file) (sym is)
 
 -- ---- the files that are taken
@@ -46,8 +46,8 @@ by_kind text said point path file kind at given named is = ap₂ (with_parts tex
 pub same_next : (p q : List ℕ → Bool) → ((file : List ℕ) → p file ≡ q file) → (text : Part) (said : MountEntry) → next_mount p text said ≡ next_mount q text said
 same_next p q same text said = by (mount_of text said)
   where
-    by : (r : Result Mount TableFault) → (r >>= (λ mount. cond (p mount.file) (Err (FileTwice text)) (Ok mount))) ≡ (r >>= (λ mount. cond (q mount.file) (Err (FileTwice text)) (Ok mount)))
-    by (Ok mount) = ap (λ b. cond b (Err (FileTwice text)) (Ok mount)) (same mount.file)
+    by : (r : Result Mount TableFault) → (r >>= (λ mount. cond (p mount.file) (Err (FileTwice text)) (counted text said mount))) ≡ (r >>= (λ mount. cond (q mount.file) (Err (FileTwice text)) (counted text said mount)))
+    by (Ok mount) = ap (λ b. cond b (Err (FileTwice text)) (counted text said mount)) (same mount.file)
     by (Err fault) = refl
 
 or_swapped : (a b : Bool) → (a || (b || false)) ≡ (b || a)

@@ -1,6 +1,6 @@
 -- What a table that was read is: mounts in the order of their mountpoints, each in a namespace whose keys are in files. What holds of the
 -- default mounts, and is kept by each mount that an entry adds, holds of the mounts of a table.
-use Rattle.std.proofs.Common.{◌≡◌, ℕ, ◌+◌, ◌<◌, ◌≤◌, Bool, true, false, cond, not, ◌&&◌, ◌||◌, nat_eq, nat_le, ltb, T, List, [], ◌∷◌, ◌++◌, length, take, get_or, map as over, filter, fold, Option, Some, None, is_some, ok_or, Result, Ok, Err, codes, refl, sym, ap, subst, ◌∙◌, inl, inr, ◌⊎◌, arith, length-append, Bor}
+use Rattle.std.proofs.Common.{◌≡◌, ℕ, ◌+◌, ◌<◌, ◌≤◌, Bool, true, false, true≢false, cond, not, ◌&&◌, ◌||◌, nat_eq, nat_le, ltb, T, List, [], ◌∷◌, ◌++◌, length, take, get_or, map as over, filter, fold, Option, Some, None, is_some, ok_or, Result, Ok, Err, codes, refl, sym, ap, subst, ◌∙◌, inl, inr, ◌⊎◌, arith, length-append, Bor}
 use Rattle.std.specs.Cmp.{Equal-is, tied_itself}
 use Rattle.std.specs.FinMap as map
 use Rattle.std.specs.FinMap.{FinMap, is_sorted}
@@ -17,6 +17,7 @@ use Rattle.general_words.proofs.Tests.{cond_some}
 use Rattle.general_words.proofs.Texts.{text_cmp-IsAntisymmetric}
 use Rattle.general_words.proofs.Entries.{keys_rise}
 use Rattle.kdb_outside.specs.FileName.{is_file_name}
+use Rattle.kdb_outside.specs.declared.kinds.Kind.{Kind}
 use Rattle.model_maps.specs.KeyMap.{KeyMap}
 use Rattle.model_names.specs.Below.{is_at_or_below}
 use Rattle.model_names.specs.Name.{Name, Part}
@@ -27,13 +28,14 @@ use Rattle.model_names.specs.Spelling.{spelling}
 use Rattle.std.proofs.lemmas.Slice.Eq.{bytes_eq-Decides}
 use Rattle.model_names.proofs.OrderLemmas.{name_cmp_total, name_cmp-IsAntisymmetric}
 use Rattle.model_names.proofs.RefusesLemmas.{from_and_then}
+use Rattle.mount_table.specs.Counting.{keys_word, backend_word, may_count, counting_said}
 use Rattle.mount_table.specs.Entries.{Entries, entries_of}
 use Rattle.mount_table.specs.Points.{is_point, point_of, file_of, longest_point, own_point}
-use Rattle.mount_table.specs.Reading.{◌>>=◌, kind_said, mount_at, mount_of, next_mount, is_taken, mounts_from}
+use Rattle.mount_table.specs.Reading.{◌>>=◌, counted, kind_said, mount_at, mount_of, next_mount, is_taken, mounts_from}
 use Rattle.mount_table.specs.Table.{root_mounts, own_mount, remains, remaining, by_point, in_order, most_mounts, limited, table_from, table_of, ArePoints}
 use Rattle.mount_table.specs.declared.entries.MountEntry.{MountEntry}
 use Rattle.mount_table.specs.declared.faults.TableFault.{TableFault}
-use Rattle.mount_table.specs.declared.faults.TableFault.TheVariants.{BadMountpoint, NoPath, BadPath, UnknownPlugin, FileTwice, TooMany}
+use Rattle.mount_table.specs.declared.faults.TableFault.TheVariants.{BadMountpoint, NoPath, BadPath, UnknownPlugin, FileTwice, BadConflicts, TooMany}
 use Rattle.mount_table.specs.declared.mounts.Mount.{Mount}
 
 pub is_some-copied : {X : Type 0} (o : Option (Bor X)) → is_some (option_copied o) ≡ is_some o
@@ -68,25 +70,58 @@ mount_parts text said mount h =
     let path = from_then (ok_or said.path (NoPath text)) _ mount point.2 in
     let file = from_then (ok_or (file_of path.0) (BadPath text)) _ mount path.2 in
     let kind = from_then (ok_or (kind_said said.plugin) (UnknownPlugin text)) _ mount file.2 in
-    let is : (record { at = point.0; file = file.0; kind = kind.0 }) ≡ mount = ok_is (record { at = point.0; file = file.0; kind = kind.0 }) mount kind.2 in (
+    let is : (record { at = point.0; file = file.0; kind = kind.0; by_key = false }) ≡ mount = ok_is (record { at = point.0; file = file.0; kind = kind.0; by_key = false }) mount kind.2 in (
       from_ok_or (point_of text) (BadMountpoint text) point.0 point.1 ∙ ap (λ (m : Mount). Some m.at) is,
       (path.0, from_ok_or (file_of path.0) (BadPath text) file.0 file.1 ∙ ap (λ (m : Mount). Some m.file) is),
     )
 
-pub point_of-mount : (text : Part) (said : MountEntry) (mount : Mount) → mount_of text said ≡ Ok mount → point_of text ≡ Some mount.at
-point_of-mount text said mount h = (mount_parts text said mount h).0
+-- a mount that is counted as its entry says is the same beside, and counts by key only where its format allows it
+record IsCounted (before mount : Mount) : Type 0 where
+  at : before.at ≡ mount.at
+  file : before.file ≡ mount.file
+  may : mount.by_key ≡ true → may_count mount.kind ≡ true
 
--- its file isn't taken
-next_parts : (taken : List ℕ → Bool) (text : Part) (said : MountEntry) (mount : Mount) → next_mount taken text said ≡ Ok mount → (mount_of text said ≡ Ok mount) × (taken mount.file ≡ false)
-next_parts taken text said mount h =
-    let one = from_then (mount_of text said) _ mount h in by one.0 one.1 (taken one.0.file) refl one.2
+said_may : (kind : Kind) (conflicts : Option (List ℕ)) (by_key : Bool) → counting_said kind conflicts ≡ Some by_key → by_key ≡ true → may_count kind ≡ true
+said_may kind None by_key said is = absurd (true≢false (sym (some_is false by_key said ∙ is)))
+said_may kind (Some word) by_key said is = by (is_text word keys_word) (may_count kind) (is_text word backend_word) (said ∙ ap (λ b. Some b) is)
   where
-    by : (m : Mount) → mount_of text said ≡ Ok m → (b : Bool) → taken m.file ≡ b → cond b (Err (FileTwice text)) (Ok m) ≡ Ok mount → (mount_of text said ≡ Ok mount) × (taken mount.file ≡ false)
-    by m of true is e = absurd cc
-    by m of false is e = (of ∙ e, ap (λ (n : Mount). taken n.file) (sym (ok_is m mount e)) ∙ is)
+    by : (a b c : Bool) → cond a (cond b (Some true) None) (cond c (Some false) None) ≡ Some true → b ≡ true
+    by true true c e = refl
+    by true false c e = absurd cc
+    by false b true e = absurd cc
+    by false b false e = absurd cc
 
-pub mount_of-next : (taken : List ℕ → Bool) (text : Part) (said : MountEntry) (mount : Mount) → next_mount taken text said ≡ Ok mount → mount_of text said ≡ Ok mount
-mount_of-next taken text said mount h = (next_parts taken text said mount h).0
+counted_is : (text : Part) (said : MountEntry) (before mount : Mount) → counted text said before ≡ Ok mount → IsCounted before mount
+counted_is text said before mount h =
+    let by_key = from_then (ok_or (counting_said before.kind said.conflicts) (BadConflicts text)) _ mount h in
+    let is : (record before { by_key = by_key.0 }) ≡ mount = ok_is (record before { by_key = by_key.0 }) mount by_key.2 in
+    record {
+      at = ap (λ (m : Mount). m.at) is;
+      file = ap (λ (m : Mount). m.file) is;
+      may = subst (λ (m : Mount). m.by_key ≡ true → may_count m.kind ≡ true) is (said_may before.kind said.conflicts by_key.0 (from_ok_or (counting_said before.kind said.conflicts) (BadConflicts text) by_key.0 by_key.1));
+    }
+
+-- its file isn't taken, and it is counted as its entry says
+record IsBehind (taken : List ℕ → Bool) (text : Part) (said : MountEntry) (mount : Mount) : Type 0 where
+  before : Mount
+  of : mount_of text said ≡ Ok before
+  free : taken before.file ≡ false
+  counted : IsCounted before mount
+
+next_parts : (taken : List ℕ → Bool) (text : Part) (said : MountEntry) (mount : Mount) → next_mount taken text said ≡ Ok mount → IsBehind taken text said mount
+next_parts taken text said mount h =
+    let one = from_then (mount_of text said) _ mount h in
+    let tested = by (taken one.0.file) (counted text said one.0) one.2 in
+    record { before = one.0; of = one.1; free = tested.0; counted = counted_is text said one.0 mount tested.1 }
+  where
+    by : (b : Bool) (r : Result Mount TableFault) → cond b (Err (FileTwice text)) r ≡ Ok mount → (b ≡ false) × (r ≡ Ok mount)
+    by true r e = absurd cc
+    by false r e = (refl, e)
+
+pub point_of-next : (taken : List ℕ → Bool) (text : Part) (said : MountEntry) (mount : Mount) → next_mount taken text said ≡ Ok mount → point_of text ≡ Some mount.at
+point_of-next taken text said mount h =
+    let next = next_parts taken text said mount h in
+    (mount_parts text said next.before next.of).0 ∙ ap (λ at. Some at) next.counted.at
 
 -- what a mountpoint is
 pub record IsPoint (text : List ℕ) (name : Name) : Type 0 where
@@ -100,11 +135,14 @@ IsPoint-from text name h =
     let same : found.0 ≡ name = some_is found.0 name test.1 in
     record { named = found.1 ∙ ap (λ n. Some n) same; is = ap (is_point text) (sym same) ∙ test.0 }
 
--- what each mount is: in a namespace whose keys are in files, and on a file whose name is one and isn't the journal's
+-- what each mount is: in a namespace whose keys are in files, and on a file whose name is one and isn't the journal's. It
+-- counts by key only where its format allows it, and never where the table's own keys are
 pub record IsGood (mount : Mount) : Type 0 where
   pub files : has_files mount.at.namespace ≡ true
   pub named : is_file_name mount.file ≡ true
   pub free : starts_with nat_eq mount.file (codes "journal") ≡ false
+  pub may : mount.by_key ≡ true → may_count mount.kind ≡ true
+  pub own : mount.at ≡ own_point → mount.by_key ≡ false
 
 -- what the mount of an entry is, behind others
 pub record IsNext (mounts : List Mount) (text : Part) (mount : Mount) : Type 0 where
@@ -118,22 +156,29 @@ pub record IsNext (mounts : List Mount) (text : Part) (mount : Mount) : Type 0 w
 next_is : (mounts : List Mount) (text : Part) (said : MountEntry) (mount : Mount) → next_mount (is_taken mounts) text said ≡ Ok mount → IsNext mounts text mount
 next_is mounts text said mount h =
     let next = next_parts (is_taken mounts) text said mount h in
-    let parts = mount_parts text said mount next.0 in
-    let point = IsPoint-from text mount.at parts.0 in
+    let parts = mount_parts text said next.before next.of in
+    let point = IsPoint-from text mount.at (point_of-next (is_taken mounts) text said mount h) in
     let tests = and_parts (has_files mount.at.namespace) _ point.is in
     let short = and_parts (nat_le (length text) longest_point) _ tests.1 in
     let spelled = and_parts (is_text (spelling mount.at) text) _ short.1 in
     let path = parts.1.0 in
-    let file = cond_some (is_file_name path && not (starts_with nat_eq path (codes "journal"))) (Some path) mount.file parts.1.1 in
-    let is : path ≡ mount.file = some_is path mount.file file.1 in
+    let file = cond_some (is_file_name path && not (starts_with nat_eq path (codes "journal"))) (Some path) next.before.file parts.1.1 in
+    let is : path ≡ mount.file = some_is path next.before.file file.1 ∙ next.counted.file in
     let own = and_parts (is_file_name path) _ file.0 in
+    let outside : is_at_or_below own_point mount.at ≡ false = not-true _ spelled.1 in
     record {
       named = point.named;
       spelled = (bytes_eq-Decides (spelling mount.at) text).0 spelled.0;
       short = leb-true _ _ short.0;
-      outside = not-true _ spelled.1;
-      good = record { files = tests.0; named = ap is_file_name (sym is) ∙ own.0; free = ap (λ f. starts_with nat_eq f (codes "journal")) (sym is) ∙ not-true _ own.1 };
-      new_file = next.1;
+      outside = outside;
+      good = record {
+        files = tests.0;
+        named = ap is_file_name (sym is) ∙ own.0;
+        free = ap (λ f. starts_with nat_eq f (codes "journal")) (sym is) ∙ not-true _ own.1;
+        may = next.counted.may;
+        own = λ e. absurd (true≢false (ap (is_at_or_below own_point) (sym e) ∙ outside));
+      };
+      new_file = ap (is_taken mounts) (sym next.counted.file) ∙ next.free;
     }
 
 -- ---- from the default mounts that remain to those of a table
@@ -159,8 +204,8 @@ all_turned P Q turn (x ∷ xs) h = (turn x h.0, all_turned P Q turn xs h.1)
 pub all_remaining : (P : Mount → Type 0) (entries : Entries) → AllByRecursion P root_mounts → P own_mount → AllByRecursion P (remaining entries)
 all_remaining P entries roots own = all_append P (filter (remains entries) root_mounts) (own_mount ∷ []) (all_filter P (remains entries) root_mounts roots) (own, tt)
 
-default_good : (mount : Mount) → has_files mount.at.namespace ≡ true → is_file_name mount.file ≡ true → starts_with nat_eq mount.file (codes "journal") ≡ false → IsGood mount
-default_good mount files named free = record { files = files; named = named; free = free }
+default_good : (mount : Mount) → has_files mount.at.namespace ≡ true → is_file_name mount.file ≡ true → starts_with nat_eq mount.file (codes "journal") ≡ false → mount.by_key ≡ false → IsGood mount
+default_good mount files named free backend = record { files = files; named = named; free = free; may = λ e. absurd (true≢false (sym e ∙ backend)); own = λ _. backend }
 
 good_push : (entry : Part × MountEntry) (entries : List (Part × MountEntry)) (mounts : List Mount) (mount : Mount) → IsNext mounts entry.0 mount → AllByRecursion IsGood mounts → AllByRecursion IsGood (mounts ++ mount ∷ [])
 good_push entry entries mounts mount next h = all_append IsGood mounts (mount ∷ []) h (next.good, tt)
@@ -171,7 +216,7 @@ IsMade entries all = mounts_from (remaining entries) (map.entries entries) ≡ O
 
 pub all_good : (entries : Entries) (all : List Mount) → IsMade entries all → AllByRecursion IsGood all
 all_good entries all is = mounts_from-keeps (λ _ mounts. AllByRecursion IsGood mounts) good_push (remaining entries) (map.entries entries) all is
-    (all_remaining IsGood entries (default_good _ refl refl refl, (default_good _ refl refl refl, (default_good _ refl refl refl, (default_good _ refl refl refl, tt)))) (default_good _ refl refl refl))
+    (all_remaining IsGood entries (default_good _ refl refl refl refl, (default_good _ refl refl refl refl, (default_good _ refl refl refl refl, (default_good _ refl refl refl refl, tt)))) (default_good _ refl refl refl refl))
 
 -- there is one at least
 some_made : (entries : Entries) (all : List Mount) → IsMade entries all → 1 ≤ length all

@@ -2,7 +2,7 @@
 use Rattle.std.specs.Prelude.{◌≡◌, Result, Ok, Err}
 use Rattle.general_words.specs.Memory.{UnlessMemory}
 use Rattle.mount_table.specs.declared.faults.TableFault.{TableFault}
-use Rattle.mount_table.specs.declared.faults.TableFault.TheVariants.{BadMountpoint, NoPath, BadPath, UnknownPlugin, FileTwice, TooMany, AlreadyMounted, NotMounted, Memory}
+use Rattle.mount_table.specs.declared.faults.TableFault.TheVariants.{BadMountpoint, NoPath, BadPath, UnknownPlugin, FileTwice, BadConflicts, TooMany, AlreadyMounted, NotMounted, Memory}
 
 -- a fault is the one that comes
 abbrev pub IsFault : {A : Type 0} → Result A TableFault → TableFault → Type 0
@@ -20,6 +20,7 @@ IsOfTable (NoPath entry) = Unit {0}
 IsOfTable (BadPath entry) = Unit {0}
 IsOfTable (UnknownPlugin entry) = Unit {0}
 IsOfTable (FileTwice entry) = Unit {0}
+IsOfTable (BadConflicts entry) = Unit {0}
 IsOfTable (TooMany count) = Unit {0}
 IsOfTable (AlreadyMounted entry) = ⊥
 IsOfTable (NotMounted entry) = ⊥

@@ -1,4 +1,5 @@
 pub mod Places
+pub mod Counting
 pub mod Entries
 pub mod Points
 pub mod Reading

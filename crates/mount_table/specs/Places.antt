@@ -24,6 +24,10 @@ path_word = codes "path"
 abbrev pub plugin_word : List ℕ
 plugin_word = codes "plugin"
 
+-- the child that says how the conflicts of an entry are counted
+abbrev pub conflicts_word : List ℕ
+conflicts_word = codes "conflicts"
+
 -- the text of the entry that a name belongs to
 abbrev pub text_of_entry : Name → Option Part
 text_of_entry name = if is_at_or_below mountpoints name then slice_get name.parts 2 else None

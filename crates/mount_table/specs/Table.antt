@@ -1,5 +1,5 @@
 -- The mount table that some keys make. (After Elektra's page on mounting: the default mounts, and one mount for each entry.)
-use Rattle.std.specs.Prelude.{ℕ, ◌≤◌, nat_lt, Bool, not, if◌then◌else◌, List, [], ◌∷◌, ◌++◌, length, filter, fold, Result, Ok, Err, codes}
+use Rattle.std.specs.Prelude.{ℕ, ◌≤◌, nat_lt, Bool, false, not, if◌then◌else◌, List, [], ◌∷◌, ◌++◌, length, filter, fold, Result, Ok, Err, codes}
 use Rattle.std.specs.FinMap as map
 use Rattle.std.specs.FinMap.{FinMap}
 use Rattle.kdb_outside.specs.declared.kinds.Kind.TheVariants.{Dump}
@@ -19,7 +19,7 @@ use Rattle.mount_table.specs.declared.mounts.Mount.{Mount}
 
 -- the mount of a whole namespace
 abbrev pub root_mount : Namespace → List ℕ → Mount
-root_mount namespace file = record { at = record { namespace = namespace; parts = [] }; file = file; kind = Dump }
+root_mount namespace file = record { at = record { namespace = namespace; parts = [] }; file = file; kind = Dump; by_key = false }
 
 -- the default mounts of whole namespaces
 abbrev pub root_mounts : List Mount
@@ -27,7 +27,7 @@ root_mounts = root_mount Spec (codes "spec.ecf") ∷ root_mount Dir (codes "dir.
 
 -- the mount of the table's own keys, which always stays
 abbrev pub own_mount : Mount
-own_mount = record { at = own_point; file = codes "elektra.ecf"; kind = Dump }
+own_mount = record { at = own_point; file = codes "elektra.ecf"; kind = Dump; by_key = false }
 
 -- a default mount remains where no entry has its mountpoint
 abbrev pub remains : Entries → Mount → Bool

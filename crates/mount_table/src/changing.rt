@@ -1,7 +1,7 @@
 //! Entries added to the keys of a mount table, and removed from them.
-ghost use Rattle.std.specs.Prelude.{◌≡◌, ◌≤◌, Ok, Some, None, IfOk, IfErr, OnOk, OnErr, true, false, length};
+ghost use Rattle.std.specs.Prelude.{◌≡◌, ◌≤◌, if◌then◌else◌, Ok, None, IfOk, IfErr, OnOk, OnErr, true, length};
 ghost use Rattle.std.specs.FinMap as map;
-ghost use Rattle.kdb_outside.specs.Kind.{kind_word};
+ghost use Rattle.key_name.specs.Children as names;
 ghost use Rattle.key_name.specs.Children.{child_refusal};
 ghost use Rattle.model_names.specs.Below.{is_at_or_below};
 ghost use Rattle.model_names.specs.Spelling.{spelling};
@@ -9,10 +9,11 @@ ghost use Rattle.model_names.specs.WellFormed.{IsName};
 ghost use Rattle.model_maps.specs.Entry.{plain_entry};
 ghost use Rattle.key_set.specs.EntryView.{entry_of as seen};
 ghost use Rattle.mount_table.specs.Answers.{IsFault};
+ghost use Rattle.mount_table.specs.Counting.{keys_word, word_added};
 ghost use Rattle.mount_table.specs.Changing.{HasNames, added, removed};
-ghost use Rattle.mount_table.specs.Entries.{has_entry, with_entry};
+ghost use Rattle.mount_table.specs.Entries.{has_entry, said_added, with_entry};
 ghost use Rattle.mount_table.specs.Points.{longest_point};
-ghost use Rattle.mount_table.specs.Places.{mountpoints, entry_name, child_name, path_word};
+ghost use Rattle.mount_table.specs.Places.{mountpoints, entry_name, conflicts_word};
 
 use crate::TableFault;
 use crate::children::{child_of, entry_name, mountpoints};
@@ -24,25 +25,27 @@ use key_name::KeyName;
 use key_set::{Entry, KeySet};
 use std::alloc::Global;
 
-/// Adds the entry of a mountpoint, with its children `path` and `plugin`.
+/// Adds the entry of a mountpoint, with its children `path` and `plugin`, and with `conflicts` where its conflicts are
+/// to be counted by key.
 ///
 /// `AlreadyMounted` comes where any key is the entry or below it, and else what `read_table` refuses of the keys with the
-/// two children added. A mountpoint whose spelling has over 1,024 bytes counts there as any other, and so it is a bad one,
-/// even where the names of the two children would be too long. After a refusal the keys are as before.
+/// children added. A mountpoint whose spelling has over 1,024 bytes counts there as any other, and so it is a bad one,
+/// even where the names of the children would be too long. After a refusal the keys are as before.
 pub fn add(
     alloc: Global,
     keys: &mut KeySet,
     at: &KeyName,
     file: &str,
     kind: Kind,
+    by_key: bool,
 ) -> Result<(), TableFault>
-    ensures ok { OnOk result (added keys.old (spelling at.now) file.now kind ≡ Ok keys.new) }
-    ensures err { IfErr result (IsFault (added keys.old (spelling at.now) file.now kind)) }
+    ensures ok { OnOk result (added keys.old (spelling at.now) file.now kind by_key ≡ Ok keys.new) }
+    ensures err { IfErr result (IsFault (added keys.old (spelling at.now) file.now kind by_key)) }
     ensures same { OnErr result (keys.new ≡ keys.old) }
 {
     let text = Text::new(alloc, &at.text()?)?;
-    check_addition(alloc, keys, &text, file, kind)?;
-    insert_children(alloc, keys, text.as_str(), file, kind)?;
+    check_addition(alloc, keys, &text, file, kind, by_key)?;
+    insert_children(alloc, keys, text.as_str(), file, kind, by_key)?;
     Ok(())
 }
 
@@ -70,10 +73,11 @@ fn check_addition(
     text: &Text,
     file: &str,
     kind: Kind,
+    by_key: bool,
 ) -> Result<(), TableFault>
-    ensures ok { OnOk result (added keys.now text.now file.now kind ≡ Ok (with_entry keys.now text.now file.now kind)) }
+    ensures ok { OnOk result (added keys.now text.now file.now kind by_key ≡ Ok (with_entry keys.now text.now file.now kind by_key)) }
     ensures short { OnOk result (length text.now ≤ longest_point) }
-    ensures err { IfErr result (IsFault (added keys.now text.now file.now kind)) }
+    ensures err { IfErr result (IsFault (added keys.now text.now file.now kind by_key)) }
 {
     let mut entries = entries_of(alloc, keys)?;
     if entries.get(text).is_some() {
@@ -81,7 +85,7 @@ fn check_addition(
             entry: text.copy()?,
         });
     }
-    entries.insert(text.copy()?, entry_of(alloc, file, kind)?)?;
+    entries.insert(text.copy()?, entry_of(alloc, file, kind, by_key)?)?;
     let _table = table_from(alloc, &entries)?;
     Ok(())
 }
@@ -112,51 +116,76 @@ fn belongs_to(above: &KeyName, name: &KeyName, text: &str) -> bool
     }
 }
 
-/// What the entry of a file and a format says.
-fn entry_of(alloc: Global, file: &str, kind: Kind) -> Result<MountEntry, Memory>
-    ensures { IfOk result (λ said. said ≡ record { path = Some file.now; plugin = Some (kind_word kind) }) }
+/// What an entry that is added says.
+fn entry_of(alloc: Global, file: &str, kind: Kind, by_key: bool) -> Result<MountEntry, Memory>
+    ensures { IfOk result (λ said. said ≡ said_added file.now kind by_key) }
 {
     Ok(MountEntry {
         path: Some(Text::new(alloc, file)?),
         plugin: Some(Text::new(alloc, kind.word())?),
+        conflicts: word_added(alloc, by_key)?,
     })
 }
 
-/// Adds the two children of an entry, or none of them.
+/// What an entry that is added says of how conflicts are counted.
+fn word_added(alloc: Global, by_key: bool) -> Result<Option<Text>, Memory>
+    ensures { IfOk result (λ word. word ≡ word_added by_key) }
+{
+    if by_key {
+        Ok(Some(Text::new(alloc, "keys")?))
+    } else {
+        Ok(None)
+    }
+}
+
+/// Adds the children of an entry, or none of them.
 fn insert_children(
     alloc: Global,
     keys: &mut KeySet,
     text: &str,
     file: &str,
     kind: Kind,
+    by_key: bool,
 ) -> Result<(), Memory>
     requires { HasNames text.now }
-    ensures ok { OnOk result (keys.new ≡ with_entry keys.old text.now file.now kind) }
+    ensures ok { OnOk result (keys.new ≡ with_entry keys.old text.now file.now kind by_key) }
     ensures err { OnErr result (keys.new ≡ keys.old) }
 {
     let name = entry_name(alloc, text)?;
-    let path = child_of(&name, "path")?;
-    let plugin = child_of(&name, "plugin")?;
-    let file = plain_entry(alloc, file)?;
-    let word = plain_entry(alloc, kind.word())?;
-    insert_both(keys, path, file, plugin, word)
+    let mut all = keys.copy()?;
+    insert_child(alloc, &mut all, &name, "path", file)?;
+    insert_child(alloc, &mut all, &name, "plugin", kind.word())?;
+    insert_word(alloc, &mut all, &name, by_key)?;
+    *keys = all;
+    Ok(())
 }
 
-/// Adds two keys, or none of them.
-fn insert_both(
-    keys: &mut KeySet,
-    path: KeyName,
-    file: Entry,
-    plugin: KeyName,
-    word: Entry,
-) -> Result<(), Memory>
-    ensures ok { OnOk result (keys.new ≡ map.insert (map.insert keys.old path (seen file)) plugin (seen word)) }
-    ensures err { OnErr result (keys.new ≡ keys.old) }
+/// Adds what an entry says of how conflicts are counted.
+fn insert_word(alloc: Global, keys: &mut KeySet, name: &KeyName, by_key: bool) -> Result<(), Memory>
+    requires { child_refusal name.now conflicts_word ≡ None }
+    ensures { OnOk result (keys.new ≡ (if by_key then map.insert keys.old (names.child_of name.now conflicts_word) (plain_entry keys_word) else keys.old)) }
 {
-    let mut both = keys.copy()?;
-    both.append(path, file)?;
-    both.append(plugin, word)?;
-    *keys = both;
+    if by_key {
+        insert_child(alloc, keys, name, "conflicts", "keys")
+    } else {
+        Ok(())
+    }
+}
+
+/// Adds a child of an entry, with its value.
+fn insert_child(
+    alloc: Global,
+    keys: &mut KeySet,
+    name: &KeyName,
+    part: &str,
+    value: &str,
+) -> Result<(), Memory>
+    requires { child_refusal name.now part.now ≡ None }
+    ensures { OnOk result (keys.new ≡ map.insert keys.old (names.child_of name.now part.now) (plain_entry value.now)) }
+{
+    let child = child_of(name, part)?;
+    let entry = plain_entry(alloc, value)?;
+    keys.append(child, entry)?;
     Ok(())
 }
 

@@ -1,5 +1,5 @@
 //! The default mounts.
-ghost use Rattle.std.specs.Prelude.{◌≡◌, ◌∷◌, ◌++◌, [], if◌then◌else◌, IfOk, OnOk};
+ghost use Rattle.std.specs.Prelude.{◌≡◌, ◌∷◌, ◌++◌, [], if◌then◌else◌, IfOk, OnOk, false};
 ghost use Rattle.std.specs.FinMap as map;
 ghost use Rattle.kdb_outside.specs.declared.kinds.Kind.TheVariants.{Dump};
 ghost use Rattle.kdb_outside.specs.FileName.{IsFileName};
@@ -74,11 +74,12 @@ fn own_mount(alloc: Global) -> Result<Mount, Memory>
 }
 
 fn dump_mount(at: KeyName, file: FileName) -> Mount
-    ensures { result ≡ record { at = at; file = file; kind = Dump } }
+    ensures { result ≡ record { at = at; file = file; kind = Dump; by_key = false } }
 {
     Mount {
         at,
         file,
         kind: Kind::Dump,
+        by_key: false,
     }
 }

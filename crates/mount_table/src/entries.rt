@@ -16,11 +16,12 @@ use key_set::KeySet;
 use sorted_map::SortedMap;
 use std::alloc::{AllocError, Global};
 
-/// What an entry says: the values of its children `path` and `plugin`.
+/// What an entry says: the values of its children `path`, `plugin` and `conflicts`.
 #[derive(Debug, Drop)]
 pub struct MountEntry {
     pub path: Option<Text>,
     pub plugin: Option<Text>,
+    pub conflicts: Option<Text>,
 }
 
 /// The entries among some keys.
@@ -69,6 +70,7 @@ fn said_by(keys: &KeySet, above: &KeyName, text: &str) -> Result<MountEntry, Mem
     Ok(MountEntry {
         path: value_of(keys, &entry, "path")?,
         plugin: value_of(keys, &entry, "plugin")?,
+        conflicts: value_of(keys, &entry, "conflicts")?,
     })
 }
 

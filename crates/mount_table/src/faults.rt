@@ -19,6 +19,9 @@ pub enum TableFault {
     UnknownPlugin { entry: Text },
     /// The file is that of a default mount that remains, or that of an earlier entry.
     FileTwice { entry: Text },
+    /// The child `conflicts` is there, and its word is neither `backend` nor `keys`, or it is `keys` and the format is
+    /// neither dump nor simpleini.
+    BadConflicts { entry: Text },
     /// There are more than 64 mounts.
     TooMany { count: u64 },
     /// An entry is to be added that is there.

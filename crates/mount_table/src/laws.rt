@@ -8,7 +8,9 @@ ghost use Rattle.key_name.specs.Owner.{owner_of};
 ghost use Rattle.model_names.specs.Name.{Name};
 ghost use Rattle.model_names.specs.Namespaces.{has_files};
 ghost use Rattle.mount_table.specs.Answers.{IsOfTable};
+ghost use Rattle.mount_table.specs.Counting.{may_count};
 ghost use Rattle.mount_table.specs.Entries.{entries_of};
+ghost use Rattle.mount_table.specs.Points.{own_point};
 ghost use Rattle.mount_table.specs.Table.{most_mounts, remaining, table_of};
 ghost use Rattle.mount_table.specs.declared.faults.TableFault.{TableFault};
 ghost use Rattle.mount_table.specs.declared.mounts.Mount.{Mount};
@@ -30,6 +32,16 @@ pub fn the_mounts_of_a_table_have_files_of_their_own()
     ensures named { (keys : KeyMap) (mounts : List Mount) → table_of keys ≡ Ok mounts → (i : ℕ) (mount : Mount) → slice_get mounts i ≡ Some mount → IsFileName mount.file }
     ensures free { (keys : KeyMap) (mounts : List Mount) → table_of keys ≡ Ok mounts → (i : ℕ) (mount : Mount) → slice_get mounts i ≡ Some mount → starts_with nat_eq mount.file (codes "journal") ≡ false }
     ensures few { (keys : KeyMap) (mounts : List Mount) → table_of keys ≡ Ok mounts → length mounts ≤ most_mounts }
+{}
+
+/// A mount of a table counts conflicts by key only where its format takes each key beside any others.
+pub fn a_mount_by_key_has_a_format_that_takes_keys_alone()
+    ensures { (keys : KeyMap) (mounts : List Mount) → table_of keys ≡ Ok mounts → (m : ℕ) (mount : Mount) → slice_get mounts m ≡ Some mount → mount.by_key ≡ true → may_count mount.kind ≡ true }
+{}
+
+/// The mount of a table's own keys counts conflicts by its backend.
+pub fn the_mount_of_a_tables_own_keys_counts_by_backend()
+    ensures { (keys : KeyMap) (mounts : List Mount) → table_of keys ≡ Ok mounts → (m : ℕ) (mount : Mount) → slice_get mounts m ≡ Some mount → mount.at ≡ own_point → mount.by_key ≡ false }
 {}
 
 /// A name whose keys are in files belongs to a mount of each table: at least to that at the root of its namespace.

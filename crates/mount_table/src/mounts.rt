@@ -11,6 +11,8 @@ pub struct Mount {
     pub at: KeyName,
     pub file: FileName,
     pub kind: Kind,
+    /// Whether conflicts are counted by key, and not by the whole backend.
+    pub by_key: bool,
 }
 
 impl Mount {
@@ -22,6 +24,7 @@ impl Mount {
             at: self.at.copy()?,
             file: self.file.copy()?,
             kind: self.kind,
+            by_key: self.by_key,
         })
     }
 }

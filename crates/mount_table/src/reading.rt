@@ -3,7 +3,8 @@ ghost use Rattle.std.specs.Prelude.{◌≡◌, ◌||◌, ◌∷◌, ◌++◌, []
 ghost use Rattle.std.specs.FinMap.{find};
 ghost use Rattle.general_words.specs.Texts.{is_text, text_cmp};
 ghost use Rattle.mount_table.specs.Answers.{Gives, IsFault};
-ghost use Rattle.mount_table.specs.Reading.{kind_said, mount_of, next_mount, is_taken, mounts_from};
+ghost use Rattle.mount_table.specs.Counting.{counted_by, counting_said, may_count};
+ghost use Rattle.mount_table.specs.Reading.{counted, kind_said, mount_of, next_mount, is_taken, mounts_from};
 
 use crate::entries::MountEntry;
 use crate::points::{file_of, point_of};
@@ -72,7 +73,50 @@ fn next_mount(
             entry: text.copy()?,
         });
     }
-    Ok(mount)
+    counted(text, said, mount)
+}
+
+/// A mount, with its conflicts counted as its entry says.
+fn counted(text: &Text, said: &MountEntry, mount: Mount) -> Result<Mount, TableFault>
+    ensures { Gives result (counted text.now said.now mount) }
+{
+    let Some(by_key) = counting_said(mount.kind, &said.conflicts) else {
+        return Err(TableFault::BadConflicts {
+            entry: text.copy()?,
+        });
+    };
+    Ok(Mount { by_key, ..mount })
+}
+
+/// How an entry says that its conflicts are counted: whether by key.
+fn counting_said(kind: Kind, conflicts: &Option<Text>) -> Option<bool>
+    ensures { result ≡ counting_said kind conflicts.now }
+{
+    match conflicts {
+        Some(word) => counted_by(kind, word.as_str()),
+        None => Some(false),
+    }
+}
+
+/// What a word of the child `conflicts` says for a format.
+fn counted_by(kind: Kind, word: &str) -> Option<bool>
+    ensures { result ≡ counted_by kind word.now }
+{
+    match word {
+        "keys" => { if may_count(kind) { Some(true) } else { None } }
+        "backend" => Some(false),
+        _ => None,
+    }
+}
+
+/// Whether a file of this format can take each key beside any others, so that its mount may count by key.
+fn may_count(kind: Kind) -> bool
+    ensures { result ≡ may_count kind }
+{
+    match kind {
+        Kind::Dump | Kind::SimpleIni => true,
+        Kind::Hosts | Kind::Json => false,
+    }
 }
 
 /// The mount of an entry by itself.
@@ -99,7 +143,12 @@ fn mount_of(alloc: Global, text: &Text, said: &MountEntry) -> Result<Mount, Tabl
             entry: text.copy()?,
         });
     };
-    Ok(Mount { at, file, kind })
+    Ok(Mount {
+        at,
+        file,
+        kind,
+        by_key: false,
+    })
 }
 
 /// The format of an entry, by its child `plugin`.

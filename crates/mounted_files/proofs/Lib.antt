@@ -10,3 +10,6 @@ pub mod PlaceLemmas
 pub mod BegunLemmas
 pub mod OpeningLemmas
 pub mod LightLemmas
+pub mod WayLemmas
+pub mod WritableLemmas
+pub mod ShownLemmas

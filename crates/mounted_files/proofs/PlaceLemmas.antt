@@ -26,7 +26,7 @@ use Rattle.mount_table.specs.declared.entries.MountEntry.{MountEntry}
 use Rattle.mount_table.specs.declared.faults.TableFault.TheVariants.{TooMany}
 use Rattle.mount_table.specs.declared.mounts.Mount.{Mount}
 use Rattle.mount_table.proofs.OwnFileLemmas.{one_place}
-use Rattle.mount_table.proofs.TableLemmas.{IsPoint-from, by_point-snoc, from_then, mount_of-next, ok_is, point_of-mount}
+use Rattle.mount_table.proofs.TableLemmas.{IsPoint-from, by_point-snoc, from_then, ok_is, point_of-next}
 use Rattle.mounted_files.specs.OwnPlace.{HasOwn}
 
 pub own-name_eq : (point : Name) → point ≡ own_point → name_eq point own_point ≡ true
@@ -52,7 +52,7 @@ found-more mounts mount found other =
 -- no entry has the own point
 not_own : (taken : List ℕ → Bool) (text : Part) (said : MountEntry) (mount : Mount) → next_mount taken text said ≡ Ok mount → own_point ≢ mount.at
 not_own taken text said mount next same =
-    let is = (IsPoint-from text mount.at (point_of-mount text said mount (mount_of-next taken text said mount next))).is in
+    let is = (IsPoint-from text mount.at (point_of-next taken text said mount next)).is in
     let apart = not (is_at_or_below own_point mount.at) in
     let spelled = is_text (spelling mount.at) text in
     let tests = and_parts (has_files mount.at.namespace) (nat_le (length text) longest_point && (spelled && apart)) is in

@@ -14,5 +14,6 @@ pub mod Holding
 pub mod Refusing
 pub mod Begun
 pub mod Begins
+pub mod Writable
 pub mod OwnPlace
 pub mod MountedView

@@ -2,6 +2,7 @@
 ghost use Rattle.std.specs.Prelude.{◌≡◌, ◌≤◌, IfOk, List, ℕ, length};
 ghost use Rattle.backend_files.specs.WholeFile.{IsWhole, longest_file};
 ghost use Rattle.mounted_files.specs.Holding.{IsAlone, IsHolding, IsShortHolding};
+ghost use Rattle.mounted_files.specs.Writable.{CanBeStored};
 ghost use Rattle.mounted_files.specs.declared.causes.Cause.TheVariants.{BadFile};
 ghost use Rattle.mounted_files.specs.declared.holding.Holding.TheVariants.{Bad};
 
@@ -22,7 +23,7 @@ pub enum Holding {
     Bad { cause: Cause },
 }
 
-/// What a file holds, given what it gave.
+/// What a file holds, given what it gave. A file can take the keys again.
 pub fn read_holding<F: Formats>(
     alloc: Global,
     formats: &F,
@@ -33,6 +34,7 @@ pub fn read_holding<F: Formats>(
     ensures is { IfOk result (λ holding. (bytes : List ℕ) → IsWhole bytes read.now → IsHolding F.reads F.is_bad_at point.now kind bytes holding) }
     ensures short { IfOk result IsShortHolding }
     ensures alone { IfOk result IsAlone }
+    ensures storable { IfOk result (CanBeStored F.is_storable point.now kind) }
 {
     match read {
         FileRead::Bytes(bytes) => holding_of(alloc, formats, point, kind, bytes.as_slice()),
@@ -53,6 +55,7 @@ fn holding_of<F: Formats>(
     ensures is { IfOk result (λ holding. length bytes.now ≤ longest_file → IsHolding F.reads F.is_bad_at point.now kind bytes.now holding) }
     ensures short { IfOk result IsShortHolding }
     ensures alone { IfOk result IsAlone }
+    ensures storable { IfOk result (CanBeStored F.is_storable point.now kind) }
 {
     match formats.read(alloc, kind, bytes) {
         Ok(keys) => match whole(point, keys)? {

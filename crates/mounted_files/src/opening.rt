@@ -16,6 +16,7 @@ ghost use Rattle.mounted_files.specs.OwnPlace.{HasOwn};
 ghost use Rattle.mounted_files.specs.Owned.{not_owned_by};
 ghost use Rattle.mounted_files.specs.Short.{AreShort, HasShortTexts};
 ghost use Rattle.mounted_files.specs.Weighed.{weighed_behind};
+ghost use Rattle.mounted_files.specs.Writable.{AllCanBeWritten, CanBeWritten, CanBeWrittenSoFar};
 ghost use Rattle.mounted_files.specs.declared.files.FileState.TheVariants.{Good};
 ghost use Rattle.set_split.specs.Parts.{owned_by};
 
@@ -76,6 +77,7 @@ impl Opening {
         ensures begins { (bytes_of : List ℕ → List ℕ) → IsWhole (bytes_of own_mount.file) own.now →
             MatchResult result (Begins F.reads F.is_bad_at bytes_of) (RefusesOpening F.reads F.is_bad_at (bytes_of own_mount.file)) }
         ensures none { IfOk result (λ opening. opening.files ≡ []) }
+        ensures storable { IfOk result (CanBeWrittenSoFar F.is_storable) }
     {
         match read_table_file(alloc, formats, own) {
             Ok(TableFile { table, keys }) => Ok(begun(alloc, table, keys)?),
@@ -111,6 +113,7 @@ impl Opening {
             IsWhole (bytes_of mount.file) read.now →
             OnOk result (Begins F.reads F.is_bad_at bytes_of self.new) }
         ensures count { OnOk result (length self.new.files ≡ length self.old.files + 1) }
+        ensures storable { CanBeWrittenSoFar F.is_storable self.old → OnOk result (CanBeWrittenSoFar F.is_storable self.new) }
         ensures others { others self.new ≡ others self.old }
         ensures err { OnErr result (self.new ≡ self.old) }
     {
@@ -129,7 +132,8 @@ impl Opening {
     /// table. A mount is bad whose visible keys bring the weight of all of them over 16,777,216.
     pub fn mounted<F: Formats>(self, _formats: &F) -> Result<Mounted, Memory>
         requires { length self.files ≡ length (others self) }
-        ensures { IfOk result (λ mounted. (bytes_of : List ℕ → List ℕ) → Begins F.reads F.is_bad_at bytes_of self → IsOpened F.reads F.is_bad_at bytes_of mounted) }
+        ensures opened { IfOk result (λ mounted. (bytes_of : List ℕ → List ℕ) → Begins F.reads F.is_bad_at bytes_of self → IsOpened F.reads F.is_bad_at bytes_of mounted) }
+        ensures storable { CanBeWrittenSoFar F.is_storable self → IfOk result (AllCanBeWritten F.is_storable) }
     {
         let Some(mount) = self.table.mount(self.place) else {
             unreachable!()
@@ -199,6 +203,7 @@ fn mounted_file<F: Formats>(
     ensures mount { IfOk result (λ file. file.mount ≡ mount.now) }
     ensures state { IfOk result (λ file. (bytes : List ℕ) → IsWhole bytes read.now → IsState F.reads F.is_bad_at points.now i mount.now bytes file.state) }
     ensures short { IfOk result (λ file. HasShortTexts file.state) }
+    ensures storable { IfOk result (λ file. CanBeWritten F.is_storable points.now i mount.now file.state) }
 {
     let holding = read_holding(alloc, formats, &mount.at, mount.kind, read)?;
     let state = state_of(alloc, points, i, holding)?;

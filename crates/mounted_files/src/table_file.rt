@@ -9,6 +9,7 @@ ghost use Rattle.mounted_files.specs.Holding.{IsOfFile};
 ghost use Rattle.mounted_files.specs.Opening.{RefusesOpening};
 ghost use Rattle.mounted_files.specs.Refusing.{IsRefusalFor, RefusesTable};
 ghost use Rattle.mounted_files.specs.Short.{AreShort};
+ghost use Rattle.mounted_files.specs.Writable.{CanBeTable};
 
 use crate::holding::{Holding, read_holding};
 use crate::{Cause, OpenRefusal};
@@ -37,6 +38,7 @@ pub fn read_table_file<F: Formats>(
     ensures read { (bytes : List ℕ) → IsWhole bytes own.now → MatchResult result (λ read. Holds F.reads own_point Dump bytes read.keys) (RefusesOpening F.reads F.is_bad_at bytes) }
     ensures table { IfOk result (λ read. table_of read.keys ≡ Ok read.table) }
     ensures short { IfOk result (λ read. AreShort read.keys) }
+    ensures storable { IfOk result (λ read. CanBeTable F.is_storable read.keys) }
 {
     let point = own_point(alloc)?;
     match read_holding(alloc, formats, &point, Kind::Dump, own)? {

@@ -6,6 +6,7 @@ ghost use Rattle.model_maps.specs.Entry.{Entry};
 ghost use Rattle.model_maps.specs.KeyMap.{KeyMap, no_keys};
 ghost use Rattle.model_maps.specs.Limits.{IsLimited};
 ghost use Rattle.kdb_outside.specs.declared.kinds.Kind.{Kind};
+ghost use Rattle.kdb_outside.specs.declared.kinds.Kind.TheVariants.{Dump, SimpleIni};
 ghost use Rattle.model_formats.specs.Holding.{EachHas, LacksFirst, IsKeywise};
 ghost use Rattle.storage_api.specs.Formats.{RefusesToRead, RefusesToWrite};
 
@@ -87,6 +88,12 @@ pub trait Formats {
 
     /// and a map can be stored exactly where each key alone can.
     ghost by_keys: { (kind : Kind) (keys : KeyMap) → is_keywise kind ≡ true → IsKeywise (is_storable kind) keys };
+
+    /// So does dump,
+    ghost dump_is_keywise: { is_keywise Dump ≡ true };
+
+    /// and so does simpleini: a mount of these may count conflicts by key.
+    ghost ini_is_keywise: { is_keywise SimpleIni ≡ true };
 
     /// The map that the bytes of a file read as; `BadFile` exactly where there is none, with its line.
     fn read(&self, alloc: Global, kind: Kind, bytes: &[u8]) -> Result<KeySet, ReadRefusal>

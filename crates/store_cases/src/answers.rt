@@ -152,6 +152,14 @@ fn commit_line(alloc: Global, fault: &CommitFault) -> Result<String, Memory> {
             let mount = shown(alloc, mount)?;
             format!(in alloc; "conflict {mount} by {by} front {front}")
         }
+        CommitFault::FileTooLarge {
+            mount,
+            bytes,
+            front,
+        } => {
+            let mount = shown(alloc, mount)?;
+            format!(in alloc; "file-too-large {mount} {bytes} front {front}")
+        }
         CommitFault::Invalid { violation, front } => invalid_line(alloc, violation, *front),
         CommitFault::DatabaseFull { weight, front } => {
             format!(in alloc; "database-full {weight} front {front}")

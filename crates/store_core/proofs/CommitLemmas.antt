@@ -17,7 +17,7 @@ use Rattle.model_store.specs.Events.{Answer, Commit, Memory, Bad, Got, Refused, 
 use Rattle.model_store.specs.Records.{Record}
 use Rattle.model_store.specs.Sets.{Prepared}
 use Rattle.model_store.specs.Store.{Store, Formats}
-use Rattle.model_store.specs.Verdicts.{Late, Same, Conflict, Invalid, DatabaseFull, HistoryFull, Commits}
+use Rattle.model_store.specs.Verdicts.{Late, Same, Conflict, TooLarge, Invalid, DatabaseFull, HistoryFull, Commits}
 use Rattle.model_store.specs.Worlds.{World, Meant}
 use Rattle.model_store.proofs.Owning.{follows}
 use Rattle.store_core.specs.Committing.{BeginsSet, RunsOn, IsCommitted}
@@ -58,6 +58,7 @@ module _ (formats : Formats) (store : Store) where
     entries-judged : (front : ℕ) (late : Late) → CommitMade formats store old r p front late new → RunsOn formats store before.keys run (sets p) (Judged front late) later → later.commits ≡ entries_of formats store after.history.commits
     entries-judged front (Same aside) made on = entries-stay made.next_is (ap (λ (x : Run). x.commits) on)
     entries-judged front (Conflict mount by) made on = entries-stay made.next_is (ap (λ (x : Run). x.commits) on)
+    entries-judged front (TooLarge mount bytes) made on = entries-stay made.next_is (ap (λ (x : Run). x.commits) on)
     entries-judged front (Invalid violation risen) made on = entries-stay made.next_is (ap (λ (x : Run). x.commits) on)
     entries-judged front (DatabaseFull weight) made on = entries-stay made.next_is (ap (λ (x : Run). x.commits) on)
     entries-judged front (HistoryFull weight) made on = entries-stay made.next_is (ap (λ (x : Run). x.commits) on)

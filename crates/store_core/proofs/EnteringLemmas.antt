@@ -1,11 +1,9 @@
--- A set that is a commit joins a history that stays legal, and its texts are an entry that the journal can hold.
-use Rattle.std.proofs.Common.{◌≡◌, ℕ, ◌+◌, ◌<◌, ◌≤◌, true, nat_eq, List, [], ◌∷◌, ◌++◌, length, slice_get, Option, Some, None, refl, sym, ap, ap₂, subst, ◌∙◌, arith, length-append}
-use Rattle.std.specs.List.{AllByRecursion}
-use Rattle.std.specs.Option.{option_map}
-use Rattle.std.proofs.lemmas.Bool.{cond-true}
-use Rattle.std.proofs.lemmas.List.{length-map, take_all}
+-- A set that is a commit joins a history that stays legal, and the texts of the commit are an entry that the journal can hold.
+use Rattle.std.proofs.Common.{◌≡◌, ℕ, ◌+◌, ◌<◌, ◌≤◌, Bool, true, false, ◌||◌, nat_eq, List, [], ◌∷◌, ◌++◌, length, slice_get, Option, Some, None, refl, sym, ap, ap₂, subst, ◌∙◌, arith, eqb-true}
+use Rattle.std.specs.List.{AllByRecursion, list_any}
+use Rattle.std.proofs.lemmas.Bool.{or_parts}
+use Rattle.std.proofs.lemmas.List.{length-map}
 use Rattle.std.specs.FinMap as map
-use Rattle.general_words.proofs.Lists.{some_is}
 use Rattle.journal_codec.specs.Entry.{IsEntry}
 use Rattle.model_files.specs.Texts.{Texts, as_entry, entry_of, texts_at, with_text}
 use Rattle.model_files.proofs.EntryLemmas.{is_entry}
@@ -14,19 +12,21 @@ use Rattle.model_history.specs.History as past
 use Rattle.model_history.specs.History.{is_among, replay, history_weight, heaviest_history}
 use Rattle.model_maps.specs.KeyMap.{KeyMap}
 use Rattle.model_store.specs.Cores as cores
-use Rattle.model_store.specs.Cores.{JudgementMade, accepts, core_after, keeping}
+use Rattle.model_store.specs.Cores.{JudgementMade, accepts, core_after}
 use Rattle.model_store.specs.Events.{Commit, Judged}
 use Rattle.model_store.specs.Legal.{AreLegal, IsLegalCommit}
 use Rattle.model_names.specs.Name.{Name}
 use Rattle.model_store.specs.Promise.{IsSet}
-use Rattle.model_store.specs.Records.{Record, Fetched, fetched_at}
-use Rattle.model_store.specs.Sets.{Prepared, wants}
-use Rattle.model_store.specs.Store.{Store, Formats, points_of, contents}
-use Rattle.model_store.specs.Verdicts.{Late, Commits, IsLate, commit_of}
+use Rattle.model_store.specs.Records.{Record}
+use Rattle.model_store.specs.Remaking.{CanRemake}
+use Rattle.model_store.specs.Sets.{Prepared}
+use Rattle.model_store.specs.Store.{Store, Formats, contents, counts_keys, points_of}
+use Rattle.model_store.specs.Verdicts.{Late, Commits, IsLate, commit_of, conflict}
 use Rattle.model_store.specs.Worlds.{World, Asked}
 use Rattle.model_store.proofs.Judged.{is_committed}
-use Rattle.model_store.proofs.Members.{among-first, among-rest, itself_number}
+use Rattle.model_store.proofs.Members.{among-first, among-rest}
 use Rattle.model_store.proofs.Owning.{Goes, follows}
+use Rattle.model_store.proofs.Remade.{can_remake}
 use Rattle.mount_table.specs.declared.mounts.Mount.{Mount}
 use Rattle.set_split.specs.Involved.{involved_in}
 use Rattle.set_split.specs.Parts.{owned_by}
@@ -49,6 +49,14 @@ module _ (formats : Formats) (store : Store) (keys other : KeyMap) where
   pub texts-alike : (ms : List ℕ) → ((m : ℕ) → is_among ms m ≡ true → Alike m) → texts_at formats store keys ms ≡ texts_at formats store other ms
   texts-alike [] same = refl
   texts-alike (m ∷ ms) same = with-alike m (slice_get store.mounts m) _ _ (same m (among-first m ms)) (texts-alike ms (λ k among. same k (among-rest m k ms among)))
+
+-- where no number has something, none of them has
+none_counts : (p : ℕ → Bool) (ms : List ℕ) (m : ℕ) → list_any p ms ≡ false → is_among ms m ≡ true → p m ≡ false
+none_counts p [] m none among = absurd cc
+none_counts p (n ∷ ms) m none among = elim (nat_eq m n) as (λ b. nat_eq m n ≡ b → (b || is_among ms m) ≡ true → p m ≡ false) [
+  | true ↦ λ is e. ap p (eqb-true m n is) ∙ (or_parts (p n) (list_any p ms) none).0
+  | false ↦ λ is e. none_counts p ms m (or_parts (p n) (list_any p ms) none).1 e
+] refl among
 
 -- ---- the history
 
@@ -79,6 +87,10 @@ module _ (formats : Formats) {D P : Type 0} (store : Store) (core : Core D P) (r
   pub present : replay store.start core.history.commits ≡ core.keys
   present = ap (replay store.start) st.stands.history ∙ sym st.stands.keys
 
+  -- where nothing blocks the set, the texts of its files can be made anew of the keys after it
+  pub remade : conflict store core.history.commits set ≡ None → CanRemake formats store core.keys set
+  remade free = can_remake formats store world old st.stands r p set is_set accepted free
+
   module _ (commit : past.Commit) (aside : ℕ) (late : IsLate formats store core.history.commits core.keys set (Commits commit aside)) where
     abbrev next : cores.Core
     next = core_after store old r set (Commits commit aside)
@@ -96,41 +108,17 @@ module _ (formats : Formats) {D P : Type 0} (store : Store) (core : Core D P) (r
     legal = subst (λ k. IsLegalCommit formats store k commit) present
         (last_legal formats store store.start core.history.commits commit (subst (AreLegal formats store store.start) joined goes.stands.legal.each))
 
-    -- after the commit a touched mount owns what was wanted for it
-    stored : (m : ℕ) → is_among set.touched m ≡ true → owned_by (points_of store) m (after core.keys set.changes) ≡ owned_by (points_of store) m set.keys
-    stored m among =
-        from (goes.after.fronts r m)
-        (sym (cond-true (is_among set.touched m) (Some (wanted m)) (records r m) among)
-        ∙ sym (ap (λ (rec : Record). rec m) (cond-true (nat_eq r r) moved (records r) (itself_number r)))
-        ∙ (goes.stands.records r).is m)
-      where
-        n : ℕ
-        n = length core.history.commits
-
-        wanted : ℕ → Fetched
-        wanted k = record { front = n + 1; kept = owned_by (points_of store) k set.keys }
-
-        moved : Record
-        moved = keeping set.touched (n + 1) (wants (points_of store) set.keys) (records r)
-
-        from : (o : Option ℕ) → Some (wanted m) ≡ option_map (fetched_at store goes.after.history m) o → owned_by (points_of store) m (after core.keys set.changes) ≡ owned_by (points_of store) m set.keys
-        from None e = absurd cc
-        from (Some f) e =
-            let is : wanted m ≡ fetched_at store goes.after.history m f = some_is (wanted m) (fetched_at store goes.after.history m f) e in
-            let front : n + 1 ≡ f = ap (λ (x : Fetched). x.front) is in
-            let all : length goes.after.history ≤ f = omega (arith, front, ap length joined, length-append core.history.commits (commit ∷ [])) in
-            ap (owned_by (points_of store) m) (goes.stands.keys ∙ ap (replay store.start) (sym (take_all f goes.after.history all)))
-            ∙ sym (ap (λ (x : Fetched). x.kept) is)
-
     pub commit_is_set : commit ≡ commit_of set
     commit_is_set = (is_committed formats store core.history.commits core.keys set commit aside late).is
 
-    pub entry_is : as_entry (texts_at formats store set.keys set.touched) ≡ entry_of formats store core.keys (commit_of set)
-    entry_is = ap as_entry (texts-alike formats store set.keys (after core.keys set.changes) set.touched (λ m among. sym (stored m among)))
+    -- where no touched mount counts by key, the texts of what was wanted are those of the commit
+    pub entry_is : list_any (counts_keys store) set.touched ≡ false → as_entry (texts_at formats store set.keys set.touched) ≡ entry_of formats store core.keys (commit_of set)
+    entry_is none =
+        let made = remade (is_committed formats store core.history.commits core.keys set commit aside late).free in
+        ap as_entry (texts-alike formats store set.keys (after core.keys set.changes) set.touched (λ m among. sym (made.wanted m among (none_counts (counts_keys store) set.touched m none among))))
 
-    pub entry : IsEntry (as_entry (texts_at formats store set.keys set.touched))
-    entry = subst IsEntry (sym entry_is)
-        (is_entry formats store st.files core.keys (commit_of set) (subst (λ c. IsLegalCommit formats store core.keys c) commit_is_set legal))
+    pub entry : IsEntry (entry_of formats store core.keys (commit_of set))
+    entry = is_entry formats store st.files core.keys (commit_of set) (subst (λ c. IsLegalCommit formats store core.keys c) commit_is_set legal)
 
   -- each touched mount is one of the table
   pub within : AllByRecursion (λ m. m < length store.mounts) set.touched

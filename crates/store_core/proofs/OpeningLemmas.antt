@@ -26,6 +26,8 @@ use Rattle.model_files.specs.Texts.{entries_of}
 use Rattle.model_maps.specs.KeyMap.{KeyMap}
 use Rattle.model_history.specs.History.{Commit}
 use Rattle.model_store.specs.Promise.{Stands}
+use Rattle.model_store.specs.Records.{no_record}
+use Rattle.model_store.specs.Sound.{IsSound}
 use Rattle.model_store.specs.Store.{Store, Formats, store_of}
 use Rattle.model_store.specs.Worlds.{first_world}
 use Rattle.model_store.proofs.Owning.{first_stands}
@@ -35,9 +37,6 @@ use Rattle.mount_table.proofs.OwnFileLemmas.{own_files, named_files, free_files,
 use Rattle.mounted_files.specs.Files.{Reading, Badness, IsState, points_of}
 use Rattle.mounted_files.specs.Opening.{MakesTable, IsOpened}
 use Rattle.mounted_files.specs.declared.files.MountedFile.{MountedFile}
-use Rattle.mounted_files.proofs.WeighLemmas.{mounts-from}
-use Rattle.mounted_files.specs.Visible.{visible_keys}
-use Rattle.mounted_files.specs.Weighed.{own_weight}
 use Rattle.store_phases.specs.Opens.{HasBegun}
 use Rattle.store_phases.specs.Stores.{IsStore}
 use Rattle.store_phases.proofs.Stores.{IsStore-read, IsStore-from_now}
@@ -84,12 +83,6 @@ module _ (Reads : Reading) (IsBad : Badness) (bytes_of others : Image) (same : S
       → IfOk result (λ o. IsOpened Reads IsBad others o.plan.mounted) × IfErr result (λ r. RefusesStore Reads IsBad (others own_mount.file) r.fault)
   told_alike (Ok o) told = (opened_alike o.plan.mounted told, tt)
   told_alike (Err r) told = (tt, refused_alike r.fault told)
-
--- the mounts of opened files are those of a table
-pub opened_mounts : (Reads : Reading) (IsBad : Badness) (bytes_of : Image) (files : List MountedFile) → IsOpened Reads IsBad bytes_of files → HaveFiles (over (λ (file : MountedFile). file.mount) files)
-opened_mounts Reads IsBad bytes_of files opened =
-    subst HaveFiles (sym (mounts-from (own_weight opened.unweighed) opened.unweighed) ∙ ap (over (λ (file : MountedFile). file.mount)) (sym opened.is))
-    (have_files opened.table.keys (over (λ (file : MountedFile). file.mount) opened.unweighed) opened.table.is)
 
 -- ---- what the reading leaves
 
@@ -142,35 +135,30 @@ journal_broken place journal_fault.Memory here = tt
 
 -- ---- the first core
 
--- the first core stands for the first world, whatever the disk tells
-pub first_core_in : (formats : Formats) {D P : Type 0} (store : Store) (core : Core D P) → HaveFiles store.mounts → core.history.commits ≡ [] → core.start ≡ store.start → core.keys ≡ store.start → StandsIn formats store core (λ r m. None) (λ p. None) first_world
-first_core_in formats store core files none start keys = record {
+-- the first core of a sound store stands for the first world, whatever the disk tells
+pub first_core_in : (formats : Formats) {D P : Type 0} (store : Store) (core : Core D P) → HaveFiles store.mounts → IsSound formats store → core.history.commits ≡ [] → core.start ≡ store.start → core.keys ≡ store.start
+    → StandsIn formats store core (λ r. no_record) (λ p. None) first_world
+first_core_in formats store core files sound none start keys = record {
   files = files;
   start = start;
-  stands = subst (λ c. Stands formats store first_world c) (sym (ap₂ (λ (h : List Commit) (k : KeyMap). record { history = h; keys = k; records = λ r m. None; sets = λ p. None }) none keys)) (first_stands formats store);
+  stands = subst (λ c. Stands formats store first_world c) (sym (ap₂ (λ (h : List Commit) (k : KeyMap). record { history = h; keys = k; records = λ r. no_record; sets = λ p. None }) none keys)) (first_stands formats store sound);
 }
 
--- and, with its journal, for a run without a commit
-pub first_core_stands : (formats : Formats) {D P : Type 0} (g : Ghosts D) (store : Store) (core : Core D P) (run : Run) → HaveFiles store.mounts → core.history.commits ≡ [] → core.start ≡ store.start → core.keys ≡ store.start → IsStore g core.journal.disk core.journal run → run.commits ≡ []
-    → StandsFor formats g store core.journal.disk core (λ r m. None) (λ p. None) first_world run
-first_core_stands formats g store core run files none start keys on_disk empty = record {
-  here = first_core_in formats store core files none start keys;
-  on_disk = on_disk;
-  entries = empty ∙ sym (ap (entries_of formats store) none);
+-- and that of an opening, with its journal, for a run without a commit
+pub stands_opened : (formats : Formats) {D F P : Type 0} (g : Ghosts D) (journal : JournalValue D) (run : Run) (result : Result (Opened D F P) (OpenRefused D P)) → run.commits ≡ [] → IsStore g journal.disk journal run
+    → IfOk result (λ o. (procs : ℕ → KeyMap) → StandsIn formats (store_of o.plan.mounted procs) o.core (λ r. no_record) (λ p. None) first_world)
+    → IfOk result (λ o. o.core.history.commits ≡ []) → IfOk result (λ o. OnlyReadsFiles g journal o.core.journal)
+    → IfOk result (λ o. (procs : ℕ → KeyMap) → StandsFor formats g (store_of o.plan.mounted procs) o.core.journal.disk o.core (λ r. no_record) (λ p. None) first_world run)
+stands_opened formats g journal run (Ok o) empty store world none reads = λ procs. record {
+  here = world procs;
+  on_disk = store_read g journal.disk journal o.core.journal run reads store;
+  entries = empty ∙ sym (ap (entries_of formats (store_of o.plan.mounted procs)) none);
 }
-
--- and so does that of an opening
-pub stands_opened : (formats : Formats) {D F P : Type 0} (g : Ghosts D) (Reads : Reading) (IsBad : Badness) (journal : JournalValue D) (run : Run) (result : Result (Opened D F P) (OpenRefused D P)) → run.commits ≡ [] → IsStore g journal.disk journal run
-    → MatchResult result (λ o. IsOpened Reads IsBad (g.seen journal.disk) o.plan.mounted) (λ r. RefusesStore Reads IsBad (g.seen journal.disk own_mount.file) r.fault)
-    → IfOk result (λ o. o.core.start ≡ visible_keys o.plan.mounted) → IfOk result (λ o. o.core.keys ≡ visible_keys o.plan.mounted) → IfOk result (λ o. o.core.history.commits ≡ []) → IfOk result (λ o. OnlyReadsFiles g journal o.core.journal)
-    → IfOk result (λ o. (procs : ℕ → KeyMap) → StandsFor formats g (store_of o.plan.mounted procs) o.core.journal.disk o.core (λ r m. None) (λ p. None) first_world run)
-stands_opened formats g Reads IsBad journal run (Ok o) empty store told start keys none reads = λ procs.
-    first_core_stands formats g (store_of o.plan.mounted procs) o.core run (opened_mounts Reads IsBad (g.seen journal.disk) o.plan.mounted told) none start keys (store_read g journal.disk journal o.core.journal run reads store) empty
-stands_opened formats g Reads IsBad journal run (Err r) empty store told start keys none reads = tt
+stands_opened formats g journal run (Err r) empty store world none reads = tt
 
 -- which begins the run of the opening, with what that left in doubt
 pub begins_opened : (formats : Formats) {D F P : Type 0} (g : Ghosts D) (disk : D) (journal : JournalValue D) (result : Result (Opened D F P) (OpenRefused D P)) (begun : HasBegun g disk journal)
-    → IfOk result (λ o. (procs : ℕ → KeyMap) → StandsFor formats g (store_of o.plan.mounted procs) o.core.journal.disk o.core (λ r m. None) (λ p. None) first_world (new_run (opened_files (g.seen disk)) (g.faults disk) begun.later))
+    → IfOk result (λ o. (procs : ℕ → KeyMap) → StandsFor formats g (store_of o.plan.mounted procs) o.core.journal.disk o.core (λ r. no_record) (λ p. None) first_world (new_run (opened_files (g.seen disk)) (g.faults disk) begun.later))
     → IfOk result (λ o. BeginsStore formats g disk o)
 begins_opened formats g disk journal (Ok o) begun stands = record { later = begun.later; may_be = begun.may_be; stands = stands }
 begins_opened formats g disk journal (Err r) begun stands = tt

@@ -10,7 +10,7 @@ use Rattle.model_store.specs.Store.{Store, Formats}
 use Rattle.model_store.specs.Verdicts as late
 use Rattle.mount_table.specs.declared.mounts.Mount.{Mount}
 use Rattle.store_core.specs.declared.committing.CommitFault.{CommitFault}
-use Rattle.store_core.specs.declared.committing.CommitFault.TheVariants.{Conflict, Invalid, DatabaseFull, HistoryFull, DiskFault, Memory}
+use Rattle.store_core.specs.declared.committing.CommitFault.TheVariants.{Conflict, FileTooLarge, Invalid, DatabaseFull, HistoryFull, DiskFault, Memory}
 use Rattle.store_core.specs.declared.committing.Done.{Done}
 use Rattle.store_core.specs.declared.committing.Done.TheVariants.{Committed, Same}
 
@@ -23,6 +23,7 @@ abbrev pub IsAnswer : List Mount → Bool → ℕ → Prepared → Result Done C
 IsAnswer mounts risen found set (Ok (Committed number aside)) answer = (number ≡ found + 1) × (answer ≡ event.Judged found (late.Commits (late.commit_of set) aside))
 IsAnswer mounts risen found set (Ok (Same front aside)) answer = answer ≡ event.Judged front (late.Same aside)
 IsAnswer mounts risen found set (Err (Conflict mount by front)) answer = (m : ℕ) × (point_at mounts m ≡ Some mount) × (answer ≡ event.Judged front (late.Conflict m by))
+IsAnswer mounts risen found set (Err (FileTooLarge mount bytes front)) answer = (m : ℕ) × (point_at mounts m ≡ Some mount) × (answer ≡ event.Judged front (late.TooLarge m bytes))
 IsAnswer mounts risen found set (Err (Invalid violation front)) answer = answer ≡ event.Judged front (late.Invalid violation risen)
 IsAnswer mounts risen found set (Err (DatabaseFull weight front)) answer = answer ≡ event.Judged front (late.DatabaseFull weight)
 IsAnswer mounts risen found set (Err (HistoryFull weight front)) answer = answer ≡ event.Judged front (late.HistoryFull weight)
@@ -34,6 +35,7 @@ abbrev pub IsJudged : Formats → Store → Bool → List Commit → KeyMap → 
 IsJudged formats store risen history keys set (Ok (Committed number aside)) = (number ≡ length history + 1) × late.IsLate formats store history keys set (late.Commits (late.commit_of set) aside)
 IsJudged formats store risen history keys set (Ok (Same front aside)) = (front ≡ length history) × late.IsLate formats store history keys set (late.Same aside)
 IsJudged formats store risen history keys set (Err (Conflict mount by front)) = (m : ℕ) × (point_at store.mounts m ≡ Some mount) × (front ≡ length history) × late.IsLate formats store history keys set (late.Conflict m by)
+IsJudged formats store risen history keys set (Err (FileTooLarge mount bytes front)) = (m : ℕ) × (point_at store.mounts m ≡ Some mount) × (front ≡ length history) × late.IsLate formats store history keys set (late.TooLarge m bytes)
 IsJudged formats store risen history keys set (Err (Invalid violation front)) = (front ≡ length history) × late.IsLate formats store history keys set (late.Invalid violation risen)
 IsJudged formats store risen history keys set (Err (DatabaseFull weight front)) = (front ≡ length history) × late.IsLate formats store history keys set (late.DatabaseFull weight)
 IsJudged formats store risen history keys set (Err (HistoryFull weight front)) = (front ≡ length history) × late.IsLate formats store history keys set (late.HistoryFull weight)
@@ -45,6 +47,7 @@ abbrev pub has_written : Result Done CommitFault → Bool
 has_written (Ok (Committed number aside)) = true
 has_written (Ok (Same front aside)) = false
 has_written (Err (Conflict mount by front)) = false
+has_written (Err (FileTooLarge mount bytes front)) = false
 has_written (Err (Invalid violation front)) = false
 has_written (Err (DatabaseFull weight front)) = false
 has_written (Err (HistoryFull weight front)) = false
@@ -56,3 +59,9 @@ abbrev pub IsConflict : List Mount → ℕ → ℕ → ℕ → CommitFault → T
 IsConflict mounts m by front Memory = Unit {0}
 IsConflict mounts m by front (Conflict mount number found) = (point_at mounts m ≡ Some mount) × (number ≡ by) × (found ≡ front)
 IsConflict mounts m by front why = ⊥
+
+-- too large a file at the mount of a number, or want of memory for its name
+abbrev pub IsTooLarge : List Mount → ℕ → ℕ → ℕ → CommitFault → Type 0
+IsTooLarge mounts m bytes front Memory = Unit {0}
+IsTooLarge mounts m bytes front (FileTooLarge mount size found) = (point_at mounts m ≡ Some mount) × (size ≡ bytes) × (found ≡ front)
+IsTooLarge mounts m bytes front why = ⊥

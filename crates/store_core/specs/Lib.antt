@@ -10,4 +10,5 @@ pub mod Gets
 pub mod Joined
 pub mod Opened
 pub mod Opens
+pub mod Renewed
 pub mod Flushes

@@ -15,6 +15,7 @@ use Rattle.journal_steps.specs.Outcomes.{SameFiles, IsEither}
 use Rattle.intent_journal.specs.States.{IsCalm}
 use Rattle.model_crashes.specs.Runs.{new_run}
 use Rattle.model_maps.specs.KeyMap.{KeyMap}
+use Rattle.model_store.specs.Records.{no_record}
 use Rattle.model_store.specs.Store.{Formats, store_of}
 use Rattle.model_store.specs.Worlds.{first_world}
 use Rattle.mount_table.specs.Table.{own_mount}
@@ -34,7 +35,7 @@ pub record BeginsStore (formats : Formats) {D F P : Type 0} (g : Ghosts D) (disk
   pub later : Option (List FileText)
   pub may_be : MayBeLeft (g.seen disk) later
   pub stands : (procs : ℕ → KeyMap) → StandsFor formats g (store_of opened.plan.mounted procs) opened.core.journal.disk
-      opened.core (λ r m. None) (λ p. None) first_world (new_run (opened_files (g.seen disk)) (g.faults disk) later)
+      opened.core (λ r. no_record) (λ p. None) first_world (new_run (opened_files (g.seen disk)) (g.faults disk) later)
 
 -- by the formats: what they are to a store, which bytes they read as which keys, and which are bad
 pub record OpensStore (formats : Formats) (Reads : Reading) (IsBad : Badness) {D F P : Type 0} (g : Ghosts D) (disk : D) (matcher : P) (result : Result (Opened D F P) (OpenRefused D P)) : Type 0 where
@@ -44,11 +45,11 @@ pub record OpensStore (formats : Formats) (Reads : Reading) (IsBad : Badness) {D
   pub stands : WhereCalm g disk (λ files doubt. IfOk result (λ opened. BeginsStore formats g disk opened))
   pub own : WhereCalm g disk (λ files doubt. SameFiles files (opened_files (g.seen disk))
       → IfOk result (λ opened. (procs : ℕ → KeyMap) → StandsFor formats g (store_of opened.plan.mounted procs) opened.core.journal.disk
-      opened.core (λ r m. None) (λ p. None) first_world (new_run files (g.faults disk) doubt)))
+      opened.core (λ r. no_record) (λ p. None) first_world (new_run files (g.faults disk) doubt)))
   pub shown : WhereCalm g disk (λ files doubt. may_be_of_journal (fault_of result) ≡ false → SameFiles (g.seen (disk_of result)) (opened_files (g.seen disk)))
   pub files : WhereCalm g disk (λ files doubt. IfOk result (λ _. IsEither files doubt (opened_files (g.seen disk))))
   -- whatever the disk tells, the core is a first one
-  pub world : IfOk result (λ opened. (procs : ℕ → KeyMap) → StandsIn formats (store_of opened.plan.mounted procs) opened.core (λ r m. None) (λ p. None) first_world)
+  pub world : IfOk result (λ opened. (procs : ℕ → KeyMap) → StandsIn formats (store_of opened.plan.mounted procs) opened.core (λ r. no_record) (λ p. None) first_world)
   pub keys : IfOk result (λ opened. opened.core.keys ≡ visible_keys opened.plan.mounted)
   pub start : IfOk result (λ opened. opened.core.start ≡ visible_keys opened.plan.mounted)
   pub none : IfOk result (λ opened. opened.core.history.commits ≡ [])
@@ -79,7 +80,7 @@ pub record OpensFiles (formats : Formats) (Reads : Reading) (IsBad : Badness) {D
   pub patterns : patterns_of result ≡ matcher
   pub told : g.tells before.disk ≡ true
       → MatchResult result (λ opened. IsOpened Reads IsBad (g.seen before.disk) opened.plan.mounted) (λ refused. RefusesStore Reads IsBad (g.seen before.disk own_mount.file) refused.fault)
-  pub world : IfOk result (λ opened. (procs : ℕ → KeyMap) → StandsIn formats (store_of opened.plan.mounted procs) opened.core (λ r m. None) (λ p. None) first_world)
+  pub world : IfOk result (λ opened. (procs : ℕ → KeyMap) → StandsIn formats (store_of opened.plan.mounted procs) opened.core (λ r. no_record) (λ p. None) first_world)
   pub keys : IfOk result (λ opened. opened.core.keys ≡ visible_keys opened.plan.mounted)
   pub start : IfOk result (λ opened. opened.core.start ≡ visible_keys opened.plan.mounted)
   pub none : IfOk result (λ opened. opened.core.history.commits ≡ [])

@@ -5,6 +5,7 @@ ghost use Rattle.mount_table.specs.Table.{own_mount};
 ghost use Rattle.mounted_files.specs.Begins.{Begins};
 ghost use Rattle.mounted_files.specs.Begun.{others};
 ghost use Rattle.mounted_files.specs.Opening.{IsOpened};
+ghost use Rattle.mounted_files.specs.Writable.{AllCanBeWritten, CanBeWrittenSoFar};
 ghost use Rattle.store_core.specs.Faults.{RefusesStore};
 ghost use Rattle.store_core.specs.Frames.{OnlyReadsFiles};
 
@@ -17,7 +18,8 @@ use mounted_files::{Mounted, Opening};
 use std::alloc::Global;
 use storage_api::Formats;
 
-/// Reads the table's own file and then the file of each other mount, each file once.
+/// Reads the table's own file and then the file of each other mount, each file once. Whatever the disk tells, what a good
+/// file held can be written again.
 pub(crate) fn mount_files<D: Disk, F: Formats>(
     alloc: Global,
     journal: &mut Journal<D>,
@@ -25,6 +27,7 @@ pub(crate) fn mount_files<D: Disk, F: Formats>(
 ) -> Result<Mounted, OpenFault>
     ensures told { D.tells journal.old.disk ≡ true →
         MatchResult result (IsOpened F.reads F.is_bad_at (D.seen journal.old.disk)) (RefusesStore F.reads F.is_bad_at (D.seen journal.old.disk own_mount.file)) }
+    ensures storable { IfOk result (AllCanBeWritten F.is_storable) }
     ensures cause { result ≡ Err OpenFault.DiskFault → HasRisen (D.faults journal.old.disk) (D.faults journal.new.disk) }
     ensures own { (at : ℕ) → result ≡ Err (OpenFault.BadJournal at) → ⊥ }
     ensures reads { OnlyReadsFiles D.Disk journal.old journal.new }
@@ -42,6 +45,7 @@ fn begin<D: Disk, F: Formats>(
     ensures told { D.tells journal.old.disk ≡ true →
         MatchResult result (Begins F.reads F.is_bad_at (D.seen journal.old.disk)) (RefusesStore F.reads F.is_bad_at (D.seen journal.old.disk own_mount.file)) }
     ensures none { IfOk result (λ opening. opening.files ≡ []) }
+    ensures storable { IfOk result (CanBeWrittenSoFar F.is_storable) }
     ensures cause { result ≡ Err OpenFault.DiskFault → HasRisen (D.faults journal.old.disk) (D.faults journal.new.disk) }
     ensures own { (at : ℕ) → result ≡ Err (OpenFault.BadJournal at) → ⊥ }
     ensures reads { OnlyReadsFiles D.Disk journal.old journal.new }
@@ -61,6 +65,7 @@ fn mount_others<D: Disk, F: Formats>(
     requires none { opening.files ≡ [] }
     ensures told { D.tells journal.old.disk ≡ true → Begins F.reads F.is_bad_at (D.seen journal.old.disk) opening
         → IfOk result (IsOpened F.reads F.is_bad_at (D.seen journal.old.disk)) }
+    ensures storable { CanBeWrittenSoFar F.is_storable opening → IfOk result (AllCanBeWritten F.is_storable) }
     ensures cause { result ≡ Err FileFault.DiskFault → HasRisen (D.faults journal.old.disk) (D.faults journal.new.disk) }
     ensures reads { OnlyReadsFiles D.Disk journal.old journal.new }
 {
@@ -85,6 +90,7 @@ fn add_next<D: Disk, F: Formats>(
     requires { length opening.old.files < length (others opening.old) }
     ensures step { D.tells journal.old.disk ≡ true → Begins F.reads F.is_bad_at (D.seen journal.old.disk) opening.old
         → OnOk result (Begins F.reads F.is_bad_at (D.seen journal.old.disk) opening.new) }
+    ensures storable { CanBeWrittenSoFar F.is_storable opening.old → OnOk result (CanBeWrittenSoFar F.is_storable opening.new) }
     ensures count { OnOk result (length opening.new.files ≡ length opening.old.files + 1) }
     ensures others { others opening.new ≡ others opening.old }
     ensures cause { result ≡ Err FileFault.DiskFault → HasRisen (D.faults journal.old.disk) (D.faults journal.new.disk) }

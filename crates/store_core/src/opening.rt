@@ -2,7 +2,9 @@
 ghost use Rattle.std.specs.Prelude.{◌≡◌, ℕ, [], true, Err, IfOk, MatchResult, map as over};
 ghost use Rattle.kdb_outside.specs.Faults.{HasRisen};
 ghost use Rattle.model_files.specs.Files.{HaveFiles};
-ghost use Rattle.model_store.specs.Store.{formats_of};
+ghost use Rattle.model_maps.specs.KeyMap.{KeyMap};
+ghost use Rattle.model_store.specs.Sound.{IsSound};
+ghost use Rattle.model_store.specs.Store.{formats_of, store_of};
 ghost use Rattle.mount_table.specs.Table.{own_mount};
 ghost use Rattle.mounted_files.specs.Opening.{IsOpened};
 ghost use Rattle.mounted_files.specs.Visible.{visible_keys};
@@ -108,6 +110,7 @@ fn first_state<D: Disk, F: Formats>(
         MatchResult result (λ first. IsOpened F.reads F.is_bad_at (D.seen journal.old.disk) first.mounted)
         (RefusesStore F.reads F.is_bad_at (D.seen journal.old.disk own_mount.file)) }
     ensures files { IfOk result (λ first. HaveFiles (over (λ file. file.mount) first.mounted)) }
+    ensures sound { IfOk result (λ first. (procs : ℕ → KeyMap) → IsSound (formats_of F.Formats) (store_of first.mounted procs)) }
     ensures keys { IfOk result (λ first. first.keys ≡ visible_keys first.mounted) }
     ensures start { IfOk result (λ first. first.start ≡ visible_keys first.mounted) }
     ensures none { IfOk result (λ first. first.history.commits ≡ []) }

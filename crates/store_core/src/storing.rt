@@ -1,16 +1,17 @@
 //! A set that is a commit enters the history: memory is taken first, then the disk is written, and then the commit is kept.
-ghost use Rattle.std.specs.Prelude.{◌≤◌, ◌<◌, ◌++◌, ◌∷◌, [], All};
+ghost use Rattle.std.specs.Prelude.{◌≤◌, ◌<◌, ◌++◌, ◌∷◌, [], All, length};
 ghost use Rattle.commit_log.specs.CommitView.{commit_of};
 ghost use Rattle.journal_codec.specs.Entry.{IsEntry};
 ghost use Rattle.model_history.specs.History.{history_weight, heaviest_history};
 ghost use Rattle.store_core.specs.Entering.{EntersHistory};
-ghost use Rattle.store_verdict.specs.RecordView.{places_of};
+ghost use Rattle.store_verdict.specs.RecordView.{places_of, record_of};
 
 use crate::{CommitFault, Core, Done};
 use commit_log::Commit;
 use journal_codec::encode;
 use kdb_outside::Disk;
 use key_set::KeySet;
+use mount_table::MountTable;
 use regex_check::Patterns;
 use std::alloc::Global;
 use store_phases::commit;
@@ -22,6 +23,7 @@ impl<D: Disk, P: Patterns + Drop> Core<D, P> {
     pub(crate) fn enter(
         &mut self,
         alloc: Global,
+        table: &MountTable,
         rec: &mut Record,
         prepared: Prepared,
         entering: Commit,
@@ -30,8 +32,9 @@ impl<D: Disk, P: Patterns + Drop> Core<D, P> {
     ) -> Result<Done, CommitFault>
         requires entry { IsEntry prepared.texts }
         requires light { history_weight (self.old.history.commits ++ commit_of entering ∷ []) ≤ heaviest_history }
+        requires count { (record_of rec.old).committed ≤ length self.old.history.commits }
         requires places { All (λ part. part.mount < places_of rec.old) prepared.wanted }
-        ensures { EntersHistory D.Disk (commit_of entering) left_aside keys prepared self.old self.new rec.old rec.new result }
+        ensures { EntersHistory D.Disk table.now (commit_of entering) left_aside keys prepared self.old self.new rec.old rec.new result }
     {
         let front = self.history.len();
         let Prepared { texts, wanted, .. } = prepared;
@@ -44,7 +47,7 @@ impl<D: Disk, P: Patterns + Drop> Core<D, P> {
         self.history.push(entering);
         self.keys = keys;
         let number = self.history.len();
-        rec.keep(number, wanted);
+        rec.store(table, number, wanted);
         Ok(Done::Committed { number, left_aside })
     }
 }

@@ -4,7 +4,7 @@ use Rattle.std.specs.Fmt.{decimal}
 use Rattle.model_names.specs.Name.{Name}
 use Rattle.model_quoting.specs.Quoted.{quoted, shown}
 use Rattle.mount_table.specs.declared.faults.TableFault.{TableFault}
-use Rattle.mount_table.specs.declared.faults.TableFault.TheVariants.{BadMountpoint, NoPath, BadPath, UnknownPlugin, FileTwice, TooMany, AlreadyMounted, NotMounted, Memory}
+use Rattle.mount_table.specs.declared.faults.TableFault.TheVariants.{BadMountpoint, NoPath, BadPath, UnknownPlugin, FileTwice, BadConflicts, TooMany, AlreadyMounted, NotMounted, Memory}
 use Rattle.model_specified.specs.declared.violations.Violation.{Violation}
 
 abbrev pub out_of_memory : List ℕ
@@ -63,6 +63,7 @@ bad_table (NoPath entry) = bad_entry (codes "no-path") entry
 bad_table (BadPath entry) = bad_entry (codes "bad-path") entry
 bad_table (UnknownPlugin entry) = bad_entry (codes "unknown-plugin") entry
 bad_table (FileTwice entry) = bad_entry (codes "file-twice") entry
+bad_table (BadConflicts entry) = bad_entry (codes "bad-conflicts") entry
 bad_table (TooMany count) = codes "C03200 bad-table too-many " ++ decimal count
 bad_table (AlreadyMounted entry) = bad_entry (codes "already-mounted") entry
 bad_table (NotMounted entry) = bad_entry (codes "not-mounted") entry

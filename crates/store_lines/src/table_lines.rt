@@ -19,6 +19,7 @@ pub fn bad_table(alloc: Global, fault: &TableFault) -> Result<String, Memory>
         TableFault::BadPath { entry } => bad_entry(alloc, "bad-path", entry.as_str()),
         TableFault::UnknownPlugin { entry } => bad_entry(alloc, "unknown-plugin", entry.as_str()),
         TableFault::FileTwice { entry } => bad_entry(alloc, "file-twice", entry.as_str()),
+        TableFault::BadConflicts { entry } => bad_entry(alloc, "bad-conflicts", entry.as_str()),
         TableFault::TooMany { count } => format!(in alloc; "C03200 bad-table too-many {count}"),
         TableFault::AlreadyMounted { entry } => bad_entry(alloc, "already-mounted", entry.as_str()),
         TableFault::NotMounted { entry } => bad_entry(alloc, "not-mounted", entry.as_str()),

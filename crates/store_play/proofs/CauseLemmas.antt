@@ -24,6 +24,7 @@ pub commit_caused : (faults now refusals later : ℕ) (result : Result Done Comm
     → IsCaused faults now refusals later (told.Committed result)
 commit_caused faults now refusals later (Ok done) cause refused = tt
 commit_caused faults now refusals later (Err (fault.Conflict mount by front)) cause refused = tt
+commit_caused faults now refusals later (Err (fault.FileTooLarge mount bytes front)) cause refused = tt
 commit_caused faults now refusals later (Err (fault.Invalid violation front)) cause refused = refused violation front refl
 commit_caused faults now refusals later (Err (fault.DatabaseFull weight front)) cause refused = tt
 commit_caused faults now refusals later (Err (fault.HistoryFull weight front)) cause refused = tt
@@ -45,6 +46,7 @@ module _ (first faults now last before refusals later end : ℕ) (began : first 
   caused_over (told.Skipped why) caused = tt
   caused_over (told.Committed (Ok done)) caused = tt
   caused_over (told.Committed (Err (fault.Conflict mount by front))) caused = tt
+  caused_over (told.Committed (Err (fault.FileTooLarge mount bytes front))) caused = tt
   caused_over (told.Committed (Err (fault.Invalid violation front))) caused = λ six short. refused (caused six short)
   caused_over (told.Committed (Err (fault.DatabaseFull weight front))) caused = tt
   caused_over (told.Committed (Err (fault.HistoryFull weight front))) caused = tt

@@ -4,7 +4,8 @@ use Rattle.std.specs.Option.{option_map, option_map_or, unwrap_or}
 use Rattle.general_words.proofs.Lists.{at_place}
 use Rattle.general_words.proofs.Places.{last_or_before}
 use Rattle.model_maps.specs.KeyMap.{KeyMap, no_keys}
-use Rattle.store_play.specs.Handles.{AreNew, HoldNothing, held_in, nothing, procs_at, records_of}
+use Rattle.model_store.specs.Records.{no_record}
+use Rattle.store_play.specs.Handles.{AreNew, HoldNothing, IsNew, held_in, procs_at, records_of}
 use Rattle.store_verdict.specs.PreparedView.{prepared_of}
 use Rattle.store_verdict.specs.RecordView.{record_of}
 use Rattle.store_verdict.specs.declared.prepared.Prepared.{Prepared}
@@ -20,15 +21,19 @@ holds_nothing-next (place ∷ places) none zero = none 0
 holds_nothing-next (place ∷ places) none (suc p) = holds_nothing-next places (λ q. none (suc q)) p
 
 -- of handles that have fetched nothing each keeps nothing
-pub new-nothing : (records : List Record) → AreNew records → (λ r m. None) ≡ records_of records
-new-nothing records new = let all : (r m : ℕ) → None ≡ records_of records r m = each in λ i r m. all r m i
+pub new-nothing : (records : List Record) → AreNew records → (λ r. no_record) ≡ records_of records
+new-nothing records new = λ i r. each r i
   where
-    each : (r m : ℕ) → None ≡ records_of records r m
-    each r m = by (slice_get records r) refl
+    each : (r : ℕ) → no_record ≡ records_of records r
+    each r = by (slice_get records r) refl
       where
-        by : (o : Option Record) → slice_get records r ≡ o → None ≡ option_map_or record_of o nothing m
+        by : (o : Option Record) → slice_get records r ≡ o → no_record ≡ option_map_or record_of o no_record
         by None is = refl
-        by (Some rec) is = sym (new r rec is m)
+        by (Some rec) is =
+            let none : IsNew (record_of rec) = new r rec is in
+            let fetched : (m : ℕ) → None ≡ (record_of rec).fetched m = λ m. sym (none.0 m) in
+            let committed : 0 ≡ (record_of rec).committed = sym none.1 in
+            λ i. record { fetched = λ m. fetched m i; committed = committed i }
 
 pub held-nothing : (places : List (Option Prepared)) → HoldNothing places → (λ p. None) ≡ held_in places
 held-nothing places none = let all : (p : ℕ) → None ≡ held_in places p = λ p. sym (ap (option_map prepared_of) (none p)) in λ i p. all p i

@@ -4,8 +4,9 @@ use Rattle.std.proofs.Math.ListN.{set}
 use Rattle.std.specs.Option.{option_map, option_map_or}
 use Rattle.general_words.proofs.Places.{set-same, set-other}
 use Rattle.model_store.specs.Events.{put}
+use Rattle.model_store.specs.Records.{no_record}
 use Rattle.model_store.specs.Sets as sets
-use Rattle.store_play.specs.Handles.{records_of, nothing, held_in}
+use Rattle.store_play.specs.Handles.{records_of, held_in}
 use Rattle.store_verdict.specs.PreparedView.{prepared_of}
 use Rattle.store_verdict.specs.RecordView.{record_of}
 use Rattle.store_verdict.specs.declared.prepared.Prepared.{Prepared}
@@ -26,8 +27,8 @@ records_of-set records r new lt = let all : (n : ℕ) → put r (record_of new) 
     each n = by (nat_eq n r) refl
       where
         by : (b : Bool) → nat_eq n r ≡ b → cond b (record_of new) (records_of records n) ≡ records_of (set records r new) n
-        by true is = ap (λ (o : Option Record). option_map_or record_of o nothing) (sym (set-same records r new lt)) ∙ ap (records_of (set records r new)) (sym (eqb-true n r is))
-        by false is = ap (λ (o : Option Record). option_map_or record_of o nothing) (sym (set-other records r n new (λ e. let same : nat_eq n r ≡ true = eq-eqb n r e in absurd cc)))
+        by true is = ap (λ (o : Option Record). option_map_or record_of o no_record) (sym (set-same records r new lt)) ∙ ap (records_of (set records r new)) (sym (eqb-true n r is))
+        by false is = ap (λ (o : Option Record). option_map_or record_of o no_record) (sym (set-other records r n new (λ e. let same : nat_eq n r ≡ true = eq-eqb n r e in absurd cc)))
 
 pub held_in-set : (places : List (Option Prepared)) (p : ℕ) (new : Option Prepared) → p < length places → put p (option_map prepared_of new) (held_in places) ≡ held_in (set places p new)
 held_in-set places p new lt = let all : (n : ℕ) → put p (option_map prepared_of new) (held_in places) n ≡ held_in (set places p new) n = each in λ i n. all n i

@@ -101,6 +101,6 @@ module _ (formats : Formats) {D P : Type 0} (g : Ghosts D) (files : List Mounted
         are_calls = calls.are;
         runs = calls.runs;
         one_owner = λ earlier before.
-            one_owner formats (store_of files procs) (earlier ++ calls.calls) last.core
+            one_owner formats (store_of files procs) stood.holds.stands.here.stands.sound (earlier ++ calls.calls) last.core
             (runs-append (Made formats (store_of files procs)) (first_core (store_of files procs)) first.core last.core earlier calls.calls before calls.runs);
       }

@@ -21,9 +21,10 @@ use Rattle.model_files.specs.Texts.{entries_of}
 use Rattle.model_store.specs.Cores as cores
 use Rattle.model_store.specs.Events as event
 use Rattle.model_store.specs.Records as model
+use Rattle.model_store.specs.Records.{no_record}
 use Rattle.model_store.specs.Sets as sets
 use Rattle.model_store.specs.Store.{Store, Formats}
-use Rattle.model_store.specs.Verdicts.{Late, Same, Conflict, Invalid, DatabaseFull, HistoryFull, Commits}
+use Rattle.model_store.specs.Verdicts.{Late, Same, Conflict, TooLarge, Invalid, DatabaseFull, HistoryFull, Commits}
 use Rattle.model_store.specs.Worlds.{first_world}
 use Rattle.model_store.proofs.Owning.{one_owner}
 use Rattle.mounted_files.specs.Files.{Reading, Badness}
@@ -64,6 +65,7 @@ module _ (formats : Formats) (store : Store) (keys : KeyMap) (run later : Run) w
   judged_stays : (set : Option sets.Prepared) (front : ℕ) (late : Late) → RunsOn formats store keys run set (event.Judged front late) later → beginning later ≡ beginning run
   judged_stays set front (Same aside) on = ap beginning on
   judged_stays set front (Conflict m by) on = ap beginning on
+  judged_stays set front (TooLarge m size) on = ap beginning on
   judged_stays set front (Invalid violation risen) on = ap beginning on
   judged_stays set front (DatabaseFull n) on = ap beginning on
   judged_stays set front (HistoryFull n) on = ap beginning on
@@ -93,7 +95,7 @@ module _ (formats : Formats) (store : Store) (files : List MountedFile) where
 
 -- ---- new handles
 
-module _ (formats : Formats) {D P : Type 0} (g : Ghosts D) (mounted : List MountedFile) (procs : List KeyMap) (opened : D) (core : Core D P) (run : Run) (stands : StandsFor formats g (store_with mounted procs) opened core (λ r m. None) (λ p. None) first_world run)
+module _ (formats : Formats) {D P : Type 0} (g : Ghosts D) (mounted : List MountedFile) (procs : List KeyMap) (opened : D) (core : Core D P) (run : Run) (stands : StandsFor formats g (store_with mounted procs) opened core (λ r. no_record) (λ p. None) first_world run)
     (records : List Record) (places : List (Option Prepared)) (handles : AreHandles mounted (procs_at procs) records) (new : AreNew records) (empty : HoldNothing places) where
   -- new handles hold on a store that was just opened
   pub holds_first : Holds formats g mounted (procs_at procs) opened core records places (λ p. None) first_world run
@@ -159,7 +161,7 @@ module _ (formats : Formats) {D P : Type 0} (g : Ghosts D) (mounted : List Mount
         plays = played.plays;
         calls = calls.calls;
         are_calls = calls.are;
-        one_owner = one_owner formats store calls.calls played.last.core calls.runs;
+        one_owner = one_owner formats store played.stands.here.stands.sound calls.calls played.last.core calls.runs;
         history = has.history ∙ same;
         entries = played.stands.entries ∙ ap (entries_of formats store) same;
         files_stay = ap (λ (b : Image × ℕ). b.0) stays;

@@ -33,7 +33,7 @@ use Rattle.store_core.specs.declared.cores.Core.{Core}
 use Rattle.store_core.specs.declared.getting.Got.{Got}
 use Rattle.store_core.proofs.CommitLemmas.{stands_committed}
 use Rattle.store_core.proofs.MadeLemmas.{belongs_made}
-use Rattle.store_play.specs.Handles.{Holds, IsHandle, AreHandles, IsHeld, AreHeld, records_of, nothing, held_at, held_in}
+use Rattle.store_play.specs.Handles.{Holds, IsHandle, AreHandles, IsHeld, AreHeld, records_of, held_at, held_in}
 use Rattle.store_play.specs.Plays.{Stepped, IsKeptBack, IsSkipped}
 use Rattle.store_play.specs.Stages.{stage_of, Stage}
 use Rattle.store_play.specs.declared.events.Answer.TheVariants as told
@@ -85,7 +85,7 @@ module _ (formats : Formats) {D P : Type 0} (g : Ghosts D) (files : List Mounted
 
   -- a record stands in its place
   pub record_at : (r : ℕ) (rec : Record) → slice_get records r ≡ Some rec → records_of records r ≡ record_of rec
-  record_at r rec there = ap (λ (o : Option Record). option_map_or record_of o nothing) there
+  record_at r rec there = ap (λ (o : Option Record). option_map_or record_of o model.no_record) there
 
   pub record_is : (r : ℕ) (rec : Record) → slice_get records r ≡ Some rec → records_of records (handle_of rec) ≡ record_of rec
   record_is r rec there = ap (records_of records) (h.handles r rec there).number ∙ record_at r rec there

@@ -27,13 +27,9 @@ records_in handles = handles.records.items
 abbrev pub places_in : Handles → List (Option Prepared)
 places_in handles = handles.places.items
 
--- a record that keeps nothing
-abbrev pub nothing : model.Record
-nothing m = None
-
 -- what the handle of a number keeps; one that isn't there keeps nothing
 abbrev pub records_of : List Record → ℕ → model.Record
-records_of records r = option_map_or record_of (slice_get records r) nothing
+records_of records r = option_map_or record_of (slice_get records r) model.no_record
 
 -- the set that is held under a number
 abbrev pub held_at : List (Option Prepared) → ℕ → Option Prepared
@@ -59,9 +55,13 @@ AreHandlesOf mounts procs records = (r : ℕ) (rec : Record) → slice_get recor
 abbrev pub AreHandles : List MountedFile → (ℕ → KeyMap) → List Record → Type 0
 AreHandles files procs records = AreHandlesOf (length files) procs records
 
--- no handle has fetched anything, and no set is held
+-- a record whose handle has fetched and committed nothing
+abbrev pub IsNew : model.Record → Type 0
+IsNew rec = ((m : ℕ) → rec.fetched m ≡ None) × (rec.committed ≡ 0)
+
+-- such are those of all handles, and no set is held
 abbrev pub AreNew : List Record → Type 0
-AreNew records = (r : ℕ) (rec : Record) → slice_get records r ≡ Some rec → (m : ℕ) → record_of rec m ≡ None
+AreNew records = (r : ℕ) (rec : Record) → slice_get records r ≡ Some rec → IsNew (record_of rec)
 
 abbrev pub HoldNothing : List (Option Prepared) → Type 0
 HoldNothing places = (p : ℕ) → held_at places p ≡ None

@@ -17,7 +17,7 @@ use Rattle.model_maps.specs.KeyMap.{KeyMap}
 use Rattle.model_store.specs.Cores.{first_core}
 use Rattle.model_store.specs.Events as event
 use Rattle.model_store.specs.Promise.{IsOneOwner}
-use Rattle.model_store.specs.Records.{Record}
+use Rattle.model_store.specs.Records.{Record, no_record}
 use Rattle.model_store.specs.Sets.{Prepared}
 use Rattle.model_store.specs.Store.{Store, Formats, store_of}
 use Rattle.model_store.specs.Worlds.{World, first_world}
@@ -141,7 +141,7 @@ pub record RunsStore (formats : Formats) (Reads : Reading) (IsBad : Badness) {D 
 
 -- a core that was just opened stands for a run
 abbrev pub StandsNew : Formats → {D P : Type 0} → Ghosts D → List MountedFile → List KeyMap → Core D P → D → Run → Type 0
-StandsNew formats g mounted procs core start run = StandsFor formats g (store_with mounted procs) start core (λ r m. None) (λ p. None) first_world run
+StandsNew formats g mounted procs core start run = StandsFor formats g (store_with mounted procs) start core (λ r. no_record) (λ p. None) first_world run
 
 -- of the run of a store that was just opened
 pub record RunsOpened (formats : Formats) {D P : Type 0} (g : Ghosts D) (refusals : P → ℕ) (mounted : List MountedFile) (procs : List KeyMap) (places : ℕ) (events : List Event) (core : Core D P) (result : Result (Ran D P) (OpenRefused D P)) : Type 0 where

@@ -34,7 +34,8 @@ pub enum Skip {
     NoPlace,
     /// No set of this number was prepared since one was committed.
     NoSet,
-    /// The handle doesn't accept the set any more: it is another's, or a mount was fetched or stored since.
+    /// The handle doesn't accept the set any more: it is another's, or the handle fetched an involved mount or
+    /// committed since.
     NotAccepted,
 }
 

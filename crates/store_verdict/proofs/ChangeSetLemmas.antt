@@ -1,5 +1,5 @@
 -- What a change of the changes in name order is in the map that they make.
-use Rattle.std.proofs.Common.{◌≡◌, ℕ, ◌+◌, T, List, [], ◌∷◌, take, map as over, slice_get, Option, Some, sym, ap, subst, ◌∙◌}
+use Rattle.std.proofs.Common.{◌≡◌, ℕ, ◌+◌, T, List, [], ◌∷◌, ◌++◌, take, map as over, slice_get, Option, Some, sym, ap, subst, ◌∙◌}
 use Rattle.std.proofs.lemmas.List.{map-append}
 use Rattle.general_words.proofs.Lists.{take-next}
 use Rattle.model_maps.specs.KeyMap.{KeyMap}
@@ -35,9 +35,12 @@ abbrev pub seen_change : Name × Option code.Entry → Change
 seen_change change = (change.0, option_map entry_of change.1)
 
 -- one change more
+pub seen-next : (changes : List (Name × Option code.Entry)) (i : ℕ) (change : Name × Option code.Entry) → Some change ≡ slice_get changes i
+    → over seen_change (take (i + 1) changes) ≡ over seen_change (take i changes) ++ seen_change change ∷ []
+seen-next changes i change there = ap (over seen_change) (take-next changes i change there) ∙ map-append seen_change (take i changes) (change ∷ [])
+
 pub made-next : (changes : List (Name × Option code.Entry)) (i : ℕ) (change : Name × Option code.Entry) (keys : KeyMap) → Some change ≡ slice_get changes i
     → changed_by (over seen_change (take (i + 1) changes)) keys ≡ changed (changed_by (over seen_change (take i changes)) keys) (seen_change change)
 made-next changes i change keys there =
-    ap (λ cs. changed_by (over seen_change cs) keys) (take-next changes i change there)
-    ∙ ap (λ cs. changed_by cs keys) (map-append seen_change (take i changes) (change ∷ []))
+    ap (λ cs. changed_by cs keys) (seen-next changes i change there)
     ∙ changed_by-snoc (over seen_change (take i changes)) (seen_change change) keys

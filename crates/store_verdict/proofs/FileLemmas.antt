@@ -1,33 +1,26 @@
--- What is told of the file of a touched mount is what the definitions tell of the mount.
-use Rattle.std.proofs.Common.{◌≡◌, ℕ, zero, suc, ◌+◌, ◌≤◌, nat_lt, true, false, cond, List, [], ◌∷◌, ◌++◌, take, map as over, slice_get, Option, Some, None, option_and_then, Result, Ok, Err, MatchResult, IfErr, inl, inr, refl, sym, ap, ap₂, subst, ◌∙◌}
-use Rattle.std.specs.FinMap as map
-use Rattle.std.specs.FinMap.Entries.{put}
+-- What is told of the files of touched mounts is what the definitions tell of the set.
+use Rattle.std.proofs.Common.{◌≡◌, ℕ, zero, suc, ◌+◌, ◌≤◌, nat_lt, true, false, cond, List, [], ◌∷◌, ◌++◌, take, map as over, slice_get, Option, Some, None, option_and_then, Result, Ok, Err, MatchResult, IfErr, inl, inr, refl, sym, ap, ap₂, subst, ◌∙◌, arith}
 use Rattle.std.specs.List.{AllByRecursion}
-use Rattle.std.specs.Option.{option_map, option_map_or, option_or}
+use Rattle.std.specs.Option.{option_map, option_or}
 use Rattle.std.specs.Result.{IsErrAnd}
 use Rattle.std.proofs.lemmas.Bool.{ltb-false}
-use Rattle.std.proofs.lemmas.Cmp.{nat_list_cmp_total}
 use Rattle.std.proofs.lemmas.List.{map-append}
-use Rattle.std.proofs.lemmas.Option.{slice_get-map}
 use Rattle.general_words.specs.Saturated.{saturated}
 use Rattle.general_words.specs.Searches.{first_some}
-use Rattle.general_words.specs.Texts.{text_cmp}
-use Rattle.general_words.proofs.Lists.{head_is, some_is, tail_is, take-next}
-use Rattle.general_words.proofs.Maps.{entries-empty}
+use Rattle.general_words.proofs.Lists.{take-next}
 use Rattle.general_words.proofs.Searches.{first_some-found, none_before, none_behind}
 use Rattle.journal_codec.specs.declared.files.FileText.{FileText}
 use Rattle.key_name.specs.Joining.{joined}
 use Rattle.key_set.specs.WithAll.{with_all}
-use Rattle.model_files.specs.Texts.{as_file, texts_at, with_text}
-use Rattle.model_maps.specs.KeyMap.{KeyMap, heaviest_map, no_keys, weight}
+use Rattle.model_files.specs.Texts.{as_file}
+use Rattle.model_maps.specs.KeyMap.{KeyMap, heaviest_map, weight}
 use Rattle.model_names.specs.Name.{Name}
-use Rattle.model_store.specs.Fitting.{Early, ValueTooLong, TooHeavy, NotStorable, IsStorableAt, too_heavy, too_long, bad_table, heavy_contents, long_text}
+use Rattle.model_store.specs.Fitting.{Early, ValueTooLong, TooHeavy, NotStorable, IsStorableAt, too_heavy, heavy_contents}
 use Rattle.model_store.specs.Sets as model
 use Rattle.model_store.specs.Store.{Formats, Store, contents, shadow_of, store_of}
 use Rattle.model_store.specs.Verdicts.{Follows, FromFormats, IsEarly, before_formats, behind_formats, wanted_in}
 use Rattle.mount_table.specs.declared.mounts.Mount.{Mount}
 use Rattle.mounted_files.specs.Short.{AreShort, HasShortTexts, HaveShortTexts}
-use Rattle.mounted_files.specs.Whole.{relative}
 use Rattle.mounted_files.specs.declared.files.FileState.{FileState}
 use Rattle.mounted_files.specs.declared.files.FileState.TheVariants.{Good, Bad}
 use Rattle.mounted_files.specs.declared.files.MountedFile.{MountedFile}
@@ -41,6 +34,7 @@ use Rattle.store_verdict.specs.Preparing.{IsRefusedSet}
 use Rattle.store_verdict.specs.declared.faults.PrepareFault.{PrepareFault}
 use Rattle.store_verdict.specs.declared.faults.PrepareFault.TheVariants as fault
 use Rattle.store_verdict.specs.declared.files.FileToWrite.{FileToWrite}
+use Rattle.store_verdict.proofs.PartLemmas.{contents-is, cut, heavy-all, long-all, storable-all, table-all, texts-all}
 
 -- ---- a fault that is handed on
 
@@ -80,15 +74,18 @@ module _ (mounts : List Mount) where
       by true h = absurd cc
       by false h = refl
 
+  writable-where : (file : FileToWrite) → IsSoundFile mounts file → AreShort file.contents → ((mount : Mount) → slice_get mounts file.mount ≡ Some mount → weight file.contents ≤ heaviest_map) → IsWritable mounts file
+  writable-where file sound short light = λ mount there. (limited-from mount.at file.contents (sound mount there) short (light mount there), λ name entry found. (sound mount there name entry found).whole_is_name)
+
+  pub writable-light : (file : FileToWrite) → IsSoundFile mounts file → AreShort file.contents → heavy_at mounts file ≡ None → IsWritable mounts file
+  writable-light file sound short light = writable-where file sound short (λ mount there. is-light file mount there light)
+
+  pub writable-weighed : (file : FileToWrite) (w : ℕ) → IsSoundFile mounts file → AreShort file.contents → w ≡ saturated (weight file.contents) → w ≤ heaviest_map → IsWritable mounts file
+  writable-weighed file w sound short is le = writable-where file sound short (λ mount there. omega (arith, is, le))
+
   pub writable : (files : List FileToWrite) → AllByRecursion (IsSoundFile mounts) files → AllByRecursion (λ (file : FileToWrite). AreShort file.contents) files → first_some (heavy_at mounts) files ≡ None → AllByRecursion (IsWritable mounts) files
   writable [] sound short light = tt
-  writable (file ∷ files) sound short light = (
-    λ mount there. (
-      limited-from mount.at file.contents (sound.0 mount there) short.0 (is-light file mount there (none_before _ _ light)),
-      λ name entry found. (sound.0 mount there name entry found).whole_is_name,
-    ),
-    writable files sound.1 short.1 (none_behind _ _ light),
-  )
+  writable (file ∷ files) sound short light = (writable-light file sound.0 short.0 (none_before _ _ light), writable files sound.1 short.1 (none_behind _ _ light))
 
 -- ---- what files are to hold is short, where what is wanted and what they keep for others is
 
@@ -111,7 +108,7 @@ files-more files parts k part there =
     ap (over (file_of files)) (ap numbered (take-next parts k part there) ∙ map-append (λ (p : Part). (p.mount, p.keys)) (take k parts) (part ∷ []))
     ∙ map-append (file_of files) (numbered (take k parts)) ((part.mount, part.keys) ∷ [])
 
--- ---- mount by mount
+-- ---- a set
 
 module _ (formats : Formats) (files : List MountedFile) (procs : ℕ → KeyMap) (set : model.Prepared) where
   abbrev store : Store
@@ -123,84 +120,8 @@ module _ (formats : Formats) (files : List MountedFile) (procs : ℕ → KeyMap)
   abbrev wanted : ℕ → KeyMap
   wanted m = wanted_in (store_of files procs) set m
 
-  abbrev pair : ℕ → ℕ × KeyMap
-  pair m = (m, wanted_in (store_of files procs) set m)
-
-  contents-is : (m : ℕ) (mount : Mount) (keys : KeyMap) → slice_get table m ≡ Some mount → contents_of files (m, keys) ≡ contents store m mount keys
-  contents-is m mount keys there = by (slice_get files m) (sym (slice_get-map (λ (file : MountedFile). file.mount) files m) ∙ there)
-    where
-      by : (o : Option MountedFile) → option_map (λ (file : MountedFile). file.mount) o ≡ Some mount
-          → option_map_or (λ (file : MountedFile). relative file.mount.at (with_all keys (shadow_of file.state))) o no_keys ≡ relative mount.at (with_all keys (option_map_or (λ (file : MountedFile). shadow_of file.state) o no_keys))
-      by None e = absurd cc
-      by (Some file) e = ap (λ (k : Mount). relative k.at (with_all keys (shadow_of file.state))) (some_is file.mount mount e)
-
-  at-alike : (f g : Mount → Option Early) (m : ℕ) → ((mount : Mount) → slice_get table m ≡ Some mount → f mount ≡ g mount) → option_and_then f (slice_get table m) ≡ option_and_then g (slice_get table m)
-  at-alike f g m same = by (slice_get table m) refl
-    where
-      by : (o : Option Mount) → slice_get table m ≡ o → option_and_then f o ≡ option_and_then g o
-      by None is = refl
-      by (Some mount) is = same mount is
-
-  text-is : (m : ℕ) (mount : Mount) → slice_get table m ≡ Some mount → (written_of formats table (file_of files (pair m))).bytes ≡ formats.text mount.kind (contents store m mount (wanted m))
-  text-is m mount there =
-      ap (λ (o : Option Mount). option_map_or (λ (k : Mount). formats.text k.kind (contents_of files (pair m))) o []) there
-      ∙ ap (formats.text mount.kind) (contents-is m mount (wanted m) there)
-
-  heavy-is : (m : ℕ) → heavy_at table (file_of files (pair m)) ≡ too_heavy store wanted m
-  heavy-is m = at-alike _ _ m (λ mount there. ap (heavy_contents m) (contents-is m mount (wanted m) there))
-
-  long-is : (m : ℕ) → long_at table (written_of formats table (file_of files (pair m))) ≡ too_long formats store wanted m
-  long-is m = at-alike _ _ m (λ mount there. ap (long_text m) (text-is m mount there))
-
   abbrev made : List ℕ → List FileToWrite
-  made ms = over (file_of files) (over pair ms)
-
-  heavy-all : (ms : List ℕ) → first_some (heavy_at table) (made ms) ≡ first_some (too_heavy store wanted) ms
-  heavy-all [] = refl
-  heavy-all (m ∷ ms) = ap₂ option_or (heavy-is m) (heavy-all ms)
-
-  long-all : (ms : List ℕ) → first_some (long_at table) (over (written_of formats table) (made ms)) ≡ first_some (too_long formats store wanted) ms
-  long-all [] = refl
-  long-all (m ∷ ms) = ap₂ option_or (long-is m) (long-all ms)
-
-  table-all : (ms : List ℕ) → first_some (table_at table) (over pair ms) ≡ first_some (bad_table store wanted) ms
-  table-all [] = refl
-  table-all (m ∷ ms) = ap (option_or (bad_table store wanted m)) (table-all ms)
-
-  storable-all : (ms : List ℕ) → AllByRecursion (IsStorableFile formats table) (made ms) → AllByRecursion (IsStorableAt formats store wanted) ms
-  storable-all [] all = tt
-  storable-all (m ∷ ms) all = (λ mount there. subst (λ (keys : KeyMap). formats.IsStorable mount.kind keys) (contents-is m mount (wanted m) there) (all.0 mount there), storable-all ms all.1)
-
-  texts-all : (ms : List ℕ) → by_name table (over (written_of formats table) (made ms)) ≡ map.entries (texts_at formats store set.keys ms)
-  texts-all [] = sym (entries-empty text_cmp (List ℕ))
-  texts-all (m ∷ ms) = by (slice_get table m) refl (texts-all ms)
-    where
-      by : (o : Option Mount) → slice_get table m ≡ o → by_name table (over (written_of formats table) (made ms)) ≡ map.entries (texts_at formats store set.keys ms)
-          → option_map_or (λ (mount : Mount). put text_cmp mount.file (written_of formats table (file_of files (pair m))).bytes (by_name table (over (written_of formats table) (made ms)))) o (by_name table (over (written_of formats table) (made ms)))
-          ≡ map.entries (with_text formats store set.keys m o (texts_at formats store set.keys ms))
-      by None is rest = rest
-      by (Some mount) is rest =
-          ap₂ (put text_cmp mount.file) (text-is m mount is) rest
-          ∙ sym (map.entries-insert nat_list_cmp_total (texts_at formats store set.keys ms) mount.file (formats.text mount.kind (contents store m mount (wanted m))))
-
-  -- one of the files is that of a touched mount
-  record Cut (ms : List ℕ) (before : List FileToWrite) (file : FileToWrite) : Type 0 where
-    front : List ℕ
-    mount : ℕ
-    rest : List ℕ
-    stand : ms ≡ front ++ mount ∷ rest
-    is : file_of files (pair mount) ≡ file
-    before_is : made front ≡ before
-
-  cut : (ms : List ℕ) (before : List FileToWrite) (file : FileToWrite) (behind : List FileToWrite) → made ms ≡ before ++ file ∷ behind → Cut ms before file
-  cut [] [] file behind e = absurd cc
-  cut [] (b ∷ before) file behind e = absurd cc
-  cut (m ∷ ms) [] file behind e = record { front = []; mount = m; rest = ms; stand = refl; is = head_is _ _ _ _ e; before_is = refl }
-  cut (m ∷ ms) (b ∷ before) file behind e =
-      let r = cut ms before file behind (tail_is _ _ _ _ e) in
-      record { front = m ∷ r.front; mount = r.mount; rest = r.rest; stand = ap (λ l. m ∷ l) r.stand; is = r.is; before_is = ap₂ (λ y ys. y ∷ ys) (head_is _ _ _ _ e) r.before_is }
-
-  -- ---- the set
+  made ms = over (file_of files) (over {B = ℕ × KeyMap} (λ m. (m, wanted_in (store_of files procs) set m)) ms)
 
   module _ (mounts : List ℕ) (keys : KeyMap) (parts : List (ℕ × KeyMap)) (asked : IsAsked store mounts keys parts set) where
     abbrev all : List FileToWrite
@@ -214,7 +135,7 @@ module _ (formats : Formats) (files : List MountedFile) (procs : ℕ → KeyMap)
     before-is =
         ap (λ (o : Option Early). option_or o (option_or (long_told table set.involved set.keys) (first_some (too_heavy store wanted) set.touched))) asked.fetched
         ∙ ap₂ (λ (ms : List ℕ) (ks : KeyMap). option_or (long_told table ms ks) (first_some (too_heavy store wanted) set.touched)) asked.involved asked.keys_are
-        ∙ ap (option_or (long_told table mounts keys)) (sym (ap (first_some (heavy_at table)) all-made ∙ heavy-all set.touched))
+        ∙ ap (option_or (long_told table mounts keys)) (sym (ap (first_some (heavy_at table)) all-made ∙ heavy-all formats files procs set.keys set.touched))
 
     pub refused-heavy : (why : PrepareFault) → long_told table mounts keys ≡ None → Tells table (first_some (heavy_at table) all) why → IsRefusedSet formats store set why
     refused-heavy why no_long told =
@@ -231,16 +152,16 @@ module _ (formats : Formats) (files : List MountedFile) (procs : ℕ → KeyMap)
 
       behind-is : behind_formats formats store set ≡ option_or (first_some (long_at table) (over (written_of formats table) all)) (first_some (table_at table) parts)
       behind-is = sym (ap₂ option_or
-          (ap (λ (fs : List FileToWrite). first_some (long_at table) (over (written_of formats table) fs)) all-made ∙ long-all set.touched)
-          (ap (first_some (table_at table)) asked.parts_are ∙ table-all set.touched))
+          (ap (λ (fs : List FileToWrite). first_some (long_at table) (over (written_of formats table) fs)) all-made ∙ long-all formats files procs set.keys set.touched)
+          (ap (first_some (table_at table)) asked.parts_are ∙ table-all formats files procs set.keys set.touched))
 
       all-storable : AllByRecursion (IsStorableFile formats table) all → AllByRecursion (IsStorableAt formats store wanted) set.touched
-      all-storable storable = storable-all set.touched (subst (λ (fs : List FileToWrite). AllByRecursion (IsStorableFile formats table) fs) all-made storable)
+      all-storable storable = storable-all formats files procs set.keys set.touched (subst (λ (fs : List FileToWrite). AllByRecursion (IsStorableFile formats table) fs) all-made storable)
 
       pub passes : (texts : List FileText) → AreWritten formats table all parts texts → HasTexts formats store set texts
       passes texts well = record {
         early = from-formats None (inr (all-storable well.storable, sym (behind-is ∙ ap₂ option_or well.short well.table)));
-        are = well.are ∙ ap (λ (fs : List FileToWrite). over as_file (by_name table (over (written_of formats table) fs))) all-made ∙ ap (over as_file) (texts-all set.touched);
+        are = well.are ∙ ap (λ (fs : List FileToWrite). over as_file (by_name table (over (written_of formats table) fs))) all-made ∙ ap (over as_file) (texts-all formats files procs set.keys set.touched);
       }
 
       pub refused-behind : (why : PrepareFault) → AreUnwritten formats table all parts why → IsRefusedSet formats store set why
@@ -250,11 +171,11 @@ module _ (formats : Formats) (files : List MountedFile) (procs : ℕ → KeyMap)
         is = late.1.is;
       }
       refused-behind why (inl broken) =
-          let at = cut set.touched broken.before broken.file broken.behind (sym all-made ∙ broken.stand) in
+          let at = cut formats files procs set.keys set.touched broken.before broken.file broken.behind (sym all-made ∙ broken.stand) in
           let b = broken.breaks in
           let there : slice_get table at.mount ≡ Some b.mount = ap (λ (f : FileToWrite). slice_get table f.mount) at.is ∙ b.there in
           let name : Name = joined b.mount.at b.key in
-          let contents_are : broken.file.contents ≡ contents store at.mount b.mount (wanted at.mount) = ap (λ (f : FileToWrite). f.contents) (sym at.is) ∙ contents-is at.mount b.mount (wanted at.mount) there in
+          let contents_are : broken.file.contents ≡ contents store at.mount b.mount (wanted at.mount) = ap (λ (f : FileToWrite). f.contents) (sym at.is) ∙ contents-is formats files procs set.keys at.mount b.mount (wanted at.mount) there in
           record {
             early = NotStorable at.mount name;
             refused = from-formats (Some (NotStorable at.mount name)) (inl (record {
@@ -262,7 +183,7 @@ module _ (formats : Formats) (files : List MountedFile) (procs : ℕ → KeyMap)
               mount = at.mount;
               behind = at.rest;
               stand = at.stand;
-              storable = storable-all at.front (subst (λ (fs : List FileToWrite). AllByRecursion (IsStorableFile formats table) fs) (sym at.before_is) broken.storable);
+              storable = storable-all formats files procs set.keys at.front (subst (λ (fs : List FileToWrite). AllByRecursion (IsStorableFile formats table) fs) (sym at.before_is) broken.storable);
               name = name;
               breaks = record { mount = b.mount; there = there; key = b.key; breaks = subst (λ (ks : KeyMap). formats.BreaksAt b.mount.kind ks b.key) contents_are b.breaks; is = refl };
               is = refl;

@@ -1,9 +1,12 @@
 pub mod KeepLemmas
+pub mod BlockLemmas
 pub mod ChangeSetLemmas
 pub mod DifferLemmas
 pub mod WalkingLemmas
 pub mod SetLemmas
 pub mod LateLemmas
 pub mod FirstLemmas
+pub mod PartLemmas
 pub mod FileLemmas
+pub mod RenewLemmas
 pub mod PrepareLemmas

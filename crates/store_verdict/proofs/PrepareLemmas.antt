@@ -40,10 +40,10 @@ module _ (formats : Formats) (store : Store) (handle : ℕ) (rec : Record) (pare
     }
 
     pub made-from : (texts : List FileText) → (IsAsked store mounts keys (numbered wanted.parts) the_set → HasTexts formats store the_set texts)
-        → IsMade formats store handle rec parent keys (record { handle = handle; seen = seen; keys = keys; touched = wanted.touched; wanted = wanted.parts; changes = wanted.changes; aside = wanted.aside; texts = texts })
+        → IsMade formats store handle rec parent keys (record { handle = handle; committed = rec.committed; seen = seen; keys = keys; touched = wanted.touched; wanted = wanted.parts; changes = wanted.changes; aside = wanted.aside; texts = texts })
     made-from texts told =
         let has = told asked in
-        let one : Prepared = record { handle = handle; seen = seen; keys = keys; touched = wanted.touched; wanted = wanted.parts; changes = wanted.changes; aside = wanted.aside; texts = texts } in
+        let one : Prepared = record { handle = handle; committed = rec.committed; seen = seen; keys = keys; touched = wanted.touched; wanted = wanted.parts; changes = wanted.changes; aside = wanted.aside; texts = texts } in
         let same : prepared_of one ≡ the_set = set-is (points_of store) rec parent keys handle (over (λ s. s.mount) seen) (front_of seen) wanted.touched wanted.changes wanted.aside
         (seen-mounts rec seen (involved_in (points_of store) parent) well_seen) (seen-fronts rec seen (involved_in (points_of store) parent) well_seen) is_wanted.touched is_wanted.changes is_wanted.aside in
         record {

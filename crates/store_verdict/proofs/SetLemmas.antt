@@ -62,7 +62,7 @@ module _ (rec : Record) where
   pub seen-fronts : (seen : List Seen) (ms : List ℕ) → AreSeen rec ms seen → (q : ℕ) → front_of seen q ≡ front_in (only ms rec) q
   seen-fronts seen ms e q = at seen ms e ∙ by (is_among ms q)
     where
-      by : (b : Bool) → cond b (front_in rec q) None ≡ option_map (λ fetched. fetched.front) (cond b (rec q) None)
+      by : (b : Bool) → cond b (front_in rec q) None ≡ option_map (λ fetched. fetched.front) (cond b (rec.fetched q) None)
       by true = refl
       by false = refl
 
@@ -162,11 +162,11 @@ module _ (points : List Name) (rec : Record) (parent : Name) (keys : KeyMap) whe
   pub set-is : (handle : ℕ) (involved : List ℕ) (fronts : ℕ → Option ℕ) (touched : List ℕ) (changes : Changes) (aside : ℕ)
       → involved ≡ involved_in points parent → ((q : ℕ) → fronts q ≡ front_in (only (involved_in points parent) rec) q) → touched ≡ touched_at points rec parent keys
       → changes ≡ changes_at (kept rec) (wants points keys) (touched_at points rec parent keys) → aside ≡ length (map.entries (left_aside points parent keys))
-      → ◌≡◌ {A = model.Prepared} (record { handle = handle; involved = involved; fronts = fronts; keys = keys; touched = touched; changes = changes; aside = aside }) (prepared points handle rec parent keys)
+      → ◌≡◌ {A = model.Prepared} (record { handle = handle; committed = rec.committed; involved = involved; fronts = fronts; keys = keys; touched = touched; changes = changes; aside = aside }) (prepared points handle rec parent keys)
   set-is handle involved fronts touched changes aside i f t c a =
       let same_touched = t ∙ sym touched-only in
       let same_changes = c ∙ sym changes-only ∙ ap (changes_at (kept (only (involved_in points parent) rec)) (wants points keys)) (sym touched-only) in
-      λ k. record { handle = handle; involved = i k; fronts = λ q. f q k; keys = keys; touched = same_touched k; changes = same_changes k; aside = a k }
+      λ k. record { handle = handle; committed = rec.committed; involved = i k; fronts = λ q. f q k; keys = keys; touched = same_touched k; changes = same_changes k; aside = a k }
 
   -- the first mount that was not fetched
   pub not_fetched-is : (handle : ℕ) → not_fetched (prepared points handle rec parent keys) ≡ unseen rec (involved_in points parent)

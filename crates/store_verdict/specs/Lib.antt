@@ -6,7 +6,9 @@ pub mod Touching
 pub mod Walking
 pub mod PreparedView
 pub mod LateView
+pub mod Renewing
 pub mod Seeing
+pub mod Blocking
 pub mod Wanting
 pub mod BadMounts
 pub mod Preparing

@@ -15,6 +15,7 @@ front_of seen m = first_some (if_mount m) seen
 abbrev pub prepared_of : Prepared → model.Prepared
 prepared_of set = record {
   handle = set.handle;
+  committed = set.committed;
   involved = over (λ seen. seen.mount) set.seen;
   fronts = front_of set.seen;
   keys = set.keys;

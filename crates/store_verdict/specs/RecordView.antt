@@ -14,7 +14,7 @@ abbrev pub fetched_at : List (Option Fetched) → ℕ → Option model.Fetched
 fetched_at places m = option_and_then (option_map fetched_of) (slice_get places m)
 
 abbrev pub record_of : Record → model.Record
-record_of rec = fetched_at rec.fetched.items
+record_of rec = record { fetched = fetched_at rec.fetched.items; committed = rec.committed }
 
 -- whose it is, how many mounts it has a place for, and the handle's own keys
 abbrev pub handle_of : Record → ℕ

@@ -50,12 +50,19 @@ impl ChangeSet {
         Ok(())
     }
 
+    /// The changes, in name order.
+    pub(crate) fn entries(&self) -> &[(KeyName, Option<Entry>)]
+        ensures { over (λ change. (change.0, option_map entry_of change.1)) result.now ≡ map.entries self.now }
+    {
+        self.changes.entries()
+    }
+
     /// A copy of some keys, with the changes made in it.
     pub fn applied(&self, keys: &KeySet) -> Result<KeySet, Memory>
         ensures { IfOk result (λ made. made ≡ after keys.now self.now) }
     {
         let mut made = keys.copy()?;
-        make_all(&mut made, self.changes.entries())?;
+        make_all(&mut made, self.entries())?;
         Ok(made)
     }
 
@@ -63,7 +70,7 @@ impl ChangeSet {
     pub fn list(&self, alloc: Global) -> Result<List<Change>, Memory>
         ensures { IfOk result (λ changes. over change_of changes ≡ map.entries self.now) }
     {
-        let changes = copy_of_changes(alloc, self.changes.entries())?;
+        let changes = copy_of_changes(alloc, self.entries())?;
         Ok(List::from_vec(changes))
     }
 }

@@ -4,6 +4,7 @@
 
 mod accepting;
 mod change_sets;
+mod counting;
 mod entries;
 mod faults;
 mod files;
@@ -13,6 +14,7 @@ mod long_texts;
 mod prepared;
 mod preparing;
 mod records;
+mod renewing;
 mod seeing;
 mod tables;
 mod texts;
@@ -23,6 +25,7 @@ mod weighing;
 mod writing;
 
 pub use change_sets::ChangeSet;
+pub use counting::any_counts_by_key;
 pub use faults::PrepareFault;
 pub use getting::{Getting, first_bad, get, got};
 pub use judging::{Late, judge};

@@ -19,6 +19,8 @@ pub struct Seen {
 #[derive(Debug, Drop)]
 pub struct Prepared {
     pub handle: u32,
+    /// How many commits of this handle its record had seen.
+    pub committed: u64,
     /// The involved mounts, by their numbers.
     pub seen: List<Seen>,
     pub keys: KeySet,

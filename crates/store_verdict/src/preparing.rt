@@ -62,6 +62,7 @@ pub fn prepare<F: Formats>(
     };
     Ok(Prepared {
         handle: rec.handle(),
+        committed: rec.committed(),
         seen,
         keys: keys.copy()?,
         touched: wanted.touched,

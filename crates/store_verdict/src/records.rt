@@ -1,16 +1,19 @@
 //! What a handle keeps of each mount.
-ghost use Rattle.std.specs.Prelude.{◌≡◌, ℕ, ◌<◌, All, IfOk, List, None, length, map as over};
+ghost use Rattle.std.specs.Prelude.{◌≡◌, ℕ, ◌<◌, false, All, IfOk, List, None, length, map as over};
 ghost use Rattle.std.specs.Option.{option_copied, option_map};
 ghost use Rattle.model_maps.specs.KeyMap.{KeyMap};
-ghost use Rattle.model_store.specs.Cores.{keeping};
+ghost use Rattle.model_store.specs.Cores.{keeping, storing};
+ghost use Rattle.model_store.specs.Store.{Store, counts_in};
 ghost use Rattle.model_store.specs.Sets.{front_in};
 ghost use Rattle.set_split.specs.Seen.{numbered};
-ghost use Rattle.store_verdict.specs.Kept.{kept_parts, with_part};
+ghost use Rattle.store_verdict.specs.Kept.{front_from, kept_parts, with_part};
 ghost use Rattle.store_verdict.specs.ProcKeys.{AreProc};
 ghost use Rattle.store_verdict.specs.RecordView.{fetched_at, fetched_of, handle_of, places_of, proc_of, record_of};
 
+use crate::counting::counts_by_key;
 use key_meta::{List, Memory};
 use key_set::KeySet;
+use mount_table::MountTable;
 use set_split::Part;
 use std::alloc::Global;
 
@@ -21,11 +24,13 @@ pub struct Fetched {
     pub kept: KeySet,
 }
 
-/// What a handle keeps: of each mount by its number what it fetched last, and its own keys in `proc`.
+/// What a handle keeps: of each mount by its number what it fetched last, how many commits it made, and its own keys in
+/// `proc`.
 #[derive(Debug, Drop)]
 pub struct Record {
     handle: u32,
     fetched: Vec<Option<Fetched>>,
+    committed: u64,
     proc: KeySet,
 }
 
@@ -36,12 +41,14 @@ impl Record {
         ensures handle { IfOk result (λ rec. handle_of rec ≡ handle) }
         ensures places { IfOk result (λ rec. places_of rec ≡ mounts) }
         ensures proc { IfOk result (λ rec. proc_of rec ≡ proc) }
-        ensures none { IfOk result (λ rec. (m : ℕ) → record_of rec m ≡ None) }
+        ensures none { IfOk result (λ rec. (m : ℕ) → (record_of rec).fetched m ≡ None) }
+        ensures fresh { IfOk result (λ rec. (record_of rec).committed ≡ 0) }
     {
         let fetched = no_places(alloc, mounts)?;
         Ok(Record {
             handle,
             fetched,
+            committed: 0,
             proc,
         })
     }
@@ -58,6 +65,7 @@ impl Record {
         Ok(Record {
             handle: self.handle,
             fetched,
+            committed: self.committed,
             proc,
         })
     }
@@ -67,6 +75,13 @@ impl Record {
         ensures { result ≡ handle_of self.now }
     {
         self.handle
+    }
+
+    /// How many commits the handle made.
+    pub fn committed(&self) -> u64
+        ensures { result ≡ (record_of self.now).committed }
+    {
+        self.committed
     }
 
     /// The handle's own keys in `proc`.
@@ -88,7 +103,7 @@ impl Record {
 
     /// The keys that a mount had then.
     pub fn kept(&self, mount: usize) -> Option<&KeySet>
-        ensures { option_copied result ≡ option_map (λ fetched. fetched.kept) (record_of self.now mount) }
+        ensures { option_copied result ≡ option_map (λ fetched. fetched.kept) ((record_of self.now).fetched mount) }
     {
         match self.fetched.get(mount) {
             Some(Some(fetched)) => Some(&fetched.kept),
@@ -96,8 +111,7 @@ impl Record {
         }
     }
 
-    /// Keeps some keys of some mounts from a front on: the copies of a get, or what a commit of the handle's own wanted. It takes no
-    /// memory.
+    /// Keeps some keys of some mounts from a front on: the copies of a get. It takes no memory.
     pub fn keep(&mut self, front: u64, parts: List<Part>)
         requires { All (λ part. part.mount < places_of self.old) parts }
         ensures kept { (mounts : List ℕ) (keys : ℕ → KeyMap) → numbered parts ≡ over (λ m. (m, keys m)) mounts → record_of self.new ≡ keeping mounts front keys (record_of self.old) }
@@ -106,6 +120,21 @@ impl Record {
         ensures proc { proc_of self.new ≡ proc_of self.old }
     {
         keep_all(&mut self.fetched, front, parts.into_vec());
+    }
+
+    /// Keeps what a commit of the handle's own wanted for each touched mount: from the commit's number on, or of a mount
+    /// that counts by key from the front on that the record has. It takes no memory.
+    pub fn store(&mut self, table: &MountTable, number: u64, parts: List<Part>)
+        requires places { All (λ part. part.mount < places_of self.old) parts }
+        requires count { (record_of self.old).committed < number }
+        ensures stored { (store : Store) (mounts : List ℕ) (keys : ℕ → KeyMap) → store.mounts ≡ table.now → numbered parts ≡ over (λ m. (m, keys m)) mounts
+            → record_of self.new ≡ storing store mounts number keys (record_of self.old) }
+        ensures handle { handle_of self.new ≡ handle_of self.old }
+        ensures places { places_of self.new ≡ places_of self.old }
+        ensures proc { proc_of self.new ≡ proc_of self.old }
+    {
+        store_all(&mut self.fetched, table, number, parts.into_vec());
+        self.committed += 1;
     }
 }
 
@@ -145,23 +174,50 @@ fn copy_of(place: &Option<Fetched>) -> Result<Option<Fetched>, Memory>
     }
 }
 
-/// Puts the keys of each part in the place of its mount.
+/// Puts the keys of each part in the place of its mount, from a front on.
 fn keep_all(places: &mut [Option<Fetched>], front: u64, parts: Vec<Part>)
     requires { All (λ part. part.mount < length places.old) parts.items }
     ensures len { length places.new ≡ length places.old }
-    ensures kept { (m : ℕ) → fetched_at places.new m ≡ kept_parts front (numbered parts.items) (fetched_at places.old) m }
+    ensures kept { (m : ℕ) → fetched_at places.new m ≡ kept_parts (λ _. false) front (numbered parts.items) (fetched_at places.old) m }
 {
     for part in parts {
-        put_part(places, front, part);
+        put_part(places, false, front, part);
     }
 }
 
-/// Puts the keys of a part in the place of its mount.
-fn put_part(places: &mut [Option<Fetched>], front: u64, part: Part)
+/// Puts what a commit of a number wanted for each part's mount in the place of the mount.
+fn store_all(places: &mut [Option<Fetched>], table: &MountTable, number: u64, parts: Vec<Part>)
+    requires { All (λ part. part.mount < length places.old) parts.items }
+    ensures len { length places.new ≡ length places.old }
+    ensures kept { (m : ℕ) → fetched_at places.new m ≡ kept_parts (counts_in table.now) number (numbered parts.items) (fetched_at places.old) m }
+{
+    for part in parts {
+        let by_key = counts_by_key(table, part.mount);
+        put_part(places, by_key, number, part);
+    }
+}
+
+/// Puts keys in the place of their mount: from a number on, or of a mount by key from the front on that it has.
+fn put_part(places: &mut [Option<Fetched>], by_key: bool, number: u64, part: Part)
     requires { part.mount < length places.old }
     ensures len { length places.new ≡ length places.old }
-    ensures kept { (m : ℕ) → fetched_at places.new m ≡ with_part front (part.mount, part.keys) (fetched_at places.old) m }
+    ensures kept { (m : ℕ) → fetched_at places.new m ≡ with_part (λ _. by_key) number (part.mount, part.keys) (fetched_at places.old) m }
 {
     let Part { mount, keys } = part;
-    places[mount] = Some(Fetched { front, kept: keys });
+    if let Some(front) = front_from(&places[mount], by_key, number) {
+        places[mount] = Some(Fetched { front, kept: keys });
+    }
+}
+
+/// From where on a mount is kept, by what is in its place.
+fn front_from(place: &Option<Fetched>, by_key: bool, number: u64) -> Option<u64>
+    ensures { result ≡ front_from by_key number (option_map fetched_of place.now) }
+{
+    if !by_key {
+        return Some(number);
+    }
+    match place {
+        Some(fetched) => Some(fetched.front),
+        None => None,
+    }
 }

@@ -47,7 +47,7 @@ pub fn write_all<F: Formats>(
 }
 
 /// Adds a text.
-fn add(all: &mut Vec<WrittenFile>, written: WrittenFile) -> Result<(), Memory>
+pub fn add(all: &mut Vec<WrittenFile>, written: WrittenFile) -> Result<(), Memory>
     ensures { OnOk result (all.new.items ≡ all.old.items ++ written ∷ []) }
 {
     all.push(written)?;
@@ -55,7 +55,7 @@ fn add(all: &mut Vec<WrittenFile>, written: WrittenFile) -> Result<(), Memory>
 }
 
 /// The text of a file, which is refused where its format can't hold the keys.
-fn write_file<F: Formats>(
+pub fn write_file<F: Formats>(
     alloc: Global,
     formats: &F,
     table: &MountTable,

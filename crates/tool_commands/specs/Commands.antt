@@ -41,7 +41,7 @@ row_of name (GetMeta meta) = record { parent = every_key; step = λ keys. Tells 
 row_of name (SetMeta meta text) = record { parent = name; step = λ keys. meta_set_in keys name meta text; statuses = [] }
 row_of name MetaNames = record { parent = every_key; step = λ keys. Tells (meta_listed name (looked_up keys name)); statuses = 11 ∷ [] }
 row_of name (Bring way extent to) = record { parent = every_key; step = λ keys. brought_in keys name way extent to; statuses = 2 ∷ 11 ∷ [] }
-row_of name (MountFile file kind) = record { parent = own_point; step = λ keys. mounted (table.added keys (spelling name) file kind); statuses = [] }
+row_of name (MountFile file kind by_key) = record { parent = own_point; step = λ keys. mounted (table.added keys (spelling name) file kind by_key); statuses = [] }
 row_of name Unmount = record { parent = own_point; step = λ keys. mounted (table.removed keys (spelling name)); statuses = [] }
 row_of name (Replace others) = record { parent = name; step = λ keys. replaced name others keys; statuses = [] }
 row_of name (Merge strategy our their base) = record { parent = every_key; step = λ keys. merged_in keys strategy our their base name; statuses = 2 ∷ 12 ∷ [] }

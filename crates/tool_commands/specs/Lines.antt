@@ -1,6 +1,6 @@
 -- The lines that the tool puts on err beside those of what a store refuses, and those that it prints. (This project's own; the
 -- codes are Elektra's.)
-use Rattle.std.specs.Prelude.{ℕ, List, [], ◌∷◌, ◌++◌, codes}
+use Rattle.std.specs.Prelude.{ℕ, Bool, if◌then◌else◌, List, [], ◌∷◌, ◌++◌, codes}
 use Rattle.model_names.specs.Name.{Name}
 use Rattle.model_quoting.specs.Quoted.{quoted, shown}
 use Rattle.kdb_outside.specs.Kind.{kind_word}
@@ -45,6 +45,10 @@ line_of_name name = shown name ++ 10 ∷ []
 abbrev pub line_of_conflict : Name → List ℕ
 line_of_conflict name = codes "conflict " ++ line_of_name name
 
--- what `mounts` prints of a mount: its mountpoint, its file and the word of its format
+-- what `mounts` prints of how conflicts are counted: a word where they are by key
+abbrev pub counting : Bool → List ℕ
+counting by_key = if by_key then codes " keys" else []
+
+-- what `mounts` prints of a mount: its mountpoint, its file, the word of its format, and how its conflicts are counted
 abbrev pub line_of_mount : Mount → List ℕ
-line_of_mount mount = shown mount.at ++ (32 ∷ (mount.file ++ (32 ∷ (kind_word mount.kind ++ 10 ∷ []))))
+line_of_mount mount = shown mount.at ++ (32 ∷ (mount.file ++ (32 ∷ (kind_word mount.kind ++ (counting mount.by_key ++ 10 ∷ [])))))

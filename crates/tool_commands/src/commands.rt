@@ -60,7 +60,7 @@ pub fn step(alloc: Global, name: &KeyName, action: Action<'_>, keys: KeySet) -> 
         Action::SetMeta(meta, text) => set_meta(alloc, name, &meta, text, keys),
         Action::MetaNames => list_meta(alloc, name, look_up(name, &keys)?),
         Action::Bring { way, extent, to } => bring(alloc, name, way, extent, &to, keys),
-        Action::MountFile { file, kind } => mount(alloc, name, file, kind, keys),
+        Action::MountFile { file, kind, by_key } => mount(alloc, name, file, kind, by_key, keys),
         Action::Unmount => unmount(alloc, name, keys),
         Action::Merge {
             strategy,

@@ -20,12 +20,13 @@ use Rattle.model_store.specs.Records as model
 use Rattle.model_store.specs.Sets as sets
 use Rattle.model_store.specs.Sets.{prepared}
 use Rattle.model_specified.specs.declared.violations.Violation.{Violation}
+use Rattle.model_store.specs.Records.{no_record}
 use Rattle.model_store.specs.Store.{Store, points_of}
 use Rattle.model_store.specs.Verdicts as late
 use Rattle.model_store.specs.Verdicts.{Late, IsEarly, IsLate, commit_of}
 use Rattle.model_store.specs.Worlds.{World, first_world}
 use Rattle.model_store.proofs.Accepting.{accepts-own}
-use Rattle.model_store.proofs.FirstSets.{never-blocked}
+use Rattle.model_store.proofs.FirstSets.{never-blocked, never-large}
 use Rattle.model_store.proofs.Owning.{Goes, first_stands, follows}
 use Rattle.mounted_files.specs.declared.files.MountedFile.{MountedFile}
 use Rattle.store_core.specs.Answers.{IsJudged, has_written}
@@ -38,7 +39,7 @@ use Rattle.store_core.specs.declared.committing.CommitFault.TheVariants as fault
 use Rattle.store_core.specs.declared.committing.Done.{Done}
 use Rattle.store_core.specs.declared.committing.Done.TheVariants as done
 use Rattle.store_core.specs.declared.cores.Core.{Core}
-use Rattle.store_core.proofs.AnswerLemmas.{is_entry, texts_are}
+use Rattle.store_core.proofs.AnswerLemmas.{commit_entry}
 use Rattle.store_core.proofs.MadeLemmas.{belongs_made}
 use Rattle.store_phases.specs.Stores.{IsStore}
 use Rattle.store_verdict.specs.Preparing.{IsMade}
@@ -61,13 +62,13 @@ use Rattle.tool_single.specs.Sets.{AnswersSet, Judged, formats, set_alone, store
 
 -- ---- where nothing was committed before
 
-module _ {D P : Type 0} (g : Ghosts D) (files : List MountedFile) (core : Core D P) (rec : Record) (set : Prepared) (here : StandsIn formats (store_alone files) core (λ r m. None) (λ p. None) first_world)
+module _ {D P : Type 0} (g : Ghosts D) (files : List MountedFile) (core : Core D P) (rec : Record) (set : Prepared) (here : StandsIn formats (store_alone files) core (λ r. no_record) (λ p. None) first_world)
     (parent : Name) (keys : KeyMap) (fetched : HasFetched files parent rec) (is_made : IsMade formats (store_alone files) the_handle (record_of rec) parent keys set) where
   abbrev store : Store
   store = store_alone files
 
   abbrev no_records : ℕ → model.Record
-  no_records r m = None
+  no_records r = no_record
 
   abbrev no_sets : ℕ → Option sets.Prepared
   no_sets p = None
@@ -92,7 +93,7 @@ module _ {D P : Type 0} (g : Ghosts D) (files : List MountedFile) (core : Core D
   set_core = record got_core { sets = put 0 (Some (set_alone store parent keys)) no_sets }
 
   abbrev after_get : Goes formats store first_world (Get the_handle parent) (event.Got 0 (event.got store store.start the_handle parent)) got_core
-  after_get = follows formats store first_world (first_core store) (Get the_handle parent) (event.Got 0 (event.got store store.start the_handle parent)) got_core (first_stands formats store)
+  after_get = follows formats store first_world (first_core store) (Get the_handle parent) (event.Got 0 (event.got store store.start the_handle parent)) got_core (first_stands formats store here.stands.sound)
       (record { good = fetched.good; front_is = refl; keys_are = refl; next_is = refl })
 
   abbrev after_prepare : Goes formats store after_get.after (Prepare the_handle 0 parent keys) event.Ready set_core
@@ -142,6 +143,15 @@ module _ {D P : Type 0} (g : Ghosts D) (files : List MountedFile) (core : Core D
       let conflict = subst (λ (w : CommitFault). IsJudged formats store risen core.history.commits core.keys (prepared_of set) (Err w)) is judged in
       not_blocked conflict.0 by conflict.3
 
+  -- nor is a file too large after it, since it passed
+  pub not_large : (m size : ℕ) → IsLate formats store core.history.commits core.keys (prepared_of set) (late.TooLarge m size) → ⊥
+  not_large m size is = never-large formats store the_handle parent keys early (late.TooLarge m size) m size (alone (late.TooLarge m size) is) refl
+
+  pub is_small : (risen : Bool) (why : CommitFault) → IsJudged formats store risen core.history.commits core.keys (prepared_of set) (Err why) → (mount : Name) (bytes front : ℕ) → why ≡ fault.FileTooLarge mount bytes front → ⊥
+  is_small risen why judged mount bytes front is =
+      let large = subst (λ (w : CommitFault). IsJudged formats store risen core.history.commits core.keys (prepared_of set) (Err w)) is judged in
+      not_large large.0 bytes large.3
+
   pub joined : (opened : D) (run : Run) → IsStore g opened core.journal run → Belongs formats g store opened core records made world run 0 rec set
   joined opened run on_disk = record { here = belongs; on_disk = on_disk }
 
@@ -166,9 +176,8 @@ module _ {D P : Type 0} (g : Ghosts D) (files : List MountedFile) (core : Core D
 
       some : stored ≢ []
       some none =
-          let whole : IsEntry set.texts = is_entry formats store core records made world 0 rec set belongs (commit_of (prepared_of set)) aside is in
-          let texts : set.texts ≡ entry_of stored = texts_are formats store core records made world 0 rec set belongs (commit_of (prepared_of set)) aside is ∙ entry_is in
-          let empty : length set.texts ≡ 0 = ap length texts ∙ ap (λ (ts : Texts). length (entry_of ts)) none in
+          let whole : IsEntry (entry_of stored) = subst IsEntry entry_is (commit_entry formats store core records made world 0 rec set belongs (commit_of (prepared_of set)) aside is) in
+          let empty : length (entry_of stored) ≡ 0 = ap (λ (ts : Texts). length (entry_of ts)) none in
           absurd (omega (arith, whole.not_empty, empty))
 
       answers : Answered (answer.stores stored out)
@@ -265,6 +274,7 @@ module _ {D P : Type 0} (g : Ghosts D) (files : List MountedFile) (core : Core D
     pub refused_serving : (why : CommitFault) (result : Result code.Report Stop) → ((pattern : List ℕ) → T risen → MayRefuse pattern) → IsRefusalOf why result → IsJudged formats store risen core.history.commits core.keys (prepared_of set) (Err why) → ForEachRun (Err why)
         → (has_written (Err why) ≡ false → IsUnwritten core after) → (has_written (Err why) ≡ true → after.wrote ≡ true) → Serving g Answered result core after
     refused_serving (fault.Conflict mount by front) result may refusal judged has kept wrote = absurd refusal
+    refused_serving (fault.FileTooLarge mount bytes front) result may refusal judged has kept wrote = absurd refusal
     refused_serving (fault.Invalid violation front) (Ok report) may refusal judged has kept wrote = rule_serves violation front (report_of report) may refusal judged (kept refl)
     refused_serving (fault.Invalid violation front) (Err stop) may refusal judged has kept wrote = subst (λ (s : Stop). Serving g Answered (Err s) core after) (sym refusal) (kept refl)
     refused_serving (fault.DatabaseFull weight front) (Ok report) may refusal judged has kept wrote = full_serves weight front (report_of report) refusal judged (kept refl)
@@ -282,6 +292,7 @@ stop_apart stops.ReadFault memory is = absurd cc
 -- a fault that ends the run so is one of the disk
 pub refused_disk : (why : CommitFault) (result : Result code.Report Stop) → IsRefusalOf why result → result ≡ Err stops.DiskFault → (front : ℕ) × (why ≡ fault.DiskFault front)
 refused_disk (fault.Conflict mount by front) result refusal is = absurd refusal
+refused_disk (fault.FileTooLarge mount bytes front) result refusal is = absurd refusal
 refused_disk (fault.Invalid violation front) (Ok report) refusal is = absurd cc
 refused_disk (fault.Invalid violation front) (Err stop) refusal is = absurd (stop_apart stop refusal is)
 refused_disk (fault.DatabaseFull weight front) (Ok report) refusal is = absurd cc

@@ -14,6 +14,7 @@ use Rattle.model_store.specs.Events.{first_bad, put, shows_proc}
 use Rattle.model_store.specs.Records as model
 use Rattle.model_store.specs.Sets as sets
 use Rattle.model_store.specs.Sets.{wants}
+use Rattle.model_store.specs.Records.{no_record}
 use Rattle.model_store.specs.Store.{points_of}
 use Rattle.model_store.specs.Worlds.{first_world}
 use Rattle.model_store.proofs.Members.{itself_number}
@@ -77,10 +78,10 @@ module _ (files : List MountedFile) (parent : Name) where
 
 -- ---- the answer to the get
 
-module _ {D P : Type 0} (files : List MountedFile) (core : Core D P) (parent : Name) (old new : Record) (here : StandsIn formats (store_alone files) core (λ r m. None) (λ p. None) first_world) (is_new : IsNew files old)
+module _ {D P : Type 0} (files : List MountedFile) (core : Core D P) (parent : Name) (old new : Record) (here : StandsIn formats (store_alone files) core (λ r. no_record) (λ p. None) first_world) (is_new : IsNew files old)
     (handle : handle_of new ≡ handle_of old) (places : places_of new ≡ places_of old) where
   abbrev no_records : ℕ → model.Record
-  no_records r m = None
+  no_records r = no_record
 
   abbrev no_sets : ℕ → Option sets.Prepared
   no_sets p = None
@@ -101,7 +102,7 @@ module _ {D P : Type 0} (files : List MountedFile) (core : Core D P) (parent : N
       record {
         good = made.good;
         handle = handle ∙ is_new.handle;
-        is = sym (itself (record_of new)) ∙ moved ∙ itself _ ∙ ap₂ (λ (n : ℕ) (k : KeyMap). keeping (involved_in (points_of (store_alone files)) parent) n (wants (points_of (store_alone files)) k) (λ m. None)) (ap length here.stands.history) keys_are;
+        is = sym (itself (record_of new)) ∙ moved ∙ itself _ ∙ ap₂ (λ (n : ℕ) (k : KeyMap). keeping (involved_in (points_of (store_alone files)) parent) n (wants (points_of (store_alone files)) k) no_record) (ap length here.stands.history) keys_are;
         places = places ∙ is_new.places;
       }
     where

@@ -15,8 +15,10 @@ use Rattle.model_store.specs.Events.{first_bad, if_bad, put}
 use Rattle.model_store.specs.First.{first_record}
 use Rattle.model_store.specs.Legal.{IsLegal}
 use Rattle.model_store.specs.Sets as sets
+use Rattle.model_store.specs.Records.{no_record}
+use Rattle.model_store.specs.Sound.{IsSound}
 use Rattle.model_store.specs.Store.{Store, is_bad, points_of}
-use Rattle.model_store.specs.Verdicts.{Same, Conflict, Invalid, DatabaseFull, HistoryFull, Commits, IsEarly, IsLate}
+use Rattle.model_store.specs.Verdicts.{Same, Conflict, TooLarge, Invalid, DatabaseFull, HistoryFull, Commits, IsEarly, IsLate}
 use Rattle.model_store.specs.Worlds.{first_world}
 use Rattle.model_store.proofs.Accepting.{accepts-own}
 use Rattle.model_store.proofs.Owning.{Goes, first_stands, follows}
@@ -50,6 +52,7 @@ use Rattle.tool_single.specs.Input.{taken}
 use Rattle.tool_single.specs.OneCommit.{IsOneCommit}
 use Rattle.tool_single.proofs.GetLemmas.{alone-bad}
 use Rattle.tool_single.proofs.SetLemmas.{first_is}
+use Rattle.tool_single.proofs.SoundLemmas.{opened-sound}
 use Rattle.tool_single.specs.Sets.{AnswersSet, IsRefusal, Judged, Refused, formats, set_alone}
 
 -- ---- the mounts of a parent that was got are good
@@ -79,7 +82,8 @@ good_parent files parent keys has = by (first_bad (store_alone files) parent) re
 
 -- ---- a set that is a commit
 
-module _ (files : List MountedFile) (parent : Name) (keys : KeyMap) (good : first_bad (store_alone files) parent ≡ None) (early : IsEarly formats (store_alone files) (set_alone (store_alone files) parent keys) None) (commit : Commit) (aside : ℕ)
+module _ (files : List MountedFile) (sound : IsSound formats (store_alone files)) (parent : Name) (keys : KeyMap) (good : first_bad (store_alone files) parent ≡ None)
+    (early : IsEarly formats (store_alone files) (set_alone (store_alone files) parent keys) None) (commit : Commit) (aside : ℕ)
     (late : IsLate formats (store_alone files) [] (store_alone files).start (set_alone (store_alone files) parent keys) (Commits commit aside)) where
   abbrev store : Store
   store = store_alone files
@@ -88,13 +92,13 @@ module _ (files : List MountedFile) (parent : Name) (keys : KeyMap) (good : firs
   set = set_alone store parent keys
 
   abbrev got_core : cores.Core
-  got_core = record (first_core store) { records = put the_handle (first_record store parent) (λ r m. None) }
+  got_core = record (first_core store) { records = put the_handle (first_record store parent) (λ r. no_record) }
 
   abbrev set_core : cores.Core
   set_core = record got_core { sets = put 0 (Some set) (λ p. None) }
 
   abbrev after_get : Goes formats store first_world (event.Get the_handle parent) (event.Got 0 (event.got store store.start the_handle parent)) got_core
-  after_get = follows formats store first_world (first_core store) (event.Get the_handle parent) (event.Got 0 (event.got store store.start the_handle parent)) got_core (first_stands formats store)
+  after_get = follows formats store first_world (first_core store) (event.Get the_handle parent) (event.Got 0 (event.got store store.start the_handle parent)) got_core (first_stands formats store sound)
       (record { good = good; front_is = refl; keys_are = refl; next_is = refl })
 
   abbrev after_prepare : Goes formats store after_get.after (event.Prepare the_handle 0 parent keys) event.Ready set_core
@@ -136,6 +140,7 @@ module _ (MayRefuse : List ℕ → Type 0) (bytes_of : List ℕ → List ℕ) (a
         told (Some f) p = refusal f p
     of_set parent keys out good (Judged early (Same aside) late p) = nothing a (told out) p some
     of_set parent keys out good (Judged early (Conflict mount by) late p) = absurd p
+    of_set parent keys out good (Judged early (TooLarge mount size) late p) = absurd p
     of_set parent keys out good (Judged early (Invalid violation risen) late p) = nothing a (warned 5 (invalid violation)) p.1 some
     of_set parent keys out good (Judged early (DatabaseFull weight) late p) = nothing a (warned 5 (database_full weight)) p some
     of_set parent keys out good (Judged early (HistoryFull weight) late p) = nothing a (warned 5 (history_full weight)) p some
@@ -143,7 +148,7 @@ module _ (MayRefuse : List ℕ → Type 0) (bytes_of : List ℕ → List ℕ) (a
       files = files;
       opened = opened;
       commit = commit;
-      legal = legal files parent keys good early commit aside late;
+      legal = legal files (opened-sound bytes_of files opened) parent keys good early commit aside late;
       texts = ap (λ (x : Answer). x.stored) p;
     }
 

@@ -2,6 +2,7 @@ pub mod RiseLemmas
 pub mod FirstRefusals
 pub mod VerdictsBy
 pub mod SetLemmas
+pub mod SoundLemmas
 pub mod AnswersOnce
 pub mod AnswersExist
 pub mod AnswersMore

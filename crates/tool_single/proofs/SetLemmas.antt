@@ -16,12 +16,12 @@ use Rattle.model_store.specs.Store.{Store, contents, points_of}
 use Rattle.mounted_files.specs.Setting.{first_long_in}
 use Rattle.model_store.specs.Records as model
 use Rattle.model_store.specs.Sets.{Prepared, prepared}
-use Rattle.model_store.specs.Verdicts.{Late, Same, Conflict, Invalid, DatabaseFull, HistoryFull, Commits, Follows, IsEarly, IsLate, BreaksFirst, before_formats, behind_formats, wanted_in, not_fetched, long_value, if_unseen}
+use Rattle.model_store.specs.Verdicts.{Late, Same, Conflict, TooLarge, Invalid, DatabaseFull, HistoryFull, Commits, Follows, IsEarly, IsLate, BreaksFirst, before_formats, behind_formats, wanted_in, not_fetched, long_value, if_unseen}
 use Rattle.model_store.proofs.OneVerdict.{IsEarly-once, IsEarly-some}
 use Rattle.model_specified.proofs.Refusals.{RefusesEach}
 use Rattle.model_specified.proofs.ViolationLemmas.{RefusesMore}
 use Rattle.model_specified.proofs.ViolationsOnce.{RefusesNoPattern}
-use Rattle.model_store.proofs.FirstSets.{never-unseen, never-blocked}
+use Rattle.model_store.proofs.FirstSets.{never-unseen, never-blocked, never-large}
 use Rattle.mount_table.specs.Points.{own_point}
 use Rattle.mount_table.specs.Table.{table_of}
 use Rattle.mount_table.specs.declared.faults.TableFault.{TableFault}
@@ -56,6 +56,7 @@ told_once (Some why) a b p q = refusal_once why a b p q
 judgement_once : (MayRefuse : List ℕ → Type 0) (store : Store) (keys : KeyMap) (out : List ℕ) (late : Late) (a b : Answer) → IsJudgement MayRefuse store keys out late a → IsJudgement MayRefuse store keys out late b → a ≡ b
 judgement_once MayRefuse store keys out (Same aside) a b p q = p ∙ sym q
 judgement_once MayRefuse store keys out (Conflict mount by) a b p q = absurd p
+judgement_once MayRefuse store keys out (TooLarge mount size) a b p q = absurd p
 judgement_once MayRefuse store keys out (Invalid violation risen) a b p q = p.1 ∙ sym q.1
 judgement_once MayRefuse store keys out (DatabaseFull weight) a b p q = p ∙ sym q
 judgement_once MayRefuse store keys out (HistoryFull weight) a b p q = p ∙ sym q
@@ -65,6 +66,7 @@ judgement_once MayRefuse store keys out (Commits commit aside) a b p q = p ∙ s
 alone_judged : (MayRefuse : List ℕ → Type 0) (store : Store) (keys : KeyMap) (out : List ℕ) (late : Late) (a : Answer) → IsJudgement MayRefuse store keys out late a → IsJudgement MayRefuse store keys out (told_alone late) a
 alone_judged MayRefuse store keys out (Same aside) a p = p
 alone_judged MayRefuse store keys out (Conflict mount by) a p = p
+alone_judged MayRefuse store keys out (TooLarge mount size) a p = p
 alone_judged MayRefuse store keys out (Invalid violation risen) a p = ((λ none. absurd none), p.1)
 alone_judged MayRefuse store keys out (DatabaseFull weight) a p = p
 alone_judged MayRefuse store keys out (HistoryFull weight) a p = p
@@ -73,6 +75,7 @@ alone_judged MayRefuse store keys out (Commits commit aside) a p = p
 permitted : (MayRefuse : List ℕ → Type 0) (store : Store) (keys : KeyMap) (out : List ℕ) (late : Late) (a : Answer) → IsJudgement MayRefuse store keys out late a → IsPermitted MayRefuse late
 permitted MayRefuse store keys out (Same aside) a p = tt
 permitted MayRefuse store keys out (Conflict mount by) a p = tt
+permitted MayRefuse store keys out (TooLarge mount size) a p = tt
 permitted MayRefuse store keys out (Invalid violation risen) a p = p.0
 permitted MayRefuse store keys out (DatabaseFull weight) a p = tt
 permitted MayRefuse store keys out (HistoryFull weight) a p = tt
@@ -107,6 +110,7 @@ module _ (Fewer More : List ℕ → Type 0) (a : Answer) (follows : a.stored ≡
   judgement_more : (store : Store) (keys : KeyMap) (out : List ℕ) (late : Late) → IsJudgement Fewer store keys out late a → IsJudgement More store keys out late a
   judgement_more store keys out (Same aside) p = p
   judgement_more store keys out (Conflict mount by) p = p
+  judgement_more store keys out (TooLarge mount size) p = p
   judgement_more store keys out (Invalid violation risen) p = (λ rose. follows (ap (λ (x : Answer). x.stored) p.1) violation.given (p.0 rose), p.1)
   judgement_more store keys out (DatabaseFull weight) p = p
   judgement_more store keys out (HistoryFull weight) p = p
@@ -247,13 +251,14 @@ Set-some MayRefuse each files parent keys out none = by (IsEarly-some formats la
     set : Prepared
     set = set_alone store parent keys
 
-    judged : (late : Late) → IsLate formats store [] store.start set late → IsPermitted MayRefuse late → (answer : Answer) × IsJudgement MayRefuse store store.start out late answer
-    judged (Same aside) is may = (done out, refl)
-    judged (Conflict mount by) is may = absurd (never-blocked formats store the_handle parent keys (Conflict mount by) mount by is refl)
-    judged (Invalid violation risen) is may = (refused 5 (invalid violation), (may, refl))
-    judged (DatabaseFull weight) is may = (refused 5 (database_full weight), refl)
-    judged (HistoryFull weight) is may = (refused 5 (history_full weight), refl)
-    judged (Commits commit aside) is may = (stores (stored_by store store.start commit) out, refl)
+    judged : IsEarly formats store set None → (late : Late) → IsLate formats store [] store.start set late → IsPermitted MayRefuse late → (answer : Answer) × IsJudgement MayRefuse store store.start out late answer
+    judged early (Same aside) is may = (done out, refl)
+    judged early (Conflict mount by) is may = absurd (never-blocked formats store the_handle parent keys (Conflict mount by) mount by is refl)
+    judged early (TooLarge mount size) is may = absurd (never-large formats store the_handle parent keys early (TooLarge mount size) mount size is refl)
+    judged early (Invalid violation risen) is may = (refused 5 (invalid violation), (may, refl))
+    judged early (DatabaseFull weight) is may = (refused 5 (database_full weight), refl)
+    judged early (HistoryFull weight) is may = (refused 5 (history_full weight), refl)
+    judged early (Commits commit aside) is may = (stores (stored_by store store.start commit) out, refl)
 
     by : ((early : Option Early) × IsEarly formats store set early) → ⊥
     by (Some why, early) =
@@ -261,7 +266,7 @@ Set-some MayRefuse each files parent keys out none = by (IsEarly-some formats la
         none line.answer (Refused why early (subst (λ (o : Option PrepareFault). IsSomeAnd o (λ f. IsRefusal f line.answer)) (sym line.is) line.line))
     by (None, early) =
         verdict-some MayRefuse formats store [] store.start set each (λ late is may.
-        let answer = judged late is may in
+        let answer = judged early late is may in
         none answer.0 (Judged early late is answer.1))
 
 -- ---- what the code refuses

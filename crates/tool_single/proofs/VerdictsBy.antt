@@ -15,14 +15,15 @@ use Rattle.model_specified.proofs.Refusals.{RefusesEach}
 use Rattle.model_specified.proofs.ViolationsOnce.{RefusesNoPattern}
 use Rattle.model_store.specs.Sets.{Prepared}
 use Rattle.model_store.specs.Store.{Store, Formats, points_of}
-use Rattle.model_store.specs.Verdicts.{Late, Same, Conflict, Invalid, DatabaseFull, HistoryFull, Commits, Follows, Checks, IsLate, conflict, commit_of, if_untouched, if_heavy, if_full}
-use Rattle.model_store.proofs.VerdictLemmas.{not_same, not_conflict, not_limited}
+use Rattle.model_store.specs.Verdicts.{Late, Same, Conflict, TooLarge, Invalid, DatabaseFull, HistoryFull, Commits, Follows, Checks, IsLate, conflict, commit_of, if_untouched, if_heavy, if_full, too_large}
+use Rattle.model_store.proofs.VerdictLemmas.{not_same, not_conflict, not_large, not_limited}
 use Rattle.tool_single.proofs.FirstRefusals.{first-or_none}
 
 -- a verdict whose violation, if it tells one that goes by a refusal, tells a text that may be refused
 abbrev pub IsPermitted : (List ℕ → Type 0) → Late → Type 0
 IsPermitted MayRefuse (Same aside) = Unit {0}
 IsPermitted MayRefuse (Conflict m by) = Unit {0}
+IsPermitted MayRefuse (TooLarge m size) = Unit {0}
 IsPermitted MayRefuse (Invalid violation risen) = T risen → MayRefuse violation.given
 IsPermitted MayRefuse (DatabaseFull n) = Unit {0}
 IsPermitted MayRefuse (HistoryFull n) = Unit {0}
@@ -32,6 +33,7 @@ IsPermitted MayRefuse (Commits commit aside) = Unit {0}
 abbrev pub told_alone : Late → Late
 told_alone (Same aside) = Same aside
 told_alone (Conflict m by) = Conflict m by
+told_alone (TooLarge m size) = TooLarge m size
 told_alone (Invalid violation risen) = Invalid violation false
 told_alone (DatabaseFull n) = DatabaseFull n
 told_alone (HistoryFull n) = HistoryFull n
@@ -44,6 +46,7 @@ is_violation late = false
 other_permitted : (MayRefuse : List ℕ → Type 0) (late : Late) → is_violation late ≡ false → IsPermitted MayRefuse late
 other_permitted MayRefuse (Same aside) other = tt
 other_permitted MayRefuse (Conflict m by) other = tt
+other_permitted MayRefuse (TooLarge m size) other = tt
 other_permitted MayRefuse (Invalid violation risen) other = absurd cc
 other_permitted MayRefuse (DatabaseFull n) other = tt
 other_permitted MayRefuse (HistoryFull n) other = tt
@@ -71,8 +74,11 @@ module _ (MayRefuse : List ℕ → Type 0) (formats : Formats) (store : Store) (
   abbrev Checked : Late → Type 0
   Checked answer = Checks (points_of store) keys set answer (Heavy answer)
 
+  abbrev Sized : Late → Type 0
+  Sized answer = Follows (too_large formats store keys set) (Some answer) (Checked answer)
+
   abbrev Blocked : Late → Type 0
-  Blocked answer = Follows (conflict store history set) (Some answer) (Checked answer)
+  Blocked answer = Follows (conflict store history set) (Some answer) (Sized answer)
 
   -- ---- one at most
 
@@ -91,10 +97,11 @@ module _ (MayRefuse : List ℕ → Type 0) (formats : Formats) (store : Store) (
   pub verdict-once : RefusesNoPattern MayRefuse → (late other : Late) → IsPermitted MayRefuse late → IsPermitted MayRefuse other → IsLate formats store history keys set late → IsLate formats store history keys set other → told_alone late ≡ told_alone other
   verdict-once off late other may might =
       step_once late other (if_untouched set.touched set.aside) (Blocked late) (Blocked other)
-      (step_once late other (conflict store history set) (Checked late) (Checked other)
+      (step_once late other (conflict store history set) (Sized late) (Sized other)
+      (step_once late other (too_large formats store keys set) (Checked late) (Checked other)
       (checked_once off late other may might
       (step_once late other (if_heavy weighs) (Full late) (Full other)
-      (step_once late other (if_full in_all) (late ≡ Commits (commit_of set) set.aside) (other ≡ Commits (commit_of set) set.aside) (λ p q. ap told_alone (p ∙ sym q))))))
+      (step_once late other (if_full in_all) (late ≡ Commits (commit_of set) set.aside) (other ≡ Commits (commit_of set) set.aside) (λ p q. ap told_alone (p ∙ sym q)))))))
 
   -- ---- some
 
@@ -115,8 +122,9 @@ module _ (MayRefuse : List ℕ → Type 0) (formats : Formats) (store : Store) (
   pub verdict-some : RefusesEach MayRefuse → Has (IsLate formats store history keys set)
   verdict-some each =
       step_some (if_untouched set.touched set.aside) Blocked (λ late. not_same is_violation set.touched set.aside late refl)
-      (step_some (conflict store history set) Checked (λ late. not_conflict is_violation store history set set.touched late (λ m by. refl))
+      (step_some (conflict store history set) Sized (λ late. not_conflict is_violation store history set set.touched late (λ m by. refl))
+      (step_some (too_large formats store keys set) Checked (λ late. not_large is_violation formats store later set.touched late (λ m size. refl))
       (checks_some each
       (step_some (if_heavy weighs) Full (λ late. not_limited is_violation (nat_lt heaviest_map weighs) (DatabaseFull (saturated weighs)) late refl)
       (step_some (if_full in_all) (λ late. late ≡ Commits (commit_of set) set.aside) (λ late. not_limited is_violation (nat_lt heaviest_history in_all) (HistoryFull (saturated in_all)) late refl)
-      (λ off. off (Commits (commit_of set) set.aside) refl tt)))))
+      (λ off. off (Commits (commit_of set) set.aside) refl tt))))))

@@ -1,7 +1,7 @@
 -- What is told of a set that wasn't committed, by why it wasn't. (This project's own.)
 use Rattle.std.specs.Prelude.{◌≡◌, Result, Ok, Err}
 use Rattle.store_core.specs.declared.committing.CommitFault.{CommitFault}
-use Rattle.store_core.specs.declared.committing.CommitFault.TheVariants.{Conflict, Invalid, DatabaseFull, HistoryFull, DiskFault, Memory}
+use Rattle.store_core.specs.declared.committing.CommitFault.TheVariants.{Conflict, FileTooLarge, Invalid, DatabaseFull, HistoryFull, DiskFault, Memory}
 use Rattle.store_lines.specs.Lines.{invalid, database_full, history_full}
 use Rattle.tool_commands.specs.Report.{Report, warned}
 use Rattle.tool_commands.specs.StepView.{report_of}
@@ -16,6 +16,7 @@ Tells wanted (Err stop) = stop ≡ stops.Memory
 
 abbrev pub IsRefusalOf : CommitFault → Result code.Report Stop → Type 0
 IsRefusalOf (Conflict mount by front) result = ⊥
+IsRefusalOf (FileTooLarge mount bytes front) result = ⊥
 IsRefusalOf (Invalid violation front) result = Tells (warned 5 (invalid violation)) result
 IsRefusalOf (DatabaseFull weight front) result = Tells (warned 5 (database_full weight)) result
 IsRefusalOf (HistoryFull weight front) result = Tells (warned 5 (history_full weight)) result

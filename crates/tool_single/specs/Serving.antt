@@ -16,6 +16,7 @@ use Rattle.model_maps.specs.KeyMap.{KeyMap, no_keys}
 use Rattle.model_names.specs.Name.{Name}
 use Rattle.model_store.specs.Events.{first_bad}
 use Rattle.model_store.specs.First.{first_record}
+use Rattle.model_store.specs.Records.{no_record}
 use Rattle.model_store.specs.Store.{store_of}
 use Rattle.model_store.specs.Worlds.{first_world}
 use Rattle.mounted_files.specs.declared.files.MountedFile.{MountedFile}
@@ -42,7 +43,7 @@ use Rattle.tool_single.specs.declared.answers.Stop.TheVariants as stops
 
 -- a store was opened, and nothing committed
 pub record IsOpen {D F P : Type 0} (plan : Plan F) (core : Core D P) : Type 0 where
-  pub world : (procs : ℕ → KeyMap) → StandsIn formats (store_of plan.mounted procs) core (λ r m. None) (λ p. None) first_world
+  pub world : (procs : ℕ → KeyMap) → StandsIn formats (store_of plan.mounted procs) core (λ r. no_record) (λ p. None) first_world
 
 -- and the handle of a command got a parent
 pub record HasFetched (files : List MountedFile) (parent : Name) (rec : Record) : Type 0 where
@@ -56,7 +57,8 @@ pub record IsNew (files : List MountedFile) (rec : Record) : Type 0 where
   pub handle : handle_of rec ≡ the_handle
   pub places : places_of rec ≡ length files
   pub proc : proc_of rec ≡ no_keys
-  pub none : (m : ℕ) → record_of rec m ≡ None
+  pub none : (m : ℕ) → (record_of rec).fetched m ≡ None
+  pub fresh : (record_of rec).committed ≡ 0
 
 -- a set was prepared at a parent that its handle got first of all
 pub record IsAlone (files : List MountedFile) (rec : Record) (set : Prepared) : Type 0 where

@@ -12,7 +12,7 @@ use Rattle.model_store.specs.First.{first_set}
 use Rattle.model_store.specs.Fitting.{Early}
 use Rattle.model_store.specs.Sets.{Prepared}
 use Rattle.model_store.specs.Store.{Store, Formats}
-use Rattle.model_store.specs.Verdicts.{Late, Same, Conflict, Invalid, DatabaseFull, HistoryFull, Commits, IsEarly, IsLate}
+use Rattle.model_store.specs.Verdicts.{Late, Same, Conflict, TooLarge, Invalid, DatabaseFull, HistoryFull, Commits, IsEarly, IsLate}
 use Rattle.mounted_files.specs.declared.files.MountedFile.{MountedFile}
 use Rattle.store_verdict.specs.Preparing.{fault_of}
 use Rattle.store_verdict.specs.declared.faults.PrepareFault.{PrepareFault}
@@ -42,11 +42,12 @@ IsRefusal (fault.NotStorable mount key) answer = answer ≡ refused 5 (not_stora
 IsRefusal (fault.BadTable why) answer = answer ≡ refused 5 (bad_table why)
 IsRefusal fault.Memory answer = ⊥
 
--- what the history and the rules make of a set, where nothing was committed before: nothing blocks it. A violation that goes by a refused pattern is told
+-- what the history and the rules make of a set, where nothing was committed before: nothing blocks it, and its files were found small enough. A violation that goes by a refused pattern is told
 -- only of a text that may be refused as one
 abbrev pub IsJudgement : (List ℕ → Type 0) → Store → KeyMap → List ℕ → Late → Answer → Type 0
 IsJudgement MayRefuse store keys out (Same aside) answer = answer ≡ done out
 IsJudgement MayRefuse store keys out (Conflict mount by) answer = ⊥
+IsJudgement MayRefuse store keys out (TooLarge mount size) answer = ⊥
 IsJudgement MayRefuse store keys out (Invalid violation risen) answer = (T risen → MayRefuse violation.given) × (answer ≡ refused 5 (invalid violation))
 IsJudgement MayRefuse store keys out (DatabaseFull weight) answer = answer ≡ refused 5 (database_full weight)
 IsJudgement MayRefuse store keys out (HistoryFull weight) answer = answer ≡ refused 5 (history_full weight)

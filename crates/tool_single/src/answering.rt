@@ -21,7 +21,7 @@ ghost use Rattle.key_name.specs.Joining.{joined};
 ghost use Rattle.model_names.specs.WellFormed.{IsName};
 ghost use Rattle.model_names.specs.declared.namespaces.Namespace.TheVariants.{Cascading};
 ghost use Rattle.mounted_files.specs.Sound.{AreNames};
-ghost use Rattle.tool_commands.specs.Lines.{line_of_mount};
+ghost use Rattle.tool_commands.specs.Lines.{counting, line_of_mount};
 ghost use Rattle.store_lines.specs.Lines.{not_storable};
 ghost use Rattle.tool_words.specs.Request.{NamesFiles};
 ghost use Rattle.tool_words.specs.RequestView.{action_of, question_of};
@@ -96,15 +96,23 @@ fn lines_of_mounts(alloc: Global, mounted: &Mounted) -> Result<String, Memory>
     Ok(lines)
 }
 
-/// Adds the line of a mount: its mountpoint, its file and the word of its format.
+/// Adds the line of a mount: its mountpoint, its file, the word of its format, and how its conflicts are counted.
 fn push_line_of_mount(alloc: Global, lines: &mut String, mount: &Mount) -> Result<(), Memory>
     ensures { OnOk result (string_bytes lines.new ≡ string_bytes lines.old ++ line_of_mount mount.now) }
 {
     let at = shown(alloc, &mount.at)?;
     let file = mount.file.text();
     let word = mount.kind.word();
-    let line = format!(in alloc; "{at} {file} {word}\n")?;
+    let counting = counting(mount.by_key);
+    let line = format!(in alloc; "{at} {file} {word}{counting}\n")?;
     lines.push_str(&line)
+}
+
+/// How the line of a mount tells that conflicts are counted by key.
+fn counting(by_key: bool) -> &'static str
+    ensures { result.now ≡ counting by_key }
+{
+    if by_key { " keys" } else { "" }
 }
 
 /// `file`: the file of the mount that owns a key.

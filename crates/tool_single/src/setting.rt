@@ -11,7 +11,7 @@ ghost use Rattle.model_maps.specs.KeyMap.{KeyMap};
 ghost use Rattle.model_names.specs.Name.{Name};
 ghost use Rattle.store_verdict.specs.Preparing.{IsMade};
 ghost use Rattle.store_verdict.specs.RecordView.{record_of};
-ghost use Rattle.store_core.specs.declared.committing.CommitFault.TheVariants.{Conflict as IsConflict};
+ghost use Rattle.store_core.specs.declared.committing.CommitFault.TheVariants.{Conflict as IsConflict, FileTooLarge as IsTooLarge};
 ghost use Rattle.store_verdict.specs.declared.faults.PrepareFault.TheVariants.{NotFetched as IsNotFetched};
 ghost use Rattle.tool_commands.specs.Report.{IsEnd};
 ghost use Rattle.tool_commands.specs.StepView.{report_of};
@@ -77,7 +77,8 @@ fn refuse_set(alloc: Global, fault: &PrepareFault) -> Result<Report, Memory>
     }
 }
 
-/// The answer where the set of a handle is committed that got its parent before any commit, so that none can block it.
+/// The answer where the set of a handle is committed that got its parent before any commit: none can block it, and no
+/// file comes out larger than it was found when the set was prepared.
 fn commit_set<D: Disk, P: Patterns + Drop>(
     alloc: Global,
     plan: &Plan<AllFormats>,
@@ -104,7 +105,8 @@ fn commit_set<D: Disk, P: Patterns + Drop>(
 
 /// The answer where a set is not committed.
 fn refuse_commit(alloc: Global, fault: CommitFault) -> Result<Report, Stop>
-    requires { (mount : Name) (by front : ℕ) → fault ≢ IsConflict mount by front }
+    requires free { (mount : Name) (by front : ℕ) → fault ≢ IsConflict mount by front }
+    requires small { (mount : Name) (bytes front : ℕ) → fault ≢ IsTooLarge mount bytes front }
     ensures refused { IsRefusalOf fault result }
     ensures status { IfOk result (λ report. report.status ≡ 5) }
 {
@@ -120,6 +122,6 @@ fn refuse_commit(alloc: Global, fault: CommitFault) -> Result<Report, Stop>
         }
         CommitFault::DiskFault { .. } => Err(Stop::DiskFault),
         CommitFault::Memory => Err(Stop::Memory),
-        CommitFault::Conflict { .. } => unreachable!(),
+        CommitFault::Conflict { .. } | CommitFault::FileTooLarge { .. } => unreachable!(),
     }
 }

@@ -19,9 +19,9 @@ use Rattle.tool_words.specs.declared.uses.Use.{Use}
 use Rattle.tool_words.specs.declared.uses.Use.TheVariants.{Looks, Writes}
 use Rattle.tool_words.specs.declared.ways.Way.{Way}
 use Rattle.tool_words.specs.declared.ways.Way.TheVariants.{Copies, Moves}
-use Rattle.tool_words.specs.Request.{Action, Get, Set, Remove, Names, GetMeta, SetMeta, MetaNames, Bring, MountFile, Unmount, Merge, Question, Mounts, FileOf, ViolationsOf, On, NamesFiles, Request, Refuses, Bars, Asks, Imports, read_by, extent_in, on_none, on_one, on_two, on_three, on_two_or_three, on_one_extended, on_two_extended, on_four_by_strategy, on_strategy, on_name, on_name_for, on_meta, on_kind, is_meta, unnamed, asks, asks_to_bring, asks_to_merge, asks_to_mount, asks_to_pass, passing}
+use Rattle.tool_words.specs.Request.{Action, Get, Set, Remove, Names, GetMeta, SetMeta, MetaNames, Bring, MountFile, Unmount, Merge, Question, Mounts, FileOf, ViolationsOf, On, NamesFiles, Request, Refuses, Bars, Asks, Imports, read_by, extent_in, on_none, on_one, on_two, on_three, on_two_or_three_by_key, on_one_extended, on_two_extended, on_four_by_strategy, on_strategy, on_name, on_name_for, on_meta, on_kind, is_meta, unnamed, asks, asks_to_bring, asks_to_merge, asks_to_mount, asks_to_pass, passing}
 use Rattle.clap.specs.Words.{App, Row as Values}
-use Rattle.tool_words.specs.CommandLines.{no_arguments, one_argument, two_arguments, three_arguments, two_or_three_arguments, one_extended, two_extended, four_by_strategy, given_value, refuses, value, values}
+use Rattle.tool_words.specs.CommandLines.{no_arguments, one_argument, two_arguments, three_arguments, two_or_three_by_key, one_extended, two_extended, four_by_strategy, given_value, is_set, refuses, value, values}
 use Rattle.tool_words.specs.Lines.{argument, no_name, options_refused}
 use Rattle.tool_words.specs.Rows.{Row, asked_by, request, rows}
 use Rattle.key_merge.specs.declared.strategies.Strategy.{Strategy}
@@ -56,9 +56,10 @@ two-names take each = read_by-names two_arguments (λ rows. take (value (codes "
 three-names : (take : List ℕ → List ℕ → List ℕ → Request) → ((a b c : List ℕ) → NamesAny (take a b c)) → (words : List (List ℕ)) → NamesAny (on_three take words)
 three-names take each = read_by-names three_arguments (λ rows. take (value (codes "1") rows) (value (codes "2") rows) (value (codes "3") rows)) (λ rows. each (value (codes "1") rows) (value (codes "2") rows) (value (codes "3") rows))
 
-two_or_three-names : (take : List ℕ → List ℕ → Option (List ℕ) → Request) → ((a b : List ℕ) (c : Option (List ℕ)) → NamesAny (take a b c)) → (words : List (List ℕ)) → NamesAny (on_two_or_three take words)
+two_or_three-names : (take : Bool → List ℕ → List ℕ → Option (List ℕ) → Request) → ((by_key : Bool) (a b : List ℕ) (c : Option (List ℕ)) → NamesAny (take by_key a b c)) → (words : List (List ℕ)) → NamesAny (on_two_or_three_by_key take words)
 two_or_three-names take each =
-    read_by-names two_or_three_arguments (λ rows. take (value (codes "1") rows) (value (codes "2") rows) (given_value (codes "3") rows)) (λ rows. each (value (codes "1") rows) (value (codes "2") rows) (given_value (codes "3") rows))
+    read_by-names two_or_three_by_key (λ rows. take (is_set (codes "k") rows) (value (codes "1") rows) (value (codes "2") rows) (given_value (codes "3") rows))
+    (λ rows. each (is_set (codes "k") rows) (value (codes "1") rows) (value (codes "2") rows) (given_value (codes "3") rows))
 
 one_extended-names : (take : Extent → List ℕ → Request) → ((extent : Extent) (a : List ℕ) → NamesAny (take extent a)) → (words : List (List ℕ)) → NamesAny (on_one_extended take words)
 one_extended-names take each = read_by-names one_extended (λ rows. take (extent_in rows) (value (codes "1") rows)) (λ rows. each (extent_in rows) (value (codes "1") rows))
@@ -164,9 +165,9 @@ merging-names = four_by_strategy-names asks_to_merge (λ our their base into wor
     name_for-names Writes into (λ i. on_strategy word (λ strategy. Asks (On i (Merge strategy o t b)))) (λ i free.
     strategy-names word (λ strategy. Asks (On i (Merge strategy o t b))) (λ strategy. tt))))))
 
-mounting : (words : List (List ℕ)) → NamesAny (on_two_or_three asks_to_mount words)
-mounting = two_or_three-names asks_to_mount (λ file word plugin.
-    name_for-names Writes word (λ name. on_kind plugin (λ kind. Asks (On name (MountFile file kind)))) (λ name is. kind-names plugin (λ kind. Asks (On name (MountFile file kind))) (λ kind. tt)))
+mounting : (words : List (List ℕ)) → NamesAny (on_two_or_three_by_key asks_to_mount words)
+mounting = two_or_three-names asks_to_mount (λ by_key file word plugin.
+    name_for-names Writes word (λ name. on_kind plugin (λ kind. Asks (On name (MountFile file kind by_key)))) (λ name is. kind-names plugin (λ kind. Asks (On name (MountFile file kind by_key))) (λ kind. tt)))
 
 mounts : (words : List (List ℕ)) → NamesAny (on_none (Asks Mounts) words)
 mounts = none-names (Asks Mounts) tt

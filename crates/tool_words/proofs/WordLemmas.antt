@@ -1,5 +1,5 @@
 -- What words in a row ask for, and when `clap` refuses words.
-use Rattle.std.specs.Prelude.{◌≡◌, ◌≢◌, ℕ, true, false, cond, List, [], ◌∷◌, Option, Some, None}
+use Rattle.std.specs.Prelude.{◌≡◌, ◌≢◌, ℕ, Bool, true, false, cond, List, [], ◌∷◌, Option, Some, None}
 use Rattle.std.proofs.Common.{refl, ap, ◌∙◌}
 use Rattle.clap.specs.Words.{IsAmong, Kinds}
 use Rattle.clap.specs.declared.error.kind.ErrorKind.{ErrorKind}
@@ -34,18 +34,20 @@ pub refuses_meta : (by : Use) (text word : List ℕ) (asked : Name → Request) 
 refuses_meta by text word asked is = ap (λ b. on_name_for by text (λ name. cond b (asked name) (Refuses 2 (argument word)))) is
 
 -- what mounting asks for, by the word of a format that may be left out
-pub mounts_as_dump : (file name : List ℕ) (plugin : Option (List ℕ)) → plugin ≡ None → asks_to_mount file name plugin ≡ asks Writes (MountFile file Dump) name
-mounts_as_dump file name plugin is = ap (asks_to_mount file name) is
+module _ (by_key : Bool) (file name : List ℕ) (plugin : Option (List ℕ)) where
+  pub mounts_as_dump : plugin ≡ None → asks_to_mount by_key file name plugin ≡ asks Writes (MountFile file Dump by_key) name
+  mounts_as_dump is = ap (asks_to_mount by_key file name) is
 
-pub mounts_as : (file name word : List ℕ) (plugin : Option (List ℕ)) (kind : Kind) → plugin ≡ Some word → kind_of word ≡ Some kind → asks_to_mount file name plugin ≡ asks Writes (MountFile file kind) name
-mounts_as file name word plugin kind is known =
-    ap (asks_to_mount file name) is
-    ∙ ap (λ found. on_name_for Writes name (λ at. elim found [ None ↦ Refuses 2 (argument word) | Some format ↦ Asks (On at (MountFile file format)) ])) known
+  by_word : (word : List ℕ) (found : Option Kind) → plugin ≡ Some word → kind_of word ≡ found → asks_to_mount by_key file name plugin ≡ on_name_for Writes name (λ at. elim found [ None ↦ Refuses 2 (argument word) | Some format ↦ Asks (On at (MountFile file format by_key)) ])
+  by_word word found is known =
+      ap (asks_to_mount by_key file name) is
+      ∙ ap (λ o. on_name_for Writes name (λ at. elim o [ None ↦ Refuses 2 (argument word) | Some format ↦ Asks (On at (MountFile file format by_key)) ])) known
 
-pub refuses_kind : (file name word : List ℕ) (plugin : Option (List ℕ)) → plugin ≡ Some word → kind_of word ≡ None → asks_to_mount file name plugin ≡ on_name_for Writes name (λ _. Refuses 2 (argument word))
-refuses_kind file name word plugin is unknown =
-    ap (asks_to_mount file name) is
-    ∙ ap (λ found. on_name_for Writes name (λ at. elim found [ None ↦ Refuses 2 (argument word) | Some format ↦ Asks (On at (MountFile file format)) ])) unknown
+  pub mounts_as : (word : List ℕ) (kind : Kind) → plugin ≡ Some word → kind_of word ≡ Some kind → asks_to_mount by_key file name plugin ≡ asks Writes (MountFile file kind by_key) name
+  mounts_as word kind = by_word word (Some kind)
+
+  pub refuses_kind : (word : List ℕ) → plugin ≡ Some word → kind_of word ≡ None → asks_to_mount by_key file name plugin ≡ on_name_for Writes name (λ _. Refuses 2 (argument word))
+  refuses_kind word = by_word word None
 
 -- what export and import ask for, by the word of a format
 pub passes_as : (flow : Flow) (name word : List ℕ) (kind : Kind) → kind_of word ≡ Some kind → asks_to_pass flow name word ≡ on_name_for Writes name (λ at. passing flow at kind)

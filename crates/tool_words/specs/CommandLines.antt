@@ -3,6 +3,7 @@
 use Rattle.std.specs.Prelude.{true, false, Bool, ℕ, List, [], ◌∷◌, codes, unwrap_or, Option, Some}
 use Rattle.clap.specs.Words.{App, Kinds, Row, Rule, fault_of, first_of, matches_of, new_app, new_rule, with_rule}
 use Rattle.clap.specs.declared.builder.action.ArgAction.TheVariants.{SetTrue}
+use Rattle.general_words.specs.Texts.{is_text}
 
 -- a command without arguments. It has no help and no version, and its own word isn't among the words
 abbrev pub no_arguments : App
@@ -19,6 +20,10 @@ optional id = new_rule id
 abbrev pub recursive : Rule
 recursive = record (new_rule (codes "r")) { short = Some 114; action = Some SetTrue }
 
+-- the option `-k`
+abbrev pub by_key : Rule
+by_key = record (new_rule (codes "k")) { short = Some 107; action = Some SetTrue }
+
 -- the option `-s`, which takes a word and has one where it is left out
 abbrev pub strategy : Rule
 strategy = record (new_rule (codes "s")) { short = Some 115; defaults = codes "abort" ∷ [] }
@@ -32,9 +37,9 @@ two_arguments = with_rule one_argument (required (codes "2"))
 abbrev pub three_arguments : App
 three_arguments = with_rule two_arguments (required (codes "3"))
 
--- a third argument may be left out
-abbrev pub two_or_three_arguments : App
-two_or_three_arguments = with_rule two_arguments (optional (codes "3"))
+-- a third argument may be left out, with the option `-k`
+abbrev pub two_or_three_by_key : App
+two_or_three_by_key = with_rule (with_rule two_arguments (optional (codes "3"))) by_key
 
 -- with the option `-r`
 abbrev pub one_extended : App
@@ -67,3 +72,7 @@ given_value id rows = first_of id rows
 -- the value of one that may not, or that has a default. Words that leave it out are refused, so the empty text stands for none
 abbrev pub value : List ℕ → List Row → List ℕ
 value id rows = unwrap_or (given_value id rows) []
+
+-- an option that takes no word is there
+abbrev pub is_set : List ℕ → List Row → Bool
+is_set id rows = is_text (value id rows) (codes "true")

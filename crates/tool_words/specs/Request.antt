@@ -7,7 +7,6 @@ use Rattle.model_names.specs.Namespaces.{has_files}
 use Rattle.model_names.specs.Refuses.{refusal_of}
 use Rattle.model_maps.specs.Entry.{longest_meta_name}
 use Rattle.model_maps.specs.KeyMap.{KeyMap}
-use Rattle.general_words.specs.Texts.{is_text}
 use Rattle.tool_words.specs.declared.extents.Extent.{Extent}
 use Rattle.tool_words.specs.declared.extents.Extent.TheVariants.{Alone, WithBelow}
 use Rattle.tool_words.specs.declared.flows.Flow.{Flow}
@@ -18,7 +17,7 @@ use Rattle.tool_words.specs.declared.uses.Use.TheVariants.{Writes}
 use Rattle.kdb_outside.specs.Kind.{kind_of}
 use Rattle.kdb_outside.specs.declared.kinds.Kind.{Kind}
 use Rattle.kdb_outside.specs.declared.kinds.Kind.TheVariants.{Dump}
-use Rattle.tool_words.specs.CommandLines.{no_arguments, one_argument, two_arguments, three_arguments, two_or_three_arguments, one_extended, two_extended, four_by_strategy, given_value, refuses, value, values}
+use Rattle.tool_words.specs.CommandLines.{no_arguments, one_argument, two_arguments, three_arguments, two_or_three_by_key, one_extended, two_extended, four_by_strategy, given_value, is_set, refuses, value, values}
 use Rattle.key_merge.specs.declared.strategies.Strategy.{Strategy}
 use Rattle.key_merge.specs.Strategies.{strategy_of}
 use Rattle.tool_words.specs.Uses.{bars}
@@ -37,7 +36,7 @@ pub data Action : Type 0 where
   SetMeta : List ℕ → List ℕ → Action
   MetaNames : Action
   Bring : Way → Extent → Name → Action
-  MountFile : List ℕ → Kind → Action
+  MountFile : List ℕ → Kind → Bool → Action
   Unmount : Action
   Replace : KeyMap → Action
   Merge : Strategy → Name → Name → Name → Action
@@ -73,7 +72,7 @@ read_by app take words = if refuses app words then Refuses 1 options_refused els
 
 -- which keys a command is for, by its option `-r`
 abbrev pub extent_in : List Row → Extent
-extent_in rows = if is_text (value (codes "r") rows) (codes "true") then WithBelow else Alone
+extent_in rows = if is_set (codes "r") rows then WithBelow else Alone
 
 -- the words behind a command that takes no argument, one, two, or three
 abbrev pub on_none : Request → List (List ℕ) → Request
@@ -88,9 +87,10 @@ on_two take = read_by two_arguments (λ rows. take (value (codes "1") rows) (val
 abbrev pub on_three : (List ℕ → List ℕ → List ℕ → Request) → List (List ℕ) → Request
 on_three take = read_by three_arguments (λ rows. take (value (codes "1") rows) (value (codes "2") rows) (value (codes "3") rows))
 
--- of one that takes two, and a third that may be left out
-abbrev pub on_two_or_three : (List ℕ → List ℕ → Option (List ℕ) → Request) → List (List ℕ) → Request
-on_two_or_three take = read_by two_or_three_arguments (λ rows. take (value (codes "1") rows) (value (codes "2") rows) (given_value (codes "3") rows))
+-- of one that takes two, a third that may be left out, and `-k`
+abbrev pub on_two_or_three_by_key : (Bool → List ℕ → List ℕ → Option (List ℕ) → Request) → List (List ℕ) → Request
+on_two_or_three_by_key take =
+    read_by two_or_three_by_key (λ rows. take (is_set (codes "k") rows) (value (codes "1") rows) (value (codes "2") rows) (given_value (codes "3") rows))
 
 -- of one that takes one or two, and `-r`
 abbrev pub on_one_extended : (Extent → List ℕ → Request) → List (List ℕ) → Request
@@ -137,9 +137,9 @@ asks by action word = on_name_for by word (λ name. Asks (On name action))
 abbrev pub asks_to_bring : Way → Extent → List ℕ → List ℕ → Request
 asks_to_bring way extent from to = on_name_for Writes from (λ name. on_name_for Writes to (λ other. Asks (On name (Bring way extent other))))
 
--- a file is mounted at the name of a word
-abbrev pub asks_to_mount : List ℕ → List ℕ → Option (List ℕ) → Request
-asks_to_mount file word plugin = on_name_for Writes word (λ name. on_kind plugin (λ kind. Asks (On name (MountFile file kind))))
+-- a file is mounted at the name of a word, and its conflicts are counted by key or not
+abbrev pub asks_to_mount : Bool → List ℕ → List ℕ → Option (List ℕ) → Request
+asks_to_mount by_key file word plugin = on_name_for Writes word (λ name. on_kind plugin (λ kind. Asks (On name (MountFile file kind by_key))))
 
 -- the keys at or below a name go out, or others come in
 abbrev pub passing : Flow → Name → Kind → Request

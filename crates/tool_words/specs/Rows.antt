@@ -6,7 +6,7 @@ use Rattle.tool_words.specs.declared.uses.Use.TheVariants.{Looks, Writes}
 use Rattle.tool_words.specs.declared.flows.Flow.TheVariants.{Out, In}
 use Rattle.tool_words.specs.declared.ways.Way.TheVariants.{Copies, Moves}
 use Rattle.tool_words.specs.Lines.{no_command, unknown_command}
-use Rattle.tool_words.specs.Request.{Get, Set, Remove, Names, GetMeta, SetMeta, MetaNames, Unmount, Mounts, FileOf, ViolationsOf, On, Request, Refuses, Asks, on_none, on_one, on_two, on_three, on_two_or_three, on_one_extended, on_two_extended, on_four_by_strategy, on_name, on_name_for, on_meta, asks, asks_to_bring, asks_to_merge, asks_to_mount, asks_to_pass}
+use Rattle.tool_words.specs.Request.{Get, Set, Remove, Names, GetMeta, SetMeta, MetaNames, Unmount, Mounts, FileOf, ViolationsOf, On, Request, Refuses, Asks, on_none, on_one, on_two, on_three, on_two_or_three_by_key, on_one_extended, on_two_extended, on_four_by_strategy, on_name, on_name_for, on_meta, asks, asks_to_bring, asks_to_merge, asks_to_mount, asks_to_pass}
 
 -- a command's word, and what the words behind it ask for
 pub record Row : Type 0 where
@@ -27,7 +27,7 @@ rows =
     ∷ row (codes "meta-ls") (on_one (asks Looks MetaNames))
     ∷ row (codes "cp") (on_two_extended (asks_to_bring Copies))
     ∷ row (codes "mv") (on_two_extended (asks_to_bring Moves))
-    ∷ row (codes "mount") (on_two_or_three asks_to_mount)
+    ∷ row (codes "mount") (on_two_or_three_by_key asks_to_mount)
     ∷ row (codes "umount") (on_one (asks Writes Unmount))
     ∷ row (codes "mounts") (on_none (Asks Mounts))
     ∷ row (codes "file") (on_one (λ word. on_name_for Writes word (λ name. Asks (FileOf name))))

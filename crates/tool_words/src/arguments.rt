@@ -1,18 +1,18 @@
 //! The arguments behind a command's word, as many as the command takes, and which keys it is for.
-ghost use Rattle.std.specs.Prelude.{◌≡◌, ℕ, List, Option, not, IfOk, MatchOption};
+ghost use Rattle.std.specs.Prelude.{◌≡◌, ℕ, Bool, List, Option, not, IfOk, MatchOption};
 ghost use Rattle.std.specs.Option.{option_map};
 ghost use Rattle.clap.specs.Words.{found_of, rows_of};
 ghost use Rattle.tool_words.specs.CommandLines.{no_arguments, refuses};
 ghost use Rattle.tool_words.specs.Lines.{options_refused};
-ghost use Rattle.tool_words.specs.Request.{Request, Refuses, extent_in, on_one, on_two, on_three, on_two_or_three, on_one_extended, on_two_extended, on_four_by_strategy};
+ghost use Rattle.tool_words.specs.Request.{Request, Refuses, extent_in, on_one, on_two, on_three, on_two_or_three_by_key, on_one_extended, on_two_extended, on_four_by_strategy};
 ghost use Rattle.tool_words.specs.RequestView.{texts_of};
 
 use crate::command_lines::{
     four_by_strategy, no_arguments, one_argument, one_extended, three_arguments, two_arguments,
-    two_extended, two_or_three_arguments,
+    two_extended, two_or_three_by_key,
 };
 use crate::extents::Extent;
-use crate::values::{given_value, value_of, values_in};
+use crate::values::{given_value, is_set, value_of, values_in};
 use clap::ArgMatches;
 use key_meta::Memory;
 use std::alloc::Global;
@@ -70,21 +70,31 @@ pub fn three<'a>(
     }
 }
 
-/// The arguments, where they are two or three.
-pub fn two_or_three<'a>(
+/// The words behind `mount`, and whether `-k` is among them.
+#[derive(Clone, Copy, Debug)]
+pub struct MountWords<'a> {
+    pub by_key: bool,
+    pub file: &'a str,
+    pub name: &'a str,
+    pub plugin: Option<&'a str>,
+}
+
+/// The arguments, where they are two or three, and whether the option `-k` is there.
+pub fn two_or_three_and_by_key<'a>(
     alloc: Global,
     words: &'a [&'a str],
-) -> Result<Option<(&'a str, &'a str, Option<&'a str>)>, Memory>
+) -> Result<Option<MountWords<'a>>, Memory>
     ensures { IfOk result (λ found. MatchOption found
-        ((take : List ℕ → List ℕ → Option (List ℕ) → Request) → on_two_or_three take (texts_of words.now) ≡ Refuses 1 options_refused)
-        (λ all. (take : List ℕ → List ℕ → Option (List ℕ) → Request) → on_two_or_three take (texts_of words.now) ≡ take all.0.now all.1.now (option_map (λ word. word.now) all.2))) }
+        ((take : Bool → List ℕ → List ℕ → Option (List ℕ) → Request) → on_two_or_three_by_key take (texts_of words.now) ≡ Refuses 1 options_refused)
+        (λ all. (take : Bool → List ℕ → List ℕ → Option (List ℕ) → Request) → on_two_or_three_by_key take (texts_of words.now) ≡ take all.by_key all.file.now all.name.now (option_map (λ word. word.now) all.plugin))) }
 {
-    match values_in(two_or_three_arguments(alloc)?, words)? {
-        Some(given) => Ok(Some((
-            value_of(&given, "1"),
-            value_of(&given, "2"),
-            given_value(&given, "3"),
-        ))),
+    match values_in(two_or_three_by_key(alloc)?, words)? {
+        Some(given) => Ok(Some(MountWords {
+            by_key: is_set(&given, "k"),
+            file: value_of(&given, "1"),
+            name: value_of(&given, "2"),
+            plugin: given_value(&given, "3"),
+        })),
         None => Ok(None),
     }
 }
@@ -158,7 +168,7 @@ pub fn four_and_strategy<'a>(
 fn extent_in(given: &ArgMatches<'_>) -> Extent
     ensures { result ≡ extent_in (rows_of (found_of given.now)) }
 {
-    if value_of(given, "r") == "true" {
+    if is_set(given, "r") {
         Extent::WithBelow
     } else {
         Extent::Alone

@@ -1,5 +1,5 @@
 //! What is asked for by words that are to be names.
-ghost use Rattle.std.specs.Prelude.{IfOk};
+ghost use Rattle.std.specs.Prelude.{◌≡◌, IfOk};
 ghost use Rattle.std.specs.Option.{option_map};
 ghost use Rattle.tool_words.specs.Request as asked;
 ghost use Rattle.tool_words.specs.Request.{on_name, on_name_for, asks, asks_to_bring, asks_to_merge, asks_to_mount, asks_to_pass, on_strategy, passing};
@@ -7,7 +7,7 @@ ghost use Rattle.tool_words.specs.Lines.{argument};
 ghost use Rattle.tool_words.specs.RequestView.{IsRead, IsSeenAs, action_of};
 ghost use Rattle.tool_words.specs.declared.uses.Use.TheVariants.{Writes};
 
-use crate::arguments::MergeWords;
+use crate::arguments::{MergeWords, MountWords};
 use crate::extents::Extent;
 use crate::flows::Flow;
 use crate::requests::{Action, Named, Question, Refusal, Request};
@@ -84,21 +84,25 @@ pub fn ask_for_violations<'a>(alloc: Global, word: &'a str) -> Result<Request<'a
 }
 
 /// A file is mounted at the name that a word is to spell, in the format of another word.
-pub fn ask_to_mount<'a>(
-    alloc: Global,
-    file: &'a str,
-    name: &'a str,
-    plugin: Option<&'a str>,
-) -> Result<Request<'a>, Memory>
-    ensures { IfOk result (λ read. IsSeenAs read (asks_to_mount file.now name.now (option_map (λ word. word.now) plugin.entry))) }
+pub fn ask_to_mount<'a>(alloc: Global, words: MountWords<'a>) -> Result<Request<'a>, Memory>
+    ensures { IfOk result (λ read. IsSeenAs read (asks_to_mount words.entry.by_key words.entry.file.now words.entry.name.now (option_map (λ word. word.now) words.entry.plugin))) }
 {
-    let Some(word) = plugin else {
-        let kind = Kind::Dump;
-        return ask(alloc, name, Use::Writes, Action::MountFile { file, kind });
+    let Some(word) = words.plugin else {
+        return ask(alloc, words.name, Use::Writes, mounting(words, Kind::Dump));
     };
     match Kind::of(word) {
-        Some(kind) => ask(alloc, name, Use::Writes, Action::MountFile { file, kind }),
-        None => refuse_argument(alloc, name, Use::Writes, word),
+        Some(kind) => ask(alloc, words.name, Use::Writes, mounting(words, kind)),
+        None => refuse_argument(alloc, words.name, Use::Writes, word),
+    }
+}
+
+fn mounting<'a>(words: MountWords<'a>, kind: Kind) -> Action<'a>
+    ensures { action_of result ≡ asked.MountFile words.entry.file.now kind words.entry.by_key }
+{
+    Action::MountFile {
+        file: words.file,
+        kind,
+        by_key: words.by_key,
     }
 }
 

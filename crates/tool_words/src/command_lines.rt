@@ -34,11 +34,12 @@ pub fn three_arguments<'a>(alloc: Global) -> Result<Command<'a>, Memory>
     with(two_arguments(alloc)?, required(alloc, "3"))
 }
 
-/// The third argument may be left out.
-pub fn two_or_three_arguments<'a>(alloc: Global) -> Result<Command<'a>, Memory>
-    ensures { IfOk result (λ made. app_of made ≡ line.two_or_three_arguments) }
+/// The third argument may be left out, and the option `-k`.
+pub fn two_or_three_by_key<'a>(alloc: Global) -> Result<Command<'a>, Memory>
+    ensures { IfOk result (λ made. app_of made ≡ line.two_or_three_by_key) }
 {
-    with(two_arguments(alloc)?, optional(alloc, "3"))
+    let three = with(two_arguments(alloc)?, optional(alloc, "3"))?;
+    with(three, by_key(alloc))
 }
 
 /// One argument, and the option `-r`.
@@ -93,6 +94,14 @@ fn recursive<'a>(alloc: Global) -> Arg<'a>
     ensures local { result.global ≡ false }
 {
     Arg::new(alloc, "r").short('r').action(ArgAction::SetTrue)
+}
+
+/// The option `-k`.
+fn by_key<'a>(alloc: Global) -> Arg<'a>
+    ensures rule { rule_of result ≡ line.by_key }
+    ensures local { result.global ≡ false }
+{
+    Arg::new(alloc, "k").short('k').action(ArgAction::SetTrue)
 }
 
 /// The option `-s`, which takes a word.

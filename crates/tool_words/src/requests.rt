@@ -15,7 +15,7 @@ pub enum Refusal<'a> {
     OptionsRefused,
     /// A word that is to be a name is none, for another cause than want of memory.
     NoName(NameFault),
-    /// A word that is to be a metadata name a format's word or a strategy's is none.
+    /// A word that is to be a metadata name, a format's word or a strategy's is none.
     NoArgument(&'a str),
 }
 
@@ -37,6 +37,7 @@ pub enum Action<'a> {
     MountFile {
         file: &'a str,
         kind: Kind,
+        by_key: bool,
     },
     Unmount,
     /// All keys at or below the name give way to these.

@@ -1,7 +1,7 @@
 //! What `clap` makes of the words behind a command's word.
 ghost use Rattle.std.specs.Prelude.{◌≡◌, true, false, IfOk, MatchOption, option_map};
 ghost use Rattle.clap.specs.Words.{app_of, found_of, is_simple_and_free, rows_of};
-ghost use Rattle.tool_words.specs.CommandLines.{given_value, refuses, value, values};
+ghost use Rattle.tool_words.specs.CommandLines.{given_value, is_set, refuses, value, values};
 ghost use Rattle.tool_words.specs.RequestView.{texts_of};
 
 use clap::error::ErrorKind;
@@ -47,4 +47,11 @@ pub fn value_of<'a>(given: &ArgMatches<'a>, id: &str) -> &'a str
         // Words that leave it out are refused before.
         None => "",
     }
+}
+
+/// Whether an option is there that takes no word.
+pub fn is_set(given: &ArgMatches<'_>, id: &str) -> bool
+    ensures { result ≡ is_set id.now (rows_of (found_of given.now)) }
+{
+    value_of(given, id) == "true"
 }

@@ -1,13 +1,14 @@
 //! What the words of a command line ask for.
 ghost use Rattle.std.specs.Prelude.{◌≡◌, IfOk};
 ghost use Rattle.tool_words.specs.Request as asked;
-ghost use Rattle.tool_words.specs.Request.{on_none, on_one, on_two, on_three, on_two_or_three, on_one_extended, on_two_extended, on_four_by_strategy, on_name, on_name_for, on_meta, asks, asks_to_bring, asks_to_merge, asks_to_mount, asks_to_pass};
+ghost use Rattle.tool_words.specs.Request.{on_none, on_one, on_two, on_three, on_two_or_three_by_key, on_one_extended, on_two_extended, on_four_by_strategy, on_name, on_name_for, on_meta, asks, asks_to_bring, asks_to_merge, asks_to_mount, asks_to_pass};
 ghost use Rattle.tool_words.specs.Rows.{asked_by, request, rows};
 ghost use Rattle.tool_words.specs.RequestView.{IsSeenAs, action_of, texts_of};
 ghost use Rattle.tool_words.specs.declared.uses.Use.TheVariants.{Looks, Writes};
 
 use crate::arguments::{
-    are_none, four_and_strategy, one, one_and_extent, three, two, two_and_extent, two_or_three,
+    are_none, four_and_strategy, one, one_and_extent, three, two, two_and_extent,
+    two_or_three_and_by_key,
 };
 use crate::asking::{
     ask, ask_for_file, ask_for_violations, ask_to_bring, ask_to_merge, ask_to_mount, ask_to_pass,
@@ -146,12 +147,12 @@ fn read_bringing<'a>(alloc: Global, words: &'a [&'a str], way: Way) -> Result<Re
 
 /// The words behind `mount`.
 fn read_mounting<'a>(alloc: Global, words: &'a [&'a str]) -> Result<Request<'a>, Memory>
-    ensures { IfOk result (λ read. IsSeenAs read (on_two_or_three asks_to_mount (texts_of words.now))) }
+    ensures { IfOk result (λ read. IsSeenAs read (on_two_or_three_by_key asks_to_mount (texts_of words.now))) }
 {
-    let Some((file, name, plugin)) = two_or_three(alloc, words)? else {
+    let Some(words) = two_or_three_and_by_key(alloc, words)? else {
         return Ok(Request::Refuses(Refusal::OptionsRefused));
     };
-    ask_to_mount(alloc, file, name, plugin)
+    ask_to_mount(alloc, words)
 }
 
 /// The words behind `mounts`.

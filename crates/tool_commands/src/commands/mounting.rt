@@ -14,19 +14,20 @@ use key_set::KeySet;
 use mount_table::{add, remove as remove_entry};
 use std::alloc::Global;
 
-/// `mount`: the table gets an entry of this mountpoint.
+/// `mount`: the table gets an entry of this mountpoint, whose conflicts are counted by key or not.
 pub fn mount(
     alloc: Global,
     name: &KeyName,
     file: &str,
     kind: Kind,
+    by_key: bool,
     keys: KeySet,
 ) -> Result<Step, Memory>
-    ensures step { IfOk result (λ step. seen_step step ≡ mounted (added keys (spelling name.now) file.now kind)) }
+    ensures step { IfOk result (λ step. seen_step step ≡ mounted (added keys (spelling name.now) file.now kind by_key)) }
     ensures status { IfOk result (λ step. TellsEnd ([]) (seen_step step)) }
 {
     let mut keys = keys;
-    match add(alloc, &mut keys, name, file, kind) {
+    match add(alloc, &mut keys, name, file, kind, by_key) {
         Ok(()) => Ok(set_silently(alloc, keys)),
         Err(fault) => refuse_table(alloc, fault),
     }

@@ -2,6 +2,7 @@
 use Rattle.std.proofs.Common.{◌∙◌, ℕ, List, None, ap, arith, length, subst, sym}
 use Rattle.batch_run.proofs.Opened.{few-sessions}
 use Rattle.kdb_handle.specs.Views.{files_of}
+use Rattle.model_store.specs.Records.{no_record}
 use Rattle.model_store.specs.Store.{Formats, store_of, formats_of}
 use Rattle.model_store.specs.Worlds.{first_world}
 use Rattle.mounted_files.specs.declared.files.MountedFile.{MountedFile}
@@ -23,5 +24,5 @@ pub close_unplayed-requires : goal.close_unplayed-requires
 close_unplayed-requires g c = λ procs.
     let formats : Formats = formats_of g.F.Formats in
     let none = c.in-Err.ensures.err in
-    let Stands : List MountedFile → Core g.row.D.Denot g.row.P.Denot → Type 0 = λ files core. StandsIn formats (store_of files procs) core (λ r m. None) (λ p. None) first_world in
+    let Stands : List MountedFile → Core g.row.D.Denot g.row.P.Denot → Type 0 = λ files core. StandsIn formats (store_of files procs) core (λ r. no_record) (λ p. None) first_world in
     subst (Stands (files_of c.in-Err.unshared.plan)) (sym none.1) (subst (λ (files : List MountedFile). Stands files c.args.core) (sym (ap (λ p. files_of p) none.0)) (c.requires.world procs))

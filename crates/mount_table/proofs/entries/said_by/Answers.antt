@@ -1,8 +1,8 @@
--- The two children stand behind the entry's name.
+-- The three children stand behind the entry's name.
 use Rattle.std.proofs.Common.{ap, ◌∙◌}
 use Rattle.key_name.specs.Children.{child_of}
 use Rattle.mount_table.specs.Entries.{value_at}
-use Rattle.mount_table.specs.Places.{path_word, plugin_word}
+use Rattle.mount_table.specs.Places.{path_word, plugin_word, conflicts_word}
 use Rattle.mount_table.proofs.entries.said_by.Goals as goal
 
 pub returns : goal.returns
@@ -12,4 +12,5 @@ returns c =
     λ are i. record {
       path = (c.in_ok-value_of.ensures are ∙ ap (λ name. value_at keys (child_of name path_word)) entry) i;
       plugin = (c.in_ok-value_of-2.ensures are ∙ ap (λ name. value_at keys (child_of name plugin_word)) entry) i;
+      conflicts = (c.in_ok-value_of-3.ensures are ∙ ap (λ name. value_at keys (child_of name conflicts_word)) entry) i;
     }

@@ -9,6 +9,8 @@ use Rattle.mounted_files.specs.Files.{Badness, Holds, IsCause, Reading}
 use Rattle.mounted_files.specs.Holding.{IsAlone, IsHolding}
 use Rattle.mounted_files.specs.Opening.{IsOwnFault, RefusesOpening}
 use Rattle.mounted_files.specs.Refusing.{IsRefusalFor, RefusesTable}
+use Rattle.mounted_files.specs.Whole.{relative}
+use Rattle.mounted_files.specs.Writable.{CanBeStored}
 use Rattle.mounted_files.specs.declared.causes.Cause.{Cause}
 use Rattle.mounted_files.specs.declared.causes.Cause.TheVariants as cause
 use Rattle.mounted_files.specs.declared.holding.Holding.{Holding}
@@ -51,3 +53,9 @@ returns-clause-read g c bytes is_whole =
 
 pub refusal_of-requires : goal.refusal_of-requires
 refusal_of-requires g c = subst (λ (h : Holding). IsAlone h) c.in-Bad.is c.in_ok-keys.ensures.alone
+
+pub returns-in-Ok-clause-storable : goal.returns-in-Ok-clause-storable
+returns-in-Ok-clause-storable g c =
+    let IsStorable = g.F.Formats.is_storable in
+    subst (λ (point : Name). IsStorable Dump (relative point c.in-Keys.keys)) c.in_ok-point.ensures
+    (subst (λ (h : Holding). CanBeStored IsStorable c.in_ok-point.point Dump h) c.in-Keys.is c.in_ok-keys.ensures.storable)

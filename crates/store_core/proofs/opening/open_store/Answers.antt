@@ -27,14 +27,12 @@ returns-in-Ok g c = record {
   stands = λ tells files doubt calm.
       let begun = c.in-Ok.ensures.opened tells files doubt calm in
       begins_opened (formats_of g.F.Formats) g.D.Disk c.args.disk c.in-Ok.journal c.open_files.result begun
-      (stands_opened (formats_of g.F.Formats) g.D.Disk g.F.Formats.reads g.F.Formats.is_bad_at c.in-Ok.journal
-      (new_run (opened_files (g.D.Disk.seen c.args.disk)) (g.D.Disk.faults c.args.disk) begun.later) c.open_files.result refl begun.store
-      (c.open_files.ensures.told begun.store.rests.tells) c.open_files.ensures.start c.open_files.ensures.keys c.open_files.ensures.none c.open_files.ensures.journal);
+      (stands_opened (formats_of g.F.Formats) g.D.Disk c.in-Ok.journal (new_run (opened_files (g.D.Disk.seen c.args.disk)) (g.D.Disk.faults c.args.disk) begun.later) c.open_files.result refl begun.store
+      c.open_files.ensures.world c.open_files.ensures.none c.open_files.ensures.journal);
   own = λ tells files doubt calm same.
       let store = c.in-Ok.ensures.own tells files doubt calm same in
-      stands_opened (formats_of g.F.Formats) g.D.Disk g.F.Formats.reads g.F.Formats.is_bad_at c.in-Ok.journal
-      (new_run files (g.D.Disk.faults c.args.disk) doubt) c.open_files.result refl store
-      (c.open_files.ensures.told store.rests.tells) c.open_files.ensures.start c.open_files.ensures.keys c.open_files.ensures.none c.open_files.ensures.journal;
+      stands_opened (formats_of g.F.Formats) g.D.Disk c.in-Ok.journal (new_run files (g.D.Disk.faults c.args.disk) doubt) c.open_files.result refl store
+      c.open_files.ensures.world c.open_files.ensures.none c.open_files.ensures.journal;
   shown = λ tells files doubt calm of_files.
       let store = (c.in-Ok.ensures.opened tells files doubt calm).store in
       subst (λ (seen : Image). SameFiles seen (opened_files (g.D.Disk.seen c.args.disk))) (sym (c.open_files.ensures.reads.same store.rests.tells)) (c.in-Ok.ensures.shown tells files doubt calm);

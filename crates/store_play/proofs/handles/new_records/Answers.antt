@@ -1,7 +1,7 @@
 -- Handle by handle.
 use Rattle.std.proofs.Common.{◌≡◌, ℕ, ◌+◌, List, length, None, sym, ap, subst, ◌∙◌, arith}
 use Rattle.std.proofs.lemmas.List.{length_push}
-use Rattle.store_play.specs.Handles.{AreHandlesOf, AreNew, IsHandle, procs_at}
+use Rattle.store_play.specs.Handles.{AreHandlesOf, AreNew, IsHandle, IsNew, procs_at}
 use Rattle.store_play.proofs.HandleLemmas.{each-next, proc_there}
 use Rattle.store_verdict.specs.RecordView.{record_of}
 use Rattle.store_verdict.specs.declared.records.Record.{Record}
@@ -28,7 +28,7 @@ loop-handle-preserved c =
             proc = proc_there c.args.procs.now c.loop-handle.handle c.index-procs-handle.result c.loop-handle-test.true c.index-procs-handle.is ∙ sym c.in_ok-copy.ensures ∙ sym c.in_ok-new.ensures.proc;
           })));
       new = subst AreNew (sym c.in_ok-push.ensures.items)
-          (each-next (λ (r : ℕ) (one : Record). (m : ℕ) → record_of one m ≡ None) old rec c.loop-handle.invariant.new c.in_ok-new.ensures.none);
+          (each-next (λ (r : ℕ) (one : Record). IsNew (record_of one)) old rec c.loop-handle.invariant.new (c.in_ok-new.ensures.none, c.in_ok-new.ensures.fresh));
     }
 
 pub returns-clause-made : goal.returns-clause-made

@@ -10,21 +10,21 @@ use Rattle.store_verdict.specs.PreparedView.{prepared_of}
 use Rattle.store_verdict.proofs.judging.first_block.Goals as goal
 
 pub returns-in-Some : goal.returns-in-Some
-returns-in-Some c = λ store.
+returns-in-Some c = λ store are.
     let m : ℕ = get_or c.as_slice-mount-items.result.now c.loop-mount.mount-index 0 in
     sym (first_some-found (conflict_at store c.args.history.now.commits (prepared_of c.args.set.now)) c.args.set.now.touched c.loop-mount.mount-index m (Conflict m c.in-Some.by)
     (sym (slice_get-get_or c.as_slice-mount-items.result.now c.loop-mount.mount-index 0 c.loop-mount-test.true) ∙ ap (λ ms. slice_get ms c.loop-mount.mount-index) c.as_slice-mount-items.ensures)
-    (c.loop-mount.invariant store) (sym (c.blocking.ensures store) ∙ ap (option_map (Conflict m)) c.in-Some.is))
+    (c.loop-mount.invariant store are) (sym (c.blocking.ensures store are) ∙ ap (option_map (Conflict m)) c.in-Some.is))
 
 pub loop-mount-preserved : goal.loop-mount-preserved
-loop-mount-preserved c = λ store.
+loop-mount-preserved c = λ store are.
     let m : ℕ = get_or c.as_slice-mount-items.result.now c.loop-mount.mount-index 0 in
     first_some-next (conflict_at store c.args.history.now.commits (prepared_of c.args.set.now)) c.args.set.now.touched c.loop-mount.mount-index m
     (sym (slice_get-get_or c.as_slice-mount-items.result.now c.loop-mount.mount-index 0 c.loop-mount-test.true) ∙ ap (λ ms. slice_get ms c.loop-mount.mount-index) c.as_slice-mount-items.ensures)
-    (c.loop-mount.invariant store) (sym (c.blocking.ensures store) ∙ ap (option_map (Conflict m)) c.in_default.is)
+    (c.loop-mount.invariant store are) (sym (c.blocking.ensures store are) ∙ ap (option_map (Conflict m)) c.in_default.is)
 
 pub returns : goal.returns
-returns c = λ store.
+returns c = λ store are.
     let touched : List ℕ = c.args.set.now.touched in
     let all : length touched ≤ c.loop-mount.mount-index = omega (arith, c.loop-mount-test.false, ap length c.as_slice-mount-items.ensures) in
-    sym (ap (first_some (conflict_at store c.args.history.now.commits (prepared_of c.args.set.now))) (sym (take_all c.loop-mount.mount-index touched all)) ∙ c.loop-mount.invariant store)
+    sym (ap (first_some (conflict_at store c.args.history.now.commits (prepared_of c.args.set.now))) (sym (take_all c.loop-mount.mount-index touched all)) ∙ c.loop-mount.invariant store are)

@@ -104,10 +104,11 @@ returns-clause-made g c = λ procs.
     let seen : AreSeen rec c.as_slice.result.now c.in-All.seen = subst (λ (s : Seeing). IsSeeing rec c.as_slice.result.now s) c.in-All.is c.in_ok-seen.ensures in
     let wanted : IsWanted (points_in files) rec parent keys made = subst (λ (ps : List Name). IsWanted ps rec parent keys made) (c.points-2.ensures.points ∙ ap (over (λ (mount : Mount). mount.at)) c.table-table.ensures.mounts) c.in_ok-wanted.ensures in
     let handle : handle_of c.args.rec.now ≡ c.handle.result = sym c.handle.ensures in
+    let committed : rec.committed ≡ c.committed.result = sym c.committed.ensures in
     let all : c.in-All.seen ≡ c.seen.inside.items.items = sym c.seen.view_is in
     let copied : keys ≡ c.in_ok-copy.field-0 = sym c.in_ok-copy.ensures in
     subst (λ (s : Prepared). IsMade formats (store_of files procs) (handle_of c.args.rec.now) rec parent keys s)
-    (λ i. record { handle = handle i; seen = all i; keys = copied i; touched = made.touched; wanted = made.parts; changes = made.changes; aside = made.aside; texts = c.in-Ok.texts })
+    (λ i. record { handle = handle i; committed = committed i; seen = all i; keys = copied i; touched = made.touched; wanted = made.parts; changes = made.changes; aside = made.aside; texts = c.in-Ok.texts })
     (made-from formats (store_of files procs) (handle_of c.args.rec.now) rec parent keys mounts are c.in-All.seen
     (subst (λ (ms : List ℕ). AreSeen rec ms c.in-All.seen) (c.as_slice.ensures ∙ sym c.as_slice-2.ensures) seen)
     made wanted c.in-Ok.texts

@@ -8,7 +8,7 @@ use Rattle.tool_single.specs.Sets.{AnswersSet}
 use Rattle.std.specs.Prelude.{string_bytes}
 use Rattle.model_store.specs.Rules.{has_risen}
 use Rattle.tool_single.proofs.RiseLemmas.{rose_may}
-use Rattle.tool_single.proofs.CommitLemmas.{done_serves, joined, blocks_not, made, ready, records, refused_disk, refused_serving, world}
+use Rattle.tool_single.proofs.CommitLemmas.{done_serves, joined, blocks_not, is_small, made, ready, records, refused_disk, refused_serving, world}
 use Rattle.tool_single.proofs.setting.commit_set.Goals as goal
 
 pub commit-requires : goal.commit-requires
@@ -18,10 +18,17 @@ commit-requires g c = record {
 }
 
 pub refuse_commit-requires : goal.refuse_commit-requires
-refuse_commit-requires g c = λ mount by front is.
+refuse_commit-requires g c =
     let refused = g.P.Patterns.refusals in
     let risen = has_risen (refused c.args.core.now.patterns) (refused c.commit.new.self.patterns) in
-    blocks_not g.D.Disk c.args.plan.now.mounted c.args.core.now c.args.rec.now c.args.prepared (c.requires.open.world (λ h. no_keys)) c.requires.alone.parent c.requires.alone.keys c.requires.alone.fetched c.requires.alone.made risen c.in-Err.fault (c.in-Err.ensures.judged (λ h. no_keys)) mount by front is
+    let here = c.requires.open.world (λ h. no_keys) in
+    let alone = c.requires.alone in
+    record {
+      free = λ mount by front is.
+          blocks_not g.D.Disk c.args.plan.now.mounted c.args.core.now c.args.rec.now c.args.prepared here alone.parent alone.keys alone.fetched alone.made risen c.in-Err.fault (c.in-Err.ensures.judged (λ h. no_keys)) mount by front is;
+      small = λ mount bytes front is.
+          is_small g.D.Disk c.args.plan.now.mounted c.args.core.now c.args.rec.now c.args.prepared here alone.parent alone.keys alone.fetched alone.made risen c.in-Err.fault (c.in-Err.ensures.judged (λ h. no_keys)) mount bytes front is;
+    }
 
 pub returns-in-Ok-clause-serving : goal.returns-in-Ok-clause-serving
 returns-in-Ok-clause-serving g c = λ parent keys fetched is_made.

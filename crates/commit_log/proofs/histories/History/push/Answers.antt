@@ -4,6 +4,8 @@ use Rattle.model_history.specs.History.{is_among, history_weight, weight_of_comm
 use Rattle.model_history.specs.History as past
 use Rattle.commit_log.specs.CommitView.{commit_of}
 use Rattle.commit_log.specs.Index.{IsIndex, last_of}
+use Rattle.commit_log.specs.Naming.{IsNaming}
+use Rattle.commit_log.proofs.NamingLemmas.{naming-pushed}
 use Rattle.commit_log.proofs.LogLemmas.{added, history_weight-snoc, index-pushed, map-pushed, written-back}
 use Rattle.commit_log.proofs.histories.History.push.Goals as goal
 
@@ -26,4 +28,9 @@ invariant_of-self c =
     ∙ ap (λ n. cond (is_among c.args.commit.touched m) n (last_of c.deref_mut.result.now m)) number
     ∙ ap (λ last. cond (is_among c.args.commit.touched m) (length commits + 1) (last_of last m)) c.deref_mut.ensures.value in
     let index = index-pushed commits commit c.self.inside.last.items c.mark.new.last c.self.invariant.2 marked in
-    (weighed.0 ∙ ap history_weight (sym pushed), weighed.1, subst (λ last. IsIndex (map commit_of c.push_reserved.new.self.items) last) (sym back) (subst (λ all. IsIndex all c.mark.new.last) (sym pushed) index))
+    let naming = naming-pushed commits commit c.self.inside.names c.self.inside.named c.self.invariant.3 in (
+      weighed.0 ∙ ap history_weight (sym pushed),
+      weighed.1,
+      subst (λ last. IsIndex (map commit_of c.push_reserved.new.self.items) last) (sym back) (subst (λ all. IsIndex all c.mark.new.last) (sym pushed) index),
+      subst (λ all. IsNaming all c.self.inside.named c.self.inside.names) (sym pushed) naming,
+    )

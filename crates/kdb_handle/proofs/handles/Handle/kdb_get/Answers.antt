@@ -39,10 +39,10 @@ returns-clause-handle g c =
     let seen : List Told = turn.result.seen in
     let rec = get.new.rec in
     let keeps = got_keeps store.lock store.plan c.args.self.now c.in-Some.seat c.self.inside.rec before c.requires formats g.D.Disk g.row.D.coded g.P.Patterns.refusals
-    found.core found.entries seen turn.ensures.seen shared c.args.parent.now rec get.result get.ensures.got in
+    found.core found.entries seen turn.ensures.seen shared turn.ensures.own c.args.parent.now rec get.result get.ensures.got in
     ended store.lock store.plan c.args.self.now c.in-Some.seat c.self.inside.rec before c.requires
     rec turn.result.place turn.result.number seen turn.result.own told c.leave.result c.leave.ensures turn.ensures.same turn.ensures.seen turn.ensures.own (inl get.ensures.told) get.ensures.places get.ensures.proc
-    (subst (λ (l : List Told). IsRecord (store_at store.plan.mounted) (commits_of l) (front_in (record_of rec)) (record_of rec)) (sym (append-nil seen) ∙ ap (λ (l : List Told). seen ++ l) (sym get.ensures.told)) keeps)
+    (subst (λ (l : List Told). IsRecord (store_at store.plan.mounted) (commits_of l) c.in-Some.seat.number (front_in (record_of rec)) (record_of rec)) (sym (append-nil seen) ∙ ap (λ (l : List Told). seen ++ l) (sym get.ensures.told)) keeps)
     (got_covers store.lock store.plan c.args.self.now c.in-Some.seat c.self.inside.rec before c.requires formats g.D.Disk g.row.D.coded g.P.Patterns.refusals
     found.core found.entries seen turn.ensures.seen shared turn.ensures.own c.args.parent.now rec get.result get.ensures.got told get.ensures.told)
 

@@ -11,11 +11,13 @@ use Rattle.mounted_files.specs.Begun.{Begun, number_of, others}
 use Rattle.mounted_files.specs.Files.{IsState}
 use Rattle.mounted_files.specs.Short.{HasShortTexts, HaveShortTexts}
 use Rattle.mounted_files.specs.Weighed.{added_weight}
+use Rattle.mounted_files.specs.Writable.{CanBeWritten, CanBeWrittenSoFar}
 use Rattle.mounted_files.specs.declared.files.MountedFile.{MountedFile}
 use Rattle.mounted_files.proofs.BegunLemmas.{slice_get-remove}
 use Rattle.mounted_files.proofs.OpeningLemmas.{begins-more}
 use Rattle.mounted_files.proofs.StateLemmas.{few-next, mounts-next, short-next}
 use Rattle.mounted_files.proofs.WeighLemmas.{weighed_file-short}
+use Rattle.mounted_files.proofs.WritableLemmas.{writable-more}
 use Rattle.mounted_files.proofs.opening.Opening.add.Goals as goal
 
 pub invariant_of-self-2 : goal.invariant_of-self-2
@@ -69,3 +71,23 @@ returns-clause-step g c = λ bytes_of mount begins there is_whole.
     let of_file = subst (λ (m : Mount). IsState Reads IsBad (over (λ m. m.at) table) (number_of place (length files)) m (bytes_of m.file) file.state) (sym c.in_ok-file.ensures.mount) numbered in
     subst (λ (all : List MountedFile). Begins Reads IsBad bytes_of (record { table = table; place = place; own = own; files = all })) (sym {A = List MountedFile} (c.in_ok-push.ensures.items ∙ ap (λ (f : MountedFile). files ++ f ∷ []) c.weigh-sum.ensures.file))
     (begins-more Reads IsBad bytes_of begun sum file before c.self.invariant.sum of_file)
+
+pub returns-clause-storable : goal.returns-clause-storable
+returns-clause-storable g c = λ so_far.
+    let IsStorable = g.F.Formats.is_storable in
+    let table = c.self.inside.table in
+    let place = c.self.inside.place in
+    let own = c.self.inside.own in
+    let files = c.self.inside.files.items in
+    let sum = c.self.inside.sum in
+    let file = c.in_ok-file.file in
+    let next = c.in-Some.mount.now in
+    let count : c.len.result ≡ length files = omega (arith, c.len.ensures, c.self.inside.files.ok.0) in
+    let number : c.number_of-number.result ≡ number_of place (length files) = c.number_of-number.ensures ∙ ap (number_of place) count in
+    let begun : Begun = record { table = table; place = place; own = own; files = files } in
+    let before = subst (λ (b : Begun). CanBeWrittenSoFar IsStorable b) (sym c.self.view_is) so_far in
+    let here = subst (λ (ps : List Name). CanBeWritten IsStorable ps c.number_of-number.result next file.state) c.points.ensures.points c.in_ok-file.ensures.storable in
+    let numbered = subst (λ (n : ℕ). CanBeWritten IsStorable (over (λ m. m.at) table) n next file.state) number here in
+    let of_file = subst (λ (m : Mount). CanBeWritten IsStorable (over (λ m. m.at) table) (number_of place (length files)) m file.state) (sym c.in_ok-file.ensures.mount) numbered in
+    subst (λ (all : List MountedFile). CanBeWrittenSoFar IsStorable (record { table = table; place = place; own = own; files = all })) (sym {A = List MountedFile} (c.in_ok-push.ensures.items ∙ ap (λ (f : MountedFile). files ++ f ∷ []) c.weigh-sum.ensures.file))
+    (writable-more IsStorable begun sum file before of_file)

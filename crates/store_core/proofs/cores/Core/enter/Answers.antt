@@ -1,7 +1,7 @@
 -- Where memory is wanting the disk isn't touched; what the journal acknowledged stays where the record moves.
 use Rattle.std.proofs.Common.{◌≡◌, ◌+◌, [], ◌∷◌, ◌++◌, length, Err, refl, ap, ◌∙◌, rules, arith, length-append}
 use Rattle.commit_log.specs.CommitView.{commit_of}
-use Rattle.model_store.specs.Cores.{keeping}
+use Rattle.model_store.specs.Cores.{storing}
 use Rattle.store_core.specs.declared.committing.CommitFault.TheVariants as fault
 use Rattle.store_core.specs.declared.committing.Done.TheVariants as done
 use Rattle.store_core.proofs.CommitEnds.{enters_nothing}
@@ -11,13 +11,13 @@ use Rattle.store_core.proofs.cores.Core.enter.Goals as goal
 pub returns-in_err-encoded : goal.returns-in_err-encoded
 returns-in_err-encoded g c =
     let memory : c.from_residual.result ≡ Err fault.Memory = search rules in
-    enters_nothing g.D.Disk (commit_of c.args.entering) c.args.left_aside c.args.keys c.args.prepared c.args.self.now _ c.args.rec.now c.from_residual.result memory
+    enters_nothing g.D.Disk c.args.table.now (commit_of c.args.entering) c.args.left_aside c.args.keys c.args.prepared c.args.self.now _ c.args.rec.now c.from_residual.result memory
     (record { journal = refl; history = refl; start = refl; keys = refl; wrote = refl }) refl
 
 pub returns-in_err-reserve : goal.returns-in_err-reserve
 returns-in_err-reserve g c =
     let memory : c.from_residual-in_err-reserve.result ≡ Err fault.Memory = search rules in
-    enters_nothing g.D.Disk (commit_of c.args.entering) c.args.left_aside c.args.keys c.args.prepared c.args.self.now _ c.args.rec.now c.from_residual-in_err-reserve.result memory
+    enters_nothing g.D.Disk c.args.table.now (commit_of c.args.entering) c.args.left_aside c.args.keys c.args.prepared c.args.self.now _ c.args.rec.now c.from_residual-in_err-reserve.result memory
     (record { journal = refl; history = c.in_err-reserve.ensures.same; start = refl; keys = refl; wrote = refl }) refl
 
 pub returns : goal.returns
@@ -31,7 +31,7 @@ returns g c =
         record {
           history = history;
           keys_are = refl;
-          kept = λ mounts wanted is. c.keep.ensures.kept mounts wanted is ∙ ap (λ n. keeping mounts n wanted (record_of c.args.rec.now)) number;
+          kept = λ store touched wanted mounts is. c.store.ensures.stored store touched wanted mounts is ∙ ap (λ n. storing store touched n wanted (record_of c.args.rec.now)) number;
           wrote = refl;
           stored = λ opened run store. c.in-Ok.ensures.committed opened run store;
         },

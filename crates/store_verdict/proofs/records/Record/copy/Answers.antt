@@ -8,4 +8,4 @@ use Rattle.store_verdict.proofs.records.Record.copy.Goals as goal
 pub returns-clause-kept : goal.returns-clause-kept
 returns-clause-kept c =
     let same = c.in_ok-fetched.ensures ∙ ap (over (option_map fetched_of)) c.deref.ensures.value in
-    λ i m. fetched_at-same c.in_ok-fetched.fetched.items c.args.self.now.fetched.items same m i
+    λ i. record { fetched = λ m. fetched_at-same c.in_ok-fetched.fetched.items c.args.self.now.fetched.items same m i; committed = c.args.self.now.committed }
