@@ -9,9 +9,12 @@ from fair_keys import (CASCADING, DIR, HEAVIEST_MAP, LONGEST_PATH, NAMESPACES, P
                        is_below_or_same, joined, name_of, path_bytes, quoted, relative, shown, size, spelling, weight)
 
 LONGEST_FILE, MOST_MOUNTS, LONGEST_POINT = 2**20, 64, 1024
+# The formats whose mounts may count conflicts by key.
+KEYWISE = ("dump", "simpleini")
 ELEKTRA = (SYSTEM, ("elektra",))
 MOUNTPOINTS = (SYSTEM, ("elektra", "mountpoints"))
-DEFAULTS = [((space, ()), NAMESPACES[space] + ".ecf", "dump") for space in (SPEC, DIR, USER, SYSTEM)]
+# A mount: its mountpoint, its file, its format, and whether it counts conflicts by key.
+DEFAULTS = [((space, ()), NAMESPACES[space] + ".ecf", "dump", False) for space in (SPEC, DIR, USER, SYSTEM)]
 
 
 class NotOpened(Exception):
@@ -122,7 +125,7 @@ def point_of(text):
 
 def entry_fault(part, entry, taken):
     """What is wrong with one entry, or None."""
-    path, plugin = entry.get("path"), entry.get("plugin", "dump")
+    path, plugin, counting = entry.get("path"), entry.get("plugin", "dump"), entry.get("conflicts", "backend")
     if point_of(part) is None:
         return "bad-mountpoint"
     if path is None:
@@ -131,7 +134,9 @@ def entry_fault(part, entry, taken):
         return "bad-path"
     if plugin not in READERS:
         return "unknown-plugin"
-    return "file-twice" if path in taken else None
+    if path in taken:
+        return "file-twice"
+    return None if counting == "backend" or counting == "keys" and plugin in KEYWISE else "bad-conflicts"
 
 
 def table_of(keys):
@@ -142,15 +147,15 @@ def table_of(keys):
             entry = entries.setdefault(name[1][depth], {})
             if len(name[1]) == depth + 2:
                 entry[name[1][-1]] = keys[name][0]
-    replaced = {spelling(point) for point, _, _ in DEFAULTS if spelling(point) in entries}
-    mounts = [it for it in DEFAULTS if spelling(it[0]) not in replaced] + [(ELEKTRA, "elektra.ecf", "dump")]
-    taken = {file for _, file, _ in mounts}
+    replaced = {spelling(point) for point, *_ in DEFAULTS if spelling(point) in entries}
+    mounts = [it for it in DEFAULTS if spelling(it[0]) not in replaced] + [(ELEKTRA, "elektra.ecf", "dump", False)]
+    taken = {file for _, file, *_ in mounts}
     for part, entry in sorted(entries.items()):
         fault = entry_fault(part, entry, taken)
         if fault:
             return None, f"{fault} {quoted(part)}"
         taken.add(entry["path"])
-        mounts.append((point_of(part), entry["path"], entry.get("plugin", "dump")))
+        mounts.append((point_of(part), entry["path"], entry.get("plugin", "dump"), entry.get("conflicts") == "keys"))
     if len(mounts) > MOST_MOUNTS:
         return None, f"too-many {len(mounts)}"
     return sorted(mounts), None
@@ -167,7 +172,8 @@ class Store:
         except BadJournal as why:
             raise NotOpened(f"C03100 bad-journal {why}") from why
         self.mounts = self.table()
-        self.points = [point for point, _, _ in self.mounts]
+        self.points = [point for point, *_ in self.mounts]
+        self.by_key = [by_key for *_, by_key in self.mounts]
         self.owner, self.involved = functools.cache(self._owner), functools.cache(self._involved)
         self.bad, self.shadows, self.start = {}, [{} for _ in self.mounts], [{} for _ in self.mounts]
         for mount in range(len(self.mounts)):
@@ -204,7 +210,7 @@ class Store:
 
     def read(self, mount):
         """Reads a mount's file: its visible keys under whole names, and those that another mount hides."""
-        point, file, kind = self.mounts[mount]
+        point, file, kind, _ = self.mounts[mount]
         data, at = self.files.get(file, b""), shown(point)
         if len(data) > LONGEST_FILE:
             self.bad[mount] = f"C01100 too-long {at} {len(data)}"

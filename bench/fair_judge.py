@@ -203,7 +203,7 @@ class Trial:
     def all(self):
         self.replay()
         self.own()
-        states = {session: Session({}, {}, 0) for session in self.script.sessions}
+        states = {session: Session(session) for session in self.script.sessions}
         made = 0
         for number, phase in enumerate(self.script.phases):
             floor = made
@@ -443,7 +443,7 @@ class Trial:
         for mount in self.history.touched(front):
             texts[self.store.mounts[mount][1]] = self.store.text(mount, self.history.owned(mount, front))
         for mount in more.touched if more else []:
-            texts[self.store.mounts[mount][1]] = self.store.text(mount, more.wants[mount])
+            texts[self.store.mounts[mount][1]] = self.store.text(mount, self.judge.behind(mount, more, front))
         return {name: data for name, data in texts.items() if data}
 
     def hold(self, after, has_failed):

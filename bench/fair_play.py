@@ -14,7 +14,9 @@ class Play:
         self.script, self.store, self.chance, self.fails = script, store, chance, fails
         self.history = History(store)
         self.judge = Judge(store, self.history)
-        self.states = {session: Session({}, {}, 0) for session in script.sessions}
+        # for each mount that a commit touched what its file holds
+        self.filed = {}
+        self.states = {session: Session(session) for session in script.sessions}
 
     def text(self):
         replies = []
@@ -94,9 +96,19 @@ class Play:
         if commit and self.chance.random() < self.fails:
             return f"refused {DISK_FAULT} front {front}"
         if commit:
+            self.filed.update({m: self.written(m, wanted, front) for m in commit.touched})
             self.history.push(commit)
             self.states[number] = self.judge.stored(state, commit, front + 1)
         return line
+
+    def written(self, mount, wanted, front):
+        """The keys that the file of a mount is written of, behind a set of so many commits."""
+        return self.judge.behind(mount, wanted, front)
+
+    def files(self):
+        """What the files hold behind the run."""
+        texts = {self.store.mounts[m][1]: self.store.text(m, keys) for m, keys in self.filed.items()}
+        return {**self.store.files, **texts}
 
     def merge(self, number, step, lines):
         """Makes the tries of a merge, with a turn for each set and for each get."""

@@ -141,6 +141,7 @@ PLACES = [
     ("user:/web", "web.json", "json"),
     ("user:/deep/er", "deep.ecf", "dump"),
 ]
+ROOTS = [("user:/", "user.ecf", "dump"), ("system:/", "system.ecf", "dump")]
 PARENTS = ["/", "/", "user:/", "user:/", "user:/", "system:/", "user:/sw", "user:/deep", "system:/hosts", "dir:/",
            "/sw", "/a", "user:/a", "user:/web", "proc:/a", "default:/a", "spec:/", "system:/elektra"]
 NAMES = ["user:/a", "user:/b", "user:/b/c", "user:/sw/a", "user:/sw/b", "user:/deep/er/x", "user:/odd name", "user:/%",
@@ -162,6 +163,7 @@ ROOMS = ["1", "1", "2", "3", "10", "4096"]
 ENTRIES = [("system:/elektra/mountpoints/user:\\/new/path", "new.ecf"),
            ("system:/elektra/mountpoints/user:\\/new/path", "user.ecf"),
            ("system:/elektra/mountpoints/user:\\/new/plugin", "hosts"),
+           ("system:/elektra/mountpoints/user:\\/new/conflicts", "keys"),
            ("system:/elektra/mountpoints/nowhere/path", "n.ecf")]
 
 
@@ -287,6 +289,28 @@ def relative_keys(*keys):
     return {(CASCADING, name[1]): entry for name, entry in keys}
 
 
+def part_of(point):
+    return "/mountpoints/" + spelling((CASCADING, (point,)))[1:]
+
+
+def entry_of(point, file, kind):
+    """The keys of a mount's entry."""
+    part = part_of(point)
+    return [key(f"{part}/path", file)] + ([key(f"{part}/plugin", kind)] if kind != "dump" else [])
+
+
+def counting_of(seed, entries):
+    """The keys that have some mounts count conflicts by key, those of the roots of users and of the system among them."""
+    chance, there = random.Random(f"counting {seed}"), {name for name, _ in entries}
+    keys = []
+    for point, file, kind in ROOTS + [it for it in PLACES if it[2] in ("dump", "simpleini")]:
+        is_root = (point, file, kind) in ROOTS
+        if chance.random() < 0.5 and (is_root or key(f"{part_of(point)}/path", "")[0] in there):
+            keys += entry_of(point, file, kind) if is_root else []
+            keys.append(key(f"{part_of(point)}/conflicts", "keys"))
+    return keys
+
+
 def files_of(seed):
     """The files that a script begins with, by the numbers of its seed."""
     chance, files = random.Random(f"files {seed}"), {}
@@ -295,8 +319,8 @@ def files_of(seed):
     entries = []
     for point, file, kind in PLACES:
         if chance.random() < 0.8:
-            part = "/mountpoints/" + spelling((CASCADING, (point,)))[1:]
-            entries += [key(f"{part}/path", file)] + ([key(f"{part}/plugin", kind)] if kind != "dump" else [])
+            entries += entry_of(point, file, kind)
+    entries += counting_of(seed, entries)
     files["elektra.ecf"] = dump_of(relative_keys(*entries))
     # What stands below another mount is kept, and shown by nobody.
     files["user.ecf"] = dump_of(relative_keys(key("/a", "1"), key("/b", "2", ("note", "x")), key("/sw/hidden", "h"),

@@ -38,8 +38,7 @@ class History:
         self.commits.append(commit)
         self.weights.append(self.weights[-1] + weight_of_commit(commit))
         for mount in commit.touched:
-            changes = [it for it in commit.changes if self.store.owner(it[0]) == mount]
-            keys, heavy = changed(self.maps[mount][-1], self.heavy[mount][-1], changes)
+            keys, heavy = changed(self.maps[mount][-1], self.heavy[mount][-1], self.changes(mount, commit))
             self.numbers[mount].append(len(self.commits))
             self.maps[mount].append(keys)
             self.heavy[mount].append(heavy)
@@ -54,11 +53,17 @@ class History:
     def weighed(self, mount, front):
         return self.heavy[mount][self.place(mount, front)]
 
-    def first_after(self, mount, front, most):
-        """The first commit behind a front that touches a mount, among the first so many; or None."""
-        at = self.place(mount, front) + 1
+    def after(self, mount, front, most):
+        """The commits behind a front that touch a mount, among the first so many, with their numbers."""
         numbers = self.numbers[mount]
-        return numbers[at] if at < len(numbers) and numbers[at] <= most else None
+        for at in range(self.place(mount, front) + 1, len(numbers)):
+            if numbers[at] > most:
+                return
+            yield numbers[at], self.commits[numbers[at] - 1]
+
+    def changes(self, mount, commit):
+        """What a commit changes of a mount."""
+        return [it for it in commit.changes if self.store.owner(it[0]) == mount]
 
     def touched(self, front):
         return {mount for commit in self.commits[:front] for mount in commit.touched}
@@ -88,8 +93,9 @@ def differing(before, wants):
 # what a session watches: the keys at and below a parent, from a front on, and how many changes are kept for it
 Watch = collections.namedtuple("Watch", "parent room front")
 
-# a session between two steps: its working set, the front of each mount that it fetched, s, and what it watches
-Session = collections.namedtuple("Session", "working fronts told watch", defaults=(None,))
+# a session between two steps: its number, its working set, the front of each mount that it fetched, s, and what it
+# watches
+Session = collections.namedtuple("Session", "number working fronts told watch", defaults=({}, {}, 0, None))
 
 
 class Judge:
@@ -115,6 +121,17 @@ class Judge:
         fronts = {**session.fronts, **{m: front for m in self.store.involved(parent)}}
         return session._replace(working=self.got(parent, procs, front), fronts=fronts, told=front)
 
+    def seen(self, session, mount):
+        """What a session keeps of a mount: what the mount had at its front; and of a mount by key with what the session
+        itself has stored since."""
+        front = session.fronts[mount]
+        keys = self.history.owned(mount, front)
+        if self.store.by_key[mount]:
+            for _, commit in self.history.after(mount, front, session.told):
+                if commit.session == session.number:
+                    keys, _ = changed(keys, 0, self.history.changes(mount, commit))
+        return keys
+
     def wanted(self, session, parent):
         """The mounts that a set touches, with its changes; how many keys it leaves aside; what it wants for each."""
         involved = self.store.involved(parent)
@@ -127,7 +144,7 @@ class Judge:
                 aside += 1
         touched, changes = [], []
         for mount in involved:
-            kept = self.history.owned(mount, session.fronts[mount])
+            kept = self.seen(session, mount)
             if kept != wants[mount]:
                 touched.append(mount)
                 changes += differing(kept, wants[mount])
@@ -191,6 +208,22 @@ class Judge:
                 return f"C03200 invalid {shown(name)} rule {breach[0]} given {quoted(breach[1])}"
         return None
 
+    def behind(self, mount, wanted, front):
+        """What a mount owns behind a set of so many commits."""
+        own = [it for it in wanted.changes if self.store.owner(it[0]) == mount]
+        return changed(self.history.owned(mount, front), 0, own)[0]
+
+    def oversize(self, wanted, front):
+        """The first touched mount by key whose file would be too large with what others have stored there, or None."""
+        for mount in wanted.touched:
+            if self.store.by_key[mount]:
+                keys, point = self.behind(mount, wanted, front), shown(self.store.points[mount])
+                heavy = weight(self.store.filed(mount, keys))
+                size_of = heavy if heavy > HEAVIEST_MAP else len(self.store.text(mount, keys))
+                if heavy > HEAVIEST_MAP or size_of > LONGEST_FILE:
+                    return f"C01100 file-too-large {point} {size_of}"
+        return None
+
     def full(self, wanted, commit, front):
         heavy = 0
         for mount in range(len(self.store.mounts)):
@@ -202,23 +235,37 @@ class Judge:
         heavy = self.history.weights[front] + weight_of_commit(commit)
         return f"C01100 history-full {heavy}" if heavy > HEAVIEST_HISTORY else None
 
+    def blocks(self, session, wanted, mount, commit):
+        """Whether a commit that touches a mount, behind a session's front of it, is in the way of a set there: any such
+        one; of a mount by key one of another session that changes a key which the set changes there."""
+        if not self.store.by_key[mount]:
+            return True
+        names = {name for name, _ in wanted.changes if self.store.owner(name) == mount}
+        return commit.session != session.number and any(name in names for name, _ in commit.changes)
+
+    def blocking(self, session, wanted, mount, front):
+        """The number of the first commit in the way of a set at a mount, among the first so many; or None."""
+        later = self.history.after(mount, session.fronts[mount], front)
+        return next((number for number, it in later if self.blocks(session, wanted, mount, it)), None)
+
     def verdict(self, number, session, wanted, front):
         """The line of what becomes of a set behind so many commits, and the commit, if it is one."""
         if not wanted.touched:
             return f"same {front} aside {wanted.aside}", None
         for mount in wanted.touched:
-            by = self.history.first_after(mount, session.fronts[mount], front)
+            by = self.blocking(session, wanted, mount, front)
             if by:
                 return f"conflict {shown(self.store.points[mount])} by {by} front {front}", None
         commit = Commit(number, wanted.touched, wanted.changes)
-        refusal = self.invalid(wanted, front) or self.full(wanted, commit, front)
+        refusal = self.oversize(wanted, front) or self.invalid(wanted, front) or self.full(wanted, commit, front)
         if refusal:
             return f"refused {refusal} front {front}", None
         return f"commit {front + 1} aside {wanted.aside}", commit
 
     def stored(self, session, commit, number):
-        """A session whose set became a commit."""
-        return session._replace(fronts={**session.fronts, **{m: number for m in commit.touched}}, told=number)
+        """A session whose set became a commit: the front of a mount by key stays."""
+        moved = {m: number for m in commit.touched if not self.store.by_key[m]}
+        return session._replace(fronts={**session.fronts, **moved}, told=number)
 
     def remade(self, session, parent, strategy, front):
         """A session behind a conflict that has got the parent, with what it is to try next; and the names in conflict.
@@ -275,7 +322,7 @@ class Judge:
         """What a session's record keeps of the mounts that a parent involves."""
         keys = {}
         for mount in self.store.involved(parent):
-            keys.update(self.history.owned(mount, session.fronts[mount]))
+            keys.update(self.seen(session, mount))
         return keys
 
     def parted(self, keys, parent):

@@ -2,8 +2,8 @@
 
 Some texts stand here with their turns. Many more are made up, by a store that plays scripts in any order and whose disk
 fails now and then; each of their lines is dropped, doubled, changed with the next one, or has a number that is one more
-or less. What is still fair of these tells another front of a reply, and nothing else. Stores that merge, watch or take
-back in a wrong way are told by what they print of made-up scripts.
+or less. What is still fair of these tells another front of a reply, and nothing else. Stores that merge, watch, take
+back or count conflicts by key in a wrong way are told by what they print of made-up scripts.
 """
 import collections
 import random
@@ -11,6 +11,7 @@ import re
 import sys
 
 import fair_cases
+import fair_counting
 import fair_merges
 import fair_undos
 import fair_watches
@@ -23,7 +24,7 @@ from fair_scripts import Making, files_of, key, relative_keys, script_of
 from fair_wrong import told_wrong
 
 TEXTS, TURNS = 60, 60
-CASES = fair_cases.CASES + fair_merges.CASES + fair_watches.CASES + fair_undos.CASES
+CASES = fair_cases.CASES + fair_merges.CASES + fair_watches.CASES + fair_undos.CASES + fair_counting.CASES
 # how a line begins that ends with a front
 FRONTED = ("conflict", "refused", "tried", "spent")
 
@@ -155,7 +156,7 @@ def selftest():
     print(f"{many} runs with other files or another status are refused")
     print(f"{TEXTS} texts that were made up are fair, and {counts['refused']:,} turns of them are refused")
     print(f"{counts['front']} turns that tell another front alone are fair as well")
-    print(f"{stores - len(taken)} of {stores} stores that merge, watch or take back in a wrong way are refused")
+    print(f"{stores - len(taken)} of {stores} stores that merge, watch, take back or count in a wrong way are refused")
     for it in wrong + more + most + taken:
         print(it)
     sys.exit(1 if wrong or more or most or taken or not counts["refused"] else 0)

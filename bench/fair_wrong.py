@@ -1,5 +1,5 @@
-"""Stores that merge, watch or take back in a wrong way, for bench/fair.py selftest: what each of them prints of made-up
-scripts has to be refused. Each gets one thing wrong.
+"""Stores that merge, watch, take back or count conflicts by key in a wrong way, for bench/fair.py selftest: what each of
+them prints of made-up scripts, or leaves in the files, has to be refused. Each gets one thing wrong.
 """
 import random
 import re
@@ -331,15 +331,110 @@ class NumbersFromZero(Play):
         return super().undo(number, step._replace(number=step.number + 1))
 
 
+class Counting(Play):
+    """One that counts conflicts by key in another way."""
+
+    def __init__(self, *given):
+        super().__init__(*given)
+        for word in ("blocks", "seen", "stored"):
+            setattr(self.judge, word, getattr(self, word))
+
+    def blocks(self, session, wanted, mount, commit):
+        return Judge.blocks(self.judge, session, wanted, mount, commit)
+
+    def seen(self, session, mount):
+        return Judge.seen(self.judge, session, mount)
+
+    def stored(self, session, commit, number):
+        return Judge.stored(self.judge, session, commit, number)
+
+
+class LetsAnOwnCommitBlock(Counting):
+    """An own commit of the same key blocks."""
+
+    def blocks(self, session, wanted, mount, commit):
+        return super().blocks(session._replace(number=None), wanted, mount, commit)
+
+
+class LetsAnotherKeyBlock(Counting):
+    """A change of any key blocks."""
+
+    def blocks(self, session, wanted, mount, commit):
+        return commit.session != session.number
+
+
+class LetsTheSameKeyPass(Counting):
+    """Nothing blocks at a mount by key."""
+
+    def blocks(self, session, wanted, mount, commit):
+        return not self.store.by_key[mount] and super().blocks(session, wanted, mount, commit)
+
+
+class LetsTheSameValuePass(Counting):
+    """A change to what the set wants doesn't block."""
+
+    def blocks(self, session, wanted, mount, commit):
+        other = [it for it in commit.changes if it not in wanted.changes]
+        return super().blocks(session, wanted, mount, commit._replace(changes=other))
+
+
+class LooksAtOtherMounts(Counting):
+    """A change of another mount's key that the set changes blocks, too."""
+
+    def blocks(self, session, wanted, mount, commit):
+        if not self.store.by_key[mount]:
+            return True
+        names = {name for name, _ in wanted.changes}
+        return commit.session != session.number and any(name in names for name, _ in commit.changes)
+
+
+class MovesTheFront(Counting):
+    """A commit moves the front of a mount by key."""
+
+    def stored(self, session, commit, number):
+        return session._replace(fronts={**session.fronts, **{m: number for m in commit.touched}}, told=number)
+
+
+class ForgetsItsOwn(Counting):
+    """What a session keeps of a mount is what it got, without what it has stored since."""
+
+    def seen(self, session, mount):
+        return self.history.owned(mount, session.fronts[mount])
+
+
+class KeepsWhatIsThere(Counting):
+    """What a session keeps of a mount by key has in it what others stored before its own commit."""
+
+    def seen(self, session, mount):
+        return self.history.owned(mount, session.told if self.store.by_key[mount] else session.fronts[mount])
+
+
+class WritesTheOldText(Play):
+    """The file of a mount by key has what the set wanted, without what others stored there."""
+
+    def written(self, mount, wanted, front):
+        return wanted.wants[mount]
+
+
+class CountsAllByBackend(Play):
+    """The way to count is not looked at."""
+
+    def __init__(self, script, store, *given):
+        super().__init__(script, store, *given)
+        store.by_key = [False] * len(store.mounts)
+
+
 WRONG = [Exchanges, HasNoBase, KeepsOurs, TakesTheirs, DropsAside, GetsProc, NeverAborts, Removes, MergesFiles,
          ForgetsItsGet, TellsNoTry, WorksOn, StoresAlone, TriesOnce, GivesUp, StaysAtItsFront, KeepsTheFirst,
          CountsNothing, IsDeafToItself, HearsAll, HearsOneSpace, KeepsItsWatch, TellsKeysAlone,
          IsNotOvertaken, TellsTheLastOvertaking, RemovesAll, GoesBackToTheStart, GetsAll, WorksBehind,
-         UndoesItsEdits, NumbersFromZero]
+         UndoesItsEdits, NumbersFromZero, LetsAnOwnCommitBlock, LetsAnotherKeyBlock, LetsTheSameKeyPass,
+         LetsTheSameValuePass, LooksAtOtherMounts, MovesTheFront, ForgetsItsOwn, KeepsWhatIsThere, WritesTheOldText,
+         CountsAllByBackend]
 
 
 def is_refused(kind, seed):
-    """Whether a text is refused that a store prints of a made-up script."""
+    """Whether a text is refused that a store prints of a made-up script, or the files that it leaves."""
     files = files_of(seed)
     script = script_of(Making(seed, most=300).script(sessions=8, phases=2))
     play = kind(script, Store(files), random.Random(seed))
@@ -347,6 +442,7 @@ def is_refused(kind, seed):
     try:
         trial.text = text_of(rendered(script, play.text(), play.store.points).encode(), script, trial.store)
         trial.all()
+        trial.hold(play.files(), False)
     except Unfair:
         return True
     return False

@@ -26,6 +26,8 @@ BASH = [
     ("kdb export user:/sw s", ["simpleini"]),
     ("kdb import user:/sw j", ["json"]),
     ("kdb mount us", ["user.ecf"]),
+    ("kdb mount -k us", ["user.ecf"]),
+    ("kdb mount -k us user:/sw s", ["simpleini"]),
     ("kdb mounts ", []),
     ("kdb b", ["batch"]),
     ("kdb batch ", []),
@@ -90,6 +92,8 @@ def main():
                 bad.append(f"bash offers for {line!r}: {ran.stdout.split()}")
         if shutil.which("zsh"):
             for line, wanted in [("kdb ", commands()), ("kdb export user:/sw ", ["dump", "simpleini", "hosts", "json"]),
+                                 ("kdb mount -k ", ["user.ecf"]),
+                                 ("kdb mount -k a user:/sw ", ["dump", "simpleini", "hosts", "json"]),
                                  ("kdb merge a b c d -s ", ["abort", "our", "their"]), ("kdb mounts ", []),
                                  ("kdb batch ", []), ("kdb gen ", []),
                                  ("kdb get ", ["user:/sw/a", "user:/sw/b", "spec:/", "dir:/", "user:/", "system:/"])]:

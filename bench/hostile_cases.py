@@ -175,7 +175,8 @@ def of_table(data):
     """The mounts of a file of the mount table, or why it is none."""
     try:
         mounts = Store({"elektra.ecf": data}).mounts
-        ended = ran(0, "".join(f"{shown_name(point)} {file} {kind}\n" for point, file, kind in mounts).encode())
+        lines = (f"{shown_name(point)} {file} {kind}{' keys' if by_key else ''}\n" for point, file, kind, by_key in mounts)
+        ended = ran(0, "".join(lines).encode())
     except NotOpened as why:
         ended = refused(why)
     return [("disk", []), (f"file elektra.ecf {spelled(data)}", []), ("run mounts", ended)]

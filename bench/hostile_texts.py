@@ -56,6 +56,8 @@ GOOD = {
         b"$key string 27 9\nmountpoints/user:\\/a/plugin\nsimpleini\n$end\n",
         b"kdbOpen 2\n$key string 26 1\nmountpoints/dir:\\/\\%/path\nd\n"
         b"$key string 24 8\nmountpoints/user:\\//path\nuser.ecf\n$end\n",
+        b"kdbOpen 2\n$key string 30 4\nmountpoints/user:\\/k/conflicts\nkeys\n"
+        b"$key string 25 1\nmountpoints/user:\\/k/path\nk\n$end\n",
     ],
 }
 
