@@ -52,8 +52,8 @@ measure() {
 cat <<'TEXT'
 One key is set as often in one run, each time with another value, and each set is a commit that is on the disk when it
 is answered. The files are written once, at the end or by a flush beside the commits; sqlite3 syncs its log with each
-commit, and copies it at the end. A commit syncs the journal twice, and each sync of ours is one of the file and one of
-its folder.
+commit, and copies it at the end. A commit syncs the journal twice, and the folder only where a file was made in it
+since.
 TEXT
 echo
 echo "| keys | commits | syncs and bytes a commit: \`kdb batch\` | sqlite3 | commits a second: \`kdb batch\`, sqlite3 |"
