@@ -1,21 +1,31 @@
 -- What the keys of `spec:` say of a path, key by key.
-use Rattle.std.proofs.Common.{◌≡◌, ◌&&◌, not, Bool, true, false, cond, List, [], ◌∷◌, ◌++◌, length, map, Option, Some, None, refl, sym, ap, ap₂, ◌∙◌}
-use Rattle.std.specs.Prelude.{if◌then◌else◌}
+use Rattle.std.proofs.Common.{◌≡◌, ℕ, ◌+◌, ◌<◌, ◌≤◌, ◌&&◌, nat_eq, not, Bool, true, false, cond, drop, get_or, List, [], ◌∷◌, ◌++◌, length, map, Option, Some, None, Result, Ok, Err, refl, sym, ap, ap₂, subst, ◌∙◌}
+use Rattle.std.specs.Prelude.{IfOk, if◌then◌else◌}
 use Rattle.std.specs.Bool.{Decides, one_answer}
 use Rattle.std.specs.FinMap as finite
+use Rattle.std.specs.Cmp.Lexicographic.{pointwise}
 use Rattle.std.specs.FinMap.{find}
-use Rattle.std.specs.List.{filter}
+use Rattle.std.specs.FinMap.Entries.{where_key}
+use Rattle.std.specs.List.{AllByRecursion, filter, starts_with}
 use Rattle.std.specs.Option.{option_map_or, option_to_list}
-use Rattle.std.proofs.lemmas.List.{nil_from_length}
+use Rattle.std.proofs.lemmas.Bool.{and_parts}
+use Rattle.std.proofs.lemmas.Bool.Decides.{Decides-eqb}
+use Rattle.std.proofs.lemmas.List.{drop_all, drop_more, nil_from_length}
+use Rattle.general_words.proofs.Maps.{entries-retain}
+use Rattle.model_names.specs.declared.namespaces.Namespace.TheVariants.{Spec}
+use Rattle.model_names.specs.Below.{is_at_or_below}
+use Rattle.model_names.proofs.OrderLemmas.{name_cmp_total, name_cmp-IsAntisymmetric, same_rank}
 use Rattle.model_names.specs.Glob.{MatchesGlob}
-use Rattle.model_names.specs.Name.{Name, Part}
+use Rattle.model_names.specs.Name.{Name, Part, rank}
 use Rattle.model_names.specs.Order.{name_cmp, name_eq}
 use Rattle.model_maps.specs.Entry.{Entry, Meta}
 use Rattle.model_maps.specs.KeyMap.{KeyMap}
 use Rattle.model_specified.specs.Globs.{matches_glob}
-use Rattle.model_specified.specs.SpecMeta.{is_pattern_of, laid_over, said_of, spec_name}
+use Rattle.model_specified.specs.SpecMeta.{is_pattern_of, laid_over, said_of, spec_keys, spec_name}
 use Rattle.model_specified.proofs.GlobTests.{matches_glob-Decides}
 use Rattle.model_specified.proofs.LaidOver.{laid_over-alone, laid_over-empty, laid_over-next, laid_over-none}
+use Rattle.plugin_chain.specs.declared.globs.Glob.{Glob}
+use Rattle.plugin_chain.specs.Globs.{AreInSpec, seen}
 
 -- the metadata of those keys that are patterns of a path
 abbrev pub metas_of : List Part → List (Name × Entry) → List Meta
@@ -69,3 +79,39 @@ pattern_then path own name matches differs is decides fits told = told ∙ ap (�
 -- they don't
 pub pattern_else : (path : List Part) (own name : Name) (matches : Bool) → own ≡ spec_name path → Decides matches (MatchesGlob path name.parts) → matches ≡ false → matches ≡ is_pattern_of path name
 pattern_else path own name matches is decides fails = fails ∙ ap (λ b. b && not (name_eq name own)) (sym fails) ∙ pattern_told path own name matches is decides
+
+-- ---- the globs of a path in place of all keys
+
+-- the metadata of the path's own key stands over that of all patterns among some globs
+pub said_start : (specs keys : KeyMap) (path : List Part) (own : Name) (meta : Meta) (found : List Glob) → keys ≡ specs → own ≡ spec_name path → meta ≡ option_map_or (λ spec. spec.meta) (finite.get keys own) finite.empty
+    → filter (λ (key : Name × Entry). is_pattern_of path key.0) (map seen found) ≡ filter (λ (key : Name × Entry). is_pattern_of path key.0) (finite.entries specs)
+    → laid_over (meta ∷ metas_of path (map seen found)) ≡ said_of specs path
+said_start specs keys path own meta found same is_own is are =
+    ap (λ (ks : List (Name × Entry)). laid_over (meta ∷ map (λ spec. spec.meta) (map (λ key. key.1) ks))) are
+    ∙ said_first specs path own meta is_own (is ∙ ap (λ ks. option_map_or (λ (spec : Entry). spec.meta) (finite.get ks own) finite.empty) same)
+
+-- one more glob
+pub said_more : (path : List Part) (globs : List Glob) (i : ℕ) (glob : Glob) (meta after said : Meta) (b : Bool) → i < length globs → glob ≡ get_or globs i glob → b ≡ is_pattern_of path glob.name.now
+    → after ≡ (if b then laid_over (meta ∷ glob.entry.now.meta ∷ []) else meta) → laid_over (meta ∷ metas_of path (map seen (drop i globs))) ≡ said → laid_over (after ∷ metas_of path (map seen (drop (i + 1) globs))) ≡ said
+said_more path globs i glob meta after said b lt is tells made so_far =
+    said_next path (seen glob) (map seen (drop i globs)) (map seen (drop (i + 1) globs)) meta after said b
+    (ap (map seen) (drop_more globs i glob lt) ∙ ap (λ g. seen g ∷ map seen (drop (i + 1) globs)) (sym is)) tells made so_far
+
+-- no glob is left
+pub said_all : (path : List Part) (globs : List Glob) (i : ℕ) (meta said : Meta) → length globs ≤ i → laid_over (meta ∷ metas_of path (map seen (drop i globs))) ≡ said → meta ≡ said
+said_all path globs i meta said le so_far = said_last path (map seen (drop i globs)) meta said (ap (map seen) (drop_all i globs le)) so_far
+
+-- ---- the keys of `spec:`
+
+kept_in_spec : (keys : List (Name × Entry)) → AllByRecursion (λ (key : Name × Entry). key.0.namespace ≡ Spec) (where_key name_cmp (is_at_or_below (spec_name [])) keys)
+kept_in_spec [] = tt
+kept_in_spec (key ∷ keys) =
+    elim (is_at_or_below (spec_name []) key.0) as (λ b. is_at_or_below (spec_name []) key.0 ≡ b → AllByRecursion (λ (spec : Name × Entry). spec.0.namespace ≡ Spec) (cond b (key ∷ where_key name_cmp (is_at_or_below (spec_name [])) keys) (where_key name_cmp (is_at_or_below (spec_name [])) keys))) [
+      | true ↦ λ is. (same_rank key.0.namespace Spec ((Decides-eqb (rank key.0.namespace) (rank Spec)).0 (and_parts (nat_eq (rank key.0.namespace) (rank Spec)) (starts_with (pointwise nat_eq) key.0.parts []) is).0), kept_in_spec keys)
+      | false ↦ λ is. kept_in_spec keys
+    ] refl
+
+pub are_in_spec : {E : Type 0} (keys : KeyMap) (r : Result KeyMap E) → IfOk r (λ specs. specs ≡ spec_keys keys) → IfOk r AreInSpec
+are_in_spec keys (Ok specs) is =
+    subst (AllByRecursion (λ (spec : Name × Entry). spec.0.namespace ≡ Spec)) (sym (ap finite.entries is ∙ entries-retain name_cmp_total name_cmp-IsAntisymmetric keys (is_at_or_below (spec_name [])))) (kept_in_spec (finite.entries keys))
+are_in_spec keys (Err e) is = is

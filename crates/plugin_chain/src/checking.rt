@@ -7,10 +7,11 @@ ghost use Rattle.model_specified.specs.Specified.{specified_key};
 ghost use Rattle.model_specified.specs.Violations.{violation_at};
 ghost use Rattle.plugin_chain.specs.Steps.{Adds, AddsIf};
 
+use crate::spec_index::SpecIndex;
 use crate::specifying::specified_entry;
 use key_meta::{Memory, Meta};
 use key_name::KeyName;
-use key_set::{Entry, KeySet};
+use key_set::Entry;
 use model_rules::Broken;
 use model_specified::Violation;
 use range_check::check_range;
@@ -22,7 +23,7 @@ use type_check::{check_enum, check_type};
 pub fn check_if<P: Patterns>(
     is_chosen: bool,
     patterns: &mut P,
-    specs: &KeySet,
+    specs: &SpecIndex,
     name: &KeyName,
     entry: &Entry,
     list: &mut Vec<Violation>,
@@ -39,7 +40,7 @@ pub fn check_if<P: Patterns>(
 /// Checks a key as the keys of `spec:` have it, and adds what it breaks.
 fn check_key<P: Patterns>(
     patterns: &mut P,
-    specs: &KeySet,
+    specs: &SpecIndex,
     name: &KeyName,
     entry: &Entry,
     list: &mut Vec<Violation>,

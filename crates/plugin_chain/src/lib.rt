@@ -5,9 +5,12 @@ mod booleans;
 mod checking;
 mod choosing;
 mod defaults;
+mod globs;
 mod laying;
 mod listing;
+mod narrowing;
 mod one_name;
+mod spec_index;
 mod spec_metas;
 mod specifying;
 

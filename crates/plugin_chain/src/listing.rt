@@ -10,6 +10,7 @@ ghost use Rattle.plugin_chain.specs.Steps.{IsFirstOf, checked};
 use crate::checking::check_if;
 use crate::choosing::{is_listed, is_touched};
 use crate::defaults::with_defaults;
+use crate::spec_index::SpecIndex;
 use crate::spec_metas::spec_keys;
 use key_meta::{List, Memory};
 use key_name::KeyName;
@@ -29,14 +30,15 @@ pub fn violations<P: Patterns>(
 {
     let specs = spec_keys(keys)?;
     let made = with_defaults(&specs, keys)?;
-    let list = all_at(patterns, &specs, &made, at)?;
+    let index = SpecIndex::new(&specs)?;
+    let list = all_at(patterns, &index, &made, at)?;
     Ok(List::from_vec(list))
 }
 
 /// The violations of some keys at or below a name, as the keys of `spec:` have them.
 fn all_at<P: Patterns>(
     patterns: &mut P,
-    specs: &KeySet,
+    specs: &SpecIndex,
     made: &KeySet,
     at: &KeyName,
 ) -> Result<Vec<Violation>, Memory>
@@ -65,13 +67,14 @@ pub fn first_violation<P: Patterns>(
 {
     let specs = spec_keys(keys)?;
     let made = with_defaults(&specs, keys)?;
-    first_in(patterns, &specs, &made, points, touched)
+    let index = SpecIndex::new(&specs)?;
+    first_in(patterns, &index, &made, points, touched)
 }
 
 /// The first violation of some keys that the touched mounts own, as the keys of `spec:` have them.
 fn first_in<P: Patterns>(
     patterns: &mut P,
-    specs: &KeySet,
+    specs: &SpecIndex,
     made: &KeySet,
     points: &[KeyName],
     touched: &[u32],

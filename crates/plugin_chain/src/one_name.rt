@@ -9,6 +9,7 @@ ghost use Rattle.model_specified.specs.Globs.{has_glob};
 ghost use Rattle.model_specified.specs.SpecMeta.{spec_keys};
 ghost use Rattle.model_specified.specs.Specified.{default_at, default_text, specified, specified_entry, with_defaults};
 
+use crate::spec_index::SpecIndex;
 use crate::spec_metas::spec_keys;
 use crate::specifying::specified_entry;
 use key_meta::{Memory, Meta, Text};
@@ -30,7 +31,8 @@ fn specified_alone(keys: &KeySet, name: &KeyName, entry: Entry) -> Result<Entry,
     ensures { IfOk result (λ new. entry_of new ≡ specified_entry (spec_keys keys.now) name.now (entry_of entry)) }
 {
     let specs = spec_keys(keys)?;
-    match specified_entry(&specs, name, &entry)? {
+    let index = SpecIndex::new(&specs)?;
+    match specified_entry(&index, name, &entry)? {
         Some(changed) => Ok(changed),
         None => Ok(entry),
     }

@@ -2,9 +2,11 @@
 ghost use Rattle.std.specs.Prelude.{◌≡◌, [], ◌∷◌, IfOk, OnOk, if◌then◌else◌};
 ghost use Rattle.std.specs.Option.{option_map_or};
 ghost use Rattle.std.specs.FinMap as finite;
+ghost use Rattle.plugin_chain.specs.Globs.{AreInSpec};
 ghost use Rattle.model_specified.specs.SpecMeta.{is_pattern_of, laid_over, said_of, spec_keys, spec_meta, spec_name};
 
 use crate::laying::lay_over;
+use crate::spec_index::SpecIndex;
 use key_meta::{Memory, Meta};
 use key_name::{KeyName, Namespace};
 use key_set::{Entry, KeySet};
@@ -15,27 +17,30 @@ pub fn spec_meta(keys: &KeySet, path: &KeyName) -> Result<Meta, Memory>
     ensures { IfOk result (λ meta. meta ≡ spec_meta keys.now path.now.parts) }
 {
     let specs = spec_keys(keys)?;
-    said_of(&specs, path)
+    let index = SpecIndex::new(&specs)?;
+    said_of(&index, path)
 }
 
 /// The keys of `spec:`.
 pub fn spec_keys(keys: &KeySet) -> Result<KeySet, Memory>
-    ensures { IfOk result (λ specs. specs ≡ spec_keys keys.now) }
+    ensures keys { IfOk result (λ specs. specs ≡ spec_keys keys.now) }
+    ensures in_spec { IfOk result AreInSpec }
 {
     keys.below(&KeyName::root(keys.allocator(), Namespace::Spec))
 }
 
 /// What the keys of `spec:` say of a path.
-pub fn said_of(specs: &KeySet, path: &KeyName) -> Result<Meta, Memory>
+pub fn said_of(specs: &SpecIndex, path: &KeyName) -> Result<Meta, Memory>
     ensures { IfOk result (λ meta. meta ≡ said_of specs.now path.now.parts) }
 {
-    if specs.len() == 0 {
+    if specs.keys().len() == 0 {
         return Ok(Meta::new(specs.allocator()));
     }
     let own = path.with_namespace(Namespace::Spec)?;
-    let mut meta = meta_of(specs, &own)?;
-    for (name, entry) in specs.iter() {
-        if_pattern(&mut meta, is_pattern(path, &own, name), entry)?;
+    let mut meta = meta_of(specs.keys(), &own)?;
+    let globs = specs.candidates(path)?;
+    for glob in &globs {
+        if_pattern(&mut meta, is_pattern(path, &own, glob.name), glob.entry)?;
     }
     Ok(meta)
 }

@@ -10,6 +10,7 @@ ghost use Rattle.model_specified.specs.Specified.{bit_under, is_specified, speci
 use crate::booleans::bit_under;
 use crate::defaults::with_defaults;
 use crate::laying::lay_over;
+use crate::spec_index::SpecIndex;
 use crate::spec_metas::{said_of, spec_keys};
 use key_meta::{Memory, Meta, Text};
 use key_name::{KeyName, Namespace};
@@ -23,11 +24,12 @@ pub fn specified(keys: &KeySet) -> Result<KeySet, Memory>
 {
     let specs = spec_keys(keys)?;
     let made = with_defaults(&specs, keys)?;
-    specify_each(&specs, &made)
+    let index = SpecIndex::new(&specs)?;
+    specify_each(&index, &made)
 }
 
 /// The keys, each as the keys of `spec:` have it.
-fn specify_each(specs: &KeySet, made: &KeySet) -> Result<KeySet, Memory>
+fn specify_each(specs: &SpecIndex, made: &KeySet) -> Result<KeySet, Memory>
     ensures { IfOk result (λ set. (name : Name) → finite.get set name ≡ option_map (specified_entry specs.now name) (finite.get made.now name)) }
 {
     let mut set = made.copy()?;
@@ -50,7 +52,7 @@ fn set_changed(set: &mut KeySet, name: &KeyName, changed: Option<Entry>) -> Resu
 
 /// The specified entry of a key, where it isn't its own.
 pub fn specified_entry(
-    specs: &KeySet,
+    specs: &SpecIndex,
     name: &KeyName,
     entry: &Entry,
 ) -> Result<Option<Entry>, Memory>
@@ -76,7 +78,7 @@ fn value_under(alloc: Global, meta: &Meta, value: &Text) -> Result<Text, Memory>
 }
 
 /// What the keys of `spec:` say of a key: nothing in `spec:` and cascading.
-fn said_of_key(specs: &KeySet, name: &KeyName) -> Result<Meta, Memory>
+fn said_of_key(specs: &SpecIndex, name: &KeyName) -> Result<Meta, Memory>
     ensures { IfOk result (λ meta. meta ≡ (if is_specified name.now.namespace then said_of specs.now name.now.parts else finite.empty)) }
 {
     if is_specified(name.namespace()) {

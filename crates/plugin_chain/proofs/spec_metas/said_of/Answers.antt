@@ -1,21 +1,24 @@
-use Rattle.std.proofs.Common.{◌∷◌, sym, ap, ◌∙◌}
-use Rattle.key_set.specs.EntryView.{entry_of}
+use Rattle.std.proofs.Common.{◌∷◌, length, map, sym, ap, ◌∙◌, arith}
+use Rattle.std.specs.FinMap as finite
 use Rattle.model_specified.specs.SpecMeta.{laid_over}
-use Rattle.plugin_chain.proofs.SpecLemmas.{metas_of, said_first, said_last, said_next, said_nothing}
+use Rattle.plugin_chain.specs.Globs.{seen}
+use Rattle.plugin_chain.proofs.SpecLemmas.{metas_of, said_all, said_more, said_nothing, said_start}
 use Rattle.plugin_chain.proofs.spec_metas.said_of.Goals as goal
 
 pub returns-then-len-eq0 : goal.returns-then-len-eq0
-returns-then-len-eq0 c = c.new.ensures ∙ said_nothing c.args.specs.now c.args.path.now.parts (sym c.len.ensures ∙ c.if-len-eq0.true)
+returns-then-len-eq0 c =
+    c.new.ensures ∙ said_nothing c.args.specs.now c.args.path.now.parts (ap (λ keys. length (finite.entries keys)) (sym c.keys.ensures) ∙ sym c.len.ensures ∙ c.if-len-eq0.true)
 
-pub loop-name-init : goal.loop-name-init
-loop-name-init c =
-    ap (λ keys. laid_over (c.in_ok-meta.meta ∷ metas_of c.args.path.now.parts keys)) (c.into_iter-name-iterator.ensures.into_iter_gives ∙ c.iter-name-items.ensures)
-    ∙ said_first c.args.specs.now c.args.path.now.parts c.in_ok-own.own c.in_ok-meta.meta c.in_ok-own.ensures c.in_ok-meta.ensures
+pub loop-glob-init : goal.loop-glob-init
+loop-glob-init c =
+    let path = c.args.path.now.parts in
+    ap (λ globs. laid_over (c.in_ok-meta.meta ∷ metas_of path (map seen globs))) c.deref-glob-items.ensures.value
+    ∙ said_start c.args.specs.now c.keys-2.result.now path c.in_ok-own.own c.in_ok-meta.meta c.in_ok-globs.globs.items c.keys-2.ensures c.in_ok-own.ensures c.in_ok-meta.ensures c.in_ok-globs.ensures
 
-pub loop-name-preserved : goal.loop-name-preserved
-loop-name-preserved c =
-    said_next c.args.path.now.parts (c.in-Some.name.now, entry_of c.in-Some.entry.now) c.loop-name.name-iterator c.next.new.self c.loop-name.meta c.if_pattern.new.meta _ c.is_pattern.result
-    c.in-Some.ensures.steps c.is_pattern.ensures c.in_ok-if_pattern.ensures.ok c.loop-name.invariant
+pub loop-glob-preserved : goal.loop-glob-preserved
+loop-glob-preserved c =
+    said_more c.args.path.now.parts c.deref-glob-items.result.now c.loop-glob.glob-index c.glob-item.result c.loop-glob.meta c.if_pattern.new.meta _ c.is_pattern.result
+    (omega arith) c.glob-item.is c.is_pattern.ensures c.in_ok-if_pattern.ensures.ok c.loop-glob.invariant
 
 pub returns : goal.returns
-returns c = said_last c.args.path.now.parts c.loop-name.name-iterator c.loop-name.meta _ c.in-None.ensures.steps.0 c.loop-name.invariant
+returns c = said_all c.args.path.now.parts c.deref-glob-items.result.now c.loop-glob.glob-index c.loop-glob.meta _ (omega arith) c.loop-glob.invariant

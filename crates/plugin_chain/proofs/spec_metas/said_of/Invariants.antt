@@ -1,8 +1,9 @@
 -- What the keys so far say, over what those to come say, is what all of them say.
-use Rattle.std.proofs.Common.{◌≡◌, ◌∷◌}
+use Rattle.std.proofs.Common.{◌≡◌, ◌∷◌, drop, map}
 use Rattle.model_specified.specs.SpecMeta.{laid_over, said_of}
+use Rattle.plugin_chain.specs.Globs.{seen}
 use Rattle.plugin_chain.proofs.SpecLemmas.{metas_of}
 use Rattle.plugin_chain.proofs.spec_metas.said_of.Given as goal
 
-abbrev pub invariant-loop-name : goal.invariant-loop-name
-invariant-loop-name l = laid_over (l.meta ∷ metas_of l.path.parts l.name-iterator) ≡ said_of l.specs l.path.parts
+abbrev pub invariant-loop-glob : goal.invariant-loop-glob
+invariant-loop-glob l = laid_over (l.meta ∷ metas_of l.path.parts (map seen (drop l.glob-index l.glob-items))) ≡ said_of l.specs l.path.parts
