@@ -240,13 +240,15 @@ told 'a set where KDB_DIR is not there' "$(err_of $?), $(ls "$work/run")" "$disk
 KDB_DIR=$work/run/nowhere "$kdb" frob 2>"$work/err"
 told 'an unknown command where KDB_DIR is not there' "$(err_of $?)" '4 kdb: unknown command frob'
 
-# open_gate FOLDER TEXT: a journal there whose gate is open, with an entry by which user.ecf holds the text
+# open_gate FOLDER FILE TEXT: a journal there in which an entry waits by which user.ecf holds the text: the file journal2,
+# or journal, as a former program left it
 open_gate() {
-  python3 -c '
+  PYTHONPATH=$top/bench python3 -c '
 import sys
-text = sys.argv[2].encode()
-body = bytes([1, 8]) + b"user.ecf" + len(text).to_bytes(4, "little") + text
-open(f"{sys.argv[1]}/journal", "wb").write(bytes([1]) + len(body).to_bytes(4, "little") + body)' "$1" "$2"
+from fair_files import former_of, journal_of
+entry = {"user.ecf": sys.argv[3].encode()}
+held = former_of(entry) if sys.argv[2] == "journal" else journal_of(["user.ecf"], entry)
+open(f"{sys.argv[1]}/{sys.argv[2]}", "wb").write(held)' "$1" "$2" "$3"
 }
 entry=$(printf 'kdbOpen 2\n$key string 4 1\nsw/a\n7\n$end\n.')
 entry=${entry%.}
@@ -262,7 +264,7 @@ if [ "$(id -u)" = 0 ]; then
   }
   theirs
   other ln -s "$work/target" .kdb/user.ecf
-  open_gate .kdb "$entry"
+  open_gate .kdb journal2 "$entry"
   "$kdb" get user:/nothing 2>"$work/err"
   told "a get of root over another's link in the place of a file" "$(err_of $?), $(cat "$work/target")" \
     "$disk_fault, mine"
@@ -274,7 +276,7 @@ if [ "$(id -u)" = 0 ]; then
     not_tried 'the calls over a refused link, since strace is not installed'
   fi
   theirs
-  other ln -s "$work/target" .kdb/journal
+  other ln -s "$work/target" .kdb/journal2
   "$kdb" set user:/sw/a 1 2>"$work/err"
   told "a set of root over another's link in the place of the journal" "$(err_of $?), $(cat "$work/target")" \
     "$disk_fault, mine"
@@ -324,18 +326,23 @@ if [ "$(id -u)" = 0 ]; then
   member 60002 "$kdb" set user:/sw/a 2 >/dev/null 2>"$work/err"
   told 'a set of the second member of a group' "$(err_of $?), $("$kdb" get user:/sw/a)" '0 , 2'
 
-  # Who may only read, where the gate is open.
-  fresh
-  chmod 755 .kdb
-  open_gate .kdb "$entry"
-  told 'a get of another user over an open gate' "$(other "$kdb" get user:/sw/a)" 7
-  other "$kdb" set user:/sw/a 8 2>"$work/err"
-  told 'a set of that user' "$(err_of $?)" "$disk_fault"
-  told 'the file and the gate behind that' "$(sed -n 4p .kdb/user.ecf) $(head -c 1 .kdb/journal | od -An -tu1)" '1    1'
-  told 'a get of the owner then' "$("$kdb" get user:/sw/a)$(sed -n 4p .kdb/user.ecf)" 77
+  # Who may only read, where an entry waits, or a former journal is there.
+  for journal in journal2 journal; do
+    fresh
+    chmod 755 .kdb
+    open_gate .kdb $journal "$entry"
+    told "a get of another user over an open $journal" "$(other "$kdb" get user:/sw/a)" 7
+    other "$kdb" set user:/sw/a 8 2>"$work/err"
+    told 'a set of that user' "$(err_of $?)" "$disk_fault"
+    told 'the file and the gate behind that' "$(sed -n 4p .kdb/user.ecf) $(head -c 1 .kdb/$journal | od -An -tu1)" '1    1'
+    told 'a get of the owner then' "$("$kdb" get user:/sw/a)$(sed -n 4p .kdb/user.ecf)" 77
+  done
+  told 'what is left of the former journal' "$(od -An -tu1 .kdb/journal)" '   0'
+  printf '\0\0\0\0\0\0' >.kdb/journal
+  told 'a get of another user over a closed one' "$(other "$kdb" get user:/sw/a), $(wc -c <.kdb/journal)" '7, 6'
   mkdir "$work/seen"
   if mount --bind "$work/run" "$work/seen" 2>/dev/null && mount -o remount,bind,ro "$work/seen" 2>/dev/null; then
-    open_gate .kdb "$(printf 'kdbOpen 2\n$key string 4 1\nsw/a\n9\n$end\n.' | head -c -1; echo)"
+    open_gate .kdb journal2 "$(printf 'kdbOpen 2\n$key string 4 1\nsw/a\n9\n$end\n.' | head -c -1; echo)"
     told 'a get on a read-only mount over an open gate' "$(cd "$work/seen" && "$kdb" get user:/sw/a)" 9
     (cd "$work/seen" && "$kdb" set user:/sw/a 8 2>"$work/err")
     told 'a set there' "$(err_of $?)" "$disk_fault"
@@ -350,7 +357,7 @@ if [ "$(id -u)" = 0 ]; then
   mkdir .kdb
   chmod 711 .kdb
   "$kdb" set user:/secret/pw hunter2 >/dev/null
-  other cat .kdb/journal >/dev/null 2>&1
+  other cat .kdb/journal2 >/dev/null 2>&1
   told "another user's look at the journal of a folder that only its owner may read" $? 1
 
   # A file system of 64 KiB.

@@ -31,7 +31,7 @@ import sys
 import tempfile
 import time
 
-from fair_files import NotOpened, Store
+from fair_files import OWN, NotOpened, Store
 from fair_formats import read_dump
 from fair_judge import DISK_FAULT, Text, Trial, Unfair, held, judged, rendered, text_of
 from fair_keys import shown
@@ -242,8 +242,7 @@ def batch():
     trial = Trial(script, store, Text([], play.history.commits))
     trial.replay()
     write_files(".kdb", {**dict.fromkeys(store.files, b""), **trial.files()})
-    if "journal" in before:
-        write_files(".kdb", {"journal": b"\0" + before["journal"][1:]})
+    write_files(".kdb", {name: b"\0" + before[name][1:] for name in OWN & before.keys() if before[name]})
 
 
 def main():

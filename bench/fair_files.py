@@ -21,13 +21,37 @@ class NotOpened(Exception):
     """Why a store isn't opened, as its line has it behind `kdb: `."""
 
 
-# ---- the journal
+# ---- the journals
 
-MOST_FILES, MOST_ENTRIES, LAST_PLACE = 64, 32, 67_200_005
+# the file that the former program kept its list in, and this one's, whose list stands behind a head
+FORMER, JOURNAL = "journal", "journal2"
+OWN = {FORMER, JOURNAL}
+
+MOST_FILES, MOST_ENTRIES, LAST_PLACE, LONGEST_HEADER = 64, 32, 67_200_005, 6_465
 
 
 class BadJournal(Exception):
-    """The place in the body of the first open entry that isn't whole."""
+    """The place that is told of the head or of the first open entry that isn't whole."""
+
+
+class UnknownVersion(Exception):
+    """The version of an open journal that this program doesn't know."""
+
+
+class List:
+    """A list of entries: its bytes from the first gate on, the place of that gate in the file, and behind a head the
+    names that its entries may have. Places are counted in the body of an entry, and behind a head from the file's
+    first byte.
+    """
+
+    def __init__(self, data, start=0, names=None):
+        self.data, self.start, self.names = data, start, names
+
+    def bad(self, at, place):
+        return BadJournal(place if self.names is None else self.start + at + 5 + place)
+
+    def too_late(self, at):
+        return BadJournal(0 if self.names is None else self.start + at + 1)
 
 
 def count_in(body):
@@ -35,19 +59,27 @@ def count_in(body):
     return body[0] - 128 if body[0] > 128 else body[0]
 
 
-def body_of(body):
+def name_at(data, at, last):
+    """The name behind its length at a place, and where it ends."""
+    if at == len(data):
+        raise BadJournal(at)
+    count, at = data[at], at + 1
+    name = data[at : at + count].decode("latin1")
+    if len(name) < count or not is_file_name(name) or name.startswith("journal") or name <= last:
+        raise BadJournal(at)
+    return name, at + count
+
+
+def body_of(body, names=None):
     """The files of a body, or the place of its first field that is missing, cut or against a rule."""
-    if not body or not 1 <= count_in(body) <= MOST_FILES:
+    if not body or not 1 <= count_in(body) <= MOST_FILES or names is not None and body[0] <= 128:
         raise BadJournal(0)
     files, last, at = {}, "", 1
     for _ in range(count_in(body)):
-        if at == len(body):
-            raise BadJournal(at)
-        count, at = body[at], at + 1
-        name = body[at : at + count].decode("latin1")
-        if len(name) < count or not is_file_name(name) or name.startswith("journal") or name <= last:
-            raise BadJournal(at)
-        at += count
+        begin = at + 1
+        name, at = name_at(body, at, last)
+        if names is not None and name not in names:
+            raise BadJournal(begin)
         if at + 4 > len(body):
             raise BadJournal(at)
         many, at = int.from_bytes(body[at : at + 4], "little"), at + 4
@@ -59,23 +91,56 @@ def body_of(body):
     return files
 
 
-def entry_at(journal, at, number):
-    """The entry behind the gate at a place, the size of its body, and whether another gate stands behind it."""
-    size = int.from_bytes(journal[at + 1 : at + 5], "little")
-    body = journal[at + 5 : at + 5 + size]
-    if number == MOST_ENTRIES or at + 5 + size > LAST_PLACE:
+def header_of(header):
+    """The names of a header, or the place of its first field that is missing, cut or against a rule."""
+    if not header or not 1 <= header[0] <= MOST_FILES:
         raise BadJournal(0)
-    files = body_of(body)
+    names, last, at = [], "", 1
+    for _ in range(header[0]):
+        last, at = name_at(header, at, last)
+        names.append(last)
+    if at < len(header):
+        raise BadJournal(at)
+    return names
+
+
+def head_of(journal):
+    """The list behind the head of a journal whose header gate is taken as open."""
+    if journal[1] != 2:
+        raise UnknownVersion(journal[1])
+    size = int.from_bytes(journal[2:6], "little")
+    if size > LONGEST_HEADER:
+        raise BadJournal(2)
+    header = journal[6 : 6 + size]
+    try:
+        names = header_of(header)
+    except BadJournal as at:
+        raise BadJournal(6 + at.args[0]) from at
+    if len(header) < size:
+        raise BadJournal(6 + len(header))
+    return List(journal[6 + size :], 6 + size, names)
+
+
+def entry_at(held, at, number):
+    """The entry behind the gate at a place of a list, the size of its body, and whether another gate stands behind."""
+    size = int.from_bytes(held.data[at + 1 : at + 5], "little")
+    body = held.data[at + 5 : at + 5 + size]
+    if number == MOST_ENTRIES or at + 5 + size > LAST_PLACE:
+        raise held.too_late(at)
+    try:
+        files = body_of(body, held.names)
+    except BadJournal as place:
+        raise held.bad(at, place.args[0]) from place
     if len(body) < size:
-        raise BadJournal(len(body))
+        raise held.bad(at, len(body))
     return files, size, body[0] > 128
 
 
-def open_entries(journal):
-    """The open entries of a journal as its opening reads them: a gate that is neither 0 nor 1 counts as closed."""
+def entries_of(held):
+    """The open entries of a list as an opening reads them: a gate that is neither 0 nor 1 counts as closed."""
     entries, at = [], 0
-    while at + 5 <= len(journal) and journal[at] == 1:
-        files, size, goes_on = entry_at(journal, at, len(entries))
+    while at + 5 <= len(held.data) and held.data[at] == 1:
+        files, size, goes_on = entry_at(held, at, len(entries))
         entries.append(files)
         if not goes_on:
             break
@@ -83,31 +148,75 @@ def open_entries(journal):
     return entries
 
 
-def readings(journal, at=0, number=0):
-    """Each list of entries as which a journal may be read, that of its opening first: a gate that is neither 0 nor 1
-    may be taken as either.
-    """
-    if at + 5 > len(journal) or journal[at] == 0:
+def open_entries(files):
+    """The open entries of both journals: those of the former one come first."""
+    former, journal = files.get(FORMER, b""), files.get(JOURNAL, b"")
+    entries = entries_of(List(former))
+    return entries + (entries_of(head_of(journal)) if len(journal) >= 6 and journal[0] == 1 else [])
+
+
+def list_readings(held, at=0, number=0):
+    """Each list of entries as which a list may be read: a gate that is neither 0 nor 1 may be taken as either."""
+    if at + 5 > len(held.data) or held.data[at] == 0:
         return [[]]
-    files, size, goes_on = entry_at(journal, at, number)
-    behind = readings(journal, at + 5 + size, number + 1) if goes_on else [[]]
-    return ([[]] if journal[at] != 1 else []) + [[files, *others] for others in behind]
+    files, size, goes_on = entry_at(held, at, number)
+    behind = list_readings(held, at + 5 + size, number + 1) if goes_on else [[]]
+    return ([[]] if held.data[at] != 1 else []) + [[files, *others] for others in behind]
+
+
+def journal_readings(journal):
+    if len(journal) < 6 or journal[0] == 0:
+        return [[]]
+    return ([[]] if journal[0] != 1 else []) + list_readings(head_of(journal))
+
+
+def readings(files):
+    """Each list of entries as which the journals of an image may be read, that of its opening first."""
+    former, journal = list_readings(List(files.get(FORMER, b""))), journal_readings(files.get(JOURNAL, b""))
+    if any(former) and any(journal):
+        raise BadJournal("both journals have entries")
+    return [before + behind for before in former for behind in journal]
 
 
 def with_entries(files, entries):
-    """The files of a folder but for the journal, with the contents of some entries over them."""
-    held = {name: data for name, data in files.items() if name != "journal"}
+    """The files of a folder but for the journals, with the contents of some entries over them."""
+    held = {name: data for name, data in files.items() if name not in OWN}
     for entry in entries:
         held.update(entry)
     return held
 
 
 def outcomes(files):
-    """What the files of an image stand for; nothing where its journal is broken."""
+    """What the files of an image stand for; nothing where its journals are broken."""
     try:
-        return [with_entries(files, entries) for entries in readings(files.get("journal", b""))]
-    except BadJournal:
+        return [with_entries(files, entries) for entries in readings(files)]
+    except (BadJournal, UnknownVersion):
         return []
+
+
+def is_left_open(files):
+    """Whether an opening of some files would bring anything in, or refuse them."""
+    try:
+        return bool(open_entries(files))
+    except (BadJournal, UnknownVersion):
+        return True
+
+
+def journal_of(names, *entries):
+    """A journal with a head of these names, and some entries, each some files, whose gates are open."""
+    header = bytes([len(names)]) + b"".join(bytes([len(it)]) + it.encode() for it in sorted(names))
+    return b"\1\2" + len(header).to_bytes(4, "little") + header + former_of(*entries)
+
+
+def former_of(*entries):
+    """A list of some entries whose gates are open, as behind a kill of a batch: a former journal."""
+    whole = b""
+    for files in entries:
+        body = bytes([128 + len(files)])
+        for name, held in sorted(files.items()):
+            body += bytes([len(name)]) + name.encode() + len(held).to_bytes(4, "little") + held
+        whole += b"\1" + len(body).to_bytes(4, "little") + body
+    return whole + b"\0"
 
 
 # ---- the mount table
@@ -168,9 +277,11 @@ class Store:
 
     def __init__(self, files):
         try:
-            self.files = with_entries(files, open_entries(files.get("journal", b"")))
+            self.files = with_entries(files, open_entries(files))
         except BadJournal as why:
             raise NotOpened(f"C03100 bad-journal {why}") from why
+        except UnknownVersion as why:
+            raise NotOpened(f"C03100 journal-version {why}") from why
         self.mounts = self.table()
         self.points = [point for point, *_ in self.mounts]
         self.by_key = [by_key for *_, by_key in self.mounts]

@@ -3,7 +3,7 @@
 import collections
 import re
 
-from fair_files import NotOpened, Store, outcomes
+from fair_files import NotOpened, Store, is_left_open, outcomes
 from fair_keys import Beyond, name_of, plain, quoted, shown, unquoted_at, with_meta
 from fair_scripts import BadScript, script_of
 from fair_steps import EDITS, Commit, History, Judge, Session, edited, looked_up
@@ -451,7 +451,7 @@ class Trial:
         wanted = [self.files()]
         wanted += [self.files(it) for front, it in self.failed if front == len(self.history)]
         found = held(after)
-        if not (self.failed or has_failed) and after.get("journal", b"\0")[:1] not in (b"", b"\0"):
+        if not (self.failed or has_failed) and is_left_open(after):
             raise Unfair("files", "the journal is left open")
         if not found or any(it not in wanted for it in found):
             names = {name for it in found for name in {*it, *wanted[0]} if it.get(name) != wanted[0].get(name)}

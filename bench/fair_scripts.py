@@ -3,6 +3,7 @@ import collections
 import random
 import re
 
+from fair_files import journal_of
 from fair_formats import dump_of
 from fair_keys import (CASCADING, LONGEST_META, PROC, name_of, plain, quoted, size, spelling, unquoted_at)
 
@@ -338,6 +339,10 @@ def files_of(seed):
         body = body_with("user.ecf", dump_of(relative_keys(key("/a", "brought in"))))
         gate = chance.choice([0, 1])
         files["journal"] = bytes([gate]) + len(body).to_bytes(4, "little") + body + b"rest"
+    elif chance.random() < 0.3:
+        entry = {"user.ecf": dump_of(relative_keys(key("/a", "brought in")))}
+        gate = chance.choice([0, 1])
+        files["journal2"] = bytes([gate]) + journal_of(["user.ecf"], entry)[1:] + b"rest"
     return files
 
 

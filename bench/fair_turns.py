@@ -16,7 +16,7 @@ import fair_merges
 import fair_undos
 import fair_watches
 from fair_cases import NESTED
-from fair_files import Store
+from fair_files import Store, journal_of
 from fair_formats import dump_of
 from fair_judge import Trial, Unfair, judged, rendered, text_of
 from fair_play import Play
@@ -75,7 +75,8 @@ FILE_TURNS = [
     ("what another mount hides is lost", {"user.ecf": dump_of(relative_keys(key("/a", "2")))}, "files"),
     ("a file that no commit touched", {"dir.ecf": b"kdbOpen 2\n$end\n"}, "files"),
     ("the other file's layout is lost", {"sw.ini": b"x = 1"}, "files"),
-    ("a gate that is open", {"journal": b"\1\2\0\0\0\1\0"}, "files"),
+    ("a former journal's gate that is open", {"journal": b"\1\2\0\0\0\1\0"}, "files"),
+    ("an entry that waits", {"journal2": journal_of(["dir.ecf"], {"dir.ecf": b"kdbOpen 2\n$end\n"})}, "files"),
 ]
 
 

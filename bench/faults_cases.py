@@ -2,6 +2,7 @@
 import re
 import sys
 
+from fair_files import former_of, journal_of
 from faults_runs import files_in, put_files, run
 
 DISK_FAULT = b"kdb: C01100 disk-fault\n"
@@ -27,8 +28,14 @@ def dump(name, value):
     return f"kdbOpen 2\n$key string {len(name)} {len(value)}\n{name}\n{value}\n$end\n".encode()
 
 
-# the entries of an open journal: the second one writes over a part of the first
+# the entries of an open journal, or of a former one: the second one writes over a part of the first
 ENTRIES = [{"app.ecf": dump("host", "there"), "user.ecf": dump("sw/a", "one")}, {"user.ecf": dump("sw/a", "another")}]
+
+# what a run that was killed left open: this program's journal, or that of a former one
+OPEN_JOURNALS = {
+    "opened": {"journal2": journal_of(["app.ecf", "user.ecf"], *ENTRIES)},
+    "former": {"journal": former_of(*ENTRIES)},
+}
 
 # for each name the words of a command, its input, and the commands that make the store which it begins with
 COMMANDS = {
@@ -42,20 +49,10 @@ COMMANDS = {
     "import": ("import user:/sw simpleini", IMPORTED, BEGIN),
     "first": ("set user:/sw/a 1", b"", []),
     "opened": ("get user:/sw/a", b"", BEGIN),
+    "former": ("get user:/sw/a", b"", BEGIN),
     "batch": ("batch", script(3), BEGIN),
     "gen": ("gen 3", b"", BEGIN),
 }
-
-def journal_of(*entries):
-    """A journal of some entries, each some files, whose gates are open: as behind a kill of a batch."""
-    whole = b""
-    for files in entries:
-        body = bytes([128 + len(files)])
-        for name, held in sorted(files.items()):
-            body += bytes([len(name)]) + name.encode() + len(held).to_bytes(4, "little") + held
-        whole += b"\1" + len(body).to_bytes(4, "little") + body
-    return whole + b"\0"
-
 
 class Case:
     """A command on the store that it begins with, and what it comes to where nothing fails.
@@ -74,14 +71,14 @@ class Case:
                     sys.exit(f"kdb {line} fails before any call does")
             self.begin = files_in(folder)
         self.ends = [self.begin]
-        if name == "opened":
+        if name in OPEN_JOURNALS:
             # What is in an open journal was stored: the former files are no end of this run.
             self.ends = [{**self.begin, **ENTRIES[0], **ENTRIES[1]}]
-            self.begin = {**self.begin, "journal": journal_of(*ENTRIES)}
+            self.begin = {**self.begin, **OPEN_JOURNALS[name]}
         elif name == "batch":
             self.ends += [self.end_of(trials.file(script(sets)))[1] for sets in (1, 2)]
         self.wanted, last = self.end_of(self.given)
-        stores = name not in ("get", "validate", "opened", "gen")
+        stores = name not in ("get", "validate", "gen", *OPEN_JOURNALS)
         if self.wanted.status != (13 if name == "validate" else 0) or (last == self.ends[-1]) == stores:
             trials.complain(name, "ends with", self.wanted, "where nothing fails, and leaves", last)
         if stores:

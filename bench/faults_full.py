@@ -20,6 +20,7 @@ import subprocess
 import sys
 import threading
 
+from fair_files import JOURNAL, open_entries
 from faults_cases import DISK_FAULT
 from faults_runs import Trials, put_files, run
 
@@ -125,9 +126,10 @@ class Filler(threading.Thread):
 
 
 def has_open_journal(folder):
-    path = f"{folder}/.kdb/journal"
+    """Whether entries wait in the journal of a store."""
+    path = f"{folder}/.kdb/journal2"
     with open(path if os.path.exists(path) else os.devnull, "rb") as file:
-        return file.read(1) == b"\1"
+        return bool(open_entries({JOURNAL: file.read()}))
 
 
 def filled(trials, sessions, pages, is_shared=False):

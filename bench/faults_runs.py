@@ -25,12 +25,12 @@ def run(words, folder, given=os.devnull, longest=60, **how):
 
 
 def files_in(folder):
-    """The files of a store by their names, without the lock and the journal. One that isn't there is an empty one."""
+    """The files of a store by their names, without the lock and the journals. One that isn't there is an empty one."""
     store, found = f"{folder}/.kdb", {}
     for name in os.listdir(store) if os.path.isdir(store) else ():
         with open(f"{store}/{name}", "rb") as file:
             found[name] = file.read()
-    return {name: held for name, held in found.items() if held and name != "journal"}
+    return {name: held for name, held in found.items() if held and name not in ("journal", "journal2")}
 
 
 def put_files(folder, files):

@@ -25,6 +25,7 @@ import subprocess
 import sys
 
 from fair import Ran, believe, files_in, prefixes, write_files
+from fair_files import FORMER, JOURNAL, former_of, is_left_open, journal_of
 from fair_judge import Unfair, held
 
 MEMORY = b"kdb: C01110 out of memory\n"
@@ -121,10 +122,15 @@ def script_of_words(text):
 
 
 def open_gate(files):
-    """Files with a journal whose gate is open, before an entry with another text of one of them."""
+    """Files with a journal in which an entry waits, with another text of one of them."""
     text = files["user.ecf"].replace(b"sw/a\n1\n", b"sw/a\n2\n")
-    body = bytes([1, 8]) + b"user.ecf" + len(text).to_bytes(4, "little") + text
-    return {**files, "journal": b"\1" + len(body).to_bytes(4, "little") + body}
+    return {**files, JOURNAL: journal_of(["user.ecf"], {"user.ecf": text})}
+
+
+def former_gate(files):
+    """The same with the journal of a former program."""
+    text = files["user.ecf"].replace(b"sw/a\n1\n", b"sw/a\n2\n")
+    return {**files, FORMER: former_of({"user.ecf": text})}
 
 
 class Refuser:
@@ -180,7 +186,7 @@ def single(ran, ample, before):
             raise Unfair("files", "it ends as with ample memory, and its files don't")
         return "ample"
     if ran[:3] == (b"", MEMORY, 70):
-        is_left = ran.after == before or before.get("journal", b"\0")[:1] == b"\1" and held(ran.after) == held(before)
+        is_left = ran.after == before or is_left_open(before) and held(ran.after) == held(before)
         if not is_left:
             raise Unfair("files", "memory was wanting, and the files were changed")
         return "70"
@@ -237,7 +243,7 @@ class Trying:
                     if not refused:
                         continue
                     came = judge(ran)
-                    if ran.after.get("journal", b"\0")[:1] == b"\1" and not self.refuser.opens():
+                    if is_left_open(ran.after) and not self.refuser.opens():
                         raise Unfair("next", "the next run doesn't open the store")
                     counts[came] += 1
                 except (Unfair, subprocess.TimeoutExpired) as why:
@@ -259,6 +265,7 @@ def main():
     trying = Trying(refuser)
     stores = {"none": {}, "some": refuser.made(STORE)}
     stores["open"] = open_gate(stores["some"])
+    stores["former"] = former_gate(stores["some"])
     print("| command | growths | one refused: as with ample memory | 70 | 74 | all behind it, too | 70 | 74 |")
     print("|---|---|---|---|---|---|---|---|")
     for run in RUNS:

@@ -21,13 +21,13 @@ import sys
 import tempfile
 
 from fair import files_in, played, program, write_files
-from fair_files import NotOpened, Store
+from fair_files import OWN, NotOpened, Store
 from fair_formats import READERS, BadFile, dump_of
 from fair_judge import Unfair, judged
 from fair_keys import CASCADING, USER, name_of, plain, spelling
 from fair_scripts import BadScript, script_of
-from hostile_cases import (PLACE, TwoTexts, answer_to, bytes_of, imported, of_body, of_file, of_import, of_journal,
-                           of_script, of_table)
+from hostile_cases import (JOURNALS, PLACE, TwoTexts, answer_to, bytes_of, imported, of_body, of_file, of_former,
+                           of_import, of_journal, of_script, of_table)
 from hostile_texts import BYTES, DECIMALS, GOOD, LENGTHS, VALUES, changed, changed_once, cut, data_of, sized
 
 TOP = os.path.dirname(os.path.dirname(os.path.abspath(__file__)))
@@ -45,7 +45,8 @@ def asking(kind):
     """How texts of a kind are asked about."""
     if kind in READERS:
         return lambda data: of_file(kind, data)
-    return {"body": of_body, "journal": of_journal, "script": of_script, "table": of_table}[kind]
+    others = {"body": of_body, "journal": of_journal, "former": of_former, "script": of_script, "table": of_table}
+    return others[kind]
 
 
 # ---- the table of the gate
@@ -58,7 +59,10 @@ def table():
             continue
         data = data_of(good)
         parts = [("cut at each byte", cut(data)), ("with each byte changed", changed_once(data, VALUES[kind])),
-                 ("with other sizes", sized(good, [LENGTHS] if kind == "journal" else (DECIMALS, BYTES, LENGTHS)))]
+                 ("with other sizes", sized(good, [LENGTHS] if kind in JOURNALS else (DECIMALS, BYTES, LENGTHS)))]
+        if kind == "journal":
+            # Its list is that of a former journal, whose bytes are changed above: the gate's table is to be quick.
+            parts = [parts[0]]
         for said, texts in parts:
             lines += [("", []), (f"# {kind}: {said}.", [])]
             for it in dict.fromkeys(texts):
@@ -240,7 +244,7 @@ def line_of(why):
 def is_so(found, why, out, files):
     """Whether a run ended with a refusal, or with an output, and with some files, of which empty ones don't count."""
     status, said, err, after = found
-    held = [{name: data for name, data in it.items() if data and name != "journal"} for it in (files, after)]
+    held = [{name: data for name, data in it.items() if data and name not in OWN} for it in (files, after)]
     return (status, said, err) == (5 if why else 0, b"" if why else out, line_of(why)) and held[0] == held[1]
 
 
@@ -269,14 +273,14 @@ def try_import(kdb, kind, data):
     return why, is_so(ran(kdb, ["import", spelling(PLACE), kind], {}, data), why, b"", {"user.ecf": held})
 
 
-def try_journal(kdb, data):
+def try_journal(kdb, name, data):
     """A journal that stands alone: its entries are in their files behind any run."""
     why, files = None, {}
     try:
-        files = Store({"journal": data}).files
+        files = Store({name: data}).files
     except NotOpened as at:
         why = str(at)
-    return why, is_so(ran(kdb, ["ls", "user:/"], {"journal": data}), why, b"", files)
+    return why, is_so(ran(kdb, ["ls", "user:/"], {name: data}), why, b"", files)
 
 
 def try_script(kdb, data):
@@ -297,7 +301,7 @@ def ask_kdb():
     kdb, counts = program(), Counts()
     tries = [(f"{kind} mounted", kind, lambda it, kind=kind: try_mounted(kdb, kind, it)) for kind in READERS]
     tries += [(f"{kind} imported", kind, lambda it, kind=kind: try_import(kdb, kind, it)) for kind in READERS]
-    tries += [("journal", "journal", lambda it: try_journal(kdb, it))]
+    tries += [(kind, kind, lambda it, name=name: try_journal(kdb, name, it)) for kind, name in JOURNALS.items()]
     tries += [("script", "script", lambda it: try_script(kdb, it))]
     tries = [(f"{said}, in kdb", kind, tried) for said, kind, tried in tries]
     for said, kind, tried in tries:

@@ -135,13 +135,21 @@ def refused(why):
     return ran(5, err=f"kdb: {why}\n".encode())
 
 
-def of_journal(data, names=("a", "b")):
+# the files of the kinds of journals: this program's, and a former one's
+JOURNALS = {"journal": "journal2", "former": "journal"}
+
+
+def of_former(data, names=("a", "b")):
+    return of_journal(data, names, "journal")
+
+
+def of_journal(data, names=("a", "b"), file="journal2"):
     """What an opening makes of a journal that stands alone: the files that are named, and those of its entries. One
     that is refused writes none.
     """
-    lines = [("disk", []), (f"file journal {spelled(data)}", [])]
+    lines = [("disk", []), (f"file {file} {spelled(data)}", [])]
     try:
-        files, ended = Store({"journal": data}).files, ran(0)
+        files, ended = Store({file: data}).files, ran(0)
     except NotOpened as why:
         files, ended = {}, refused(why)
     lines.append(("run ls user:/", ended))

@@ -345,7 +345,7 @@ def seen_of(store, handle):
 
 def failing_of(numbers):
     """Some calls of the disk behind those of the opening."""
-    return [numbers.below(100) + 12 for _ in range(numbers.below(12))]
+    return [numbers.below(100) + 13 for _ in range(numbers.below(12))]
 
 
 def flushes_of(numbers):

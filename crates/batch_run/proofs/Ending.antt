@@ -198,7 +198,7 @@ unplayed formats g refused files script core closed stands history patterns left
   refused_by = inl (omega (arith, ap refused patterns));
   goes = goes;
   left_alone = λ begins unwritten fresh. left_alone unwritten fresh;
-  disk = λ start first is_store. record {
+  disk = λ start first names is_store. record {
     last = first;
     by_story = refl;
     any_moment = always start first is_store;

@@ -14,6 +14,7 @@ use Rattle.kdb_outside.specs.declared.disks.Disk.{Ghosts}
 use Rattle.model_batch.specs.Fair.{count_failed, count_refused}
 use Rattle.model_batch.specs.Scripts.{IsFairScript, reply_rows}
 use Rattle.model_crashes.specs.Runs.{Run}
+use Rattle.model_files.specs.Files.{table_files}
 use Rattle.model_names.specs.declared.namespaces.Namespace.TheVariants.{Proc}
 use Rattle.model_store.specs.Legal.{IsLegal}
 use Rattle.model_store.specs.Store.{Formats}
@@ -29,7 +30,8 @@ pub record IsPlayable (script : Script) : Type 0 where
 -- The sessions of a script took their steps on an open store, and it was closed. There is one story of what they did, whose commits are the history that comes back.
 -- It is legal, and the replies are fair by it. Each set that failed and each refused pattern is one of the story, and the counts of the disk and of the matcher rose by
 -- at least so many. Without memory for the replies the story is empty. A store that nothing was written to since its opening began, and whose sessions begin no set,
--- makes no call on the disk. For whatever run the journal stood, the disk that comes back is handed on from it by the story
+-- makes no call on the disk. For whatever run the journal stood, under a head that names the files of the store, the disk that comes back is handed on from it by the
+-- story
 pub record IsPlayed (formats : Formats) {D P : Type 0} (g : Ghosts D) (refused : P → ℕ) (files : List MountedFile) (script : Script) (core : Core D P) (played : Played D P) : Type 0 where
   pub story : List Told
   pub history : played.closed.history.commits ≡ commits_of story
@@ -42,4 +44,4 @@ pub record IsPlayed (formats : Formats) {D P : Type 0} (g : Ghosts D) (refused :
   pub refused_by : HasRisenBy (refusals_in story) (refused core.patterns) (refused played.closed.patterns)
   pub goes : GoesOn g core.journal.disk played.closed.disk
   pub left_alone : BeginsNone story → core.wrote ≡ false → IsFresh core.journal → played.closed.disk ≡ core.journal.disk
-  pub disk : (start : D) (first : Run) → IsStore g start core.journal first → IsHandedOn formats g files start first core.journal.disk story played.closed.disk
+  pub disk : (start : D) (first : Run) → first.names ≡ table_files (store_at files) → IsStore g start core.journal first → IsHandedOn formats g files start first core.journal.disk story played.closed.disk

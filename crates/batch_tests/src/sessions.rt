@@ -85,8 +85,8 @@ fn the_gate_is_asked_before_each_step(rt: HostRuntime) -> Result<(), Fail> {
     Ok(())
 }
 
-/// The calls of the disk: six of the opening, two for the gate that it left in doubt, four of each commit, and five of each time that the file is
-/// written. The first time is the flusher's, in the first phase or in the second, and the other one is its own in the last phase or the closing's.
+/// The calls of the disk: seven of the opening, two for the gate that it left in doubt, four for the head, four of each commit, and five of each time
+/// that the file is written. The first time is the flusher's, in the first phase or in the second, and the other one is its own in the last phase or the closing's.
 #[test]
 fn a_flusher_writes_beside_the_sessions(rt: HostRuntime) -> Result<(), Fail> {
     let gate = CountingGate::new();
@@ -96,7 +96,7 @@ fn a_flusher_writes_beside_the_sessions(rt: HostRuntime) -> Result<(), Fail> {
     assert!(rt; played.transcripts.is_some());
     assert_eq!(rt;
         (gate.calls(), played.closed.disk.calls()),
-        (6, 6 + 2 + 4 + 5 + 4 + 5)
+        (6, 7 + 2 + 4 + 4 + 5 + 4 + 5)
     );
     Ok(())
 }

@@ -1,6 +1,7 @@
-//! Changes that are kept in memory, over the files of a folder that may not be written. They serve one end: a run that stores nothing
-//! brings in the entry of an open journal so, and reads what another's run has committed. No set is ever acknowledged over them, since its
-//! entry would have to be put into the journal, and of the journal nothing is taken but the closing of its gate.
+//! Changes that are kept in memory, over the files of a folder that may not be written. They serve one end: a run that
+//! stores nothing brings in the open entries of the journals so, retires a former one, and reads what another's run has
+//! committed. No set is ever acknowledged over them, since a head and its entry would have to be put into the journal,
+//! and of the journals nothing is taken but the closing of gates, and a cut.
 ghost use Rattle.std.specs.Prelude.{◌≤◌, length};
 
 use kdb_outside::{FileName, Memory};
@@ -8,19 +9,28 @@ use std::alloc::Global;
 use std::io;
 use std::io::ErrorKind;
 
-/// The file of the journal, and what its gate holds once it is closed.
-const JOURNAL: &str = "journal";
+/// The file that the former program kept its journal in.
+const FORMER_JOURNAL: &str = "journal";
 
+/// The file of the journal.
+const JOURNAL: &str = "journal2";
+
+/// What a gate holds once it is closed.
 const CLOSED: &[u8] = &[0];
 
-/// Whether a file is the journal.
+/// Whether a file is the former program's journal.
+pub(crate) fn is_former_journal(file: &FileName) -> bool {
+    file.text() == FORMER_JOURNAL
+}
+
+/// Whether a file is this program's journal.
 pub(crate) fn is_journal(file: &FileName) -> bool {
     file.text() == JOURNAL
 }
 
-/// Whether a write may be kept in memory.
-pub(crate) fn may_hold(file: &FileName, at: u64, piece: &[u8]) -> bool {
-    !is_journal(file) || at == 0 && piece == CLOSED
+/// Whether a write may be kept in memory: of the journals only the closing of a gate.
+pub(crate) fn may_hold(file: &FileName, piece: &[u8]) -> bool {
+    piece == CLOSED || !is_journal(file) && !is_former_journal(file)
 }
 
 /// A file with the bytes that a read is to give.

@@ -7,7 +7,9 @@ use crate::files::{fill, write_whole};
 use crate::locking::{Asked, MOST_TRIES, has_lock, is_fresh, lock, still_locks};
 use crate::making::{make_file, make_folder};
 use crate::opening::{found_at, is_denied, may_change, metadata_of, open_regular, standing_at};
-use crate::overlay::{Overlay, copy_from, cut_to, is_journal, may_hold, with_piece};
+use crate::overlay::{
+    Overlay, copy_from, cut_to, is_former_journal, is_journal, may_hold, with_piece,
+};
 use kdb_outside::{Disk, Failed, FileName, Memory};
 use std::fs::{File, OpenOptions};
 use std::io;
@@ -49,10 +51,10 @@ pub struct RealDisk {
 /// What the calls so far have met with in the folder.
 #[derive(Clone, Copy, PartialEq, Eq)]
 enum Found {
-    /// Nothing was changed, and no open gate was read.
+    /// Nothing was changed, and no journal was read that an opening may have to write into.
     Nothing,
-    /// The journal's gate was read as open, and nothing was changed.
-    OpenGate,
+    /// A former journal was read, or the header gate of the journal as open, and nothing was changed.
+    Journal,
     /// A file was changed.
     Changed,
 }
@@ -241,9 +243,10 @@ impl RealDisk {
         Ok(held?)
     }
 
-    /// Whether changes are kept in memory from now on: the first one is denied, and it brings the entry of an open journal in.
+    /// Whether changes are kept in memory from now on: the first one is denied, and it may be an opening's, which brings
+    /// the open entries of a journal in.
     fn holds_from(&self, error: &io::Error) -> bool {
-        self.found == Found::OpenGate && is_denied(error)
+        self.found == Found::Journal && is_denied(error)
     }
 
     fn length_of(&mut self, file: &FileName) -> io::Result<u64>
@@ -280,17 +283,18 @@ impl RealDisk {
             None => 0,
         };
         self.look_again()?;
-        self.note_gate(file, at, &buf[..count]);
+        self.note_journal(file, at, &buf[..count]);
         Ok(count)
     }
 
-    /// Keeps in mind that the gate of the journal was read as open.
-    fn note_gate(&mut self, file: &FileName, at: u64, bytes: &[u8])
+    /// Keeps in mind that a former journal was read, which an opening retires, or the header gate of the journal as open.
+    fn note_journal(&mut self, file: &FileName, at: u64, bytes: &[u8])
         ensures { self.new ≡ self.old }
     {
         let is_open = bytes.first().is_some_and(|gate| *gate != 0);
-        if self.found == Found::Nothing && at == 0 && is_open && is_journal(file) {
-            self.found = Found::OpenGate;
+        let is_written_to = is_former_journal(file) || is_open && is_journal(file);
+        if self.found == Found::Nothing && at == 0 && is_written_to {
+            self.found = Found::Journal;
         }
     }
 
@@ -303,7 +307,7 @@ impl RealDisk {
                 answer => return answer,
             }
         }
-        if !may_hold(file, at, piece) {
+        if !may_hold(file, piece) {
             return Err(io::Error::from(ErrorKind::PermissionDenied));
         }
         let bytes = self.bytes_of(file)?;

@@ -1,11 +1,15 @@
 //! A run of commits over the journal of a disk in memory: two commits, each device call failing alone, and a crash behind the run; and its flushes.
 ghost use Rattle.std.specs.Prelude.{IfOk};
 ghost use Rattle.journal_codec.specs.Entry.{IsEntry};
+ghost use Rattle.intent_journal.specs.Journal.{IsHeaderBytes};
 
 use backend_files::FileRead;
 use disk_memory::MemDisk;
 use intent_journal::Journal;
-use journal_codec::{FileText, decode, encode, spells_what_is_read};
+use journal_codec::{
+    FileText, decode, decode_header, encode, encode_header, headers_read_what_is_spelled,
+    spells_what_is_read,
+};
 use journal_steps::State;
 use kdb_outside::{Failed, FileName};
 use key_meta::List;
@@ -30,6 +34,20 @@ fn entry(alloc: Global, body: &[u8]) -> Result<List<FileText>, Fail>
     match decode(alloc, body) {
         Ok(files) => Ok(files),
         Err(_) => Err("it is a body")?,
+    }
+}
+
+/// The header that names both files.
+const BOTH: &[u8] = b"\x02\x05a.ecf\x05b.ecf";
+
+/// The head of a journal for both files.
+fn head(alloc: Global) -> Result<Vec<u8>, Fail>
+    ensures { IfOk result (λ header. IsHeaderBytes header.items) }
+{
+    headers_read_what_is_spelled();
+    match decode_header(alloc, BOTH) {
+        Ok(names) => Ok(encode_header(alloc, names.as_slice())?),
+        Err(_) => Err("it is a header")?,
     }
 }
 
@@ -64,10 +82,11 @@ fn commit_both(alloc: Global, failed: u64) -> Result<Ended, Fail> {
     }
 }
 
-/// Whether what is told of both entries fits the call that failed. The first call is the opening's. The next two settle the first gate, and four each put a
-/// body and open its gate: those of the second entry end with the eleventh. What comes behind them is the closing's.
+/// Whether what is told of both entries fits the call that failed. The first two calls are the opening's. The next two
+/// settle the header gate, four put the head, and four each put a body and open its gate: those of the second entry end
+/// with the sixteenth. What comes behind them is the closing's.
 fn is_told(failed: u64, one: bool, two: bool) -> bool {
-    one == (failed > 7) && two == (failed > 1 && !(8..12).contains(&failed))
+    one == (failed > 12) && two == (failed > 2 && !(13..17).contains(&failed))
 }
 
 /// A file of a disk, once the disk was opened and closed again.
@@ -105,7 +124,7 @@ fn every_failure_fits(alloc: Global, calls: u64, choices: u64) -> Result<bool, F
 
 #[test]
 fn stores_what_it_acknowledges_whichever_call_fails(rt: HostRuntime) -> Result<(), Fail> {
-    assert!(rt; every_failure_fits(rt.alloc(), 21, 3)?);
+    assert!(rt; every_failure_fits(rt.alloc(), 26, 3)?);
     Ok(())
 }
 
@@ -124,7 +143,7 @@ fn stored(
 ) -> Result<Result<(), Failed>, Fail> {
     let files = entry(alloc, body)?;
     let encoded = encode(alloc, files.as_slice())?;
-    Ok(store(journal, &encoded, files))
+    Ok(store(journal, &head(alloc)?, &encoded, files))
 }
 
 /// How an entry is committed.
@@ -135,7 +154,7 @@ fn committed(
 ) -> Result<Result<(), Failed>, Fail> {
     let files = entry(alloc, body)?;
     let encoded = encode(alloc, files.as_slice())?;
-    Ok(commit(journal, &encoded, files))
+    Ok(commit(journal, &head(alloc)?, &encoded, files))
 }
 
 /// The bytes of a file, read by its journal.
@@ -163,10 +182,10 @@ fn leaves_the_files_until_the_list_is_brought_in(rt: HostRuntime) -> Result<(), 
     let mut journal = opened(alloc, empty_disk(alloc, Vec::new(alloc))?)?;
     assert!(rt; stands(alloc, &mut journal, State::Doubt, b"")?);
     assert_eq!(rt; make_room(&mut journal, 67_200_000), Ok(()));
-    assert!(rt; stands(alloc, &mut journal, State::Clean, b"")?);
+    assert!(rt; stands(alloc, &mut journal, State::Bare, b"")?);
     assert_eq!(rt; stored(alloc, &mut journal, FIRST)?, Ok(()));
     assert!(rt; stands(alloc, &mut journal, State::Lag, b"")?);
-    // Its entry ends at place 17, so that a body of so many bytes fits behind it, and one of another byte doesn't.
+    // Its entry ends 17 bytes behind the first gate, so that a body of so many bytes fits behind it, and one of another byte doesn't.
     assert_eq!(rt; make_room(&mut journal, 67_199_983), Ok(()));
     assert!(rt; stands(alloc, &mut journal, State::Lag, b"")?);
     assert_eq!(rt; make_room(&mut journal, 67_199_984), Ok(()));
@@ -182,8 +201,8 @@ fn leaves_the_files_until_the_list_is_brought_in(rt: HostRuntime) -> Result<(), 
 #[test]
 fn flushes_what_waits_and_tries_again_behind_a_failure(rt: HostRuntime) -> Result<(), Fail> {
     let alloc = rt.alloc();
-    // The eighth call is the first that brings the entry in.
-    let disk = empty_disk(alloc, vec![in alloc; 8]?)?;
+    // The thirteenth call is the first that brings the entry in.
+    let disk = empty_disk(alloc, vec![in alloc; 13]?)?;
     let mut journal = opened(alloc, disk)?;
     assert_eq!(rt; flush(&mut journal), Ok(false));
     assert_eq!(rt; committed(alloc, &mut journal, FIRST)?, Ok(()));

@@ -364,8 +364,8 @@ fn handles_that_change_their_own_keys_of_a_file_by_its_backend_try_again(
     Ok(())
 }
 
-/// The calls of the disk: six of the opening, two for the gate that it left in doubt, four of each commit, and five of each time that the file is
-/// written, first by the flusher and then by the closing.
+/// The calls of the disk: seven of the opening, two for the gate that it left in doubt, four for the head, four of each commit, and five of each time
+/// that the file is written, first by the flusher and then by the closing.
 #[test]
 fn a_flusher_writes_between_two_commits(rt: HostRuntime) -> Result<(), Fail> {
     let alloc = rt.alloc();
@@ -383,6 +383,6 @@ fn a_flusher_writes_between_two_commits(rt: HostRuntime) -> Result<(), Fail> {
             Answer::Committed { number: 2 }
         )
     );
-    assert_eq!(rt; team.close().disk.calls(), 6 + 2 + 4 + 5 + 4 + 5);
+    assert_eq!(rt; team.close().disk.calls(), 7 + 2 + 4 + 4 + 5 + 4 + 5);
     Ok(())
 }

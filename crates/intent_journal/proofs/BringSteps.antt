@@ -10,21 +10,15 @@ use Rattle.std.proofs.lemmas.Slice.Eq.{bytes_eq-Decides}
 use Rattle.general_words.proofs.Lists.{at_place, take-next}
 use Rattle.kdb_outside.specs.declared.disks.Disk.{Ghosts}
 use Rattle.kdb_outside.specs.declared.faults.Failed.{Failed}
-use Rattle.kdb_outside.specs.Images.{Image}
 use Rattle.journal_codec.specs.declared.files.FileText.{FileText}
 use Rattle.journal_codec.specs.Entry.{IsEntry}
 use Rattle.journal_steps.specs.Moments.{KeepsUnnamed}
-use Rattle.journal_steps.specs.Outcomes.{content_in, with_entries, IsOutcome}
+use Rattle.journal_steps.specs.Outcomes.{content_in}
 use Rattle.journal_steps.proofs.Contents.{cond_some, names_differ, none_from_apart}
-use Rattle.journal_steps.proofs.Meanwhile.{else_both, else_weaker, meanwhile}
-use Rattle.journal_steps.proofs.Steps.{on_ok, on_err, only_image}
+use Rattle.journal_steps.proofs.Meanwhile.{else_both, else_weaker}
 use Rattle.intent_journal.specs.Bringing.{IsPassed, Brings}
-use Rattle.intent_journal.specs.Lists.{as_one}
-use Rattle.intent_journal.specs.Outcomes.{HasOnly}
-use Rattle.intent_journal.specs.States.{IsListed, HasBrought}
-use Rattle.intent_journal.specs.Steps.{Passes}
-use Rattle.intent_journal.proofs.Images.{listed_only}
-use Rattle.intent_journal.proofs.Passages.{listed_kept}
+use Rattle.journal_lists.specs.Lists.{as_one}
+use Rattle.intent_journal.specs.States.{HasBrought}
 use Rattle.intent_journal.proofs.Contents.{content_cases, content_in-first, content_in-second, cut_none}
 
 named_there : (texts : List FileText) (file bytes : List ℕ) → content_in texts file ≡ Some bytes → content_in texts file ≢ None
@@ -88,6 +82,7 @@ brings_front g old new r (Ok x) front back later failed so_far = absurd (cc)
 brings_front g old new r (Err e) front back later failed so_far = record {
   durable = tt;
   kept = λ other is. so_far.kept other (by other is);
+  seen = λ other is. so_far.seen other (by other is);
   time = else_weaker _ _ _ _ (KeepsUnnamed (front ++ back) (g.may_leave old)) so_far.time (λ image kept other none. kept other (cut_none front back other none).0);
 }
   where
@@ -115,6 +110,7 @@ module _ {D : Type 0} (g : Ghosts D) (old mid new : D) (r : Result Unit Failed) 
         let one = so_far.kept other is_passed.0 in
         let two = next.kept other is_passed.1 in
         record { no_more = λ c left. one.no_more c (two.no_more c left); no_fewer = λ c left. two.no_fewer c (one.no_fewer c left) };
+    seen = λ other is. let is_passed = both_passed other is in next.seen other is_passed.1 ∙ so_far.seen other is_passed.0;
     time = else_both _ _ _ _ _ (KeepsUnnamed (first ++ second) (g.may_leave old))
         (else_weaker _ _ _ _ (KeepsUnnamed (first ++ second) (g.may_leave old)) so_far.time (λ image kept other none. kept other (cut_none first second other none).0)) time
         (else_weaker _ _ _ _ (KeepsUnnamed (first ++ second) (g.may_leave old)) next.time (λ image kept other none.
@@ -158,21 +154,6 @@ list_parts [] entry some here = absurd (omega arith)
 list_parts (first ∷ list) entry some here =
     ap (λ (e : List FileText). e ∷ list) (sym here) ∙ ap (λ (rest : List (List FileText)). entry ∷ rest) (sym (take_all (length (first ∷ list) - 1) list (omega arith)))
 
--- what a list in the journal becomes by that
+-- so each file that is named has its content
 pub brought_first : {D : Type 0} (g : Ghosts D) (old new : D) (r : Result Unit Failed) (texts : List FileText) → Brings g old new r texts [] → OnOk r (HasBrought (g.may_leave new) texts)
 brought_first g old new r texts brings = on_ok_weaker r (λ brought file bytes is. brought file bytes is refl) brings.durable
-
-pub bringing : {D : Type 0} (g : Ghosts D) (old new : D) (r : Result Unit Failed) (list : List (List FileText)) (before : Image) → g.tells old ≡ true → IsListed (g.may_leave old) before list
-    → Brings g old new r (as_one list) [] → Passes g old new r (λ leaves. IsListed leaves before list) (λ leaves. IsListed leaves before list) (IsOutcome (with_entries before list))
-bringing g old new r list before tells state brings =
-    let P = HasOnly (IsOutcome (with_entries before list)) in
-    let kept = listed_kept (g.may_leave old) (g.may_leave new) before list state (λ other none. (brings.kept other (inl none)).no_more) in
-    record {
-      ok = on_ok (IsListed (g.may_leave new) before list) r kept;
-      err = on_err (IsListed (g.may_leave new) before list) r kept;
-      any_moment = meanwhile _ _ _ P
-          (else_weaker _ _ _ (KeepsUnnamed (as_one list) (g.may_leave old)) P brings.time (λ image was.
-          listed_only (only_image image) before list
-          (listed_kept (g.may_leave old) (only_image image) before list state (λ other none c is. subst (g.may_leave old other) (sym is) (was other none))) image (λ file. refl)))
-          (λ image left. listed_only (g.may_leave old) before list state image (g.only_now old image tells left));
-    }

@@ -5,7 +5,7 @@ use Rattle.kdb_outside.specs.Images.{Image}
 use Rattle.journal_codec.specs.declared.files.FileText.{FileText}
 use Rattle.journal_steps.specs.Outcomes.{content_in, with_entry, with_entries}
 use Rattle.journal_steps.proofs.Passages.{with_entry-same, with_entry-again}
-use Rattle.intent_journal.specs.Lists.{as_one}
+use Rattle.journal_lists.specs.Lists.{as_one}
 use Rattle.intent_journal.proofs.Contents.{content_cases, content_in-first, content_in-second, cut_none}
 
 -- one list behind another

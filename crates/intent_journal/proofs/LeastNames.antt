@@ -23,8 +23,8 @@ use Rattle.kdb_outside.specs.Images.{Only, KeepsOtherImages}
 use Rattle.journal_codec.specs.declared.files.FileText.{FileText}
 use Rattle.journal_codec.specs.Entry.{IsEntry}
 use Rattle.journal_steps.specs.Outcomes.{content_in}
-use Rattle.intent_journal.specs.Grammar.{most_entries}
-use Rattle.intent_journal.specs.Lists.{as_one}
+use Rattle.journal_lists.specs.Grammar.{most_entries}
+use Rattle.journal_lists.specs.Lists.{as_one}
 use Rattle.intent_journal.specs.States.{HasBrought}
 use Rattle.intent_journal.specs.Pending.{HasBroughtTo, Content, content_of, contents_of, pending_in, is_above, is_no_later, better, least, first_above}
 

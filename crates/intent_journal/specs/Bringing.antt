@@ -19,4 +19,5 @@ HasBroughtFirst texts later leaves = (file bytes : List ℕ) → content_in text
 pub record Brings {D : Type 0} (g : Ghosts D) (old new : D) (result : Result Unit Failed) (texts later : List FileText) : Type 0 where
   pub durable : OnOk result (HasBroughtFirst texts later (g.may_leave new))
   pub kept : (other : List ℕ) → IsPassed texts later other → KeepsImagesOf other (g.may_leave old) (g.may_leave new)
+  pub seen : (other : List ℕ) → IsPassed texts later other → g.seen new other ≡ g.seen old other
   pub time : AddsOnly g old new (KeepsUnnamed texts (g.may_leave old))

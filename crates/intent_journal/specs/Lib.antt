@@ -1,13 +1,11 @@
-pub mod Grammar
-pub mod Lists
-pub mod Readings
 pub mod Outcomes
 pub mod States
 pub mod Steps
+pub mod Passing
 pub mod Journal
 pub mod Pending
-pub mod Worked
 pub mod Bringing
+pub mod Recovering
 pub mod Openings
 pub mod OldForm
 pub mod Opens

@@ -1,20 +1,41 @@
--- What an image reads as, and what its files stand for, given what its journal holds. This project's own.
-use Rattle.std.specs.Prelude.{List}
+-- What an image reads as, and what its files stand for, given what its journals hold. This project's own.
+use Rattle.std.specs.Prelude.{◌≡◌, ◌⊎◌, ◌++◌, ◌∷◌, List}
 use Rattle.kdb_outside.specs.Images.{Image}
 use Rattle.journal_codec.specs.declared.files.FileText.{FileText}
-use Rattle.journal_codec.specs.Entry.{journal_name}
+use Rattle.journal_codec.specs.Entry.{journal_name, journal2_name}
+use Rattle.journal_lists.specs.Journals.{ReadsFormer, OpensFormer, BreaksFormer, ReadsJournal, OpensJournal, BreaksJournal}
 use Rattle.journal_steps.specs.Outcomes.{with_entries, SameFiles}
-use Rattle.intent_journal.specs.Lists.{ReadsFrom, BreaksFrom}
 
--- some reading of the image has these open entries
-abbrev pub ReadsAs : Image → List (List FileText) → Type 0
-ReadsAs image entries = ReadsFrom 0 0 (image journal_name) entries
+-- some reading of the image has these open entries: those of `journal`, and behind them those of `journal2`
+pub record ReadsAs (image : Image) (entries : List (List FileText)) : Type 0 where
+  pub before : List (List FileText)
+  pub behind : List (List FileText)
+  pub are : entries ≡ before ++ behind
+  pub former : ReadsFormer (image journal_name) before
+  pub journal : ReadsJournal (image journal2_name) behind
 
--- in some reading of the image an open entry isn't whole
+-- the open entries of an image
+pub record OpensAs (image : Image) (entries : List (List FileText)) : Type 0 where
+  pub before : List (List FileText)
+  pub behind : List (List FileText)
+  pub are : entries ≡ before ++ behind
+  pub former : OpensFormer (image journal_name) before
+  pub journal : OpensJournal (image journal2_name) behind
+
+-- some reading has an open entry in `journal`, and some reading has one in `journal2`
+pub record ReadsInBoth (image : Image) : Type 0 where
+  pub one : List FileText
+  pub others : List (List FileText)
+  pub former : ReadsFormer (image journal_name) (one ∷ others)
+  pub first : List FileText
+  pub more : List (List FileText)
+  pub journal : ReadsJournal (image journal2_name) (first ∷ more)
+
+-- in some reading of the image the head of `journal2` or an open entry isn't whole, or both journals have an open one
 abbrev pub IsBroken : Image → Type 0
-IsBroken image = BreaksFrom 0 0 (image journal_name)
+IsBroken image = BreaksFormer (image journal_name) ⊎ BreaksJournal (image journal2_name) ⊎ ReadsInBoth image
 
--- these are files that an image stands for: its own, with the entries that its journal reads as
+-- these are files that an image stands for: its own, with the entries that its journals read as
 abbrev pub HasOutcome : Image → Image → Type 0
 HasOutcome image files = (entries : List (List FileText)) × ReadsAs image entries × (SameFiles files (with_entries image entries))
 

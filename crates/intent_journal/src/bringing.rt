@@ -1,13 +1,13 @@
 //! The contents of a list of entries on their way into its files: each file takes that of the last entry that names it.
-ghost use Rattle.std.specs.Prelude.{◌≡◌, [], ◌∷◌, true, is_some, OnOk};
+ghost use Rattle.std.specs.Prelude.{◌≡◌, ℕ, List, [], ◌∷◌, true, is_some, OnOk};
 ghost use Rattle.std.specs.List.{AllByRecursion};
 ghost use Rattle.kdb_outside.specs.Faults.{HasCause};
 ghost use Rattle.kdb_outside.specs.Frames.{GoesOn};
 ghost use Rattle.kdb_outside.specs.Images.{Image};
 ghost use Rattle.journal_codec.specs.Entry.{IsEntry};
 ghost use Rattle.journal_steps.specs.Outcomes.{content_in, with_entries, IsOutcome};
+ghost use Rattle.journal_lists.specs.Lists.{as_one};
 ghost use Rattle.intent_journal.specs.Bringing.{Brings};
-ghost use Rattle.intent_journal.specs.Lists.{as_one};
 ghost use Rattle.intent_journal.specs.States.{IsListed, HasBrought};
 ghost use Rattle.intent_journal.specs.Steps.{Passes};
 
@@ -22,8 +22,9 @@ pub fn bring_in<D: Disk>(disk: &mut D, list: &[List<FileText>]) -> Result<(), Fa
     requires { AllByRecursion IsEntry list.now }
     ensures brought { D.tells disk.old ≡ true → OnOk result (HasBrought (D.may_leave disk.new) (as_one list.now)) }
     ensures brings { D.tells disk.old ≡ true → Brings D.Disk disk.old disk.new result (as_one list.now) [] }
-    ensures passes { D.tells disk.old ≡ true → (before : Image) → IsListed (D.may_leave disk.old) before list.now
-        → Passes D.Disk disk.old disk.new result (λ leaves. IsListed leaves before list.now) (λ leaves. IsListed leaves before list.now) (IsOutcome (with_entries before list.now)) }
+    ensures passes { D.tells disk.old ≡ true → (names : List (List ℕ)) (before : Image) → IsListed (D.may_leave disk.old) names before list.now
+        → Passes D.Disk disk.old disk.new result (λ leaves. IsListed leaves names before list.now) (λ leaves. IsListed leaves names before list.now)
+        (IsOutcome (with_entries before list.now)) }
     ensures goes { GoesOn D.Disk disk.old disk.new }
     ensures cause { HasCause (D.faults disk.old) (D.faults disk.new) result }
 {

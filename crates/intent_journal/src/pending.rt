@@ -7,11 +7,11 @@ ghost use Rattle.kdb_outside.specs.Images.{KeepsImagesOf};
 ghost use Rattle.journal_steps.specs.Moments.{AddsOnly, KeepsUnnamed};
 ghost use Rattle.journal_steps.specs.Outcomes.{content_in};
 ghost use Rattle.journal_steps.specs.Steps.{PutsFile};
-ghost use Rattle.intent_journal.specs.Lists.{as_one};
+ghost use Rattle.journal_lists.specs.Lists.{as_one};
 ghost use Rattle.std.specs.Option.{option_map};
 ghost use Rattle.std.specs.List.{AllByRecursion};
 ghost use Rattle.journal_codec.specs.Entry.{IsEntry};
-ghost use Rattle.intent_journal.specs.Grammar.{most_entries};
+ghost use Rattle.journal_lists.specs.Grammar.{most_entries};
 ghost use Rattle.intent_journal.specs.Pending.{Content, content_of, pending_in, is_above as above, is_no_later as no_later, better as better_of, least, first_above};
 
 use journal_codec::FileText;

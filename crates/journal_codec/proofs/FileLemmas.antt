@@ -1,5 +1,5 @@
 -- Files: what is read of them is spelled so, and what is spelled is read again.
-use Rattle.std.proofs.Common.{◌≡◌, ℕ, zero, suc, List, [], ◌∷◌, ◌++◌, length, Ok, refl, sym, ap, subst, ◌∙◌, append_assoc, arith}
+use Rattle.std.proofs.Common.{◌≡◌, ℕ, List, [], ◌∷◌, ◌++◌, length, Ok, refl, sym, ap, subst, ◌∙◌, append_assoc, arith}
 use Rattle.std.specs.List.{flat_map, AllByRecursion}
 use Rattle.std.specs.Ordering.{nat_cmp}
 use Rattle.std.specs.declared.cmp.Ordering.TheVariants.{Less}
@@ -7,9 +7,10 @@ use Rattle.std.specs.Cmp.Lexicographic.{slice_cmp}
 use Rattle.std.proofs.lemmas.Bool.{leb-true, le-leb}
 use Rattle.journal_codec.specs.declared.files.FileText.{FileText}
 use Rattle.journal_codec.specs.Entry.{length_bytes, spelled_file, IsEntryFile, names_of, longest_content}
-use Rattle.journal_codec.specs.Reading.{Field, ◌>>=◌, byte_at, number_at, bytes_at, is_next_name, is_content, file_at, files_at}
+use Rattle.journal_codec.specs.Reading.{Field, ◌>>=◌, NameRule, byte_at, number_at, bytes_at, is_next_name, is_content, file_at, files_at}
 use Rattle.journal_codec.proofs.FieldLemmas.{IsBytes, IsBytes-behind, bind_ok, bind_is, ok_is, byte_takes, number_takes, number_again, bytes_takes, bytes_again}
 use Rattle.journal_codec.proofs.NameLemmas.{next_name_is, next_name_from, Rises}
+use Rattle.journal_codec.proofs.ItemLemmas.{TakesItem, TakesItems, items_takes, items_again}
 
 -- what is read behind each field of a file
 abbrev pub after_content : List ℕ × List ℕ → List ℕ × List ℕ → Field FileText
@@ -21,8 +22,8 @@ after_length name size = bytes_at is_content size.0 size.1 >>= after_content nam
 abbrev pub after_name : List ℕ × List ℕ → Field FileText
 after_name name = number_at name.1 >>= after_length name
 
-abbrev pub after_size : List ℕ → ℕ × List ℕ → Field FileText
-after_size previous size = bytes_at (is_next_name previous) size.0 size.1 >>= after_name
+abbrev pub after_size : NameRule → List ℕ → ℕ × List ℕ → Field FileText
+after_size rule previous size = bytes_at (rule previous) size.0 size.1 >>= after_name
 
 regrouped : (head name content rest : List ℕ) → (name ++ (head ++ content)) ++ rest ≡ name ++ (head ++ (content ++ rest))
 regrouped head name content rest = simp append_assoc
@@ -35,15 +36,13 @@ joined head bytes behind_size name behind_name behind_length content rest name_s
     rw (e₁, e₂, e₃, e₄, l₁, l₂) (ap (λ (left : List ℕ). name_size ∷ left) (sym (regrouped (head size) name content rest)))
 
 -- what a file that was read took from the front of the bytes
-pub record TakesFile (previous bytes : List ℕ) (f : FileText) (rest : List ℕ) : Type 0 where
-  pub above : slice_cmp nat_cmp previous f.file ≡ Less
-  pub fits : IsEntryFile f
-  pub parts : IsBytes bytes → bytes ≡ spelled_file f ++ rest
+abbrev pub TakesFile : List ℕ → List ℕ → FileText → List ℕ → Type 0
+TakesFile = TakesItem (λ f. f.file) spelled_file IsEntryFile
 
-pub file_takes : (previous bytes : List ℕ) (x : FileText × List ℕ) → file_at previous bytes ≡ Ok x → TakesFile previous bytes x.0 x.1
+pub file_takes : (previous bytes : List ℕ) (x : FileText × List ℕ) → file_at is_next_name previous bytes ≡ Ok x → TakesFile previous bytes x.0 x.1
 unfolding file_at
 file_takes previous bytes x e =
-    let s = bind_ok (byte_at bytes) (after_size previous) x e in
+    let s = bind_ok (byte_at bytes) (after_size is_next_name previous) x e in
     let n = bind_ok (bytes_at (is_next_name previous) s.0.0 s.0.1) after_name x s.2 in
     let l = bind_ok (number_at n.0.1) (after_length n.0) x n.2 in
     let c = bind_ok (bytes_at is_content l.0.0 l.0.1) (after_content n.0) x l.2 in
@@ -61,7 +60,7 @@ file_takes previous bytes x e =
     } in
     subst (λ (p : FileText × List ℕ). TakesFile previous bytes p.0 p.1) {x = (record { file = n.0.0; bytes = c.0.0 }, c.0.1)} (ok_is (record { file = n.0.0; bytes = c.0.0 }, c.0.1) x c.2) taken
 
-pub file_again : (previous : List ℕ) (f : FileText) (rest : List ℕ) → IsEntryFile f → slice_cmp nat_cmp previous f.file ≡ Less → file_at previous (spelled_file f ++ rest) ≡ Ok (f, rest)
+pub file_again : (previous : List ℕ) (f : FileText) (rest : List ℕ) → IsEntryFile f → slice_cmp nat_cmp previous f.file ≡ Less → file_at is_next_name previous (spelled_file f ++ rest) ≡ Ok (f, rest)
 unfolding file_at
 file_again previous f rest fits above =
     let name_rest = length_bytes (length f.bytes) ++ (f.bytes ++ rest) in
@@ -72,52 +71,18 @@ file_again previous f rest fits above =
     bind_is (bytes_at is_content (length f.bytes) (f.bytes ++ rest)) (after_content (f.file, name_rest)) (f.bytes, rest) (Ok (f, rest)) content refl in
     let behind_name : after_name (f.file, name_rest) ≡ Ok (f, rest) =
     bind_is (number_at name_rest) (after_length (f.file, name_rest)) (length f.bytes, f.bytes ++ rest) (Ok (f, rest)) number behind_length in
-    let behind_size : after_size previous (length f.file, f.file ++ name_rest) ≡ Ok (f, rest) =
+    let behind_size : after_size is_next_name previous (length f.file, f.file ++ name_rest) ≡ Ok (f, rest) =
     bind_is (bytes_at (is_next_name previous) (length f.file) (f.file ++ name_rest)) after_name (f.file, name_rest) (Ok (f, rest)) (bytes_again (is_next_name previous) f.file name_rest next) behind_name in
-    ap (λ (left : List ℕ). after_size previous (length f.file, left)) (regrouped (length_bytes (length f.bytes)) f.file f.bytes rest) ∙ behind_size
-
--- what is read behind the first file
-abbrev pub after_others : FileText × List ℕ → List FileText × List ℕ → Field (List FileText)
-after_others first others = Ok (first.0 ∷ others.0, others.1)
-
-abbrev pub after_first : ℕ → FileText × List ℕ → Field (List FileText)
-after_first count first = files_at count first.0.file first.1 >>= after_others first
+    ap (λ (left : List ℕ). after_size is_next_name previous (length f.file, left)) (regrouped (length_bytes (length f.bytes)) f.file f.bytes rest) ∙ behind_size
 
 -- what some files that were read took from the front of the bytes
-pub record TakesFiles (count : ℕ) (previous bytes : List ℕ) (files : List FileText) (rest : List ℕ) : Type 0 where
-  pub number : length files ≡ count
-  pub rises : Rises previous (names_of files)
-  pub fits : AllByRecursion IsEntryFile files
-  pub parts : IsBytes bytes → bytes ≡ flat_map spelled_file files ++ rest
+abbrev pub TakesFiles : ℕ → List ℕ → List ℕ → List FileText → List ℕ → Type 0
+TakesFiles = TakesItems (λ f. f.file) spelled_file IsEntryFile
 
-pub files_takes : (count : ℕ) (previous bytes : List ℕ) (x : List FileText × List ℕ) → files_at count previous bytes ≡ Ok x → TakesFiles count previous bytes x.0 x.1
+pub files_takes : (count : ℕ) (previous bytes : List ℕ) (x : List FileText × List ℕ) → files_at is_next_name count previous bytes ≡ Ok x → TakesFiles count previous bytes x.0 x.1
 unfolding files_at
-files_takes zero previous bytes x e =
-    subst (λ (p : List FileText × List ℕ). TakesFiles 0 previous bytes p.0 p.1) (ok_is ([], bytes) x e) (record { number = refl; rises = tt; fits = tt; parts = λ is_bytes. refl })
-files_takes (suc count) previous bytes x e =
-    let f = bind_ok (file_at previous bytes) (after_first count) x e in
-    let o = bind_ok (files_at count f.0.0.file f.0.1) (after_others f.0) x f.2 in
-    let first = file_takes previous bytes f.0 f.1 in
-    let others = files_takes count f.0.0.file f.0.1 o.0 o.1 in
-    let taken : TakesFiles (suc count) previous bytes (f.0.0 ∷ o.0.0) o.0.1 = record {
-      number = ap suc others.number;
-      rises = (first.above, others.rises);
-      fits = (first.fits, others.fits);
-      parts = λ is_bytes.
-          let here : bytes ≡ spelled_file f.0.0 ++ f.0.1 = first.parts is_bytes in
-          let behind : IsBytes f.0.1 = IsBytes-behind (spelled_file f.0.0) f.0.1 (subst IsBytes here is_bytes) in
-          here ∙ ap (λ (left : List ℕ). spelled_file f.0.0 ++ left) (others.parts behind) ∙ sym (append_assoc (spelled_file f.0.0) (flat_map spelled_file o.0.0) o.0.1);
-    } in
-    subst (λ (p : List FileText × List ℕ). TakesFiles (suc count) previous bytes p.0 p.1) (ok_is (f.0.0 ∷ o.0.0, o.0.1) x o.2) taken
+files_takes = items_takes (file_at is_next_name) (λ f. f.file) spelled_file IsEntryFile file_takes
 
-pub files_again : (previous : List ℕ) (files : List FileText) (rest : List ℕ) → Rises previous (names_of files) → AllByRecursion IsEntryFile files → files_at (length files) previous (flat_map spelled_file files ++ rest) ≡ Ok (files, rest)
+pub files_again : (previous : List ℕ) (files : List FileText) (rest : List ℕ) → Rises previous (names_of files) → AllByRecursion IsEntryFile files → files_at is_next_name (length files) previous (flat_map spelled_file files ++ rest) ≡ Ok (files, rest)
 unfolding files_at
-files_again previous [] rest rises fits = refl
-files_again previous (f ∷ files) rest rises fits =
-    let more = flat_map spelled_file files ++ rest in
-    let first = file_again previous f more fits.0 rises.0 in
-    let others = files_again f.file files rest rises.1 fits.1 in
-    let behind : after_first (length files) (f, more) ≡ Ok (f ∷ files, rest) =
-    bind_is (files_at (length files) f.file more) (after_others (f, more)) (files, rest) (Ok (f ∷ files, rest)) others refl in
-    ap (λ (bytes : List ℕ). file_at previous bytes >>= after_first (length files)) (append_assoc (spelled_file f) (flat_map spelled_file files) rest)
-    ∙ bind_is (file_at previous (spelled_file f ++ more)) (after_first (length files)) (f, more) (Ok (f ∷ files, rest)) first behind
+files_again = items_again (file_at is_next_name) (λ f. f.file) spelled_file IsEntryFile file_again

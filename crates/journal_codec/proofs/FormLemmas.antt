@@ -64,7 +64,7 @@ over_again count is =
     let past : over < count = ltb-true over count is in
     ap (λ (b : Bool). over + cond b (count - over) count) is ∙ omega arith
 
-spelled_so : (body : List ℕ) (files : List FileText) → followed body ≡ true → spelled files ≡ uncounted body → spelled_on files ≡ body
+pub spelled_so : (body : List ℕ) (files : List FileText) → followed body ≡ true → spelled files ≡ uncounted body → spelled_on files ≡ body
 spelled_so [] files goes_on is = absurd (cc)
 spelled_so (count ∷ rest) files goes_on is =
     let number : length files ≡ number_in count = cc in

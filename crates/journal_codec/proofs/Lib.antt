@@ -1,7 +1,11 @@
 pub mod FieldLemmas
 pub mod NameLemmas
+pub mod ItemLemmas
 pub mod FileLemmas
 pub mod BodyLemmas
 pub mod FormLemmas
+pub mod HeaderLemmas
+pub mod ListedLemmas
+pub mod StopLemmas
 pub mod LoopLemmas
 pub mod PlaceLemmas

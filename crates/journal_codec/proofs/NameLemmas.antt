@@ -12,6 +12,7 @@ use Rattle.kdb_outside.specs.FileName.{IsNameByte, IsFileName, is_file_name}
 use Rattle.kdb_outside.proofs.FileNameLemmas.{is_file_name-Decides}
 use Rattle.journal_codec.specs.Entry.{begins_with_journal}
 use Rattle.journal_codec.specs.Reading.{is_next_name}
+use Rattle.journal_codec.specs.Listed.{is_listed, is_among, is_next_of}
 use Rattle.general_words.proofs.Tests.{true_is}
 use Rattle.general_words.proofs.Orders.{less}
 
@@ -63,6 +64,19 @@ found_is previous name text (Err fault) same own above h = tt
 found_is previous name text (Ok None) same own above h = λ e. h (subst IsFileName (sym same) (next_name_is previous name e).is_name)
 found_is previous name text (Ok (Some found)) same own above h =
     (next_name_from previous name (record { is_name = subst IsFileName same h.0; not_journal = own; above = less (slice_cmp nat_cmp previous name) (true_is _ above) }), h.1 ∙ same)
+
+-- a name that can stand there keeps both rules
+pub next_of_keeps : (names : Option (List (List ℕ))) (previous name : List ℕ) → is_next_of names previous name ≡ true → is_next_name previous name ≡ true
+next_of_keeps None previous name e = e
+next_of_keeps (Some names) previous name e = (and_parts (is_next_name previous name) (is_listed names name) e).0
+
+pub next_of_from : (names : Option (List (List ℕ))) (previous name : List ℕ) → is_next_name previous name ≡ true → is_among names name ≡ true → is_next_of names previous name ≡ true
+next_of_from None previous name next among = next
+next_of_from (Some names) previous name next among = and_from (is_next_name previous name) (is_listed names name) next among
+
+pub among_from : (names : Option (List (List ℕ))) (previous name : List ℕ) → is_next_of names previous name ≡ true → is_among names name ≡ true
+among_from None previous name e = refl
+among_from (Some names) previous name e = (and_parts (is_next_name previous name) (is_listed names name) e).1
 
 -- each name is above the one before it, and the first one above the given one
 abbrev pub Rises : List ℕ → List (List ℕ) → Type 0

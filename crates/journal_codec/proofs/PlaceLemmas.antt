@@ -15,7 +15,8 @@ use Rattle.journal_codec.specs.Places.{Beginning, Nothing, Begun, named, CanBegi
 use Rattle.journal_codec.proofs.FieldLemmas.{IsBytes, IsBytes-behind, ok_is, checked_ok, bytes_takes, bytes_again}
 use Rattle.journal_codec.proofs.NameLemmas.{next_name_is, next_name_from, Rises, sorted_from_rises, rises_from_nothing}
 use Rattle.journal_codec.proofs.BodyLemmas.{count_takes, count_again, at_end, after_count, some_names, all_takes, all_again}
-use Rattle.journal_codec.proofs.FileLemmas.{after_content, after_length, after_name, after_others, after_first, file_takes, file_again}
+use Rattle.journal_codec.proofs.ItemLemmas.{after_others, after_first}
+use Rattle.journal_codec.proofs.FileLemmas.{after_content, after_length, after_name, file_takes, file_again}
 
 -- files and perhaps a name that can come behind a name, of so many files
 abbrev pub CanFollow : ℕ → List ℕ → List FileText → Option (List ℕ) → Type 0
@@ -85,15 +86,15 @@ above_name f = omega (arith, length-append f.file (length_bytes (length f.bytes)
 
 -- a first file is read
 first_read : (count : ℕ) (previous bytes : List ℕ) (f : FileText) (files : List FileText) (next : Option (List ℕ)) (rest : List ℕ) → CanFollow (suc count) previous (f ∷ files) next
-    → bytes ≡ bytes_from (f ∷ files) next ++ rest → file_at previous bytes ≡ Ok (f, bytes_from files next ++ rest)
+    → bytes ≡ bytes_from (f ∷ files) next ++ rest → file_at is_next_name previous bytes ≡ Ok (f, bytes_from files next ++ rest)
 first_read count previous bytes f files next rest follows is =
-    ap (file_at previous) (is ∙ behind_file f files next rest) ∙ file_again previous f (bytes_from files next ++ rest) follows.1 follows.0
+    ap (file_at is_next_name previous) (is ∙ behind_file f files next rest) ∙ file_again previous f (bytes_from files next ++ rest) follows.1 follows.0
 
 -- and so none is where none is read
 no_file : (count : ℕ) (previous bytes : List ℕ) (left : ℕ) (f : FileText) (files : List FileText) (next : Option (List ℕ))
-    → file_at previous bytes ≡ Err left → CanFollow (suc count) previous (f ∷ files) next → IsFront (bytes_from (f ∷ files) next) bytes → ⊥
+    → file_at is_next_name previous bytes ≡ Err left → CanFollow (suc count) previous (f ∷ files) next → IsFront (bytes_from (f ∷ files) next) bytes → ⊥
 no_file count previous bytes left f files next stop follows front =
-    not_both (file_at previous bytes) (f, bytes_from files next ++ front.0) left (first_read count previous bytes f files next front.0 follows front.1) stop
+    not_both (file_at is_next_name previous bytes) (f, bytes_from files next ++ front.0) left (first_read count previous bytes f files next front.0 follows front.1) stop
 
 -- a name is read
 name_read : (previous : List ℕ) (n : ℕ) (behind name rest : List ℕ) → is_next_name previous name ≡ true
@@ -142,7 +143,7 @@ stops_at_end count previous = record {
 
 -- a name that has no reading behind its length
 stops_at_name : (count : ℕ) (previous : List ℕ) (n : ℕ) (behind : List ℕ) (left : ℕ)
-    → file_at previous (n ∷ behind) ≡ Err left → bytes_at (is_next_name previous) n behind ≡ Err left
+    → file_at is_next_name previous (n ∷ behind) ≡ Err left → bytes_at (is_next_name previous) n behind ≡ Err left
     → left ≡ length behind → Stops (suc count) previous (n ∷ behind) left
 stops_at_name count previous n behind left stop no_name left_is = record {
   files = [];
@@ -161,7 +162,7 @@ stops_at_name count previous n behind left stop no_name left_is = record {
 
 -- a name that is read, and no content behind it
 stops_behind_name : (count : ℕ) (previous : List ℕ) (n : ℕ) (behind name rest : List ℕ) (left : ℕ)
-    → file_at previous (n ∷ behind) ≡ Err left
+    → file_at is_next_name previous (n ∷ behind) ≡ Err left
     → bytes_at (is_next_name previous) n behind ≡ Ok (name, rest) → left + passed 4 rest ≡ length rest → Stops (suc count) previous (n ∷ behind) left
 stops_behind_name count previous n behind name rest left stop read left_is =
     let taken = bytes_takes (is_next_name previous) n behind (name, rest) read in
@@ -206,7 +207,7 @@ content_stops name left e = elim (number_at name.1) as (λ r. number_at name.1 �
     ] refl e
 
 -- a file that has no reading
-stops_in_file : (count : ℕ) (previous bytes : List ℕ) (left : ℕ) → file_at previous bytes ≡ Err left → Stops (suc count) previous bytes left
+stops_in_file : (count : ℕ) (previous bytes : List ℕ) (left : ℕ) → file_at is_next_name previous bytes ≡ Err left → Stops (suc count) previous bytes left
 unfolding file_at
 stops_in_file count previous [] left e = let none : 0 ≡ left = cc in subst (Stops (suc count) previous []) none (stops_at_end count previous)
 stops_in_file count previous (n ∷ behind) left e = elim (bytes_at (is_next_name previous) n behind) as (λ r. bytes_at (is_next_name previous) n behind ≡ r → (r >>= after_name) ≡ Err left → Stops (suc count) previous (n ∷ behind) left) [
@@ -228,7 +229,7 @@ due_on count f files (Some name) = refl
 
 -- behind a file that was read
 stops_on : (count : ℕ) (previous bytes : List ℕ) (x : FileText × List ℕ) (left : ℕ) → IsBytes bytes
-    → file_at previous bytes ≡ Ok x → Stops count x.0.file x.1 left → Stops (suc count) previous bytes left
+    → file_at is_next_name previous bytes ≡ Ok x → Stops count x.0.file x.1 left → Stops (suc count) previous bytes left
 stops_on count previous bytes x left is_bytes read stops =
     let taken = file_takes previous bytes x read in
     record {
@@ -261,7 +262,7 @@ stops_on count previous bytes x left is_bytes read stops =
         ]
 
 -- files are read up to the first that has no reading, or up to so many
-pub walks : (count : ℕ) (previous bytes : List ℕ) → IsBytes bytes → Stops count previous bytes (left_of (files_at count previous bytes))
+pub walks : (count : ℕ) (previous bytes : List ℕ) → IsBytes bytes → Stops count previous bytes (left_of (files_at is_next_name count previous bytes))
 unfolding files_at
 walks zero previous bytes is_bytes = record {
   files = [];
@@ -277,11 +278,11 @@ walks zero previous bytes is_bytes = record {
     longest [] None follows front = inl (refl, refl)
     longest [] (Some name) follows front = absurd follows
     longest (f ∷ files) other follows front = absurd follows
-walks (suc count) previous bytes is_bytes = elim (file_at previous bytes) as (λ r. file_at previous bytes ≡ r → Stops (suc count) previous bytes (left_of (r >>= after_first count))) [
+walks (suc count) previous bytes is_bytes = elim (file_at is_next_name previous bytes) as (λ r. file_at is_next_name previous bytes ≡ r → Stops (suc count) previous bytes (left_of (r >>= after_first (file_at is_next_name) (λ f. f.file) count))) [
   | Err left ↦ λ read. stops_in_file count previous bytes left read
   | Ok x ↦ λ read.
       let behind : IsBytes x.1 = IsBytes-behind (spelled_file x.0) x.1 (subst IsBytes ((file_takes previous bytes x read).parts is_bytes) is_bytes) in
-      subst (Stops (suc count) previous bytes) (left_on x (files_at count x.0.file x.1)) (stops_on count previous bytes x (left_of (files_at count x.0.file x.1)) is_bytes read (walks count x.0.file x.1 behind))
+      subst (Stops (suc count) previous bytes) (left_on x (files_at is_next_name count x.0.file x.1)) (stops_on count previous bytes x (left_of (files_at is_next_name count x.0.file x.1)) is_bytes read (walks count x.0.file x.1 behind))
 ] refl
 
 -- ---- a whole body
@@ -393,15 +394,15 @@ left_at_end (Ok files) left e = elim (eqb (length files.1) 0) as (λ b. cond b (
   | false ↦ λ e. cc
 ] e
 
-ends : (body : List ℕ) (left : ℕ) → IsBytes body → all_of body ≡ Err left → Ends body left
+ends : (body : List ℕ) (left : ℕ) → IsBytes body → all_of is_next_name body ≡ Err left → Ends body left
 unfolding all_of
-ends body left is_bytes e = elim (count_at body) as (λ r. count_at body ≡ r → (r >>= after_count) ≡ Err left → Ends body left) [
+ends body left is_bytes e = elim (count_at body) as (λ r. count_at body ≡ r → (r >>= after_count (files_at is_next_name)) ≡ Err left → Ends body left) [
   | Err stop ↦ λ is d.
       let same : stop ≡ left = cc in
       ends_before body left (is ∙ ap Err same) (sym same ∙ count_stops body stop is)
   | Ok x ↦ λ is d.
       let behind : IsBytes x.1 = IsBytes-behind (x.0 ∷ []) x.1 (subst IsBytes (count_takes body x is).parts is_bytes) in
-      ends_behind body x left is (subst (Stops x.0 [] x.1) (left_at_end (files_at x.0 [] x.1) left d) (walks x.0 [] x.1 behind))
+      ends_behind body x left is (subst (Stops x.0 [] x.1) (left_at_end (files_at is_next_name x.0 [] x.1) left d) (walks x.0 [] x.1 behind))
 ] refl e
 
 fails_by : (size : ℕ) (read : Result (List FileText) ℕ) (at : ℕ) → reading_of size read ≡ Fails at
@@ -413,10 +414,10 @@ fails_by size (Err left) at e = (left, refl, cc)
 pub place_of : (body : List ℕ) (at : ℕ) → IsBytes body → read_body body ≡ Fails at → IsPlace body at
 unfolding read_body
 place_of body at is_bytes e =
-    let stop = fails_by (length body) (all_of body) at e in
+    let stop = fails_by (length body) (all_of is_next_name body) at e in
     let end = ends body stop.0 is_bytes stop.1 in
     record {
-      no_entry = λ files entry is. not_both (all_of body) files stop.0 (ap all_of (sym is) ∙ all_again files entry) stop.1;
+      no_entry = λ files entry is. not_both (all_of is_next_name body) files stop.0 (ap (all_of is_next_name) (sym is) ∙ all_again files entry) stop.1;
       begun = end.begun;
       rest = end.rest;
       can_begin = end.can_begin;
@@ -436,7 +437,7 @@ same_place body begun other rest others same front behind =
 -- and at no other place
 pub alone : (body : List ℕ) (at : ℕ) → IsBytes body → IsPlace body at → read_body body ≡ Fails at
 unfolding read_body
-alone body at is_bytes place = elim (all_of body) as (λ r. all_of body ≡ r → reading_of (length body) r ≡ Fails at) [
+alone body at is_bytes place = elim (all_of is_next_name body) as (λ r. all_of is_next_name body ≡ r → reading_of (length body) r ≡ Fails at) [
   | Ok files ↦ λ is.
       let read = all_takes body files is in
       absurd (place.no_entry files read.entry (read.spelling is_bytes))

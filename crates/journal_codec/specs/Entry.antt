@@ -33,6 +33,10 @@ longest_file = 1048681
 abbrev pub journal_name : List ℕ
 journal_name = codes "journal"
 
+-- the journal's second file
+abbrev pub journal2_name : List ℕ
+journal2_name = codes "journal2"
+
 -- a name that is kept for the journal's own files
 abbrev pub begins_with_journal : List ℕ → Bool
 begins_with_journal name = starts_with nat_eq name journal_name

@@ -3,3 +3,5 @@ pub mod Reading
 pub mod Stops
 pub mod Places
 pub mod Forms
+pub mod Header
+pub mod Listed

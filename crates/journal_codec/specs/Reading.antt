@@ -57,29 +57,41 @@ is_next_name previous name = is_file_name name && (not (begins_with_journal name
 abbrev pub is_content : List ℕ → Bool
 is_content bytes = nat_le (length bytes) longest_content
 
+-- which names can stand behind a name, or behind none where it has no bytes
+abbrev pub NameRule : Type 0
+NameRule = List ℕ → List ℕ → Bool
+
 -- a file behind one of this name, or behind none where the name has no bytes
-unfoldable pub file_at : List ℕ → List ℕ → Field FileText
-file_at previous bytes = do
+unfoldable pub file_at : NameRule → List ℕ → List ℕ → Field FileText
+file_at rule previous bytes = do
   name_size ← byte_at bytes
-  name ← bytes_at (is_next_name previous) name_size.0 name_size.1
+  name ← bytes_at (rule previous) name_size.0 name_size.1
   size ← number_at name.1
   content ← bytes_at is_content size.0 size.1
   Ok (record { file = name.0; bytes = content.0 }, content.1)
 
--- so many files
-unfoldable pub files_at : ℕ → List ℕ → List ℕ → Field (List FileText)
-files_at zero previous bytes = Ok ([], bytes)
-files_at (suc count) previous bytes = do
-  first ← file_at previous bytes
-  others ← files_at count first.0.file first.1
+-- so many items, each behind the name of the one before it
+abbrev pub items_at : {A : Type 0} → (List ℕ → List ℕ → Field A) → (A → List ℕ) → ℕ → List ℕ → List ℕ → Field (List A)
+items_at item_at name_in zero previous bytes = Ok ([], bytes)
+items_at item_at name_in (suc count) previous bytes = do
+  first ← item_at previous bytes
+  others ← items_at item_at name_in count (name_in first.0) first.1
   Ok (first.0 ∷ others.0, others.1)
 
--- how many files, the files, and no byte behind them
-unfoldable pub all_of : List ℕ → Result (List FileText) ℕ
-all_of body = do
-  count ← count_at body
-  files ← files_at count.0 [] count.1
-  if length files.1 == 0 then Ok files.0 else Err (length files.1)
+-- so many files
+unfoldable pub files_at : NameRule → ℕ → List ℕ → List ℕ → Field (List FileText)
+files_at rule count previous bytes = items_at (file_at rule) (λ f. f.file) count previous bytes
+
+-- how many items, the items, and no byte behind them
+abbrev pub counted : {A : Type 0} → (ℕ → List ℕ → List ℕ → Field (List A)) → List ℕ → Result (List A) ℕ
+counted items_of bytes = do
+  count ← count_at bytes
+  items ← items_of count.0 [] count.1
+  if length items.1 == 0 then Ok items.0 else Err (length items.1)
+
+-- a whole body
+unfoldable pub all_of : NameRule → List ℕ → Result (List FileText) ℕ
+all_of rule body = counted (files_at rule) body
 
 -- the place of the field that has no reading, behind the bytes before it
 abbrev pub reading_of : ℕ → Result (List FileText) ℕ → Reading
@@ -88,4 +100,4 @@ reading_of size (Err left) = Fails (size - left)
 
 -- what a body is read as
 unfoldable pub read_body : List ℕ → Reading
-read_body body = reading_of (length body) (all_of body)
+read_body body = reading_of (length body) (all_of is_next_name body)

@@ -2,14 +2,15 @@
 ghost use Rattle.std.specs.Prelude.{◌≡◌, ◌≤◌, ◌++◌, ◌∷◌, [], length, OnOk, IfOk};
 ghost use Rattle.journal_codec.specs.Entry.{IsEntry, IsEntryFile, spelled_file, longest_file};
 ghost use Rattle.journal_codec.specs.Forms.{spelled_on, behind_gate};
+ghost use Rattle.journal_codec.specs.Header.{sized_name};
 
 use crate::FileText;
 use crate::forms::OVER;
-use kdb_outside::Memory;
+use kdb_outside::{FileName, Memory};
 use std::alloc::Global;
 
 /// A closed gate.
-const CLOSED: u8 = 0;
+pub(crate) const CLOSED: u8 = 0;
 
 /// The length of the entry's body in four bytes, the low one first, the body, whose count says that another gate follows, and that gate, closed.
 pub fn encode(alloc: Global, files: &[FileText]) -> Result<Vec<u8>, Memory>
@@ -27,14 +28,22 @@ pub fn encode(alloc: Global, files: &[FileText]) -> Result<Vec<u8>, Memory>
     Ok(out)
 }
 
+/// A name behind its length.
+pub(crate) fn put_name(out: &mut Vec<u8>, file: &FileName) -> Result<(), Memory>
+    ensures { OnOk result (out.new.items ≡ out.old.items ++ sized_name file.now) }
+{
+    let name = file.text();
+    out.push(name.len() as u8)?;
+    out.extend_from_slice(name.as_bytes())?;
+    Ok(())
+}
+
 fn put_file(out: &mut Vec<u8>, file: &FileText) -> Result<(), Memory>
     requires { IsEntryFile file.now }
     ensures { OnOk result (out.new.items ≡ out.old.items ++ spelled_file file.now) }
 {
-    let name = file.file.text();
     let content = file.bytes.as_slice();
-    out.push(name.len() as u8)?;
-    out.extend_from_slice(name.as_bytes())?;
+    put_name(out, &file.file)?;
     out.extend_from_slice(&(content.len() as u32).to_le_bytes())?;
     out.extend_from_slice(content)?;
     Ok(())

@@ -1,10 +1,10 @@
 -- What stands behind a gate: too little for a length, an entry, or a body that isn't whole.
-use Rattle.std.proofs.Common.{◌≡◌, ◌≢◌, ◌⊎◌, inl, inr, ℕ, ◌<◌, ◌≤◌, List, [], ◌∷◌, length, take, drop, Bool, cond, Some, None, Result, Ok, Err, ap, ◌∙◌, arith}
-use Rattle.std.specs.Prelude.{nat_le, nat_lt, ◌==◌}
-use Rattle.std.proofs.lemmas.Bool.{leb-true, le-leb, false_from_ne_true, eqb-true, eq-eqb, cases_lt, ltb-true, lt-ltb}
+use Rattle.std.proofs.Common.{◌≡◌, ◌⊎◌, inl, inr, ℕ, ◌<◌, ◌≤◌, List, [], ◌∷◌, length, take, drop, Bool, cond, Some, None, Result, Ok, Err, ap, ◌∙◌, arith}
+use Rattle.std.specs.Prelude.{nat_le, nat_lt}
+use Rattle.std.proofs.lemmas.Bool.{leb-true, le-leb, false_from_ne_true, cases_lt, ltb-true, lt-ltb}
 use Rattle.journal_codec.specs.declared.files.FileText.{FileText}
 use Rattle.journal_codec.specs.Entry.{number_of}
-use Rattle.journal_codec.specs.Reading.{Reading, Reads, Fails, read_body}
+use Rattle.journal_codec.specs.Reading.{read_body}
 use Rattle.journal_steps.specs.JournalBytes.{longest_body, body_or_place, entry_or_place, one_entry, length_at, entries_of, entries_behind}
 
 -- a body that isn't too long is judged by its bytes
@@ -17,20 +17,6 @@ few size there small =
 pub entry_or_place-many : (size : ℕ) (there : List ℕ) → longest_body < size → entry_or_place size there ≡ Err 0
 unfolding entry_or_place
 entry_or_place-many size there long = ap (λ (b : Bool). cond b (Err 0) (body_or_place (read_body there) size (length there))) (lt-ltb longest_body size long)
-
-pub entry_or_place-whole : (size : ℕ) (there : List ℕ) (files : List FileText) → size ≤ longest_body → read_body there ≡ Reads files → length there ≡ size → entry_or_place size there ≡ Ok files
-entry_or_place-whole size there files small reads whole =
-    few size there small ∙ ap (λ (r : Reading). body_or_place r size (length there)) reads
-    ∙ ap (λ (b : Bool). cond b (Ok files) (Err (length there))) (eq-eqb (length there) size whole)
-
-pub entry_or_place-short : (size : ℕ) (there : List ℕ) (files : List FileText) → size ≤ longest_body → read_body there ≡ Reads files → length there ≢ size
-    → entry_or_place size there ≡ Err (length there)
-entry_or_place-short size there files small reads short =
-    few size there small ∙ ap (λ (r : Reading). body_or_place r size (length there)) reads
-    ∙ ap (λ (b : Bool). cond b (Ok files) (Err (length there))) (false_from_ne_true (length there == size) (λ same. short (eqb-true (length there) size same)))
-
-pub entry_or_place-fails : (size at : ℕ) (there : List ℕ) → size ≤ longest_body → read_body there ≡ Fails at → entry_or_place size there ≡ Err at
-entry_or_place-fails size at there small fails = few size there small ∙ ap (λ (r : Reading). body_or_place r size (length there)) fails
 
 -- too few bytes have no length
 pub behind-short : (tail : List ℕ) → length tail < 4 → entries_behind tail ≡ Ok []

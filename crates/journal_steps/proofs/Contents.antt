@@ -8,7 +8,7 @@ use Rattle.std.proofs.lemmas.List.{get_or-map, length-map}
 use Rattle.std.proofs.lemmas.Map.Keys.{Less-from_sorted}
 use Rattle.std.proofs.lemmas.Slice.Eq.{bytes_eq-Decides}
 use Rattle.journal_codec.specs.declared.files.FileText.{FileText}
-use Rattle.journal_codec.specs.Entry.{IsEntry, names_of, journal_name, begins_with_journal}
+use Rattle.journal_codec.specs.Entry.{IsEntry, names_of, journal_name, journal2_name, begins_with_journal}
 use Rattle.journal_steps.specs.Outcomes.{content_in}
 
 pub cond_some : (b : Bool) (x y : List ℕ) (other : Option (List ℕ)) → cond b (Some x) other ≡ Some y → ((b ≡ true) × (x ≡ y)) ⊎ ((b ≡ false) × (other ≡ Some y))
@@ -26,12 +26,18 @@ none_from_apart (text ∷ texts) other apart =
     let differs : bytes_eq text.file other ≡ false = false_from_ne_true (bytes_eq text.file other) (λ same. apart 0 text (omega arith) (sym ((bytes_eq-Decides text.file other).0 same))) in
     ap (λ (b : Bool). cond b (Some text.bytes) (content_in texts other)) differs ∙ none_from_apart texts other (λ i d lt. apart (suc i) d (omega arith))
 
--- no entry has a content for the journal
-pub content_in-journal : (entry : List FileText) → IsEntry entry → content_in entry journal_name ≡ None
-content_in-journal entry is = none_from_apart entry journal_name (λ i d lt same.
+-- no entry has a content for a file whose name is kept for the journal
+content_in-kept : (entry : List FileText) (file : List ℕ) → IsEntry entry → begins_with_journal file ≡ true → content_in entry file ≡ None
+content_in-kept entry file is begins = none_from_apart entry file (λ i d lt same.
     let shut = (is.each i d lt).not_journal in
-    let begins : begins_with_journal (slice_index_or entry i d).file ≡ true = subst (λ n. begins_with_journal n ≡ true) same refl in
+    let begins_too : begins_with_journal (slice_index_or entry i d).file ≡ true = subst (λ n. begins_with_journal n ≡ true) same begins in
     absurd (cc))
+
+pub content_in-journal : (entry : List FileText) → IsEntry entry → content_in entry journal_name ≡ None
+content_in-journal entry is = content_in-kept entry journal_name is refl
+
+pub content_in-journal2 : (entry : List FileText) → IsEntry entry → content_in entry journal2_name ≡ None
+content_in-journal2 entry is = content_in-kept entry journal2_name is refl
 
 not_less_itself : (x : List ℕ) → slice_cmp nat_cmp x x ≡ Less → ⊥
 not_less_itself x less =

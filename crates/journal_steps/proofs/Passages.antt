@@ -1,9 +1,9 @@
 -- Files with entries, and which files are among others.
-use Rattle.std.proofs.Common.{◌≡◌, ℕ, List, [], ◌∷◌, inl, inr, Option, Some, None, refl, sym, ◌∙◌, subst}
+use Rattle.std.proofs.Common.{◌≡◌, ℕ, List, [], ◌∷◌, inl, inr, Option, Some, None, cond, bytes_eq, refl, sym, ◌∙◌, subst}
 use Rattle.std.specs.Option.{unwrap_or}
 use Rattle.kdb_outside.specs.Images.{Image}
 use Rattle.journal_codec.specs.declared.files.FileText.{FileText}
-use Rattle.journal_codec.specs.Entry.{journal_name}
+use Rattle.journal_codec.specs.Entry.{journal_name, journal2_name}
 use Rattle.journal_steps.specs.Outcomes.{content_in, with_entry, with_entries, SameFiles, IsOutcome, IsEither}
 use Rattle.journal_steps.specs.States.{IsOwnImage}
 
@@ -26,9 +26,13 @@ pub either_same : (files outcome other : Image) (doubt : Option (List FileText))
 either_same files outcome other doubt same (inl is) = inl (λ file ne. same file ne ∙ is file ne)
 either_same files outcome other doubt same (inr brings) = inr (brings.0, brings.1, λ file ne. same file ne ∙ brings.2 file ne)
 
--- a journal that a crash may leave, alone
-pub own_image : (leaves : List ℕ → List ℕ → Type 0) (c : List ℕ) → leaves journal_name c → IsOwnImage leaves (λ file. c)
-own_image leaves c is file own = subst (λ (n : List ℕ). leaves n c) (sym own) is
+-- the journal's own files that a crash may leave, alone
+abbrev pub own_files : List ℕ → List ℕ → Image
+own_files former c file = cond (bytes_eq file journal_name) former c
+
+pub own_image : (leaves : List ℕ → List ℕ → Type 0) (former c : List ℕ) → leaves journal_name former → leaves journal2_name c → IsOwnImage leaves (own_files former c)
+own_image leaves former c first second file (inl named) = subst (λ (n : List ℕ). leaves n (own_files former c n)) (sym named) first
+own_image leaves former c first second file (inr named) = subst (λ (n : List ℕ). leaves n (own_files former c n)) (sym named) second
 
 pub either_none : (files outcome : Image) → IsEither files None outcome → IsOutcome files outcome
 either_none files outcome (inl same) = same

@@ -1,10 +1,9 @@
--- What a step of the journal's file makes of that which a crash may leave.
+-- What a step of one file makes of that which a crash may leave.
 use Rattle.std.proofs.Common.{◌≡◌, ◌≢◌, ℕ, List, inl, Result, Ok, Err, OnOk, OnErr, sym, subst}
 use Rattle.std.specs.Result.{IsErr}
 use Rattle.kdb_outside.specs.declared.disks.Disk.{Ghosts}
 use Rattle.kdb_outside.specs.declared.faults.Failed.{Failed}
 use Rattle.kdb_outside.specs.Images.{Image, Touches}
-use Rattle.journal_codec.specs.Entry.{journal_name}
 use Rattle.journal_steps.specs.Moments.{LeavesMeanwhile, IsStepOf}
 use Rattle.journal_steps.specs.Steps.{WritesThrough}
 
@@ -24,17 +23,17 @@ only_image image file c = c ≡ image file
 pub still : (before : ℕ) (past : ℕ → Image → Type 0) (P : Image → Type 0) → ((image : Image) → past before image → P image) → LeavesMeanwhile before past past P
 still before past P held = record { each = held; earlier = λ moment image le left. inl left }
 
--- a step of the journal's file
-pub record IsJournalStep (Step : List ℕ → List ℕ → Type 0) (old new : List ℕ → List ℕ → Type 0) : Type 0 where
-  pub others : (other : List ℕ) → other ≢ journal_name → (c : List ℕ) → new other c → old other c
-  pub this : (c : List ℕ) → new journal_name c → (former : List ℕ) × old journal_name former × Step former c
+-- a step of one file
+pub record IsFileStep (file : List ℕ) (Step : List ℕ → List ℕ → Type 0) (old new : List ℕ → List ℕ → Type 0) : Type 0 where
+  pub others : (other : List ℕ) → other ≢ file → (c : List ℕ) → new other c → old other c
+  pub this : (c : List ℕ) → new file c → (former : List ℕ) × old file former × Step former c
 
-pub journal_step : (Step : List ℕ → List ℕ → Type 0) (old new : List ℕ → List ℕ → Type 0) → Touches journal_name Step old new → IsJournalStep Step old new
-journal_step Step old new touches = record { others = λ other ne c is. (touches.others other ne).no_more c is; this = touches.this }
+pub file_step : (file : List ℕ) (Step : List ℕ → List ℕ → Type 0) (old new : List ℕ → List ℕ → Type 0) → Touches file Step old new → IsFileStep file Step old new
+file_step file Step old new touches = record { others = λ other ne c is. (touches.others other ne).no_more c is; this = touches.this }
 
 -- and one of its image
-pub image_step : (Step : List ℕ → List ℕ → Type 0) (old : List ℕ → List ℕ → Type 0) (image : Image) → IsStepOf journal_name Step old image → IsJournalStep Step old (only_image image)
-image_step Step old image step = record {
+pub image_step : (file : List ℕ) (Step : List ℕ → List ℕ → Type 0) (old : List ℕ → List ℕ → Type 0) (image : Image) → IsStepOf file Step old image → IsFileStep file Step old (only_image image)
+image_step file Step old image step = record {
   others = λ other ne c is. subst (old other) (sym is) (step.others other ne);
   this = λ c is. let was = step.this in (was.0, was.1, subst (Step was.0) (sym is) was.2);
 }

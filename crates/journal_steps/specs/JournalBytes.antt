@@ -1,12 +1,12 @@
 -- The bytes behind a gate, a length in four bytes and the body of an entry, and how a journal reads that holds one entry. This project's own.
 use Rattle.std.specs.Prelude.{◌≡◌, ◌≢◌, ◌⊎◌, ℕ, ◌<◌, ◌≤◌, List, [], ◌∷◌, length, take, drop, slice_index, Bool, true, false, Option, Some, None, Result, Ok, Err, if◌then◌else◌, ◌&&◌, ◌==◌, nat_le, nat_lt}
 use Rattle.journal_codec.specs.declared.files.FileText.{FileText}
-use Rattle.journal_codec.specs.Entry.{number_of, journal_name}
+use Rattle.journal_codec.specs.Entry.{number_of, journal_name, journal2_name}
 use Rattle.journal_codec.specs.Reading.{Reading, Reads, Fails, read_body}
 
--- a file that the journal keeps for itself, and no entry names
+-- a file that the journal keeps for itself, and no entry names: the one that the former program wrote, and this program's
 abbrev pub IsOwnFile : List ℕ → Type 0
-IsOwnFile file = file ≡ journal_name
+IsOwnFile file = (file ≡ journal_name) ⊎ (file ≡ journal2_name)
 
 -- the first byte: 1 is open, and 0 is closed
 abbrev pub gate : List ℕ → ℕ

@@ -4,5 +4,4 @@ pub mod Outcomes
 pub mod States
 pub mod Moments
 pub mod BadJournals
-pub mod Opening
 pub mod Steps

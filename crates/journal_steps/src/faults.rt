@@ -11,6 +11,8 @@ pub enum JournalFault {
     DiskFault,
     /// A gate is open, and no whole body of an entry stands behind it: the place in the body where it isn't whole.
     BadJournal { at: u64 },
+    /// The journal's header gate is open, and the version behind it isn't one that this program knows.
+    UnknownVersion { version: u8 },
     Memory,
 }
 

@@ -1,12 +1,14 @@
 //! The states of a journal.
 
-/// What is known of the gate on the disk.
+/// What is known of the gates on the disk.
 #[derive(Clone, Copy, Debug, PartialEq, Eq)]
 pub enum State {
-    /// It is closed for good.
+    /// The header gate is closed for good: the journal has no header.
+    Bare,
+    /// The header gate is open, and the list's first gate closed, for good.
     Clean,
-    /// It may be open or closed.
+    /// A gate may be open or closed.
     Doubt,
-    /// It is open for good, whether or not all files of its entry have their contents.
+    /// The gates of a list are open for good, whether or not all its files have their contents.
     Lag,
 }

@@ -1,6 +1,7 @@
 //! Bytes that are written into a file and synced at once.
 ghost use Rattle.std.specs.Prelude.{◌≡◌, ◌≤◌, length, true};
 ghost use Rattle.kdb_outside.specs.Faults.{HasCause};
+ghost use Rattle.kdb_outside.specs.Files.{KeepsOthers};
 ghost use Rattle.kdb_outside.specs.Frames.{GoesOn};
 ghost use Rattle.journal_steps.specs.Steps.{WritesThrough};
 
@@ -16,6 +17,7 @@ pub fn write_through<D: Disk>(
 ) -> Result<(), Failed>
     requires { D.tells disk.old ≡ true → at ≤ length (D.seen disk.old file.now) }
     ensures writes { D.tells disk.old ≡ true → WritesThrough D.Disk disk.old disk.new result file.now at bytes.now }
+    ensures seen { D.tells disk.old ≡ true → KeepsOthers file.now (D.seen disk.old) (D.seen disk.new) }
     ensures goes { GoesOn D.Disk disk.old disk.new }
     ensures cause { HasCause (D.faults disk.old) (D.faults disk.new) result }
 {

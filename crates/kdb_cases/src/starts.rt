@@ -60,14 +60,14 @@ impl Start {
         again.disk()
     }
 
-    /// The bytes that a disk has of the files, with their lengths before them.
+    /// The bytes that a disk has of the files, but for those of a journal, with their lengths before them.
     pub fn bytes_of(&self, disk: &MemDisk) -> Result<Vec<u8>, Memory> {
         let mut bytes = Vec::new(self.alloc);
         if let Some((name, _)) = &self.first {
-            push_file(self.alloc, &mut bytes, disk.bytes(name))?;
+            push_file(self.alloc, &mut bytes, name, disk)?;
         }
         if let Some((name, _)) = &self.second {
-            push_file(self.alloc, &mut bytes, disk.bytes(name))?;
+            push_file(self.alloc, &mut bytes, name, disk)?;
         }
         Ok(bytes)
     }
@@ -98,7 +98,16 @@ fn disk_of_two(
     MemDisk::new(alloc, vec![in alloc; one, two]?, failing, stop)
 }
 
-fn push_file(alloc: Global, all: &mut Vec<u8>, bytes: &[u8]) -> Result<(), Memory> {
+fn push_file(
+    alloc: Global,
+    all: &mut Vec<u8>,
+    name: &FileName,
+    disk: &MemDisk,
+) -> Result<(), Memory> {
+    if name.text().starts_with("journal") {
+        return Ok(());
+    }
+    let bytes = disk.bytes(name);
     let length = format!(in alloc; "{} ", bytes.len())?;
     all.extend_from_slice(length.as_bytes())?;
     all.extend_from_slice(bytes)

@@ -28,6 +28,7 @@ use Rattle.kdb_handle.specs.Stores.{IsHandle, IsStarted, seat_of, seats_back}
 use Rattle.kdb_handle.proofs.RunLemmas.{comes-to, risen-still}
 use Rattle.kdb_handle.proofs.SeatLemmas.{AreUnused}
 use Rattle.model_crashes.specs.Runs.{Run, files_of, IsReached}
+use Rattle.model_files.specs.Files.{table_files}
 use Rattle.model_store.specs.Legal.{IsLegal}
 use Rattle.model_store.specs.Store.{Formats}
 use Rattle.mounted_files.specs.Visible.{visible_keys}
@@ -182,11 +183,11 @@ module _ {D P : Type 0} (formats : Formats) (g : Ghosts D) (code : Coded D) (ref
             subst (λ (o : Opening). HasRisenBy (refusals_in shared.rest) o.refusals (refused closed.patterns)) opening_is
             (subst (λ (p : P). HasRisenBy (refusals_in shared.rest) shared.opening.refusals (refused p)) (sym patterns) shared.refusals);
         left_alone = λ none unwritten fresh.
-            let idle = shared.idle none (ap (λ (j : JournalValue D). j.list) same_journal ∙ fresh.0) in
+            let idle = shared.idle none (ap (λ (j : JournalValue D). j.list) same_journal ∙ fresh.1) in
             let same : core.journal ≡ journal = idle.0 ∙ same_journal in
             left_alone (idle.1 ∙ ap (λ (o : Opening). o.wrote) opening_is ∙ unwritten) (subst (λ (j : JournalValue D). IsFresh j) (sym same) fresh) ∙ ap (λ (j : JournalValue D). j.disk) same;
-        disk = λ start first stands.
-            let before = shared.run start first (subst (λ (j : JournalValue D). IsStore g start j first) (sym same_journal) stands) in
+        disk = λ start first names stands.
+            let before = shared.run start first (names ∙ ap (λ (fs : List MountedFile). table_files (store_at fs)) (sym files_are)) (subst (λ (j : JournalValue D). IsStore g start j first) (sym same_journal) stands) in
             record {
               last = before.0;
               by_story = subst (λ (fs : List MountedFile). RunsBy formats (store_at fs) (visible_keys fs) first shared.rest before.0) files_are before.1;

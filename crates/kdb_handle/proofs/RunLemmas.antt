@@ -87,6 +87,7 @@ module _ (formats : Formats) (store : Store) where
   comes-committed : (keys : KeyMap) (first last : Run) (log : List Told) (commit : Commit) → ComesTo formats store (changed_by commit.changes keys) (after_commit first (entry_of formats store keys commit)) log last
       → ComesTo formats store keys first (Committed commit ∷ log) last
   comes-committed keys first last log commit rest = record {
+    names = rest.names;
     files = rest.files;
     faults = rest.faults;
     commits = rest.commits ∙ append_assoc first.commits (now ∷ []) (entries_from formats store next (commits_of log));
@@ -131,6 +132,7 @@ module _ (formats : Formats) (store : Store) where
   comes-failed : (keys : KeyMap) (first last : Run) (log : List Told) (commit : Commit) (doubt : Option (List FileText)) → IsOneOf doubt first.doubt (entry_of formats store keys commit)
       → ComesTo formats store keys (after_begun first (entry_of formats store keys commit) doubt) log last → ComesTo formats store keys first (Failed commit ∷ log) last
   comes-failed keys first last log commit doubt one rest = record {
+    names = rest.names;
     files = rest.files;
     faults = rest.faults;
     commits = rest.commits;
@@ -171,6 +173,7 @@ module _ (formats : Formats) (store : Store) where
 
   comes-refused : (keys : KeyMap) (first last : Run) (log : List Told) (handle : ℕ) → ComesTo formats store keys first log last → ComesTo formats store keys first (Refused handle ∷ log) last
   comes-refused keys first last log handle rest = record {
+    names = rest.names;
     files = rest.files;
     faults = rest.faults;
     commits = rest.commits;
@@ -192,7 +195,7 @@ module _ (formats : Formats) (store : Store) where
   pub comes-to : (keys : KeyMap) (first last : Run) (log : List Told) → RunsBy formats store keys first log last → ComesTo formats store keys first log last
   comes-to keys first last [] same =
       subst (λ (run : Run). ComesTo formats store keys first [] run) (sym same)
-      (record { files = refl; faults = refl; commits = sym (append-nil first.commits); begun = λ number entry has. inl has; doubt = λ entry is. inl (is, refl) })
+      (record { names = refl; files = refl; faults = refl; commits = sym (append-nil first.commits); begun = λ number entry has. inl has; doubt = λ entry is. inl (is, refl) })
   comes-to keys first last (Opened opening ∷ log) runs = absurd runs
   comes-to keys first last (Committed commit ∷ log) runs =
       comes-committed keys first last log commit (comes-to (changed_by commit.changes keys) (after_commit first (entry_of formats store keys commit)) last log runs)

@@ -18,9 +18,10 @@ use Rattle.kdb_handle.specs.Turns.{MayCommit, told_by, is_refusal, record_by}
 use Rattle.model_store.proofs.Accepting.{put-here}
 use Rattle.kdb_handle.proofs.BelongLemmas.{others, records, known, world, rest_is, stands_in, belongs_in}
 use Rattle.kdb_handle.proofs.RecordLemmas.{own_fronts}
-use Rattle.kdb_handle.proofs.RunLemmas.{runs-committed, runs-failed, runs-refused, risen-once, risen-still}
+use Rattle.kdb_handle.proofs.RunLemmas.{comes-to, runs-committed, runs-failed, runs-refused, risen-once, risen-still}
 use Rattle.kdb_handle.proofs.StoryLemmas.{begins-commit, begins-failure, begins_none-before, commits-append, failures-append, refusals-append}
 use Rattle.model_crashes.specs.Runs.{Run, IsOneOf, after_begun, after_commit}
+use Rattle.model_files.specs.Files.{table_files}
 use Rattle.model_files.specs.Texts.{entry_of}
 use Rattle.model_history.specs.History as past
 use Rattle.model_history.specs.History.{replay}
@@ -88,7 +89,7 @@ shared_first formats g code refused files held core same st =
       faults = inl (omega arith);
       refusals = inl (omega arith);
       idle = λ none empty. (refl, refl);
-      run = λ start first stands. (first, refl, stands);
+      run = λ start first names stands. (first, refl, stands);
     })
 
 -- what was flushed stands for the story that it stood for, whatever came of it
@@ -114,7 +115,7 @@ shared_flushed formats {D} {P} g code refused core next result entries log flush
   idle = λ none empty.
       let was = shared.idle none empty in
       let still = (flushed.none (ap (λ (j : JournalValue D). j.list) was.0 ∙ empty)).0 in (ap (λ (c : Core D P). c.journal) still ∙ was.0, flushed.wrote ∙ was.1);
-  run = λ start first stands. let before = shared.run start first stands in (before.0, before.1, flushed.on_disk start before.0 before.2);
+  run = λ start first names stands. let before = shared.run start first names stands in (before.0, before.1, flushed.on_disk start before.0 before.2);
 }
 
 -- how what is kept goes on, by the answer to a commit
@@ -337,11 +338,13 @@ module _ (formats : Formats) {D P : Type 0} (g : Ghosts D) (code : Coded D) (ref
             (subst (λ (ts : List Told). HasRisenBy (refusals_in shared.rest + refusals_in ts) shared.opening.refusals (refused after.patterns)) (sym told_is)
             (refusals_by result (refusals_in shared.rest) shared.opening.refusals shared.refusals more refusal));
         idle = λ none. idle_by result unwritten (subst (λ (ts : List Told). BeginsNone (shared.rest ++ ts)) told_is none);
-        run = λ start first store_first.
-            let before = shared.run start first store_first in
+        run = λ start first names store_first.
+            let before = shared.run start first names store_first in
             let last : Run = before.0 in
             let runs : RunsBy formats store (visible_keys files) first shared.rest last = subst (λ (fs : List MountedFile). RunsBy formats (store_at fs) (visible_keys fs) first shared.rest last) may.opening before.1 in
-            let has_run = answers start last (record { here = belongs_in formats g code refused files core entries log rec set may; on_disk = before.2 }) in (
+            let has_names : last.names ≡ table_files store =
+            (comes-to formats store (visible_keys files) first last shared.rest runs).names ∙ names ∙ ap (λ (fs : List MountedFile). table_files (store_at fs)) may.opening in
+            let has_run = answers start last (record { here = belongs_in formats g code refused files core entries log rec set may; on_disk = before.2; names = has_names }) in (
               has_run.later,
               subst (λ (fs : List MountedFile). RunsBy formats (store_at fs) (visible_keys fs) first (shared.rest ++ told) has_run.later) (sym may.opening)
                   (subst (λ (ts : List Told). RunsBy formats store (visible_keys files) first (shared.rest ++ ts) has_run.later) (sym told_is)

@@ -17,6 +17,7 @@ use Rattle.kdb_handle.specs.Rising.{HasRisenBy}
 use Rattle.kdb_handle.specs.Runs.{RunsBy}
 use Rattle.kdb_handle.specs.Story.{Told, Opening, Opened, BeginsNone, maker_of, commits_of, failures_in, refusals_in}
 use Rattle.model_crashes.specs.Runs.{Run, files_of, IsReached}
+use Rattle.model_files.specs.Files.{table_files}
 use Rattle.model_store.specs.Legal.{IsLegal}
 use Rattle.model_store.specs.Store.{Formats}
 use Rattle.mounted_files.specs.Visible.{visible_keys}
@@ -40,7 +41,8 @@ pub record IsHandedOn (formats : Formats) {D : Type 0} (g : Ghosts D) (files : L
 -- A closed store. There is one story, which begins with the opening and with all that each handle has seen. Its entries of a handle's number are those that the handle
 -- made, each once, in their order, and it has no others. Its history is legal, and is the one that comes back. The disk's count of faults rose by
 -- at least the sets that failed, and the matcher's count of refusals by at least those with a refused pattern. Where the opening wrote nothing and no set was
--- begun, no call was made on the disk since the opening
+-- begun, no call was made on the disk since the opening. For whatever run the journal stood at the opening, under a head that names the files of the store, the
+-- disk that comes back is handed on from it by the story
 pub record IsClosed (formats : Formats) {D P : Type 0} (g : Ghosts D) (refused : P → ℕ) (files : List MountedFile) (journal : JournalValue D) (opening : Opening) (given : ℕ) (handles : List HandleValue) (closed : Closed D P) : Type 0 where
   pub rest : List Told
   pub seen : All (λ handle. IsPrefix handle.seen (Opened opening ∷ rest)) handles
@@ -52,4 +54,4 @@ pub record IsClosed (formats : Formats) {D P : Type 0} (g : Ghosts D) (refused :
   pub faults : HasRisenBy (failures_in rest) (g.faults journal.disk) (g.faults closed.disk)
   pub refusals : HasRisenBy (refusals_in rest) opening.refusals (refused closed.patterns)
   pub left_alone : BeginsNone rest → opening.wrote ≡ false → IsFresh journal → closed.disk ≡ journal.disk
-  pub disk : (start : D) (first : Run) → IsStore g start journal first → IsHandedOn formats g files start first journal.disk rest closed.disk
+  pub disk : (start : D) (first : Run) → first.names ≡ table_files (store_at files) → IsStore g start journal first → IsHandedOn formats g files start first journal.disk rest closed.disk

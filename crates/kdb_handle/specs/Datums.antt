@@ -11,5 +11,7 @@ coded_text = code_by (List ℕ × List ℕ) (coded× (coded_list coded_ℕ) (cod
 -- a journal, by the datum of its disk
 abbrev pub coded_journal : {D : Type 0} → Coded D → Coded (JournalValue D)
 coded_journal {D} code =
-    code_by (D × (List (List FileText) × (Bool × Bool))) (coded× code (coded× (coded_list (coded_list coded_text)) (coded× coded_bool coded_bool)))
-    (λ j. (j.disk, (j.list, (j.in_doubt, j.recovered)))) (λ p. record { disk = p.0; list = p.1.0; in_doubt = p.1.1.0; recovered = p.1.1.1 }) (λ _. refl)
+    code_by (D × ((Bool × ℕ) × (List (List FileText) × (Bool × Bool))))
+    (coded× code (coded× (coded× coded_bool coded_ℕ) (coded× (coded_list (coded_list coded_text)) (coded× coded_bool coded_bool))))
+    (λ j. (j.disk, ((j.headed, j.start), (j.list, (j.in_doubt, j.recovered)))))
+    (λ p. record { disk = p.0; headed = p.1.0.0; start = p.1.0.1; list = p.1.1.0; in_doubt = p.1.1.1.0; recovered = p.1.1.1.1 }) (λ _. refl)

@@ -38,9 +38,11 @@ pub record IsLeftBy (formats : Formats) (store : Store) (keys : KeyMap) (log : L
   pub last : commits_of behind ≡ []
   pub entry_is : entry ≡ entry_of formats store (replay keys (commits_of before)) commit
 
--- What a run comes to by a story, from some keys on. Its files and its count of faults at the beginning stay. Its commits gain those of the story. What was begun had
--- been, or is a set of the story behind just the commits before it. What is in doubt had been and no commit came, or is a set that failed behind all commits
+-- What a run comes to by a story, from some keys on. The names of the journal's head, its files and its count of faults at the beginning stay. Its commits gain
+-- those of the story. What was begun had been, or is a set of the story behind just the commits before it. What is in doubt had been and no commit came, or is a
+-- set that failed behind all commits
 pub record ComesTo (formats : Formats) (store : Store) (keys : KeyMap) (first : Run) (log : List Told) (last : Run) : Type 0 where
+  pub names : last.names ≡ first.names
   pub files : last.files ≡ first.files
   pub faults : last.faults ≡ first.faults
   pub commits : last.commits ≡ first.commits ++ entries_from formats store keys (commits_of log)

@@ -12,7 +12,7 @@ use Rattle.kdb_handle.specs.Story.{Told, Opening, Opened, Committed, Failed, Ref
 use Rattle.kdb_handle.specs.declared.shared.Fresh.{Fresh}
 use Rattle.kdb_handle.specs.declared.shared.Fresh.TheVariants as fresh
 use Rattle.model_crashes.specs.Runs.{Run}
-use Rattle.model_files.specs.Files.{HaveFiles}
+use Rattle.model_files.specs.Files.{HaveFiles, table_files}
 use Rattle.model_history.specs.History.{replay}
 use Rattle.model_store.specs.Legal.{IsLegal}
 use Rattle.model_store.specs.Sound.{IsSound}
@@ -32,8 +32,8 @@ told_now (fresh.Refused set) = Refused (prepared_of set.value).handle ∷ []
 
 -- A core with a count of entries stands for a story that begins with its opening, whose store is sound. It has the history of the story, which is legal, the keys that the
 -- opening found, and the keys after the history. The disk's count of faults rose by at least the sets that failed, and the matcher's count of refusals
--- by at least those with a refused pattern. Where no set was begun, and no entry waited from the first, the journal and its disk are as the opening left them. And for whatever run the
--- journal stood at the opening, it stands now for the run that went on by the story.
+-- by at least those with a refused pattern. Where no set was begun, and no entry waited from the first, the journal and its disk are as the opening left them. And
+-- for whatever run the journal stood at the opening, under a head that names the files of the store, it stands now for the run that went on by the story.
 pub record IsShared (formats : Formats) {D P : Type 0} (g : Ghosts D) (code : Coded D) (refused : P → ℕ) (core : Core D P) (entries : ℕ) (log : List Told) : Type 0 where
   pub opening : Opening
   pub rest : List Told
@@ -51,5 +51,5 @@ pub record IsShared (formats : Formats) {D P : Type 0} (g : Ghosts D) (code : Co
   pub faults : HasRisenBy (failures_in rest) (g.faults journal.disk) (g.faults core.journal.disk)
   pub refusals : HasRisenBy (refusals_in rest) opening.refusals (refused core.patterns)
   pub idle : BeginsNone rest → journal.list ≡ [] → (core.journal ≡ journal) × (core.wrote ≡ opening.wrote)
-  pub run : (start : D) (first : Run) → IsStore g start journal first
+  pub run : (start : D) (first : Run) → first.names ≡ table_files (store_at opening.files) → IsStore g start journal first
       → (last : Run) × RunsBy formats (store_at opening.files) (visible_keys opening.files) first rest last × IsStore g start core.journal last

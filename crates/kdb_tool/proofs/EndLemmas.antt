@@ -11,7 +11,7 @@ use Rattle.kdb_outside.specs.Images.{Image}
 use Rattle.kdb_outside.specs.SinkChange.{SinkChange as Change}
 use Rattle.kdb_outside.specs.declared.disks.Disk.{Ghosts}
 use Rattle.store_lines.specs.Lines.{disk_fault, out_of_memory}
-use Rattle.kdb_tool.specs.Ends.{EndsBroken, EndsInFault, EndsWithoutMemory, GivesText, TellsBroken}
+use Rattle.kdb_tool.specs.Ends.{EndsByJournal, EndsInFault, EndsWithoutMemory, GivesText, TellsOfJournal}
 use Rattle.kdb_tool.specs.Plays.{report_by}
 use Rattle.kdb_tool.specs.Reported.{IsOfDisk, IsReported, OfReplies, Own, StoresNone}
 use Rattle.kdb_tool.specs.RunsBatch.{Played, RanBatch, TellsPlayed, Unplayed, Without}
@@ -117,11 +117,11 @@ module _ (status : ℕ) (out err : Change) where
   stores-none g disk end (Err stops.DiskFault) reads delivers not_done answered = absurd (answered.1 (fault_status disk_fault status out err delivers))
   stores-none g disk end (Err stops.ReadFault) reads delivers not_done answered = absurd (answered.1 (fault_status read_fault status out err delivers))
 
-  pub broken-ends : (words : List (List ℕ)) (input : List ℕ) (at : ℕ) (answer : Result code.Report Stop) → IfOk answer (λ report. TellsBroken words input at (report_of report)) → Delivers (ending answer) status out err → EndsBroken words input at status out err
-  broken-ends words input at (Ok report) told delivers = λ answered. (report_of report, told, given (report_of report) status out err delivers answered)
-  broken-ends words input at (Err stops.Memory) told delivers = λ answered. absurd (answered.0 (given (warned 70 out_of_memory) status out err delivers answered).status_is)
-  broken-ends words input at (Err stops.DiskFault) told delivers = λ answered. absurd (answered.1 (fault_status disk_fault status out err delivers))
-  broken-ends words input at (Err stops.ReadFault) told delivers = λ answered. absurd (answered.1 (fault_status read_fault status out err delivers))
+  pub journal-ends : (words : List (List ℕ)) (input line : List ℕ) (answer : Result code.Report Stop) → IfOk answer (λ report. TellsOfJournal words input line (report_of report)) → Delivers (ending answer) status out err → EndsByJournal words input line status out err
+  journal-ends words input line (Ok report) told delivers = λ answered. (report_of report, told, given (report_of report) status out err delivers answered)
+  journal-ends words input line (Err stops.Memory) told delivers = λ answered. absurd (answered.0 (given (warned 70 out_of_memory) status out err delivers answered).status_is)
+  journal-ends words input line (Err stops.DiskFault) told delivers = λ answered. absurd (answered.1 (fault_status disk_fault status out err delivers))
+  journal-ends words input line (Err stops.ReadFault) told delivers = λ answered. absurd (answered.1 (fault_status read_fault status out err delivers))
 
 -- ---- all of it, on a calm disk
 

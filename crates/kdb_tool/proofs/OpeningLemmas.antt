@@ -1,7 +1,7 @@
 -- What is told where the files open no store.
-use Rattle.std.proofs.Common.{◌≡◌, ◌≢◌, ℕ, false, List, [], Option, Some, IfOk, Result, Ok, Err, OnOk, refl, sym, subst}
+use Rattle.std.proofs.Common.{◌≡◌, ◌≢◌, false, List, Option, Some, IfOk, Result, Ok, Err, OnOk, refl, sym, subst}
 use Rattle.all_formats.specs.Meanings as all
-use Rattle.intent_journal.specs.Opened.{open_list, opened_files}
+use Rattle.intent_journal.specs.Opened.{opened_files}
 use Rattle.journal_steps.specs.Moments.{LeavesOnly}
 use Rattle.intent_journal.specs.Outcomes.{HasOnly}
 use Rattle.journal_steps.specs.Outcomes.{SameFiles, IsEither}
@@ -21,9 +21,10 @@ use Rattle.kdb_tool.specs.Unplayed.{IsUnopened}
 use Rattle.tool_commands.specs.Report.{Report, warned}
 use Rattle.tool_commands.specs.StepView.{report_of}
 use Rattle.tool_commands.specs.declared.reports.Report as code
-use Rattle.tool_single.proofs.OpeningLemmas.{LeavesCalm, read_fault}
+use Rattle.tool_single.proofs.OpeningLemmas.{IsOfFiles, LeavesCalm, read_fault}
 use Rattle.tool_single.proofs.ServeLemmas.{refused_served}
 use Rattle.tool_single.specs.Answer.{refused, tells}
+use Rattle.tool_single.specs.Crashing.{HasNothingToWrite}
 use Rattle.tool_single.specs.Lines.{line_of_store}
 use Rattle.tool_single.specs.Serving.{Seeking, Serve}
 use Rattle.tool_single.specs.declared.answers.Stop.{Stop}
@@ -32,6 +33,7 @@ use Rattle.tool_single.specs.declared.answers.Stop.TheVariants as stops
 unopened : (bytes_of : Image) (why : OpenFault) → RefusesStore all.Reads all.IsBadAt (bytes_of own_mount.file) why → may_be_of_journal (Some why) ≡ false → IsUnopened bytes_of (refused 5 (line_of_store why))
 unopened bytes_of fault.DiskFault refuses read = absurd cc
 unopened bytes_of (fault.BadJournal at) refuses read = absurd cc
+unopened bytes_of (fault.UnknownVersion version) refuses read = absurd cc
 unopened bytes_of (fault.BadTable why) refuses read = record { refusal = refusal.BadTable why; opens = refuses; told = (λ e. absurd cc, refl) }
 unopened bytes_of (fault.TooLong bytes) refuses read = record { refusal = refusal.TooLong bytes; opens = refuses; told = (λ e. absurd cc, refl) }
 unopened bytes_of (fault.BadFile line) refuses read = record { refusal = refusal.BadFile line; opens = refuses; told = (λ e. absurd cc, refl) }
@@ -40,8 +42,8 @@ unopened bytes_of fault.Memory refuses read = absurd cc
 pub unopened-serve : {D : Type 0} (g : Ghosts D) (disk end : D) (files : Image) (doubt : Option (List FileText)) (why : OpenFault) (result : Result code.Report Stop)
     → IfOk result (λ report. report_of report ≡ warned 5 (line_of_store why)) → OnOk result ((why ≢ fault.DiskFault) × (why ≢ fault.Memory)) → result ≢ Err stops.ReadFault
     → LeavesOnly g disk end (HasOnly (IsEither files doubt)) → EveryImage (g.may_leave end) (HasOnly (IsEither files doubt))
-    → (may_be_of_journal (Some why) ≡ false → SameFiles (g.seen end) (opened_files (g.seen disk))) → (open_list (g.seen disk) ≡ [] → OnlyReads g disk end)
-    → RefusesStore all.Reads all.IsBadAt (opened_files (g.seen disk) own_mount.file) why → ((at : ℕ) → why ≡ fault.BadJournal at → ⊥)
+    → (may_be_of_journal (Some why) ≡ false → SameFiles (g.seen end) (opened_files (g.seen disk))) → (HasNothingToWrite (g.seen disk) → OnlyReads g disk end)
+    → RefusesStore all.Reads all.IsBadAt (opened_files (g.seen disk) own_mount.file) why → IsOfFiles why
     → (¬ HasRisen (g.faults disk) (g.faults end) → LeavesCalm g files doubt disk end) → Serve g files doubt (IsUnopened (opened_files (g.seen disk))) result disk end
 unopened-serve g disk end files doubt why (Ok report) told own unread meanwhile rests shown alone refuses journal left =
     let opened = opened_files (g.seen disk) in

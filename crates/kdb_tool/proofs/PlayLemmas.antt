@@ -27,6 +27,7 @@ use Rattle.model_batch.specs.Fair.{count_failed, count_refused}
 use Rattle.model_batch.specs.Scripts.{IsFairScript, reply_rows}
 use Rattle.model_crashes.proofs.Moments.{only_both}
 use Rattle.model_crashes.specs.Runs.{Run, IsReached, files_of, new_run}
+use Rattle.model_files.specs.Files.{table_files}
 use Rattle.model_history.specs.History.{Commit}
 use Rattle.mounted_files.specs.Visible.{visible_keys}
 use Rattle.mounted_files.specs.Opening.{IsOpened}
@@ -42,7 +43,7 @@ use Rattle.tool_commands.specs.declared.reports.Report as code
 use Rattle.tool_single.proofs.CrashLemmas.{reached_none}
 use Rattle.tool_single.proofs.ServeLemmas.{HasOpened, found_whole}
 use Rattle.tool_single.specs.Answer.{Answer}
-use Rattle.tool_single.specs.Crashing.{Stored}
+use Rattle.tool_single.specs.Crashing.{HasNothingToWrite, Stored}
 use Rattle.tool_single.specs.Refusing.{Tells}
 use Rattle.tool_single.specs.Serving.{Serve}
 use Rattle.tool_single.specs.Serving as serving
@@ -75,7 +76,7 @@ at_some P o transcripts there holds = subst (λ (x : Option Transcripts). IfSome
 -- ---- on a calm disk
 
 module _ {D P : Type 0} (g : Ghosts D) (refused : P → ℕ) (disk : D) (files : Image) (doubt : Option (List FileText)) (script : Script) (mounted : List MountedFile) (core : Core D P) (played : Played D P)
-    (telling : g.tells disk ≡ true) (is_opened : IsOpened all.Reads all.IsBadAt (opened_files (g.seen disk)) mounted) (has_opened : HasOpened g disk files doubt core) (is : IsPlayed formats g refused mounted script core played) where
+    (telling : g.tells disk ≡ true) (is_opened : IsOpened all.Reads all.IsBadAt (opened_files (g.seen disk)) mounted) (has_opened : HasOpened g disk files doubt (table_files (store_at mounted)) core) (is : IsPlayed formats g refused mounted script core played) where
   abbrev opened : Image
   opened = opened_files (g.seen disk)
 
@@ -86,7 +87,7 @@ module _ {D P : Type 0} (g : Ghosts D) (refused : P → ℕ) (disk : D) (files :
   end = played.closed.disk
 
   abbrev first : Run
-  first = new_run opened (g.faults disk) has_opened.begun.first
+  first = new_run (table_files (store_at mounted)) opened (g.faults disk) has_opened.begun.first
 
   -- an image stands for files that were found, or that a run reached
   abbrev Found : Image → Type 0
@@ -96,11 +97,11 @@ module _ {D P : Type 0} (g : Ghosts D) (refused : P → ℕ) (disk : D) (files :
   Reached run = IsReached run.files run.commits run.begun
 
   handed : IsHandedOn formats g mounted mid first mid is.story end
-  handed = is.disk mid first has_opened.begun.store
+  handed = is.disk mid first refl has_opened.begun.store
 
-  -- nothing was written where no entry was open and no set was begun
-  untouched : BeginsNone is.story → open_list (g.seen disk) ≡ [] → OnlyReads g disk end
-  untouched begins_none none = subst (OnlyReads g disk) (sym (is.left_alone begins_none (has_opened.wrote ∙ ap has_any none) has_opened.fresh)) (has_opened.alone none)
+  -- nothing was written where the opening had nothing to write and no set was begun
+  untouched : BeginsNone is.story → HasNothingToWrite (g.seen disk) → OnlyReads g disk end
+  untouched begins_none none = subst (OnlyReads g disk) (sym (is.left_alone begins_none (has_opened.wrote ∙ ap has_any none.none) has_opened.fresh)) (has_opened.alone none)
 
   quiet_since : ¬ HasRisen (g.faults disk) (g.faults end) → ¬ HasRisen (g.faults mid) (g.faults end)
   quiet_since still = λ rose. still (risen_since (g.faults disk) (g.faults mid) (g.faults end) has_opened.goes.later rose)
@@ -143,11 +144,14 @@ module _ {D P : Type 0} (g : Ghosts D) (refused : P → ℕ) (disk : D) (files :
   begins_none : is.story ≡ [] → BeginsNone is.story
   begins_none none = record { commits = ap commits_of none; failures = ap failures_in none }
 
-  found_again : is.story ≡ [] → IsCalm (g.seen end) (g.may_leave end) opened has_opened.begun.first → SameFiles (opened_files (g.seen end)) opened
-  found_again none calm = by (open_list (g.seen disk)) refl
+  found_again : is.story ≡ [] → ¬ HasRisen (g.faults disk) (g.faults end) → IsCalm (g.seen end) (g.may_leave end) opened has_opened.begun.first → SameFiles (opened_files (g.seen end)) opened
+  found_again none still calm = by (open_list (g.seen disk)) refl
     where
       by : (list : List (List FileText)) → open_list (g.seen disk) ≡ list → SameFiles (opened_files (g.seen end)) opened
-      by [] there = let reads = untouched (begins_none none) there in λ file not_own. ap (λ (seen : Image). opened_files seen file) (reads.same telling)
+      by [] there =
+          let same : end ≡ mid = is.left_alone (begins_none none) (has_opened.wrote ∙ ap has_any there) has_opened.fresh in
+          subst (λ (d : D). SameFiles (opened_files (g.seen d)) opened) (sym same)
+          (has_opened.found (λ rose. still (subst (λ (d : D). HasRisen (g.faults disk) (g.faults d)) (sym same) rose)))
       by (entry ∷ entries) there =
           let settled = has_opened.begun.settled (λ nothing. let both = sym there ∙ nothing in cc) in
           found_whole g end opened told_end (subst (λ (d : Option (List FileText)). IsCalm (g.seen end) (g.may_leave end) opened d) settled calm)
@@ -168,7 +172,7 @@ module _ {D P : Type 0} (g : Ghosts D) (refused : P → ℕ) (disk : D) (files :
               calm = calm;
               none = λ some. absurd (some refl);
               within = λ nothing. has_opened.begun.within;
-              found = found_again none calm;
+              found = found_again none still calm;
             };
       }
 
@@ -188,7 +192,7 @@ module _ {D P : Type 0} (g : Ghosts D) (refused : P → ℕ) (disk : D) (files :
 
 -- what came of an open store is what came of its disk
 pub works-ended : {D P : Type 0} (g : Ghosts D) (refused : P → ℕ) (disk : D) (files : Image) (doubt : Option (List FileText)) (script : Script) (mounted : List MountedFile) (core : Core D P) (ended : Ended D P) (before : ℕ)
-    → g.tells disk ≡ true → IsOpened all.Reads all.IsBadAt (opened_files (g.seen disk)) mounted → HasOpened g disk files doubt core → HasEnded g refused mounted script core ended → refused core.patterns ≡ before
+    → g.tells disk ≡ true → IsOpened all.Reads all.IsBadAt (opened_files (g.seen disk)) mounted → HasOpened g disk files doubt (table_files (store_at mounted)) core → HasEnded g refused mounted script core ended → refused core.patterns ≡ before
     → (Answered : Answer → Type 0) (IsAsked : Script → Type 0) → IsAsked script → Works g files doubt before (refused ended.patterns) Answered IsAsked ended.answer disk ended.disk
 works-ended {D} {P} g refused disk files doubt script mounted core ended before telling is_opened has_opened ends same Answered IsAsked asked =
     let done = works g refused disk files doubt script mounted core ends.played telling is_opened has_opened ends.is Answered IsAsked ended.answer asked ends.told in

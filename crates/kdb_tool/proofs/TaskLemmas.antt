@@ -1,11 +1,13 @@
 -- What is told of words and an input that ask for no script, and what is asked for by those that do.
-use Rattle.std.specs.Prelude.{◌≡◌, ℕ, Bool, true, false, List, Option, Some}
+use Rattle.std.specs.Prelude.{◌≡◌, ℕ, Bool, true, false, List, [], Option, Some}
 use Rattle.std.proofs.Common.{refl, ap, arith}
+use Rattle.batch_script.specs.Scripts.{Adds}
 use Rattle.batch_script.specs.declared.steps.Script.{Script}
+use Rattle.batch_script.proofs.LineLemmas.{Adds-once}
 use Rattle.kdb_outside.specs.declared.sources.Source.{Ghosts}
-use Rattle.kdb_tool.specs.Ends.{TellsBroken}
+use Rattle.kdb_tool.specs.Ends.{TellsOfJournal}
 use Rattle.kdb_tool.specs.Ends as ends
-use Rattle.kdb_tool.specs.Scripts.{AsksFor, IsGiven, LeavesInput, most_taken, taken}
+use Rattle.kdb_tool.specs.Scripts.{AsksFor, AsksStore, IsGiven, IsScript, LeavesInput, most_taken, taken}
 use Rattle.kdb_tool.specs.Tasks.{IsTask, IsTaskOf, OfInput, OfWords, warning_of}
 use Rattle.kdb_tool.specs.Unplayed.{AnswersUnplayed, RefusesScript, ScriptRefused, WordsRefused}
 use Rattle.kdb_tool.specs.Unplayed as unplayed
@@ -13,6 +15,8 @@ use Rattle.kdb_tool.specs.declared.tasks.NoScript.{NoScript}
 use Rattle.kdb_tool.specs.declared.tasks.NoScript.TheVariants.{OptionsRefused, TooLong, BadLine}
 use Rattle.kdb_tool.specs.declared.tasks.Task.{Task}
 use Rattle.kdb_tool.specs.declared.tasks.Task.TheVariants.{Play, Refuse}
+use Rattle.model_lines.specs.Lines.{lines}
+use Rattle.model_lines.proofs.Leading.{Leads-stops_nowhere}
 use Rattle.tool_single.specs.Answer.{tells}
 use Rattle.tool_single.specs.Input.{TakesAll, TakesFront}
 
@@ -34,10 +38,20 @@ pub refused-answers : (words : List (List ℕ)) (input : List ℕ) (bytes_of : L
 refused-answers words input bytes_of why (OfWords refused same) = WordsRefused refused (ap (λ (t : Task). tells (warning_of (why_in t))) same)
 refused-answers words input bytes_of why (OfInput takes is) = ScriptRefused takes (refuses-script input why is)
 
--- what is told where the journal is broken
-pub refused-broken : (words : List (List ℕ)) (input : List ℕ) (at : ℕ) (why : NoScript) → IsTask words input (Refuse why) → TellsBroken words input at (warning_of why)
-refused-broken words input at why (OfWords refused same) = ends.WordsRefused refused (ap (λ (t : Task). warning_of (why_in t)) same)
-refused-broken words input at why (OfInput takes is) = ends.ScriptRefused takes (refuses-script input why is)
+-- what is told where the journal is refused
+pub refused-journal : (words : List (List ℕ)) (input line : List ℕ) (why : NoScript) → IsTask words input (Refuse why) → TellsOfJournal words input line (warning_of why)
+refused-journal words input line why (OfWords refused same) = ends.WordsRefused refused (ap (λ (t : Task). warning_of (why_in t)) same)
+refused-journal words input line why (OfInput takes is) = ends.ScriptRefused takes (refuses-script input why is)
+
+-- the store isn't asked then
+script-none : (input : List ℕ) (why : NoScript) (script : Script) → IsTaskOf (taken input) (Refuse why) → IsScript input script → ⊥
+script-none input OptionsRefused script is reads = is
+script-none input TooLong script is reads = let short = reads.short in absurd cc
+script-none input (BadLine line) script is reads = Leads-stops_nowhere Adds Adds-once [] (lines (taken input)) reads.reads.items line reads.reads.leads is.1
+
+pub refused-asks : (words : List (List ℕ)) (input : List ℕ) (why : NoScript) → IsTask words input (Refuse why) → AsksStore words input → ⊥
+refused-asks words input why (OfWords refused same) asks = let takes = asks.1.takes in absurd cc
+refused-asks words input why (OfInput takes is) asks = script-none input why asks.0 is asks.1.is_script
 
 -- and what is asked for
 pub play-asks : (words : List (List ℕ)) (input : List ℕ) (script : Script) → IsTask words input (Play script) → AsksFor words input script

@@ -10,8 +10,7 @@ use Rattle.kdb_outside.specs.Frames.{OnlyReads}
 use Rattle.kdb_outside.specs.Images.{Image}
 use Rattle.kdb_outside.specs.declared.disks.Disk.{Ghosts}
 use Rattle.model_crashes.specs.Runs.{files_of}
-use Rattle.store_lines.specs.Lines.{bad_journal}
-use Rattle.kdb_tool.specs.Ends.{Broken, TellsBroken}
+use Rattle.kdb_tool.specs.Ends.{JournalRefused, TellsOfJournal}
 use Rattle.kdb_tool.specs.Reported.{IsOfDisk, IsReported, Own, StoresNone}
 use Rattle.kdb_tool.specs.RunsBatch.{IsAtRest}
 use Rattle.kdb_tool.specs.Scripts.{AsksFor}
@@ -42,11 +41,11 @@ module _ {D : Type 0} (g : Ghosts D) (files : Image) (doubt : Option (List FileT
   works-calm P IsAsked answer disk end (NotPlayed serves) cause still = at-rest g files doubt disk end (serve_calm g files doubt P answer disk end serves cause still)
   works-calm P IsAsked answer disk end (HasPlayed script asked told) cause still = record { files = files_of told.plays.last; doubt = told.plays.last.doubt; calm = told.plays.calm still }
 
--- a broken journal is told where a script was asked for
-pub broken-asked : (words : List (List ℕ)) (input : List ℕ) (at : ℕ) (script : Script) (answer : Result code.Report Stop) → AsksFor words input script → IfOk answer (λ report. report_of report ≡ warned 5 (bad_journal at))
-    → IfOk answer (λ report. TellsBroken words input at (report_of report))
-broken-asked words input at script (Ok report) asks told = Broken script asks told
-broken-asked words input at script (Err stop) asks told = tt
+-- a journal is told where a script was asked for
+pub journal-asked : (words : List (List ℕ)) (input line : List ℕ) (script : Script) (answer : Result code.Report Stop) → AsksFor words input script → IfOk answer (λ report. report_of report ≡ warned 5 line)
+    → IfOk answer (λ report. TellsOfJournal words input line (report_of report))
+journal-asked words input line script (Ok report) asks told = JournalRefused script asks told
+journal-asked words input line script (Err stop) asks told = tt
 
 -- ---- what is told without the store
 

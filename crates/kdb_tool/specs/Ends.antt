@@ -2,7 +2,7 @@
 use Rattle.std.specs.Prelude.{◌≡◌, ◌⊎◌, ℕ, true, false, List, []}
 use Rattle.batch_script.specs.declared.steps.Script.{Script}
 use Rattle.kdb_outside.specs.SinkChange.{SinkChange as Change}
-use Rattle.store_lines.specs.Lines.{bad_journal, out_of_memory}
+use Rattle.store_lines.specs.Lines.{out_of_memory}
 use Rattle.tool_commands.specs.Report.{IsAnswered, Report, warned}
 use Rattle.tool_words.specs.Lines.{options_refused}
 use Rattle.tool_single.specs.Answer.{tells}
@@ -27,12 +27,12 @@ EndsWithoutMemory status out err = status ≡ 70 → Gives (warned 70 out_of_mem
 abbrev pub EndsInFault : Type 0 → Type 0 → ℕ → Change → Change → Type 0
 EndsInFault disk_failed input_failed status out err = status ≡ 74 → FaultCause disk_failed input_failed status out err ⊎ (disk_failed × GivesText 74 status out err)
 
--- what is told where a gate of the journal is open, and no whole body of an entry stands behind it: a script that is refused is told before that
-pub data TellsBroken (words : List (List ℕ)) (input : List ℕ) (at : ℕ) (report : Report) : Type 0 where
-  WordsRefused : takes_words words ≡ false → report ≡ warned 1 options_refused → TellsBroken words input at report
-  ScriptRefused : takes_words words ≡ true → RefusesScript input (tells report) → TellsBroken words input at report
-  Broken : (script : Script) → AsksFor words input script → report ≡ warned 5 (bad_journal at) → TellsBroken words input at report
+-- what is told where the store isn't opened for its journal, by the line that refuses it: a script that is refused is told before that
+pub data TellsOfJournal (words : List (List ℕ)) (input line : List ℕ) (report : Report) : Type 0 where
+  WordsRefused : takes_words words ≡ false → report ≡ warned 1 options_refused → TellsOfJournal words input line report
+  ScriptRefused : takes_words words ≡ true → RefusesScript input (tells report) → TellsOfJournal words input line report
+  JournalRefused : (script : Script) → AsksFor words input script → report ≡ warned 5 line → TellsOfJournal words input line report
 
--- a run that ends neither in want of memory nor in a fault ends so
-abbrev pub EndsBroken : List (List ℕ) → List ℕ → ℕ → ℕ → Change → Change → Type 0
-EndsBroken words input at status out err = IsAnswered status → (report : Report) × TellsBroken words input at report × Gives report status out err
+-- a run that ends neither in want of memory nor in a fault ends so, where the journal is refused
+abbrev pub EndsByJournal : List (List ℕ) → (input line : List ℕ) → ℕ → Change → Change → Type 0
+EndsByJournal words input line status out err = IsAnswered status → (report : Report) × TellsOfJournal words input line report × Gives report status out err

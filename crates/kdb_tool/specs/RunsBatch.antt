@@ -1,9 +1,11 @@
 -- What the run of a batch promises, in one record. (This project's own.)
-use Rattle.std.specs.Prelude.{◌≡◌, ◌≢◌, ◌⊎◌, ◌≤◌, ℕ, true, List, [], Option, Some, None}
+use Rattle.std.specs.Prelude.{◌≡◌, ◌≢◌, ◌⊎◌, ◌≤◌, ℕ, true, List, Option, Some, Err}
 use Rattle.batch_script.specs.declared.steps.Script.{Script}
-use Rattle.intent_journal.specs.Opened.{bad_place, open_list, opened_files}
+use Rattle.intent_journal.specs.Opened.{bad_place, found_in, opened_files, unknown_version, IsKept}
+use Rattle.intent_journal.specs.Openings.{LeavesRetired}
 use Rattle.intent_journal.specs.States.{IsCalm}
 use Rattle.journal_codec.specs.declared.files.FileText.{FileText}
+use Rattle.journal_steps.specs.declared.faults.JournalFault.{JournalFault}
 use Rattle.kdb_handle.specs.Story.{commits_of}
 use Rattle.kdb_handle.specs.declared.replies.Transcripts.{Transcripts}
 use Rattle.kdb_outside.specs.Faults.{HasRisen}
@@ -14,12 +16,13 @@ use Rattle.kdb_outside.specs.declared.disks.Disk as disks
 use Rattle.kdb_outside.specs.declared.sinks.Sink as sinks
 use Rattle.kdb_outside.specs.declared.sources.Source as sources
 use Rattle.regex_check.specs.declared.patterns.Patterns as matchers
-use Rattle.store_lines.specs.Lines.{out_of_memory}
+use Rattle.store_lines.specs.Lines.{bad_journal, out_of_memory, unknown_journal}
 use Rattle.tool_commands.specs.Report.{IsAnswered, warned}
+use Rattle.tool_single.specs.Crashing.{HasNothingToWrite}
 use Rattle.tool_single.specs.Input.{LosesInput}
 use Rattle.tool_single.specs.Outcome.{Delivers, GainsFront}
 use Rattle.tool_single.specs.Ran.{EndsWithout, Follows}
-use Rattle.kdb_tool.specs.Ends.{EndsBroken, EndsByWords, EndsInFault, EndsWithoutMemory}
+use Rattle.kdb_tool.specs.Ends.{EndsByJournal, EndsByWords, EndsInFault, EndsWithoutMemory}
 use Rattle.kdb_tool.specs.Plays.{Plays, report_by}
 use Rattle.kdb_tool.specs.Scripts.{AsksFor, AsksStore, FailsToRead, HasAsked, IsGiven, LeavesInput, takes_words}
 use Rattle.kdb_tool.specs.Unplayed.{AnswersUnplayed}
@@ -56,16 +59,23 @@ pub record RunsBatch {S K E D P : Type 0} (s : sources.Ghosts S) (k : sinks.Ghos
   -- words that are refused decide alone, whatever the disk does; where they or the script are refused the disk and the matcher are left alone
   pub by_words : EndsByWords words status (change_of k out out_now) (change_of e err err_now)
   pub unasked : (given : List ℕ) → IsGiven (takes_words words) (s.left input) given → (AsksStore words given → ⊥) → (end ≡ disk) × (patterns_now ≡ patterns)
-  -- a broken journal is told by its place, and the disk is only read
-  pub broken : d.tells disk ≡ true → (at : ℕ) → bad_place (d.seen disk) ≡ Some at → (given : List ℕ) → IsGiven (takes_words words) (s.left input) given → EndsBroken words given at status (change_of k out out_now) (change_of e err err_now)
-  pub broken_stays : d.tells disk ≡ true → (at : ℕ) → bad_place (d.seen disk) ≡ Some at → OnlyReads d disk end
+  -- a broken journal is told by its place, and one of a version that isn't known by that
+  pub broken : d.tells disk ≡ true → (at : ℕ) → bad_place (d.seen disk) ≡ Some at → (given : List ℕ) → IsGiven (takes_words words) (s.left input) given
+      → EndsByJournal words given (bad_journal at) status (change_of k out out_now) (change_of e err err_now)
+  pub unknown : d.tells disk ≡ true → (version : ℕ) → unknown_version (d.seen disk) ≡ Some version → (given : List ℕ) → IsGiven (takes_words words) (s.left input) given
+      → EndsByJournal words given (unknown_journal version) status (change_of k out out_now) (change_of e err err_now)
+  -- the disk is only read then, where there is no former journal, or where it is that one which isn't whole; and else a batch that tells it has retired the
+  -- former journal, and brought its entries into their files, and changed nothing else
+  pub broken_stays : d.tells disk ≡ true → (fault : JournalFault) → found_in (d.seen disk) ≡ Err fault → IsKept (d.seen disk) → OnlyReads d disk end
+  pub broken_kept : d.tells disk ≡ true → (fault : JournalFault) → found_in (d.seen disk) ≡ Err fault → ¬ IsKept (d.seen disk)
+      → (given : List ℕ) → IsGiven (takes_words words) (s.left input) given → AsksStore words given → IsAnswered status → LeavesRetired d disk end
   -- what 70 and 74 tell; the disk fails only where the store was asked
   pub memory : EndsWithoutMemory status (change_of k out out_now) (change_of e err err_now)
   pub fault : EndsInFault (HasRisen (d.faults disk) (d.faults end) × HasAsked s words input input_now) (LosesInput (FailsToRead (takes_words words) (s.faults input) (s.faults input_now)) disk end patterns patterns_now) status (change_of k out out_now) (change_of e err err_now)
   -- so without a fault the status isn't that of one
   pub complete : (HasRisen (d.faults disk) (d.faults end) → ⊥) → (FailsToRead (takes_words words) (s.faults input) (s.faults input_now) → ⊥) → (HasRisen (k.faults out) (k.faults out_now) → ⊥) → (HasRisen (e.faults err) (e.faults err_now) → ⊥) → status ≢ 74
-  -- a batch that is refused writes nothing where no entry is open
-  pub unstored : d.tells disk ≡ true → open_list (d.seen disk) ≡ [] → status ≢ 0 → IsAnswered status → OnlyReads d disk end
+  -- a batch that is refused writes nothing where the opening has nothing to write
+  pub unstored : d.tells disk ≡ true → HasNothingToWrite (d.seen disk) → status ≢ 0 → IsAnswered status → OnlyReads d disk end
   -- what it takes of the input
   pub takes : LeavesInput s (takes_words words) (IsAnswered status) input input_now
   -- the disk tells as much as before, and no count falls

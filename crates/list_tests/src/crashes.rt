@@ -1,9 +1,10 @@
 //! Two entries on their way through a journal, stopped or failed at each call and crashed behind it; and a list whose files fail.
-ghost use Rattle.std.specs.Prelude.{◌≡◌, ◌++◌, ◌∷◌, [], false};
+ghost use Rattle.std.specs.Prelude.{◌≡◌, ◌++◌, ◌∷◌, []};
 ghost use Rattle.journal_codec.specs.Entry.{IsEntry};
 ghost use Rattle.journal_codec.specs.Forms.{behind_gate};
+ghost use Rattle.intent_journal.specs.Journal.{IsHeaderBytes};
 
-use crate::entries::{FIRST, SECOND, add, entry_of, name};
+use crate::entries::{FIRST, SECOND, add, begin, disk_of, entry_of, head, name};
 use disk_memory::MemDisk;
 use intent_journal::Journal;
 use journal_codec::{FileText, encode};
@@ -13,11 +14,12 @@ use key_meta::List;
 use std::alloc::Global;
 use std::test::Fail;
 
-/// What the two files and the journal hold.
+/// What the two files, the former journal and the journal hold.
 #[derive(Clone, Copy, Debug)]
 struct Held<'a> {
     first: &'a [u8],
     second: &'a [u8],
+    former: &'a [u8],
     journal: &'a [u8],
 }
 
@@ -26,16 +28,19 @@ const ROWS: [Held<'static>; 3] = [
     Held {
         first: b"0",
         second: b"0",
+        former: b"",
         journal: b"",
     },
     Held {
         first: b"a much longer content",
         second: b"",
+        former: b"\x00",
         journal: b"",
     },
     Held {
         first: b"",
         second: b"another one",
+        former: b"",
         journal: b"\x00\x00",
     },
 ];
@@ -46,34 +51,26 @@ fn disk_with(
     failing: Vec<u64>,
     stop_after: Option<u64>,
 ) -> Result<MemDisk, Fail> {
-    let first = name(alloc, "a.ecf")?;
-    let second = name(alloc, "b.ecf")?;
-    let journal = name(alloc, "journal")?;
-    if first == second || first == journal || second == journal {
-        return Err("they are three names")?;
-    }
-    let files = vec![in alloc;
-        (first, held.first.to_vec(alloc)?),
-        (second, held.second.to_vec(alloc)?),
-        (journal, held.journal.to_vec(alloc)?),
-    ]?;
-    Ok(MemDisk::new(alloc, files, failing, stop_after)?)
+    let contents = [held.first, held.second, held.former, held.journal];
+    disk_of(alloc, contents, failing, stop_after)
 }
 
 /// Adds both entries to the list, and brings it in.
 fn store_both<D: Disk>(
     journal: &mut Journal<D>,
+    header: &[u8],
     one: &[u8],
     first: List<FileText>,
     two: &[u8],
     second: List<FileText>,
 ) -> Result<(), Failed>
+    requires header { IsHeaderBytes header.now }
     requires first { IsEntry first }
     requires one { one.now ≡ behind_gate first ++ 0 ∷ [] }
     requires second { IsEntry second }
     requires two { two.now ≡ behind_gate second ++ 0 ∷ [] }
 {
-    journal.settle()?;
+    begin(journal, header)?;
     add(journal, one, first)?;
     add(journal, two, second)?;
     journal.finish()
@@ -85,10 +82,11 @@ fn stored_on(alloc: Global, disk: MemDisk) -> Result<(bool, MemDisk), Fail> {
     let second = entry_of(alloc, SECOND)?;
     let one = encode(alloc, first.as_slice())?;
     let two = encode(alloc, second.as_slice())?;
+    let header = head(alloc)?;
     match Journal::open(alloc, disk) {
         Ok(journal) => {
             let mut journal = journal;
-            let outcome = store_both(&mut journal, &one, first, &two, second);
+            let outcome = store_both(&mut journal, &header, &one, first, &two, second);
             Ok((outcome == Ok(()), journal.into_disk()))
         }
         Err(refused) => Ok((false, refused.disk)),
@@ -121,12 +119,13 @@ fn left_on(alloc: Global, held: Held<'_>, disk: MemDisk) -> Result<Option<u64>, 
     })
 }
 
-/// The first call opens; two settle; two each put a body and open its gate, so that the seventh and the eleventh sync a gate: a crash at one leaves the entry or not.
+/// Two calls open; two settle; four put the head; two each put a body and open its gate, so that the twelfth and the
+/// sixteenth sync a gate: a crash at one leaves the entry or not.
 fn fits(failed: u64, left: Option<u64>) -> bool {
     match left {
-        Some(0) => failed <= 7,
-        Some(1) => (7..12).contains(&failed),
-        Some(2) => 11 <= failed,
+        Some(0) => failed <= 12,
+        Some(1) => (12..17).contains(&failed),
+        Some(2) => 16 <= failed,
         _ => false,
     }
 }
@@ -190,8 +189,8 @@ fn stored_whole(alloc: Global, held: Held<'_>) -> Result<(bool, u64, Option<u64>
 fn leaves_no_entry_or_whole_ones_in_their_order(rt: HostRuntime) -> Result<(), Fail> {
     let alloc = rt.alloc();
     for held in ROWS {
-        assert!(rt; every_failure_fits(alloc, held, 19)?, "{held:?}");
-        assert_eq!(rt; stored_whole(alloc, held)?, (true, 19, Some(2)), "{held:?}");
+        assert!(rt; every_failure_fits(alloc, held, 24)?, "{held:?}");
+        assert_eq!(rt; stored_whole(alloc, held)?, (true, 24, Some(2)), "{held:?}");
     }
     Ok(())
 }
@@ -199,17 +198,19 @@ fn leaves_no_entry_or_whole_ones_in_their_order(rt: HostRuntime) -> Result<(), F
 /// How a list is brought in, at first and once more, and the state behind each.
 fn finished_twice<D: Disk>(
     journal: &mut Journal<D>,
+    header: &[u8],
     encoded: &[u8],
     files: List<FileText>,
 ) -> Result<[(Result<(), Failed>, State); 2], Failed>
+    requires header { IsHeaderBytes header.now }
     requires entry { IsEntry files }
     requires encoded { encoded.now ≡ behind_gate files ++ 0 ∷ [] }
 {
-    journal.settle()?;
+    begin(journal, header)?;
     add(journal, encoded, files)?;
     let first = journal.finish();
     let state = journal.state();
-    journal.settle()?;
+    begin(journal, header)?;
     let second = journal.finish();
     Ok([(first, state), (second, journal.state())])
 }
@@ -219,12 +220,13 @@ fn finishes_a_list_whose_file_failed(rt: HostRuntime) -> Result<(), Fail> {
     let alloc = rt.alloc();
     let files = entry_of(alloc, FIRST)?;
     let encoded = encode(alloc, files.as_slice())?;
-    // Behind the first gate's opening the eighth call writes the first file.
-    let disk = disk_with(alloc, ROWS[0], vec![in alloc; 8]?, None)?;
+    let header = head(alloc)?;
+    // Behind the first gate's opening the thirteenth call writes the first file.
+    let disk = disk_with(alloc, ROWS[0], vec![in alloc; 13]?, None)?;
     let Ok(mut journal) = Journal::open(alloc, disk) else {
         return Err("the disk opens")?;
     };
-    let outcomes = finished_twice(&mut journal, &encoded, files);
+    let outcomes = finished_twice(&mut journal, &header, &encoded, files);
     assert_eq!(rt;
         outcomes,
         Ok([(Err(Failed), State::Lag), (Ok(()), State::Clean)])
@@ -234,17 +236,28 @@ fn finishes_a_list_whose_file_failed(rt: HostRuntime) -> Result<(), Fail> {
     Ok(())
 }
 
-/// A first gate that is neither open nor closed, on an entry.
-const ODD: &[u8] =
+/// A former journal's first gate that is neither open nor closed, on an entry.
+const ODD_FORMER: &[u8] =
     b"\x07\x17\x00\x00\x00\x82\x05a.ecf\x01\x00\x00\x001\x05b.ecf\x01\x00\x00\x001\x00";
+
+/// A header gate that is neither, on an open entry.
+const ODD_HEAD: &[u8] =
+    b"\x07\x02\x0d\x00\x00\x00\x02\x05a.ecf\x05b.ecf\x01\x17\x00\x00\x00\x82\x05a.ecf\x01\x00\x00\x001\x05b.ecf\x01\x00\x00\x001\x00";
+
+/// An open header gate, and a first gate that is neither.
+const ODD_LIST: &[u8] =
+    b"\x01\x02\x0d\x00\x00\x00\x02\x05a.ecf\x05b.ecf\x07\x17\x00\x00\x00\x82\x05a.ecf\x01\x00\x00\x001\x05b.ecf\x01\x00\x00\x001\x00";
 
 /// Whether a disk's gate is settled, and the disk then.
 fn settled_on(alloc: Global, disk: MemDisk) -> Result<(bool, MemDisk), Fail> {
-    let Ok(mut journal) = Journal::open(alloc, disk) else {
-        return Err("a gate of 7 is no open one")?;
-    };
-    let settled = journal.settle();
-    Ok((settled == Ok(()), journal.into_disk()))
+    match Journal::open(alloc, disk) {
+        Ok(journal) => {
+            let mut journal = journal;
+            let settled = journal.settle();
+            Ok((settled == Ok(()), journal.into_disk()))
+        }
+        Err(refused) => Ok((false, refused.disk)),
+    }
 }
 
 /// Whether a crash behind so many calls of an opening and a settling leaves the files old, or also new where the gate wasn't settled.
@@ -266,15 +279,27 @@ fn settling_fits(
 #[test]
 fn closes_a_gate_that_is_neither_open_nor_closed(rt: HostRuntime) -> Result<(), Fail> {
     let alloc = rt.alloc();
-    let held = Held {
-        journal: ODD,
-        ..ROWS[0]
-    };
-    // Two calls read it, the third writes the gate, and the fourth syncs it.
-    for stop_after in [2, 3, 4] {
-        for choice in 0..10 {
-            let fits = settling_fits(alloc, held, stop_after, choice)?;
-            assert!(rt; fits, "{stop_after} {choice}");
+    let rows = [
+        Held {
+            former: ODD_FORMER,
+            ..ROWS[0]
+        },
+        Held {
+            journal: ODD_HEAD,
+            ..ROWS[0]
+        },
+        Held {
+            journal: ODD_LIST,
+            ..ROWS[0]
+        },
+    ];
+    // A former journal is read by two calls and retired by five; then a journal is read by one to four, and settled by two.
+    for held in rows {
+        for stop_after in 1..11 {
+            for choice in 0..10 {
+                let fits = settling_fits(alloc, held, stop_after, choice)?;
+                assert!(rt; fits, "{held:?} {stop_after} {choice}");
+            }
         }
     }
     Ok(())
@@ -287,11 +312,12 @@ fn fits_behind<D: Disk>(
     entries: usize,
     body: usize,
 ) -> Result<bool, Fail> {
+    let header = head(alloc)?;
     for _ in 0..entries {
         let files = entry_of(alloc, SECOND)?;
         let encoded = encode(alloc, files.as_slice())?;
-        let Ok(()) = journal.settle() else {
-            return Err("it settles")?;
+        let Ok(()) = begin(journal, &header) else {
+            return Err("it begins")?;
         };
         if add(journal, &encoded, files) != Ok(true) {
             return Err("it fits")?;
@@ -303,7 +329,8 @@ fn fits_behind<D: Disk>(
 #[test]
 fn has_room_for_so_many_entries_and_bytes(rt: HostRuntime) -> Result<(), Fail> {
     let alloc = rt.alloc();
-    // Each entry has 17 bytes; the next one's gate and length have 5, and it ends at place 67,200,005 at most.
+    // Each entry has 17 bytes; the next one's gate and length have 5, and it ends 67,200,005 bytes behind the first gate
+    // at most.
     let rows = [
         (0, 67_200_000, true),
         (0, 67_200_001, false),

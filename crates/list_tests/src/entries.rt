@@ -1,10 +1,16 @@
-//! Two entries, and how one is added to the list of a journal.
-ghost use Rattle.std.specs.Prelude.{◌≡◌, ◌++◌, ◌∷◌, [], false, IfOk, OnOk};
+//! Two entries, the header of their files, and how an entry is added to the list of a journal.
+ghost use Rattle.std.specs.Prelude.{◌≡◌, ◌++◌, ◌∷◌, [], true, false, IfOk, OnOk};
 ghost use Rattle.journal_codec.specs.Entry.{IsEntry};
 ghost use Rattle.journal_codec.specs.Forms.{behind_gate};
+ghost use Rattle.intent_journal.specs.Journal.{IsHeaderBytes};
 
+use disk_memory::MemDisk;
 use intent_journal::Journal;
-use journal_codec::{FileText, decode, spells_what_is_read};
+use journal_codec::{
+    FileText, decode, decode_header, encode_header, headers_read_what_is_spelled,
+    spells_what_is_read,
+};
+use journal_steps::State;
 use kdb_outside::{Disk, Failed, FileName};
 use key_meta::List;
 use std::alloc::Global;
@@ -29,16 +35,45 @@ pub(crate) fn entry_of(alloc: Global, body: &[u8]) -> Result<List<FileText>, Fai
     }
 }
 
+/// The header that names both files.
+const BOTH: &[u8] = b"\x02\x05a.ecf\x05b.ecf";
+
+/// The head of a journal for both files, as it stands behind the header gate, with a closed gate behind it.
+pub(crate) fn head(alloc: Global) -> Result<Vec<u8>, Fail>
+    ensures { IfOk result (λ header. IsHeaderBytes header.items) }
+{
+    headers_read_what_is_spelled();
+    match decode_header(alloc, BOTH) {
+        Ok(names) => Ok(encode_header(alloc, names.as_slice())?),
+        Err(_) => Err("it is a header")?,
+    }
+}
+
+/// Closes the gate in doubt, and puts a head where there is none.
+pub(crate) fn begin<D: Disk>(journal: &mut Journal<D>, header: &[u8]) -> Result<(), Failed>
+    requires { IsHeaderBytes header.now }
+    ensures headed { OnOk result (journal.new.headed ≡ true) }
+    ensures sure { OnOk result (journal.new.in_doubt ≡ false) }
+{
+    journal.settle()?;
+    if journal.state() == State::Bare {
+        journal.put_header(header)?;
+    }
+    Ok(())
+}
+
 /// Adds an entry to the list, if it fits.
 pub(crate) fn add<D: Disk>(
     journal: &mut Journal<D>,
     encoded: &[u8],
     files: List<FileText>,
 ) -> Result<bool, Failed>
+    requires headed { journal.old.headed ≡ true }
     requires sure { journal.old.in_doubt ≡ false }
     requires entry { IsEntry files }
     requires encoded { encoded.now ≡ behind_gate files ++ 0 ∷ [] }
-    ensures { OnOk result (journal.new.in_doubt ≡ false) }
+    ensures headed { OnOk result (journal.new.headed ≡ true) }
+    ensures sure { OnOk result (journal.new.in_doubt ≡ false) }
 {
     if !journal.fits(encoded.len() - 5) {
         return Ok(false);
@@ -46,4 +81,30 @@ pub(crate) fn add<D: Disk>(
     journal.put_body(encoded)?;
     journal.open_gate(files)?;
     Ok(true)
+}
+
+/// A disk whose files `a.ecf`, `b.ecf`, `journal` and `journal2` hold this.
+pub(crate) fn disk_of(
+    alloc: Global,
+    held: [&[u8]; 4],
+    failing: Vec<u64>,
+    stop_after: Option<u64>,
+) -> Result<MemDisk, Fail> {
+    let first = name(alloc, "a.ecf")?;
+    let second = name(alloc, "b.ecf")?;
+    let former = name(alloc, "journal")?;
+    let journal = name(alloc, "journal2")?;
+    if first == second || first == former || first == journal {
+        return Err("they are four names")?;
+    }
+    if second == former || second == journal || former == journal {
+        return Err("they are four names")?;
+    }
+    let files = vec![in alloc;
+        (first, held[0].to_vec(alloc)?),
+        (second, held[1].to_vec(alloc)?),
+        (former, held[2].to_vec(alloc)?),
+        (journal, held[3].to_vec(alloc)?),
+    ]?;
+    Ok(MemDisk::new(alloc, files, failing, stop_after)?)
 }

@@ -1,20 +1,23 @@
-//! Journals as they are found: whole, bad, with odd gates, left by the former program; and a recovery that is cut off.
-use crate::entries::name;
+//! Journals as they are found: whole, bad, with odd gates, left by former programs; and recoveries that are cut off.
+use crate::entries::{disk_of, name};
 use disk_memory::MemDisk;
 use intent_journal::Journal;
 use journal_steps::JournalFault;
 use std::alloc::Global;
 use std::test::Fail;
 
-/// A journal, and what its opening makes of two files that both hold `0`.
+/// A former journal and a journal, and what an opening makes of them and of two files that both hold `0`.
 #[derive(Clone, Copy, Debug)]
 struct Row {
+    former: &'static [u8],
     journal: &'static [u8],
-    /// The place in the body of the entry that isn't whole, if it is refused.
+    /// The place that is told of what isn't whole, if it is refused.
     bad: Option<u64>,
     recovered: bool,
     first: &'static [u8],
     second: &'static [u8],
+    /// What is left of the former journal.
+    left: &'static [u8],
     calls: u64,
 }
 
@@ -22,111 +25,210 @@ struct Row {
 const TWO: &[u8] =
     b"\x01\x17\x00\x00\x00\x82\x05a.ecf\x01\x00\x00\x001\x05b.ecf\x01\x00\x00\x001\x01\x0c\x00\x00\x00\x81\x05b.ecf\x01\x00\x00\x002\x00";
 
-const ROWS: [Row; 10] = [
+/// The same behind a head.
+const TWO_HEADED: &[u8] =
+    b"\x01\x02\x0d\x00\x00\x00\x02\x05a.ecf\x05b.ecf\x01\x17\x00\x00\x00\x82\x05a.ecf\x01\x00\x00\x001\x05b.ecf\x01\x00\x00\x001\x01\x0c\x00\x00\x00\x81\x05b.ecf\x01\x00\x00\x002\x00";
+
+const ROWS: [Row; 17] = [
     // Nothing, and too few bytes.
     Row {
+        former: b"",
         journal: b"",
         bad: None,
         recovered: false,
         first: b"0",
         second: b"0",
-        calls: 1,
-    },
-    Row {
-        journal: b"\x01\x17\x00",
-        bad: None,
-        recovered: false,
-        first: b"0",
-        second: b"0",
-        calls: 1,
-    },
-    // A closed journal with an entry behind its gate.
-    Row {
-        journal: b"\x00\x0c\x00\x00\x00\x81\x05b.ecf\x01\x00\x00\x002\x00",
-        bad: None,
-        recovered: false,
-        first: b"0",
-        second: b"0",
+        left: b"",
         calls: 2,
+    },
+    Row {
+        former: b"\x01\x17\x00",
+        journal: b"\x01\x02\x0d\x00\x00",
+        bad: None,
+        recovered: false,
+        first: b"0",
+        second: b"0",
+        left: b"\x01\x17\x00",
+        calls: 2,
+    },
+    // A closed former journal with an entry behind its gate.
+    Row {
+        former: b"\x00\x0c\x00\x00\x00\x81\x05b.ecf\x01\x00\x00\x002\x00",
+        journal: b"",
+        bad: None,
+        recovered: false,
+        first: b"0",
+        second: b"0",
+        left: b"\x00",
+        calls: 8,
     },
     // A first gate that is neither open nor closed counts as closed.
     Row {
-        journal: b"\x07\x0c\x00\x00\x00\x81\x05b.ecf\x01\x00\x00\x002\x00",
+        former: b"\x07\x0c\x00\x00\x00\x81\x05b.ecf\x01\x00\x00\x002\x00",
+        journal: b"",
         bad: None,
         recovered: false,
         first: b"0",
         second: b"0",
-        calls: 2,
+        left: b"\x00",
+        calls: 8,
     },
     // An open gate without a whole length is no open one.
     Row {
-        journal: b"\x01\x0c\x00\x00\x00\x81\x05b.ecf\x01\x00\x00\x002\x01\x0c\x00",
+        former: b"\x01\x0c\x00\x00\x00\x81\x05b.ecf\x01\x00\x00\x002\x01\x0c\x00",
+        journal: b"",
         bad: None,
         recovered: true,
         first: b"0",
         second: b"2",
-        calls: 10,
+        left: b"\x00",
+        calls: 13,
     },
-    // The former program's entry: what stands behind it is no entry of the list.
+    // The entry of the program before that: what stands behind it is no entry of the list.
     Row {
-        journal: b"\x01\x0c\x00\x00\x00\x01\x05b.ecf\x01\x00\x00\x002\x01\x0c\x00\x00\x00\x01\x05b.ecf\x01\x00\x00\x003",
+        former: b"\x01\x0c\x00\x00\x00\x01\x05b.ecf\x01\x00\x00\x002\x01\x0c\x00\x00\x00\x01\x05b.ecf\x01\x00\x00\x003",
+        journal: b"",
         bad: None,
         recovered: true,
         first: b"0",
         second: b"2",
-        calls: 9,
+        left: b"\x00",
+        calls: 12,
     },
     // Two entries: the later one's content stays, and each file is written once.
     Row {
-        journal: TWO,
+        former: b"\x01\x17\x00\x00\x00\x82\x05a.ecf\x01\x00\x00\x001\x05b.ecf\x01\x00\x00\x001\x01\x0c\x00\x00\x00\x81\x05b.ecf\x01\x00\x00\x002\x00",
+        journal: b"",
         bad: None,
         recovered: true,
         first: b"1",
         second: b"2",
-        calls: 15,
+        left: b"\x00",
+        calls: 18,
     },
     // A second gate that is neither open nor closed counts as closed.
     Row {
-        journal: b"\x01\x0c\x00\x00\x00\x81\x05b.ecf\x01\x00\x00\x002\x4d\x0c\x00\x00\x00\x81\x05b.ecf\x01\x00\x00\x003\x00",
+        former: b"\x01\x0c\x00\x00\x00\x81\x05b.ecf\x01\x00\x00\x002\x4d\x0c\x00\x00\x00\x81\x05b.ecf\x01\x00\x00\x003\x00",
+        journal: b"",
         bad: None,
         recovered: true,
         first: b"0",
         second: b"2",
-        calls: 10,
+        left: b"\x00",
+        calls: 13,
     },
-    // A second entry that is cut: nothing is brought in.
+    // A second entry that is cut: nothing is brought in, and the journal stays.
     Row {
-        journal: b"\x01\x0c\x00\x00\x00\x81\x05b.ecf\x01\x00\x00\x002\x01\x0c\x00\x00\x00\x81\x05b",
+        former: b"\x01\x0c\x00\x00\x00\x81\x05b.ecf\x01\x00\x00\x002\x01\x0c\x00\x00\x00\x81\x05b",
+        journal: b"",
         bad: Some(2),
         recovered: false,
         first: b"0",
         second: b"0",
+        left: b"\x01\x0c\x00\x00\x00\x81\x05b.ecf\x01\x00\x00\x002\x01\x0c\x00\x00\x00\x81\x05b",
         calls: 5,
     },
     // An entry that would end too late.
     Row {
-        journal: b"\x01\xff\xff\xff\xff",
+        former: b"\x01\xff\xff\xff\xff",
+        journal: b"",
         bad: Some(0),
         recovered: false,
         first: b"0",
         second: b"0",
+        left: b"\x01\xff\xff\xff\xff",
         calls: 2,
+    },
+    // A head whose gate is closed, and one whose gate is neither open nor closed, before an open entry.
+    Row {
+        former: b"",
+        journal: b"\x00\x02\x0d\x00\x00\x00\x02\x05a.ecf\x05b.ecf\x01\x17\x00\x00\x00\x82\x05a.ecf\x01\x00\x00\x001\x05b.ecf\x01\x00\x00\x001\x01\x0c\x00\x00\x00\x81\x05b.ecf\x01\x00\x00\x002\x00",
+        bad: None,
+        recovered: false,
+        first: b"0",
+        second: b"0",
+        left: b"",
+        calls: 3,
+    },
+    Row {
+        former: b"",
+        journal: b"\x07\x02\x0d\x00\x00\x00\x02\x05a.ecf\x05b.ecf\x01\x17\x00\x00\x00\x82\x05a.ecf\x01\x00\x00\x001\x05b.ecf\x01\x00\x00\x001\x01\x0c\x00\x00\x00\x81\x05b.ecf\x01\x00\x00\x002\x00",
+        bad: None,
+        recovered: false,
+        first: b"0",
+        second: b"0",
+        left: b"",
+        calls: 3,
+    },
+    // A head with a closed list, as this program leaves it, and a former journal that was retired.
+    Row {
+        former: b"\x00",
+        journal: b"\x01\x02\x0d\x00\x00\x00\x02\x05a.ecf\x05b.ecf\x00\x0c\x00\x00\x00\x81\x05b.ecf\x01\x00\x00\x002\x00",
+        bad: None,
+        recovered: false,
+        first: b"0",
+        second: b"0",
+        left: b"\x00",
+        calls: 5,
+    },
+    // Two entries behind a head.
+    Row {
+        former: b"\x00",
+        journal: b"\x01\x02\x0d\x00\x00\x00\x02\x05a.ecf\x05b.ecf\x01\x17\x00\x00\x00\x82\x05a.ecf\x01\x00\x00\x001\x05b.ecf\x01\x00\x00\x001\x01\x0c\x00\x00\x00\x81\x05b.ecf\x01\x00\x00\x002\x00",
+        bad: None,
+        recovered: true,
+        first: b"1",
+        second: b"2",
+        left: b"\x00",
+        calls: 18,
+    },
+    // A former journal that is closed, before them: it is retired first.
+    Row {
+        former: b"\x00\x00\x00\x00\x00",
+        journal: b"\x01\x02\x0d\x00\x00\x00\x02\x05a.ecf\x05b.ecf\x01\x17\x00\x00\x00\x82\x05a.ecf\x01\x00\x00\x001\x05b.ecf\x01\x00\x00\x001\x01\x0c\x00\x00\x00\x81\x05b.ecf\x01\x00\x00\x002\x00",
+        bad: None,
+        recovered: true,
+        first: b"1",
+        second: b"2",
+        left: b"\x00",
+        calls: 24,
+    },
+    // A former journal with an entry, before a head and a closed list.
+    Row {
+        former: b"\x01\x0c\x00\x00\x00\x81\x05b.ecf\x01\x00\x00\x002\x00",
+        journal: b"\x01\x02\x0d\x00\x00\x00\x02\x05a.ecf\x05b.ecf\x00",
+        bad: None,
+        recovered: true,
+        first: b"0",
+        second: b"2",
+        left: b"\x00",
+        calls: 16,
+    },
+    // An entry of a file that the header doesn't name, behind a former journal that is brought in and retired all the same.
+    Row {
+        former: b"\x01\x0c\x00\x00\x00\x81\x05b.ecf\x01\x00\x00\x002\x00",
+        journal: b"\x01\x02\x0d\x00\x00\x00\x02\x05a.ecf\x05b.ecf\x01\x0c\x00\x00\x00\x81\x05c.ecf\x01\x00\x00\x003\x00",
+        bad: Some(26),
+        recovered: false,
+        first: b"0",
+        second: b"2",
+        left: b"\x00",
+        calls: 17,
     },
 ];
 
-fn disk_with(alloc: Global, bytes: &[u8], stop_after: Option<u64>) -> Result<MemDisk, Fail> {
-    let first = name(alloc, "a.ecf")?;
-    let second = name(alloc, "b.ecf")?;
-    let journal = name(alloc, "journal")?;
-    if first == second || first == journal || second == journal {
-        return Err("they are three names")?;
-    }
-    let files = vec![in alloc;
-        (first, b"0".to_vec(alloc)?),
-        (second, b"0".to_vec(alloc)?),
-        (journal, bytes.to_vec(alloc)?),
-    ]?;
-    Ok(MemDisk::new(alloc, files, Vec::new(alloc), stop_after)?)
+fn disk_with(
+    alloc: Global,
+    former: &[u8],
+    journal: &[u8],
+    stop_after: Option<u64>,
+) -> Result<MemDisk, Fail> {
+    disk_of(
+        alloc,
+        [b"0", b"0", former, journal],
+        Vec::new(alloc),
+        stop_after,
+    )
 }
 
 /// What an opening answers: the place where it was refused, if it was, and whether it recovered entries; and the disk.
@@ -149,12 +251,13 @@ fn holds(alloc: Global, disk: &MemDisk, first: &[u8], second: &[u8]) -> Result<b
 }
 
 fn opens_so(alloc: Global, row: Row) -> Result<bool, Fail> {
-    let disk = disk_with(alloc, row.journal, None)?;
+    let disk = disk_with(alloc, row.former, row.journal, None)?;
     let (bad, recovered, disk) = opened(alloc, disk)?;
     Ok(
         bad == row.bad
             && recovered == row.recovered
             && disk.calls() == row.calls
+            && disk.bytes(&name(alloc, "journal")?) == row.left
             && holds(alloc, &disk, row.first, row.second)?,
     )
 }
@@ -168,20 +271,31 @@ fn brings_the_open_entries_into_their_files(rt: HostRuntime) -> Result<(), Fail>
     Ok(())
 }
 
-/// The disk of an opening of two entries that stops after so many calls.
-fn cut_off(alloc: Global, stop_after: u64) -> Result<MemDisk, Fail> {
-    match Journal::open(alloc, disk_with(alloc, TWO, Some(stop_after))?) {
+/// The disk of an opening that stops after so many calls.
+fn cut_off(alloc: Global, former: &[u8], journal: &[u8], stop_after: u64) -> Result<MemDisk, Fail> {
+    let disk = disk_with(alloc, former, journal, Some(stop_after))?;
+    match Journal::open(alloc, disk) {
         Ok(journal) => Ok(journal.into_disk()),
         Err(refused) => Ok(refused.disk),
     }
 }
 
+/// Whether a disk has both entries once it was opened.
+fn brings_both(alloc: Global, disk: MemDisk) -> Result<bool, Fail> {
+    let (bad, _, disk) = opened(alloc, disk)?;
+    Ok(bad.is_none() && holds(alloc, &disk, b"1", b"2")?)
+}
+
 /// Whether the next opening brings both entries in, whatever the crash left.
-fn recovers_behind(alloc: Global, stop_after: u64, choices: u64) -> Result<bool, Fail> {
-    for choice in 0..choices {
-        let disk = cut_off(alloc, stop_after)?.crash(choice)?;
-        let (bad, _, disk) = opened(alloc, disk)?;
-        if bad.is_some() || !holds(alloc, &disk, b"1", b"2")? {
+fn recovers_behind(
+    alloc: Global,
+    former: &[u8],
+    journal: &[u8],
+    stop_after: u64,
+) -> Result<bool, Fail> {
+    for choice in 0..10 {
+        let disk = cut_off(alloc, former, journal, stop_after)?.crash(choice)?;
+        if !brings_both(alloc, disk)? {
             return Ok(false);
         }
     }
@@ -191,8 +305,15 @@ fn recovers_behind(alloc: Global, stop_after: u64, choices: u64) -> Result<bool,
 #[test]
 fn recovers_again_after_a_crash_in_a_recovery(rt: HostRuntime) -> Result<(), Fail> {
     let alloc = rt.alloc();
-    for stop_after in 0..16 {
-        assert!(rt; recovers_behind(alloc, stop_after, 10)?, "{stop_after}");
+    for stop_after in 0..19 {
+        assert!(rt;
+            recovers_behind(alloc, b"", TWO_HEADED, stop_after)?,
+            "{stop_after}"
+        );
+        assert!(rt;
+            recovers_behind(alloc, TWO, b"", stop_after)?,
+            "{stop_after}"
+        );
     }
     Ok(())
 }

@@ -1,7 +1,7 @@
 //! Two entries on their way into the list of a journal, and the list on its way into its files.
-ghost use Rattle.std.specs.Prelude.{◌≡◌, false, OnOk};
+ghost use Rattle.std.specs.Prelude.{◌≡◌, true, false, OnOk};
 
-use crate::entries::{FIRST, SECOND, add, entry_of, name};
+use crate::entries::{FIRST, SECOND, add, begin, entry_of, head, name};
 use disk_memory::MemDisk;
 use intent_journal::Journal;
 use journal_codec::encode;
@@ -12,11 +12,12 @@ use std::test::Fail;
 
 /// The journal that had both, behind its closing.
 const CLOSED: &[u8] =
-    b"\x00\x17\x00\x00\x00\x82\x05a.ecf\x01\x00\x00\x001\x05b.ecf\x01\x00\x00\x001\x01\x0c\x00\x00\x00\x81\x05b.ecf\x01\x00\x00\x002\x00";
+    b"\x01\x02\x0d\x00\x00\x00\x02\x05a.ecf\x05b.ecf\x00\x17\x00\x00\x00\x82\x05a.ecf\x01\x00\x00\x001\x05b.ecf\x01\x00\x00\x001\x01\x0c\x00\x00\x00\x81\x05b.ecf\x01\x00\x00\x002\x00";
 
 /// Gives each file of the list its content by its number, and closes the list.
 fn bring_in<D: Disk>(journal: &mut Journal<D>) -> Result<(), Failed>
-    requires { journal.old.in_doubt ≡ false }
+    requires headed { journal.old.headed ≡ true }
+    requires sure { journal.old.in_doubt ≡ false }
     ensures { OnOk result (journal.new.in_doubt ≡ false) }
 {
     let count = journal.pending();
@@ -37,7 +38,7 @@ fn holds(
     Ok(
         disk.bytes(&name(alloc, "a.ecf")?) == first
             && disk.bytes(&name(alloc, "b.ecf")?) == second
-            && disk.bytes(&name(alloc, "journal")?) == journal,
+            && disk.bytes(&name(alloc, "journal2")?) == journal,
     )
 }
 
@@ -47,6 +48,7 @@ fn goes_through(alloc: Global, by_number: bool) -> Result<bool, Fail> {
     let second = entry_of(alloc, SECOND)?;
     let first_encoded = encode(alloc, first.as_slice())?;
     let second_encoded = encode(alloc, second.as_slice())?;
+    let header = head(alloc)?;
     let disk = MemDisk::new(alloc, Vec::new(alloc), Vec::new(alloc), None)?;
     let Ok(journal) = Journal::open(alloc, disk) else {
         return Err("it opens")?;
@@ -55,6 +57,10 @@ fn goes_through(alloc: Global, by_number: bool) -> Result<bool, Fail> {
     let doubt = journal.state() == State::Doubt;
     let Ok(()) = journal.settle() else {
         return Err("it settles")?;
+    };
+    let bare = journal.state() == State::Bare;
+    let Ok(()) = begin(&mut journal, &header) else {
+        return Err("its head is put")?;
     };
     let clean = journal.state() == State::Clean;
     let Ok(_) = add(&mut journal, &first_encoded, first) else {
@@ -71,7 +77,7 @@ fn goes_through(alloc: Global, by_number: bool) -> Result<bool, Fail> {
     };
     let ends = brought.is_ok() && journal.state() == State::Clean && journal.pending() == 0;
     let disk = journal.into_disk();
-    Ok(doubt && clean && lags && ends && holds(alloc, &disk, b"1", b"2", CLOSED)?)
+    Ok(doubt && bare && clean && lags && ends && holds(alloc, &disk, b"1", b"2", CLOSED)?)
 }
 
 #[test]

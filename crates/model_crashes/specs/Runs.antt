@@ -10,9 +10,10 @@ use Rattle.journal_steps.specs.Outcomes.{with_entries, IsEither}
 abbrev pub Begun : Type 0
 Begun = ℕ × List FileText
 
--- a run on a disk: the files and the count of faults when it began, the commits since then, what was begun, and the entry that may yet
--- come into the files
+-- a run on a disk: the names that the head of its journal has, or will have; the files and the count of faults when it began, the commits
+-- since then, what was begun, and the entry that may yet come into the files
 pub record Run : Type 0 where
+  pub names : List (List ℕ)
   pub files : Image
   pub faults : ℕ
   pub commits : List (List FileText)
@@ -50,8 +51,8 @@ begun_before None = []
 begun_before (Some entry) = (0, entry) ∷ []
 
 -- a run that begins
-abbrev pub new_run : Image → ℕ → Option (List FileText) → Run
-new_run files faults doubt = record { files = files; faults = faults; commits = []; begun = begun_before doubt; doubt = doubt }
+abbrev pub new_run : List (List ℕ) → Image → ℕ → Option (List FileText) → Run
+new_run names files faults doubt = record { names = names; files = files; faults = faults; commits = []; begun = begun_before doubt; doubt = doubt }
 
 -- an entry was begun and not acknowledged
 abbrev pub after_begun : Run → List FileText → Option (List FileText) → Run

@@ -37,7 +37,7 @@ use Rattle.set_split.specs.Parts.{owned_by}
 
 -- ---- lists
 
-length-over : {A B : Type 0} (f : A → B) (xs : List A) → length (over f xs) ≡ length xs
+pub length-over : {A B : Type 0} (f : A → B) (xs : List A) → length (over f xs) ≡ length xs
 length-over f [] = refl
 length-over f (x ∷ xs) = ap suc (length-over f xs)
 
@@ -64,15 +64,15 @@ not_long m bytes e = ltb-false longest_file (length bytes) (cond_off (nat_lt lon
 module _ (formats : Formats) (store : Store) (keys : KeyMap) where
   -- ---- whose a text is
 
-  record IsTextOf (mounts : List ℕ) (file bytes : List ℕ) : Type 0 where
-    number : ℕ
-    mount : Mount
-    among : is_among mounts number ≡ true
-    there : slice_get store.mounts number ≡ Some mount
-    file_is : mount.file ≡ file
-    is : text_of formats store keys number mount ≡ bytes
+  pub record IsTextOf (mounts : List ℕ) (file bytes : List ℕ) : Type 0 where
+    pub number : ℕ
+    pub mount : Mount
+    pub among : is_among mounts number ≡ true
+    pub there : slice_get store.mounts number ≡ Some mount
+    pub file_is : mount.file ≡ file
+    pub is : text_of formats store keys number mount ≡ bytes
 
-  texts_are : (mounts : List ℕ) (file bytes : List ℕ) → map.get (texts_at formats store keys mounts) file ≡ Some bytes → IsTextOf mounts file bytes
+  pub texts_are : (mounts : List ℕ) (file bytes : List ℕ) → map.get (texts_at formats store keys mounts) file ≡ Some bytes → IsTextOf mounts file bytes
   texts_are [] file bytes e = let none : map.get (map.empty {X = List ℕ} {R = text_cmp}) file ≡ None = map.get-empty text_cmp file in absurd cc
   texts_are (n ∷ mounts) file bytes e = by (slice_get store.mounts n) refl (texts_are mounts file bytes) e
     where

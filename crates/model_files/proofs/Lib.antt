@@ -1,3 +1,4 @@
 pub mod TextLemmas
 pub mod FileLemmas
 pub mod EntryLemmas
+pub mod NameLemmas

@@ -21,7 +21,7 @@ use Rattle.mount_table.specs.declared.mounts.Mount.{Mount}
 
 -- ---- an entry is looked up as its texts are
 
-text_tied : (a b : List ℕ) → Decides (eq_by_cmp text_cmp b a) (a ≡ b)
+pub text_tied : (a b : List ℕ) → Decides (eq_by_cmp text_cmp b a) (a ≡ b)
 text_tied a b = (λ e. is e (tied_or_not {R = text_cmp} text_cmp-IsAntisymmetric b a), λ e. ap (λ x. eq_by_cmp text_cmp b x) e ∙ itself text_cmp-total b)
   where
     is : eq_by_cmp text_cmp b a ≡ true → (eq_by_cmp text_cmp b a ≡ false) ⊎ ((eq_by_cmp text_cmp b a ≡ true) × (b ≡ a)) → a ≡ b

@@ -1,7 +1,10 @@
 -- The files of a store after a history: the file of each mount that a commit touches holds the text of its present keys. (This project's own.)
-use Rattle.std.specs.Prelude.{◌≡◌, ℕ, ◌≤◌, Bool, false, if◌then◌else◌, List, length, slice_get, Option, Some, None, option_and_then, bytes_eq, codes, nat_eq}
+use Rattle.std.specs.Prelude.{◌≡◌, ℕ, ◌≤◌, Bool, false, if◌then◌else◌, List, length, map as over, slice_get, Option, Some, None, option_and_then, bytes_eq, codes, nat_eq}
+use Rattle.std.specs.FinMap as map
+use Rattle.std.specs.FinMap.{FinMap}
 use Rattle.std.specs.List.{list_any, position_from, starts_with}
 use Rattle.std.specs.Option.{option_map, unwrap_or}
+use Rattle.general_words.specs.Texts.{text_cmp}
 use Rattle.kdb_outside.specs.FileName.{IsFileName}
 use Rattle.kdb_outside.specs.Images.{Image}
 use Rattle.model_maps.specs.KeyMap.{KeyMap}
@@ -45,3 +48,11 @@ files_from formats store start files history file = unwrap_or (option_and_then (
 -- files after a history
 abbrev pub files_after : Formats → Store → Image → List Commit → Image
 files_after formats store files history = files_from formats store store.start files history
+
+-- the names of the files of some mounts, each once
+abbrev pub file_names : List Mount → FinMap text_cmp Unit
+file_names mounts = map.from_entries (over (λ mount. (mount.file, tt)) mounts)
+
+-- the names of the files of a store, in the order of their bytes: those that the head of its journal has
+abbrev pub table_files : Store → List (List ℕ)
+table_files store = map.keys (file_names store.mounts)

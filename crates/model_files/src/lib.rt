@@ -2,10 +2,12 @@
 //! their laws.
 #![tactic(auto)]
 
-ghost use Rattle.std.specs.Prelude.{◌≡◌, ◌≤◌, ℕ, List, length, take, Option};
+ghost use Rattle.std.specs.Prelude.{◌≡◌, ◌≤◌, ℕ, true, List, length, take, Option};
 ghost use Rattle.intent_journal.specs.Outcomes.{HasOnly};
 ghost use Rattle.journal_steps.specs.Outcomes.{with_entries, IsEither};
 ghost use Rattle.journal_codec.specs.Entry.{IsEntry};
+ghost use Rattle.journal_codec.specs.Header.{IsHeader};
+ghost use Rattle.journal_codec.specs.Listed.{are_listed};
 ghost use Rattle.model_maps.specs.KeyMap.{KeyMap};
 ghost use Rattle.journal_codec.specs.declared.files.FileText.{FileText as Item};
 ghost use Rattle.kdb_outside.specs.Images.{Image};
@@ -13,7 +15,7 @@ ghost use Rattle.model_crashes.specs.Runs.{Begun, IsBegun, IsReached};
 ghost use Rattle.model_history.specs.History.{Commit};
 ghost use Rattle.model_store.specs.Legal.{IsLegal, IsLegalCommit};
 ghost use Rattle.model_store.specs.Store.{Store, formats_of};
-ghost use Rattle.model_files.specs.Files.{HaveFiles, HaveOwnFiles, files_after};
+ghost use Rattle.model_files.specs.Files.{HaveFiles, HaveOwnFiles, files_after, table_files};
 ghost use Rattle.model_files.specs.Texts.{entries_of, entry_of};
 
 use storage_api::Formats;
@@ -45,4 +47,14 @@ pub fn a_crash_leaves_a_prefix_of_the_history<F: Formats>(_formats: &F)
 pub fn a_legal_commit_is_an_entry<F: Formats>(_formats: &F)
     ensures { (store : Store) (before : KeyMap) (commit : Commit) → HaveFiles store.mounts → IsLegalCommit (formats_of F.Formats) store before commit
         → IsEntry (entry_of (formats_of F.Formats) store before commit) }
+{}
+
+/// The names of the files of a table are a header of a journal, where there is a mount and the mounts have files for it.
+pub fn the_files_of_a_table_are_a_header()
+    ensures { (store : Store) → HaveFiles store.mounts → 1 ≤ length store.mounts → IsHeader (table_files store) }
+{}
+
+/// The entry of a commit names files of the table alone.
+pub fn the_entry_of_a_commit_names_files_of_the_table<F: Formats>(_formats: &F)
+    ensures { (store : Store) (before : KeyMap) (commit : Commit) → are_listed (table_files store) (entry_of (formats_of F.Formats) store before commit) ≡ true }
 {}

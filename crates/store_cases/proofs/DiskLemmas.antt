@@ -1,12 +1,14 @@
--- Disks without calls, and journals without bytes.
-use Rattle.std.proofs.Common.{◌≡◌, ◌⊎◌, inl, ℕ, ◌==◌, true, List, [], ◌∷◌, length, Option, None, refl, sym, ap, subst, arith}
+-- Disks without calls, and without a journal.
+use Rattle.std.proofs.Common.{◌≡◌, inl, inr, ℕ, ◌==◌, true, List, [], ◌∷◌, ◌++◌, length, None, refl, sym, ap, ap₂, ◌∙◌, subst, arith}
 use Rattle.std.proofs.lemmas.Bool.{eqb-true}
 use Rattle.std.specs.FinMap as map
 use Rattle.disk_memory.specs.DiskState.{DiskState, seen_of, left_of}
-use Rattle.intent_journal.specs.Lists.{Leads, Breaks, MayBeOpen, ReadsFrom}
-use Rattle.intent_journal.specs.Outcomes.{HasOnly}
+use Rattle.intent_journal.specs.Outcomes.{ReadsAs, IsBroken, HasOnly}
 use Rattle.intent_journal.proofs.ListCalm.{one_calm}
-use Rattle.journal_codec.specs.Entry.{journal_name}
+use Rattle.intent_journal.proofs.Retired.{shut_reads, shut_not_broken}
+use Rattle.journal_codec.specs.Entry.{journal_name, journal2_name}
+use Rattle.journal_lists.specs.Journals.{MayBeHeaded, ReadsJournal}
+use Rattle.journal_steps.specs.JournalBytes.{IsShut}
 use Rattle.journal_codec.specs.declared.files.FileText.{FileText}
 use Rattle.journal_steps.specs.Outcomes.{IsEither, SameFiles, with_entries}
 use Rattle.kdb_outside.specs.Images.{Image, IsImage}
@@ -22,33 +24,48 @@ are_proc keys none = subst AreProc (sym none) (λ name entry e. let nothing : ma
 
 -- ---- no journal
 
-no_gate : (c : List ℕ) → c ≡ [] → ¬ MayBeOpen c
-no_gate c none opened =
-    let there = opened.there in
+shut : (c : List ℕ) → c ≡ [] → IsShut c
+shut c none = let short : length c ≡ 0 = ap length none in inl (omega (arith, short))
+
+headless : (c : List ℕ) → c ≡ [] → ¬ MayBeHeaded c
+headless c none headed =
+    let there = headed.there in
     let short : length c ≡ 0 = ap length none in
     omega (arith, there, short)
 
-breaks_nowhere : (number place : ℕ) (c : List ℕ) (entries : List (List FileText)) → c ≡ [] → ¬ Leads Breaks number place c entries
-breaks_nowhere number place c [] none breaks = no_gate c none breaks.opened
-breaks_nowhere number place c (entry ∷ entries) none leads = no_gate c none leads.0
+reads_nothing : (c : List ℕ) (entries : List (List FileText)) → c ≡ [] → ReadsJournal c entries → entries ≡ []
+reads_nothing c entries none (inl read) = read.1
+reads_nothing c entries none (inr read) = absurd (headless c none read.0)
 
-reads_nothing : (image outcome : Image) (entries : List (List FileText)) → image journal_name ≡ [] → ReadsFrom 0 0 (image journal_name) entries → SameFiles outcome (with_entries image entries) → IsEither image None outcome
-reads_nothing image outcome [] none reads same = inl same
-reads_nothing image outcome (entry ∷ entries) none reads same = absurd (no_gate (image journal_name) none reads.0)
+-- an image without a journal, in either file
+module _ (image : Image) (former : image journal_name ≡ []) (journal : image journal2_name ≡ []) where
+  not_broken : ¬ IsBroken image
+  not_broken (inl breaks) = shut_not_broken (image journal_name) (shut (image journal_name) former) breaks
+  not_broken (inr (inl breaks)) = headless (image journal2_name) journal breaks.0
+  not_broken (inr (inr both)) =
+      let none = shut_reads (image journal_name) (both.one ∷ both.others) (shut (image journal_name) former) both.former in
+      omega (arith, ap length none)
 
--- an image without a journal stands for its own files alone
-stands_alone : (image : Image) → image journal_name ≡ [] → HasOnly (IsEither image None) image
-stands_alone image none = record {
-  not_broken = λ breaks. breaks_nowhere 0 0 (image journal_name) breaks.0 none breaks.1;
-  each = λ outcome has. reads_nothing image outcome has.0 none has.1 has.2;
-}
+  no_entries : (entries : List (List FileText)) → ReadsAs image entries → entries ≡ []
+  no_entries entries reads =
+      let before = shut_reads (image journal_name) reads.before (shut (image journal_name) former) reads.former in
+      let behind = reads_nothing (image journal2_name) reads.behind journal reads.journal in
+      reads.are ∙ ap₂ (λ one other. one ++ other) before behind
+
+  -- it stands for its own files alone
+  stands_alone : HasOnly (IsEither image None) image
+  stands_alone = record {
+    not_broken = not_broken;
+    each = λ outcome has. inl (subst (λ entries. SameFiles outcome (with_entries image entries)) (no_entries has.0 has.1) has.2);
+  }
 
 pub no_bytes : (c : List ℕ) → (length c == 0) ≡ true → c ≡ []
 no_bytes [] empty = refl
 no_bytes (b ∷ c) empty = let none : length (b ∷ c) ≡ 0 = eqb-true (length (b ∷ c)) 0 empty in absurd (omega arith)
 
-pub calm_without_journal : (disk : DiskState) → IsAlone disk → seen_of disk journal_name ≡ [] → IsCalmDisk disk
-calm_without_journal disk alone none = (seen_of disk, None, one_calm (seen_of disk) (left_of disk) (seen_of disk) None alone (stands_alone (seen_of disk) none))
+pub calm_without_journal : (disk : DiskState) → IsAlone disk → seen_of disk journal_name ≡ [] → seen_of disk journal2_name ≡ [] → IsCalmDisk disk
+calm_without_journal disk alone former journal =
+    (seen_of disk, None, one_calm (seen_of disk) (left_of disk) (seen_of disk) None alone (stands_alone (seen_of disk) former journal))
 
 -- ---- behind a crash
 

@@ -63,6 +63,9 @@ fn open_line(alloc: Global, fault: &OpenFault) -> Result<String, Memory> {
     match fault {
         OpenFault::DiskFault => String::from_str(alloc, "not opened: disk-fault"),
         OpenFault::BadJournal { at } => format!(in alloc; "not opened: bad-journal {at}"),
+        OpenFault::UnknownVersion { version } => {
+            format!(in alloc; "not opened: journal-version {version}")
+        }
         OpenFault::BadTable { .. } => String::from_str(alloc, "not opened: bad-table"),
         OpenFault::TooLong { bytes } => format!(in alloc; "not opened: too-long {bytes}"),
         OpenFault::BadFile { line } => format!(in alloc; "not opened: bad-file {line}"),

@@ -9,7 +9,7 @@ use crate::starts::Start;
 use crate::steps::{Past, Steps};
 use all_formats::AllFormats;
 use disk_memory::MemDisk;
-use journal_steps::name_of_journal;
+use journal_steps::{name_of_journal, name_of_journal2};
 use key_meta::{List, Memory};
 use key_set::KeySet;
 use regex_check::ListedPatterns;
@@ -45,8 +45,9 @@ pub fn first_disk(
     ensures { IfOk result (λ disk. IfSome disk IsCalmDisk) }
 {
     let disk = start.disk(stop_after)?;
-    let journal = name_of_journal(alloc)?;
-    if disk.bytes(&journal).is_empty() {
+    let former = name_of_journal(alloc)?;
+    let journal = name_of_journal2(alloc)?;
+    if disk.bytes(&former).is_empty() && disk.bytes(&journal).is_empty() {
         Ok(Some(disk))
     } else {
         Ok(None)

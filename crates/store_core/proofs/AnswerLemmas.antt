@@ -6,9 +6,9 @@ use Rattle.std.proofs.lemmas.List.Sums.{count_by-le-length, length-filter}
 use Rattle.kdb_outside.specs.declared.disks.Disk.{Ghosts}
 use Rattle.commit_log.specs.Log.{Log}
 use Rattle.intent_journal.specs.Journal.{JournalValue}
-use Rattle.journal_codec.specs.Entry.{IsEntry}
 use Rattle.journal_codec.specs.declared.files.FileText.{FileText}
 use Rattle.model_crashes.specs.Runs.{Run, after_begun, after_commit}
+use Rattle.model_files.specs.Files.{table_files}
 use Rattle.model_files.specs.Texts.{as_entry, entry_of, texts_at}
 use Rattle.model_history.specs.Changes.{after}
 use Rattle.model_history.specs.History as past
@@ -31,7 +31,7 @@ use Rattle.set_split.specs.declared.parts.Part.{Part}
 use Rattle.store_core.specs.Answers.{IsAnswer, IsJudged, has_written}
 use Rattle.store_core.specs.Committing.{BeginsSet, BeginsOnly, RunsOn}
 use Rattle.store_core.specs.Cores.{core_with}
-use Rattle.store_core.specs.Entering.{HasEntered, IsEntered}
+use Rattle.store_core.specs.Entering.{HasEntered, HoldsRun, IsEntered}
 use Rattle.store_core.specs.Frames.{IsUnwritten}
 use Rattle.store_core.specs.Joined.{BelongsIn, HasAnswered, HasMade}
 use Rattle.store_core.specs.declared.committing.CommitFault.{CommitFault}
@@ -41,6 +41,7 @@ use Rattle.store_core.specs.declared.committing.Done.TheVariants as done
 use Rattle.store_core.specs.declared.cores.Core.{Core}
 use Rattle.store_core.specs.Renewed.{with_texts}
 use Rattle.store_core.proofs.EnteringLemmas.{judgement, light, entry, entry_is, commit_is_set, remade, within}
+use Rattle.store_phases.specs.Phases.{IsOfRun}
 use Rattle.store_phases.specs.Stores.{IsStore}
 use Rattle.store_verdict.specs.PreparedView.{prepared_of}
 use Rattle.store_verdict.specs.RecordView.{handle_of, places_of, record_of}
@@ -150,7 +151,7 @@ module _ (formats : Formats) {D P : Type 0} (store : Store) (core : Core D P) (r
     commit_is = commit_is_set formats store core records made world b.stands r p set b.set_is taken commit aside is
 
     -- the texts of the commit are an entry that the journal can hold
-    pub commit_entry : IsEntry (entry_of formats store core.keys (commit_of set))
+    pub commit_entry : IsOfRun (table_files store) (entry_of formats store core.keys (commit_of set))
     commit_entry = entry formats store core records made world b.stands r p set b.set_is taken commit aside is
 
     module _ (keys : KeyMap) (keys_are : keys ≡ after core.keys set.changes) (renewed : Option (List FileText)) (brings : AreRenewed formats store keys set.touched renewed) where
@@ -164,8 +165,8 @@ module _ (formats : Formats) {D P : Type 0} (store : Store) (core : Core D P) (r
           by None none = b.texts ∙ entry_is formats store core records made world b.stands r p set b.set_is taken commit aside is none
           by (Some texts) anew = anew b.stands.files.own ∙ ap (λ (k : KeyMap). as_entry (texts_at formats store k set.touched)) keys_are
 
-      pub is_entry : IsEntry filed.texts
-      is_entry = subst IsEntry (sym texts_are) commit_entry
+      pub is_entry : IsOfRun (table_files store) filed.texts
+      is_entry = subst (IsOfRun (table_files store)) (sym texts_are) commit_entry
 
       wanted_same : filed.wanted ≡ prepared.wanted
       wanted_same = by renewed
@@ -233,12 +234,15 @@ module _ (formats : Formats) {D P : Type 0} (store : Store) (core : Core D P) (r
     answered_unwritten still result unwritten has = on_run result run has (runs_still result unwritten) (subst (λ (j : JournalValue D). IsStore g opened j run) (sym still.journal) on_disk)
 
     module _ (commit : past.Commit) (aside : ℕ) (late_is : IsLate formats store core.history.commits core.keys set (verdict.Commits commit aside)) (keys : KeyMap) (keys_are : keys ≡ after core.keys set.changes)
-        (renewed : Option (List FileText)) (brings : AreRenewed formats store keys set.touched renewed) (patterns : P) where
+        (renewed : Option (List FileText)) (brings : AreRenewed formats store keys set.touched renewed) (patterns : P) (names : run.names ≡ table_files store) where
       abbrev stored : Prepared
       stored = with_texts prepared renewed
 
       texts : stored.texts ≡ entry_of formats store core.keys (commit_of set)
       texts = texts_are commit aside late_is keys keys_are renewed brings
+
+      holds : HoldsRun g store.mounts opened core.journal run
+      holds = record { names = names; store = on_disk }
 
       pub answered_entered : (result : Result Done CommitFault) → IsEntered g store.mounts commit aside keys stored (record core { patterns = patterns }) next rec new result → HasMade formats store core next records made p rec new prepared risen result
           → HasAnswered formats g store opened core next records made run p rec new prepared risen result
@@ -246,10 +250,10 @@ module _ (formats : Formats) {D P : Type 0} (store : Store) (core : Core D P) (r
           subst (λ (d : Done). HasMade formats store core next records made p rec new prepared risen (Ok d) → HasAnswered formats g store opened core next records made run p rec new prepared risen (Ok d)) (sym is.0)
           (λ made_of. on_run (Ok (done.Committed (found + 1) aside)) (after_commit run stored.texts) made_of
           (λ answer told. subst (λ (a : Answer). RunsOn formats store core.keys run (made p) a (after_commit run stored.texts)) (sym told.1) (ap (after_commit run) texts))
-          (is.1.stored opened run on_disk)) has
+          (is.1.stored opened run holds)) has
       answered_entered (Err fault.Memory) is has = answered_unwritten (record { journal = is.1.journal; history = is.1.history; start = is.1.start; keys = is.1.keys; wrote = is.1.wrote }) (Err fault.Memory) refl has
       answered_entered (Err (fault.DiskFault front)) is has =
-          let begun = is.1.begun opened run on_disk in
+          let begun = is.1.begun opened run holds in
           let later : Run = after_begun run stored.texts begun.0 in
           on_run (Err (fault.DiskFault front)) later has
           (λ answer told. subst (λ (a : Answer). RunsOn formats store core.keys run (made p) a later) (sym told)

@@ -8,6 +8,7 @@ use Rattle.commit_log.specs.Log.{Log}
 use Rattle.intent_journal.specs.Journal.{JournalValue}
 use Rattle.journal_steps.specs.Moments.{LeavesOnly}
 use Rattle.journal_codec.specs.declared.files.FileText.{FileText}
+use Rattle.journal_codec.specs.Header.{header_bytes}
 use Rattle.model_crashes.specs.Runs.{IsAmid, files_of}
 use Rattle.model_files.specs.Texts.{entry_of}
 use Rattle.model_history.specs.Changes.{after}
@@ -28,6 +29,7 @@ use Rattle.store_core.specs.Answers.{IsConflict, IsJudged, IsTooLarge, has_writt
 use Rattle.store_core.specs.Commits.{CommitsSet}
 use Rattle.store_core.specs.Entering.{EntersHistory, IsEntered}
 use Rattle.store_core.specs.Frames.{IsUnwritten}
+use Rattle.store_core.specs.Heads.{names_at}
 use Rattle.store_core.specs.Renewed.{with_texts}
 use Rattle.store_core.specs.declared.committing.CommitFault.{CommitFault}
 use Rattle.store_core.specs.declared.committing.CommitFault.TheVariants as fault
@@ -35,18 +37,26 @@ use Rattle.store_core.specs.declared.committing.Done.{Done}
 use Rattle.store_core.specs.declared.cores.Core.{Core}
 use Rattle.store_core.proofs.AnswerLemmas.{matched, made_unwritten, made_entered, answered_unwritten, answered_entered, texts_are}
 use Rattle.store_core.proofs.CommitLemmas.{nothing_stored}
+use Rattle.store_phases.specs.Phases.{IsOfRun}
 use Rattle.store_verdict.specs.PreparedView.{prepared_of}
 use Rattle.store_verdict.specs.Renewing.{AreRenewed}
 use Rattle.store_verdict.specs.declared.prepared.Prepared.{Prepared}
 use Rattle.store_verdict.specs.declared.records.Record.{Record}
+
+-- the header of some mounts is that of a run under their names, and an entry of theirs is one of that run
+pub header_under : (mounts : List Mount) (names : List (List ℕ)) (header : List ℕ) → header ≡ header_bytes (names_at mounts) → names ≡ names_at mounts → header ≡ header_bytes names
+header_under mounts names header is same = is ∙ ap header_bytes (sym same)
+
+pub entry_under : (mounts : List Mount) (names : List (List ℕ)) (files : List FileText) → IsOfRun (names_at mounts) files → names ≡ names_at mounts → IsOfRun names files
+entry_under mounts names files is same = subst (λ (ns : List (List ℕ)). IsOfRun ns files) (sym same) is
 
 -- where memory is wanting before the disk is touched, nothing enters
 pub enters_nothing : {D P : Type 0} (g : Ghosts D) (mounts : List Mount) (commit : past.Commit) (aside : ℕ) (keys : KeyMap) (set : Prepared) (old new : Core D P) (rec : Record) (result : Result Done CommitFault) → result ≡ Err fault.Memory → IsUnwritten old new
     → new.patterns ≡ old.patterns → EntersHistory g mounts commit aside keys set old new rec rec result
 enters_nothing {D} g mounts commit aside keys set old new rec result memory still patterns = record {
   entered = subst (IsEntered g mounts commit aside keys set old new rec rec) (sym memory) (refl, still);
-  any_moment = λ opened run store.
-      subst (λ (j : JournalValue D). LeavesOnly g old.journal.disk j.disk (IsAmid (files_of run) run.doubt set.texts)) (sym still.journal) (nothing_stored g opened old.journal run set.texts store);
+  any_moment = λ opened run holds.
+      subst (λ (j : JournalValue D). LeavesOnly g old.journal.disk j.disk (IsAmid (files_of run) run.doubt set.texts)) (sym still.journal) (nothing_stored g opened old.journal run set.texts holds.store);
   start = still.start;
   patterns = patterns;
   goes = subst (λ (j : JournalValue D). GoesOn g old.journal.disk j.disk) (sym still.journal) (OnlyReads-goes_on g old.journal.disk old.journal.disk (OnlyReads-none g old.journal.disk));
@@ -185,11 +195,11 @@ module _ (formats : Formats) {D P : Type 0} (g : Ghosts D) (refusals : P → ℕ
           made = λ procs records made world p b.
               made_entered formats (store_of files procs) core records made world p rec prepared b commit aside (is procs) keys keys_are renewed (brings procs) g patterns next new rose result entered;
           committed = λ procs opened records made world run p b.
-              answered_entered formats (store_of files procs) core records made world p rec prepared b.here g opened run b.on_disk next enters.start new rose commit aside (is procs) keys keys_are renewed (brings procs) patterns result entered
+              answered_entered formats (store_of files procs) core records made world p rec prepared b.here g opened run b.on_disk next enters.start new rose commit aside (is procs) keys keys_are renewed (brings procs) patterns b.names result entered
               (made_entered formats (store_of files procs) core records made world p rec prepared b.here commit aside (is procs) keys keys_are renewed (brings procs) g patterns next new rose result entered);
           any_moment = λ procs opened records made world run p b.
               subst (λ (entry : List FileText). LeavesOnly g core.journal.disk next.journal.disk (IsAmid (files_of run) run.doubt entry))
-              (texts_are formats (store_of files procs) core records made world p rec prepared b.here commit aside (is procs) keys keys_are renewed (brings procs)) (enters.any_moment opened run b.on_disk);
+              (texts_are formats (store_of files procs) core records made world p rec prepared b.here commit aside (is procs) keys keys_are renewed (brings procs)) (enters.any_moment opened run (record { names = b.names; store = b.on_disk }));
           start = enters.start;
           goes = enters.goes;
           cause = end.cause;

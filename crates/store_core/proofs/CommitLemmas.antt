@@ -23,6 +23,7 @@ use Rattle.model_store.proofs.Owning.{follows}
 use Rattle.store_core.specs.Committing.{BeginsSet, RunsOn, IsCommitted}
 use Rattle.store_core.specs.Cores.{StandsFor, core_with}
 use Rattle.store_core.specs.declared.cores.Core.{Core}
+use Rattle.store_core.proofs.Beginnings.{names-stay}
 use Rattle.store_phases.specs.Stores.{IsStore}
 use Rattle.store_phases.proofs.Resting.{resting_only}
 
@@ -81,11 +82,11 @@ module _ (formats : Formats) (store : Store) where
         → (then_world : World) × Meant formats store world (Commit r p) answer then_world × StandsFor formats g store opened after next sets then_world later
     stands_committed answer committed =
         let goes = follows formats store world old (Commit r p) answer new st.here.stands committed.made in
-        (goes.after, goes.meant, record { here = record { files = st.here.files; start = committed.start ∙ st.here.start; stands = goes.stands }; on_disk = committed.on_disk; entries = entries-are answer committed.made committed.runs_on })
+        (goes.after, goes.meant, record { here = record { files = st.here.files; start = committed.start ∙ st.here.start; stands = goes.stands }; on_disk = committed.on_disk; names = names-stay formats store before.keys run later (sets p) answer committed.runs_on ∙ st.names; entries = entries-are answer committed.made committed.runs_on })
 
 -- ---- without a call
 
 -- before the disk is touched a crash leaves what it would have left
 pub nothing_stored : {D : Type 0} (g : Ghosts D) (opened : D) (journal : JournalValue D) (run : Run) (entry : List FileText) → IsStore g opened journal run → LeavesOnly g journal.disk journal.disk (IsAmid (files_of run) run.doubt entry)
 nothing_stored g opened journal run entry store =
-    only_now g journal.disk (IsAmid (files_of run) run.doubt entry) store.rests.tells (λ image is. inl (resting_only g journal (files_of run) run.doubt store.rests image is))
+    only_now g journal.disk (IsAmid (files_of run) run.doubt entry) store.rests.tells (λ image is. inl (resting_only g journal run.names (files_of run) run.doubt store.rests image is))

@@ -1,12 +1,13 @@
 -- A set that is a commit joins a history that stays legal, and the texts of the commit are an entry that the journal can hold.
-use Rattle.std.proofs.Common.{◌≡◌, ℕ, ◌+◌, ◌<◌, ◌≤◌, Bool, true, false, ◌||◌, nat_eq, List, [], ◌∷◌, ◌++◌, length, slice_get, Option, Some, None, refl, sym, ap, ap₂, subst, ◌∙◌, arith, eqb-true}
+use Rattle.std.proofs.Common.{◌≡◌, ◌≢◌, ℕ, ◌<◌, ◌≤◌, Bool, true, false, ◌||◌, nat_eq, List, [], ◌∷◌, ◌++◌, length, slice_get, Option, Some, None, refl, sym, ap, ap₂, subst, ◌∙◌, arith, eqb-true}
 use Rattle.std.specs.List.{AllByRecursion, list_any}
 use Rattle.std.proofs.lemmas.Bool.{or_parts}
 use Rattle.std.proofs.lemmas.List.{length-map}
 use Rattle.std.specs.FinMap as map
-use Rattle.journal_codec.specs.Entry.{IsEntry}
+use Rattle.model_files.specs.Files.{table_files}
 use Rattle.model_files.specs.Texts.{Texts, as_entry, entry_of, texts_at, with_text}
 use Rattle.model_files.proofs.EntryLemmas.{is_entry}
+use Rattle.model_files.proofs.NameLemmas.{entry_listed, names_are_header}
 use Rattle.model_history.specs.Changes.{after, changed_by}
 use Rattle.model_history.specs.History as past
 use Rattle.model_history.specs.History.{is_among, replay, history_weight, heaviest_history}
@@ -32,6 +33,7 @@ use Rattle.set_split.specs.Involved.{involved_in}
 use Rattle.set_split.specs.Parts.{owned_by}
 use Rattle.store_core.specs.Cores.{StandsIn, core_with}
 use Rattle.store_core.specs.declared.cores.Core.{Core}
+use Rattle.store_phases.specs.Phases.{IsOfRun}
 use Rattle.store_verdict.proofs.SetLemmas.{filter-within, involved-within}
 
 -- ---- texts
@@ -91,6 +93,10 @@ module _ (formats : Formats) {D P : Type 0} (store : Store) (core : Core D P) (r
   pub remade : conflict store core.history.commits set ≡ None → CanRemake formats store core.keys set
   remade free = can_remake formats store world old st.stands r p set is_set accepted free
 
+  -- each touched mount is one of the table
+  pub within : AllByRecursion (λ m. m < length store.mounts) set.touched
+  within = set-within formats store world.history (world.asked p) set (subst (IsSet formats store world.history (world.asked p)) is_set (st.stands.sets p))
+
   module _ (commit : past.Commit) (aside : ℕ) (late : IsLate formats store core.history.commits core.keys set (Commits commit aside)) where
     abbrev next : cores.Core
     next = core_after store old r set (Commits commit aside)
@@ -117,9 +123,16 @@ module _ (formats : Formats) {D P : Type 0} (store : Store) (core : Core D P) (r
         let made = remade (is_committed formats store core.history.commits core.keys set commit aside late).free in
         ap as_entry (texts-alike formats store set.keys (after core.keys set.changes) set.touched (λ m among. sym (made.wanted m among (none_counts (counts_keys store) set.touched m none among))))
 
-    pub entry : IsEntry (entry_of formats store core.keys (commit_of set))
-    entry = is_entry formats store st.files core.keys (commit_of set) (subst (λ c. IsLegalCommit formats store core.keys c) commit_is_set legal)
+    -- some mount is touched, so there is one
+    some_mount : (ms : List ℕ) → ms ≢ [] → AllByRecursion (λ m. m < length store.mounts) ms → 1 ≤ length store.mounts
+    some_mount [] some all = absurd (some refl)
+    some_mount (m ∷ ms) some all = omega (arith, all.0)
 
-  -- each touched mount is one of the table
-  pub within : AllByRecursion (λ m. m < length store.mounts) set.touched
-  within = set-within formats store world.history (world.asked p) set (subst (IsSet formats store world.history (world.asked p)) is_set (st.stands.sets p))
+    pub entry : IsOfRun (table_files store) (entry_of formats store core.keys (commit_of set))
+    entry =
+        let is_legal = subst (λ c. IsLegalCommit formats store core.keys c) commit_is_set legal in
+        record {
+          header = names_are_header store.mounts st.files (some_mount set.touched is_legal.some within);
+          entry = is_entry formats store st.files core.keys (commit_of set) is_legal;
+          named = entry_listed formats store core.keys (commit_of set);
+        }

@@ -1,7 +1,9 @@
 pub mod ReadingLemmas
 pub mod OpeningLemmas
+pub mod HeadLemmas
 pub mod ClosingLemmas
 pub mod VisibleLemmas
+pub mod Beginnings
 pub mod CommitLemmas
 pub mod EnteringLemmas
 pub mod AnswerLemmas

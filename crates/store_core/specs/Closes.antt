@@ -1,9 +1,11 @@
 -- What `Core::close` promises. (This project's own.)
-use Rattle.std.specs.Prelude.{◌≡◌, ◌⊎◌, true, false}
+use Rattle.std.specs.Prelude.{◌≡◌, ◌⊎◌, true, false, List, Option}
 use Rattle.kdb_outside.specs.Crashes.{EveryImage}
 use Rattle.kdb_outside.specs.declared.disks.Disk.{Ghosts}
 use Rattle.kdb_outside.specs.Faults.{HasRisen}
 use Rattle.kdb_outside.specs.Frames.{GoesOn}
+use Rattle.kdb_outside.specs.Images.{Image}
+use Rattle.journal_codec.specs.declared.files.FileText.{FileText}
 use Rattle.intent_journal.specs.Journal.{JournalValue}
 use Rattle.journal_steps.specs.Moments.{LeavesOnly}
 use Rattle.intent_journal.specs.Outcomes.{HasOnly}
@@ -29,6 +31,9 @@ pub record ClosesStore {D P : Type 0} (g : Ghosts D) (core : Core D P) (closed :
   pub shown : WhereStore g core.journal (λ opened run. ¬ HasRisen (g.faults core.journal.disk) (g.faults closed.disk) → SameFiles (g.seen closed.disk) (files_of run))
   pub settled : WhereStore g core.journal (λ opened run. ¬ HasRisen (g.faults core.journal.disk) (g.faults closed.disk)
       → (core.wrote ≡ true) ⊎ (¬ IsFresh core.journal) → IsSettled (g.may_leave closed.disk) (files_of run))
+  -- and then with whatever files and doubt stand for these
+  pub calm_with : WhereStore g core.journal (λ opened run. ¬ HasRisen (g.faults core.journal.disk) (g.faults closed.disk) → (core.wrote ≡ true) ⊎ (¬ IsFresh core.journal)
+      → (files : Image) (doubt : Option (List FileText)) → IsEither files doubt (files_of run) → IsCalm (g.seen closed.disk) (g.may_leave closed.disk) files doubt)
   pub calm : WhereStore g core.journal (λ opened run. ¬ HasRisen run.faults (g.faults closed.disk) → IsCalm (g.seen closed.disk) (g.may_leave closed.disk) (files_of run) run.doubt)
   -- what a crash leaves, since the opening and now
   pub always : WhereStore g core.journal (λ opened run. LeavesOnly g opened closed.disk (IsReached run.files run.commits run.begun))

@@ -2,7 +2,7 @@
 use Rattle.std.specs.Prelude.{◌≡◌, ℕ, Option}
 use Rattle.kdb_outside.specs.declared.disks.Disk.{Ghosts}
 use Rattle.model_crashes.specs.Runs.{Run}
-use Rattle.model_files.specs.Files.{HaveFiles}
+use Rattle.model_files.specs.Files.{HaveFiles, table_files}
 use Rattle.model_files.specs.Texts.{entries_of}
 use Rattle.model_store.specs.Cores as cores
 use Rattle.model_store.specs.Promise.{Stands}
@@ -24,8 +24,10 @@ pub record StandsIn (formats : Formats) (store : Store) {D P : Type 0} (core : C
   pub start : core.start ≡ store.start
   pub stands : Stands formats store world (core_with core records sets)
 
--- it does, its journal stands for a run since the disk was opened, and the run's entries are those of the world's history
+-- it does, its journal stands for a run since the disk was opened, the head of the journal names the files of the store's mounts, and the
+-- run's entries are those of the world's history
 pub record StandsFor (formats : Formats) {D P : Type 0} (g : Ghosts D) (store : Store) (opened : D) (core : Core D P) (records : ℕ → Record) (sets : ℕ → Option Prepared) (world : World) (run : Run) : Type 0 where
   pub here : StandsIn formats store core records sets world
   pub on_disk : IsStore g opened core.journal run
+  pub names : run.names ≡ table_files store
   pub entries : run.commits ≡ entries_of formats store core.history.commits

@@ -2,6 +2,7 @@
 use Rattle.std.specs.Prelude.{◌≡◌, ℕ, ◌≤◌, Bool, true, List, length, map as over, Option, Some, Result}
 use Rattle.kdb_outside.specs.declared.disks.Disk.{Ghosts}
 use Rattle.model_crashes.specs.Runs.{Run}
+use Rattle.model_files.specs.Files.{table_files}
 use Rattle.model_files.specs.Texts.{as_entry, texts_at}
 use Rattle.model_maps.specs.KeyMap.{KeyMap}
 use Rattle.model_store.specs.Cores.{Made, accepts}
@@ -36,10 +37,11 @@ pub record BelongsIn (formats : Formats) {D P : Type 0} (store : Store) (core : 
   pub wanted : numbered set.wanted ≡ over (λ m. (m, wants (points_of store) set.keys m)) set.touched
   pub texts : set.texts ≡ as_entry (texts_at formats store set.keys set.touched)
 
--- and its journal stands for a run since the disk was opened
+-- and its journal stands for a run since the disk was opened, under a head that names the files of the store's mounts
 pub record Belongs (formats : Formats) {D P : Type 0} (g : Ghosts D) (store : Store) (opened : D) (core : Core D P) (records : ℕ → model.Record) (made : ℕ → Option sets.Prepared) (world : World) (run : Run) (p : ℕ) (rec : Record) (set : Prepared) : Type 0 where
   pub here : BelongsIn formats store core records made world p rec set
   pub on_disk : IsStore g opened core.journal run
+  pub names : run.names ≡ table_files store
 
 -- there is such a world of a store with these files, whatever the disk tells
 pub record IsReady (formats : Formats) {D P : Type 0} (files : List MountedFile) (core : Core D P) (rec : Record) (set : Prepared) : Type 0 where

@@ -7,6 +7,8 @@ pub mod Entering
 pub mod Faults
 pub mod Frames
 pub mod Gets
+pub mod HeadedView
+pub mod Heads
 pub mod Joined
 pub mod Opened
 pub mod Opens

@@ -1,13 +1,10 @@
 -- What an opening answers: the disk, the matcher and, where it was refused, why. (This project's own.)
-use Rattle.std.specs.Prelude.{Bool, true, false, List, Option, Some, None, Result, Ok, Err}
-use Rattle.intent_journal.specs.Opened.{opened_files, MayBeLeft}
-use Rattle.journal_codec.specs.declared.files.FileText.{FileText}
-use Rattle.journal_steps.specs.Outcomes.{SameFiles}
-use Rattle.intent_journal.specs.States.{IsCalm}
+use Rattle.std.specs.Prelude.{Bool, true, false, Option, Some, None, Result, Ok, Err}
+use Rattle.intent_journal.specs.Openings.{StaysFound}
 use Rattle.kdb_outside.specs.Frames.{OnlyReads}
 use Rattle.kdb_outside.specs.declared.disks.Disk.{Ghosts}
 use Rattle.store_core.specs.declared.faults.OpenFault.{OpenFault}
-use Rattle.store_core.specs.declared.faults.OpenFault.TheVariants.{DiskFault, BadJournal, BadTable, TooLong, BadFile, Memory}
+use Rattle.store_core.specs.declared.faults.OpenFault.TheVariants.{DiskFault, BadJournal, UnknownVersion, BadTable, TooLong, BadFile, Memory}
 use Rattle.store_core.specs.declared.faults.OpenRefused.{OpenRefused}
 use Rattle.store_core.specs.declared.opening.Opened.{Opened}
 
@@ -31,14 +28,14 @@ abbrev pub may_be_of_journal : Option OpenFault → Bool
 may_be_of_journal None = false
 may_be_of_journal (Some DiskFault) = true
 may_be_of_journal (Some (BadJournal at)) = true
+may_be_of_journal (Some (UnknownVersion version)) = true
 may_be_of_journal (Some (BadTable fault)) = false
 may_be_of_journal (Some (TooLong bytes)) = false
 may_be_of_journal (Some (BadFile line)) = false
 may_be_of_journal (Some Memory) = true
 
--- what an opening leaves of a calm disk that didn't fail: it was only read, or shows the files of the opening, and is calm with these and with what that
--- leaves in doubt
+-- what an opening leaves of a calm disk that didn't fail: it was only read; or it was written, and shows the files that it had or those of the
+-- opening, and the next opening finds the same files
 pub data IsLeft {D : Type 0} (g : Ghosts D) (disk end : D) : Type 0 where
   StillRead : OnlyReads g disk end → IsLeft g disk end
-  AsOpened : (later : Option (List FileText)) → MayBeLeft (g.seen disk) later → SameFiles (g.seen end) (opened_files (g.seen disk))
-      → IsCalm (g.seen end) (g.may_leave end) (opened_files (g.seen disk)) later → IsLeft g disk end
+  StillFound : StaysFound g disk end → IsLeft g disk end

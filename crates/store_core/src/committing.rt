@@ -135,7 +135,7 @@ impl<D: Disk, P: Patterns + Drop> Core<D, P> {
                 renewed,
             } => {
                 let prepared = with_texts(prepared, renewed);
-                self.enter(alloc, plan.table(), rec, prepared, commit, keys, left_aside)
+                self.enter(alloc, plan, rec, prepared, commit, keys, left_aside)
             }
         }
     }
@@ -164,7 +164,7 @@ fn judge_set<F: Formats + Drop, P: Patterns>(
         alloc,
         &plan.formats,
         patterns,
-        &plan.mounted,
+        plan.mounted(),
         history,
         &keys,
         prepared,

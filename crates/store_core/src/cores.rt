@@ -1,6 +1,9 @@
 //! What an opening fixes, and what changes while the store is open.
 ghost use Rattle.std.specs.Prelude.{◌≡◌, map as over};
+ghost use Rattle.journal_codec.specs.Header.{header_bytes};
+ghost use Rattle.store_core.specs.Heads.{names_at};
 
+use crate::headed::Headed;
 use commit_log::History;
 use intent_journal::Journal;
 use kdb_outside::Disk;
@@ -10,11 +13,12 @@ use mounted_files::Mounted;
 use regex_check::Patterns;
 use storage_api::Formats;
 
-/// What an opening fixes: the formats, and the mounts with what their files held.
+/// What an opening fixes: the formats, and the mounts with what their files held, and with the header of the journal that
+/// names these files.
 #[derive(Drop)]
 pub struct Plan<F: Formats + Drop> {
     pub(crate) formats: F,
-    pub(crate) mounted: Mounted,
+    pub(crate) mounted: Headed,
 }
 
 impl<F: Formats + Drop> Plan<F> {
@@ -22,14 +26,21 @@ impl<F: Formats + Drop> Plan<F> {
     pub fn table(&self) -> &MountTable
         ensures { result.now ≡ over (λ file. file.mount) self.now.mounted }
     {
-        self.mounted.table()
+        self.mounted().table()
     }
 
     /// The mounts with what their files held when the store was opened.
     pub fn mounted(&self) -> &Mounted
         ensures { result.now ≡ self.now.mounted }
     {
-        &self.mounted
+        self.mounted.mounted()
+    }
+
+    /// The header of the journal that names the files of the mounts.
+    pub(crate) fn header(&self) -> &[u8]
+        ensures { result.now ≡ header_bytes (names_at (over (λ file. file.mount) self.now.mounted)) }
+    {
+        self.mounted.header()
     }
 }
 

@@ -13,8 +13,10 @@ use std::alloc::AllocError;
 #[derive(Debug, Drop)]
 pub enum OpenFault {
     DiskFault,
-    /// An open entry of the journal isn't whole.
+    /// The head of the journal, or an open entry of it or of the former one, isn't whole.
     BadJournal { at: u64 },
+    /// The journal has a version that isn't known.
+    UnknownVersion { version: u8 },
     /// The keys of `elektra.ecf` make no table.
     BadTable { fault: TableFault },
     /// `elektra.ecf` has more than 1,048,576 bytes: so many.
@@ -50,6 +52,7 @@ impl From<JournalFault> for OpenFault {
         match failed {
             JournalFault::DiskFault => OpenFault::DiskFault,
             JournalFault::BadJournal { at } => OpenFault::BadJournal { at },
+            JournalFault::UnknownVersion { version } => OpenFault::UnknownVersion { version },
             JournalFault::Memory => OpenFault::Memory,
         }
     }

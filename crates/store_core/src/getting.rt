@@ -43,13 +43,14 @@ impl<D: Disk, P: Patterns + Drop> Core<D, P> {
         ensures proc { proc_of rec.new ≡ proc_of rec.old }
     {
         let front = self.history.len();
-        let got = match get(alloc, &plan.mounted, &self.keys, front, rec, parent) {
+        let mounted = plan.mounted();
+        let got = match get(alloc, mounted, &self.keys, front, rec, parent) {
             Ok(got) => got,
             Err(_) => return Err(GetFault::Memory),
         };
         match got {
             Getting::Keys { keys } => Ok(Got { front, keys }),
-            Getting::Bad { mount } => Err(fault_at(plan.mounted.files(), mount)),
+            Getting::Bad { mount } => Err(fault_at(mounted.files(), mount)),
         }
     }
 }

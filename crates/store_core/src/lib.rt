@@ -7,6 +7,7 @@ mod cores;
 mod faults;
 mod flushing;
 mod getting;
+mod headed;
 mod laws;
 mod mounting;
 mod opening;

@@ -29,7 +29,7 @@ pub(crate) fn mount_files<D: Disk, F: Formats>(
         MatchResult result (IsOpened F.reads F.is_bad_at (D.seen journal.old.disk)) (RefusesStore F.reads F.is_bad_at (D.seen journal.old.disk own_mount.file)) }
     ensures storable { IfOk result (AllCanBeWritten F.is_storable) }
     ensures cause { result ≡ Err OpenFault.DiskFault → HasRisen (D.faults journal.old.disk) (D.faults journal.new.disk) }
-    ensures own { (at : ℕ) → result ≡ Err (OpenFault.BadJournal at) → ⊥ }
+    ensures own { ((at : ℕ) → result ≡ Err (OpenFault.BadJournal at) → ⊥) × ((version : ℕ) → result ≡ Err (OpenFault.UnknownVersion version) → ⊥) }
     ensures reads { OnlyReadsFiles D.Disk journal.old journal.new }
 {
     let opening = begin(alloc, journal, formats)?;
@@ -47,7 +47,7 @@ fn begin<D: Disk, F: Formats>(
     ensures none { IfOk result (λ opening. opening.files ≡ []) }
     ensures storable { IfOk result (CanBeWrittenSoFar F.is_storable) }
     ensures cause { result ≡ Err OpenFault.DiskFault → HasRisen (D.faults journal.old.disk) (D.faults journal.new.disk) }
-    ensures own { (at : ℕ) → result ≡ Err (OpenFault.BadJournal at) → ⊥ }
+    ensures own { ((at : ℕ) → result ≡ Err (OpenFault.BadJournal at) → ⊥) × ((version : ℕ) → result ≡ Err (OpenFault.UnknownVersion version) → ⊥) }
     ensures reads { OnlyReadsFiles D.Disk journal.old journal.new }
 {
     let file = own_file(alloc)?;

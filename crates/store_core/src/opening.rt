@@ -12,6 +12,7 @@ ghost use Rattle.store_core.specs.Faults.{RefusesStore};
 ghost use Rattle.store_core.specs.Frames.{OnlyReadsFiles};
 ghost use Rattle.store_core.specs.Opens.{OpensFiles, OpensStore};
 
+use crate::headed::Headed;
 use crate::mounting::mount_files;
 use crate::visible::visible_keys;
 use crate::{Core, OpenFault, OpenRefused, Plan};
@@ -20,7 +21,6 @@ use intent_journal::Journal;
 use journal_steps::JournalRefused;
 use kdb_outside::Disk;
 use key_set::KeySet;
-use mounted_files::Mounted;
 use regex_check::Patterns;
 use std::alloc::Global;
 use storage_api::Formats;
@@ -94,7 +94,7 @@ fn open_files<D: Disk, F: Formats + Drop, P: Patterns + Drop>(
 /// The files of all mounts, no commits, and the keys of all mounts, now and at the start.
 #[derive(Drop)]
 struct FirstState {
-    mounted: Mounted,
+    mounted: Headed,
     history: History,
     start: KeySet,
     keys: KeySet,
@@ -114,7 +114,7 @@ fn first_state<D: Disk, F: Formats>(
     ensures keys { IfOk result (λ first. first.keys ≡ visible_keys first.mounted) }
     ensures start { IfOk result (λ first. first.start ≡ visible_keys first.mounted) }
     ensures none { IfOk result (λ first. first.history.commits ≡ []) }
-    ensures own { (at : ℕ) → result ≡ Err (OpenFault.BadJournal at) → ⊥ }
+    ensures own { ((at : ℕ) → result ≡ Err (OpenFault.BadJournal at) → ⊥) × ((version : ℕ) → result ≡ Err (OpenFault.UnknownVersion version) → ⊥) }
     ensures cause { result ≡ Err OpenFault.DiskFault → HasRisen (D.faults journal.old.disk) (D.faults journal.new.disk) }
     ensures reads { OnlyReadsFiles D.Disk journal.old journal.new }
 {
@@ -122,6 +122,7 @@ fn first_state<D: Disk, F: Formats>(
     let history = History::new(alloc, mounted.table().len())?;
     let start = visible_keys(alloc, mounted.files())?;
     let keys = start.copy()?;
+    let mounted = Headed::new(alloc, mounted)?;
     Ok(FirstState {
         mounted,
         history,

@@ -26,6 +26,6 @@ impl<F: Formats + Drop> Plan<F> {
         ensures made { IfOk result (λ set. (procs : ℕ → KeyMap) → IsMade (formats_of F.Formats) (store_of self.now.mounted procs) (handle_of rec.now) (record_of rec.now) parent.now keys.now set) }
         ensures refused { IfErr result (λ why. UnlessMemory fault.Memory ((procs : ℕ → KeyMap) → IsRefused (formats_of F.Formats) (store_of self.now.mounted procs) (handle_of rec.now) (record_of rec.now) parent.now keys.now why) why) }
     {
-        prepare(alloc, &self.formats, &self.mounted, rec, parent, keys)
+        prepare(alloc, &self.formats, self.mounted(), rec, parent, keys)
     }
 }

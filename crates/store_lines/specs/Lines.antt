@@ -45,9 +45,14 @@ not_storable mount key = codes "C03200 not-storable " ++ (shown mount ++ (32 ∷
 abbrev pub history_full : ℕ → List ℕ
 history_full weight = codes "C01100 history-full " ++ decimal weight
 
--- the journal's gate is open, and no whole body of an entry stands behind it: the place in the body
+-- a gate of the journal is open, and no whole head or no whole body of an entry stands behind it: the place, in a body of the former
+-- journal or in the file
 abbrev pub bad_journal : ℕ → List ℕ
 bad_journal at = codes "C03100 bad-journal " ++ decimal at
+
+-- the journal has a version that isn't known
+abbrev pub unknown_journal : ℕ → List ℕ
+unknown_journal version = codes "C03100 journal-version " ++ decimal version
 
 abbrev pub database_full : ℕ → List ℕ
 database_full weight = codes "C01100 database-full " ++ decimal weight

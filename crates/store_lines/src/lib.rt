@@ -7,7 +7,7 @@ mod table_lines;
 
 pub use refusals::{
     bad_file, bad_journal, database_full, file_too_large, history_full, not_fetched, not_storable,
-    too_heavy, too_long, value_too_long,
+    too_heavy, too_long, unknown_journal, value_too_long,
 };
 pub use rule_lines::{broken_rule, invalid};
 pub use table_lines::bad_table;

@@ -1,6 +1,6 @@
 //! The lines of files, of sets and of the journal.
 ghost use Rattle.std.specs.Prelude.{◌≡◌, IfOk, string_bytes};
-ghost use Rattle.store_lines.specs.Lines.{too_long, bad_file, too_heavy, not_fetched, value_too_long, file_too_large, not_storable, database_full, history_full, bad_journal};
+ghost use Rattle.store_lines.specs.Lines.{too_long, bad_file, too_heavy, not_fetched, value_too_long, file_too_large, not_storable, database_full, history_full, bad_journal, unknown_journal};
 
 use kdb_text::shown;
 use key_meta::Memory;
@@ -70,9 +70,17 @@ pub fn history_full(alloc: Global, weight: u64) -> Result<String, Memory>
     format!(in alloc; "C01100 history-full {weight}")
 }
 
-/// The journal's gate is open, and no whole body of an entry stands behind it: the place in the body.
+/// A gate of the journal is open, and no whole head or no whole body of an entry stands behind it: the place, in a body of the
+/// former journal or in the file.
 pub fn bad_journal(alloc: Global, at: u64) -> Result<String, Memory>
     ensures { IfOk result (λ text. string_bytes text ≡ bad_journal at) }
 {
     format!(in alloc; "C03100 bad-journal {at}")
+}
+
+/// The journal has a version that isn't known.
+pub fn unknown_journal(alloc: Global, version: u8) -> Result<String, Memory>
+    ensures { IfOk result (λ text. string_bytes text ≡ unknown_journal version) }
+{
+    format!(in alloc; "C03100 journal-version {version}")
 }

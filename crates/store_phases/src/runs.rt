@@ -4,18 +4,20 @@ ghost use Rattle.backend_files.specs.WholeFile.{IsWhole, IsShort, IsGiven};
 ghost use Rattle.kdb_outside.specs.Crashes.{EveryImage};
 ghost use Rattle.kdb_outside.specs.Faults.{HasCause, HasRisen};
 ghost use Rattle.kdb_outside.specs.Frames.{GoesOn, OnlyReads};
+ghost use Rattle.kdb_outside.specs.Images.{Image};
 ghost use Rattle.journal_codec.specs.declared.files.FileText.{FileText as Item};
 ghost use Rattle.journal_codec.specs.Entry.{IsEntry};
 ghost use Rattle.journal_codec.specs.Forms.{behind_gate};
 ghost use Rattle.journal_steps.specs.JournalBytes.{IsOwnFile};
 ghost use Rattle.journal_steps.specs.Moments.{LeavesOnly};
+ghost use Rattle.intent_journal.specs.Journal.{IsHeaderBytes};
 ghost use Rattle.intent_journal.specs.Outcomes.{HasOnly};
 ghost use Rattle.journal_steps.specs.Outcomes.{IsEither};
-ghost use Rattle.intent_journal.specs.States.{IsSettled};
+ghost use Rattle.intent_journal.specs.States.{IsCalm, IsSettled};
 ghost use Rattle.model_crashes.specs.Runs.{Run, files_of, IsReached, IsAmid, IsOneOf, after_begun, after_commit};
 ghost use Rattle.store_phases.specs.Opens.{OpensRun};
 ghost use Rattle.store_phases.specs.Resting.{RestsOn};
-ghost use Rattle.store_phases.specs.Stores.{IsStore};
+ghost use Rattle.store_phases.specs.Stores.{IsStore, WhereOfRun};
 
 use crate::phases::{make_clean, store};
 use backend_files::{FileFault, FileRead};
@@ -33,25 +35,26 @@ pub fn open<D: Disk>(alloc: Global, disk: D) -> Result<Journal<D>, JournalRefuse
     Journal::open(alloc, disk)
 }
 
-/// Stores an entry of the run, whose files take their contents later. From `Ok` on every crash leaves it; after `Err` at
-/// most one entry is in doubt.
+/// Stores an entry of the run, whose files take their contents later, with the header of the run's journal. From `Ok` on every crash
+/// leaves it; after `Err` at most one entry is in doubt.
 pub fn commit<D: Disk>(
     journal: &mut Journal<D>,
+    header: &[u8],
     encoded: &[u8],
     files: List<FileText>,
 ) -> Result<(), Failed>
     requires entry { IsEntry files }
+    requires header { IsHeaderBytes header.now }
     requires encoded { encoded.now ≡ behind_gate files ++ 0 ∷ [] }
-    ensures committed { (opened : D) (run : Run) → IsStore D.Disk opened journal.old run
-        → OnOk result (IsStore D.Disk opened journal.new (after_commit run files)) }
-    ensures failed { (opened : D) (run : Run) → IsStore D.Disk opened journal.old run
-        → OnErr result ((later : Option (List Item)) × IsOneOf later run.doubt files × IsStore D.Disk opened journal.new (after_begun run files later)) }
-    ensures any_moment { (opened : D) (run : Run) → IsStore D.Disk opened journal.old run
-        → LeavesOnly D.Disk journal.old.disk journal.new.disk (IsAmid (files_of run) run.doubt files) }
+    ensures committed { WhereOfRun D.Disk journal.old header.now files (λ opened run. OnOk result (IsStore D.Disk opened journal.new (after_commit run files))) }
+    ensures failed { WhereOfRun D.Disk journal.old header.now files (λ opened run.
+        OnErr result ((later : Option (List Item)) × IsOneOf later run.doubt files × IsStore D.Disk opened journal.new (after_begun run files later))) }
+    ensures any_moment { WhereOfRun D.Disk journal.old header.now files (λ opened run.
+        LeavesOnly D.Disk journal.old.disk journal.new.disk (IsAmid (files_of run) run.doubt files)) }
     ensures goes { GoesOn D.Disk journal.old.disk journal.new.disk }
     ensures cause { HasCause (D.faults journal.old.disk) (D.faults journal.new.disk) result }
 {
-    store(journal, encoded, files)
+    store(journal, header, encoded, files)
 }
 
 /// Brings the entries that wait into their files, and closes a gate in doubt before. False exactly where none waits, and
@@ -102,6 +105,8 @@ pub fn close<D: Disk>(journal: Journal<D>) -> D
         → EveryImage (D.may_leave result) (HasOnly (IsEither (files_of run) run.doubt)) }
     ensures settled { (opened : D) (run : Run) → IsStore D.Disk opened journal run → ¬ HasRisen (D.faults journal.disk) (D.faults result)
         → IsSettled (D.may_leave result) (files_of run) }
+    ensures calm { (opened : D) (run : Run) → IsStore D.Disk opened journal run → ¬ HasRisen (D.faults journal.disk) (D.faults result)
+        → (files : Image) (doubt : Option (List Item)) → IsEither files doubt (files_of run) → IsCalm (D.seen result) (D.may_leave result) files doubt }
     ensures rests { (opened : D) (run : Run) → IsStore D.Disk opened journal run → RestsOn D.Disk result (files_of run) run.doubt }
     ensures goes { GoesOn D.Disk journal.disk result }
 {

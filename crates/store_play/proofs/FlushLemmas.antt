@@ -1,5 +1,5 @@
 -- A flush leaves what is kept as it was, so that a step stands as well behind it.
-use Rattle.std.proofs.Common.{◌≡◌, ℕ, ◌≤◌, Bool, List, Option, Result, refl, sym, ap, ap₂, subst, ◌∙◌, arith}
+use Rattle.std.proofs.Common.{◌≡◌, ℕ, Bool, List, Option, Result, refl, sym, ap, ap₂, subst, ◌∙◌}
 use Rattle.kdb_outside.specs.declared.disks.Disk.{Ghosts}
 use Rattle.kdb_outside.specs.declared.faults.Failed.{Failed}
 use Rattle.kdb_outside.proofs.Frames.{GoesOn-then, OnlyReads-goes_on, OnlyReads-none}
@@ -64,6 +64,7 @@ stepped_flushed formats g files procs opened first event told mid new records pl
             stands = subst (λ (core : cores.Core). Stands formats (store_of files procs) is.world core) core_is is.holds.stands.here.stands;
           };
           on_disk = flushed.on_disk opened is.run is.holds.stands.on_disk;
+          names = is.holds.stands.names;
           entries = is.holds.stands.entries ∙ ap (λ (log : Log). entries_of formats (store_of files procs) log.commits) (sym flushed.history);
         };
         handles = is.holds.handles;

@@ -11,32 +11,29 @@ use Rattle.intent_journal.specs.Opened.{opened_files}
 use Rattle.journal_steps.specs.Moments.{LeavesOnly}
 use Rattle.intent_journal.specs.Outcomes.{HasOnly}
 use Rattle.journal_steps.specs.Outcomes.{IsEither}
-use Rattle.intent_journal.specs.States.{IsCalm, IsSettled}
-use Rattle.intent_journal.proofs.Opened.{settled_calm}
+use Rattle.intent_journal.specs.States.{IsCalm}
 use Rattle.journal_codec.specs.declared.files.FileText.{FileText}
-use Rattle.model_crashes.specs.Runs.{Run, IsReached, files_of}
+use Rattle.model_crashes.specs.Runs.{Run, IsReached}
 use Rattle.model_crashes.proofs.Moments.{only_both}
 use Rattle.model_maps.specs.KeyMap.{KeyMap}
+use Rattle.model_files.specs.Files.{table_files}
 use Rattle.model_files.specs.Texts.{entries_of}
 use Rattle.model_store.specs.Cores as cores
-use Rattle.model_store.specs.Events as event
 use Rattle.model_store.specs.Records as model
 use Rattle.model_store.specs.Records.{no_record}
-use Rattle.model_store.specs.Sets as sets
 use Rattle.model_store.specs.Store.{Store, Formats}
-use Rattle.model_store.specs.Verdicts.{Late, Same, Conflict, TooLarge, Invalid, DatabaseFull, HistoryFull, Commits}
 use Rattle.model_store.specs.Worlds.{first_world}
 use Rattle.model_store.proofs.Owning.{one_owner}
 use Rattle.mounted_files.specs.Files.{Reading, Badness}
 use Rattle.mounted_files.specs.Opening.{IsOpened}
 use Rattle.mounted_files.specs.declared.files.MountedFile.{MountedFile}
-use Rattle.store_core.specs.Committing.{BeginsSet, RunsOn}
 use Rattle.store_core.specs.Cores.{StandsFor}
 use Rattle.store_core.specs.Faults.{RefusesStore}
 use Rattle.store_core.specs.declared.cores.Core.{Core}
 use Rattle.store_core.specs.declared.faults.OpenFault.{OpenFault}
-use Rattle.store_core.specs.declared.faults.OpenFault.TheVariants.{BadJournal, DiskFault as OfDisk, Memory as OfMemory}
+use Rattle.store_core.specs.declared.faults.OpenFault.TheVariants.{BadJournal, DiskFault as OfDisk, Memory as OfMemory, UnknownVersion}
 use Rattle.store_core.specs.declared.faults.OpenRefused.{OpenRefused}
+use Rattle.store_core.proofs.Beginnings.{beginning, stays_on}
 use Rattle.store_play.specs.Handles.{Holds, AreHandles, AreNew, HoldNothing, procs_at, records_of}
 use Rattle.store_play.specs.Plays.{Does, HasPlayed, Plays}
 use Rattle.store_play.specs.Ran.{HasPlayedNew, HasRun, HasRunFiles, HasRunOpened, CrashesCalm, WasOrReached, disk_of, first_stage, store_with}
@@ -52,33 +49,6 @@ use Rattle.store_verdict.specs.declared.prepared.Prepared.{Prepared}
 use Rattle.store_verdict.specs.declared.records.Record.{Record}
 
 -- ---- the beginning of a run stays
-
--- its files and its count of faults
-abbrev beginning : Run → Image × ℕ
-beginning run = (run.files, run.faults)
-
-module _ (formats : Formats) (store : Store) (keys : KeyMap) (run later : Run) where
-  begun_stays : (set : Option sets.Prepared) → BeginsSet formats store keys run set later → beginning later ≡ beginning run
-  begun_stays None begun = absurd begun
-  begun_stays (Some set) begun = ap beginning begun.2
-
-  judged_stays : (set : Option sets.Prepared) (front : ℕ) (late : Late) → RunsOn formats store keys run set (event.Judged front late) later → beginning later ≡ beginning run
-  judged_stays set front (Same aside) on = ap beginning on
-  judged_stays set front (Conflict m by) on = ap beginning on
-  judged_stays set front (TooLarge m size) on = ap beginning on
-  judged_stays set front (Invalid violation risen) on = ap beginning on
-  judged_stays set front (DatabaseFull n) on = ap beginning on
-  judged_stays set front (HistoryFull n) on = ap beginning on
-  judged_stays set front (Commits commit aside) on = ap beginning on
-
-  stays_on : (set : Option sets.Prepared) (answer : event.Answer) → RunsOn formats store keys run set answer later → beginning later ≡ beginning run
-  stays_on set event.Memory on = ap beginning on
-  stays_on set (event.Bad m) on = ap beginning on
-  stays_on set (event.Got front got) on = ap beginning on
-  stays_on set (event.Refused why) on = ap beginning on
-  stays_on set event.Ready on = ap beginning on
-  stays_on set (event.Judged front late) on = judged_stays set front late on
-  stays_on set (event.Failed front) on = begun_stays set on
 
 module _ (formats : Formats) (store : Store) (files : List MountedFile) where
   stays_done : (before after : Stage) (event : Event) (answer : Answer) → Does formats store files before event answer after → beginning after.run ≡ beginning before.run
@@ -155,7 +125,7 @@ module _ (formats : Formats) {D P : Type 0} (g : Ghosts D) (mounted : List Mount
       let calls = called formats store mounted first played.last events ran.answers played.plays in
       let same : has.core.history.commits ≡ played.last.core.history = sym (ap (λ (c : cores.Core). c.history) played.core_is) in
       let stays = stays_played formats store mounted first played.last events ran.answers played.plays in
-      let faults : run.faults ≡ begun.faults = ap (λ (b : Image × ℕ). b.1) stays in
+      let faults : run.faults ≡ begun.faults = ap (λ (b : List (List ℕ) × Image × ℕ). b.2) stays in
       record {
         last = played.last;
         plays = played.plays;
@@ -164,7 +134,7 @@ module _ (formats : Formats) {D P : Type 0} (g : Ghosts D) (mounted : List Mount
         one_owner = one_owner formats store played.stands.here.stands.sound calls.calls played.last.core calls.runs;
         history = has.history ∙ same;
         entries = played.stands.entries ∙ ap (entries_of formats store) same;
-        files_stay = ap (λ (b : Image × ℕ). b.0) stays;
+        files_stay = ap (λ (b : List (List ℕ) × Image × ℕ). b.1) stays;
         any_moment = only_both g disk opened ran.disk (HasOnly (IsEither files doubt)) (IsReached run.files run.commits run.begun) (WasOrReached files doubt run)
             (λ image held. inl held) (λ image held. inr held) later opening has.reached;
         now = has.now;
@@ -173,18 +143,21 @@ module _ (formats : Formats) {D P : Type 0} (g : Ghosts D) (mounted : List Mount
       }
 
 -- the opening, the run behind it and the close
-module _ (formats : Formats) (Reads : Reading) (IsBad : Badness) {D P : Type 0} (g : Ghosts D) (mounted : List MountedFile) (procs : List KeyMap) (places : ℕ) (events : List Event) (disk opened : D) (files : Image) (doubt : Option (List FileText)) (begun : Run)
+module _ (formats : Formats) (Reads : Reading) (IsBad : Badness) {D P : Type 0} (g : Ghosts D) (mounted : List MountedFile) (procs : List KeyMap) (places : ℕ) (events : List Event) (disk opened : D) (files : Image) (doubt : Option (List FileText)) (begun : List (List ℕ) → Run)
     (later : g.moment disk ≤ g.moment opened) (opening : LeavesOnly g disk opened (HasOnly (IsEither files doubt))) where
-  pub ran_files : (result : Result (Ran D P) (OpenRefused D P)) → IsOpened Reads IsBad (opened_files (g.seen disk)) mounted → IfOk result (HasRunOpened formats g mounted procs places opened begun events)
+  -- under a head that names the files of the store
+  pub ran_files : (result : Result (Ran D P) (OpenRefused D P)) → IsOpened Reads IsBad (opened_files (g.seen disk)) mounted → IfOk result (HasRunOpened formats g mounted procs places opened (begun (table_files (store_with mounted procs))) events)
       → IfOk result (HasRunFiles formats Reads IsBad g procs places events disk files doubt begun)
-  ran_files (Ok ran) is has = (mounted, is, has_run formats g mounted procs places disk opened files doubt begun events ran has later opening)
+  ran_files (Ok ran) is has = (mounted, is, has_run formats g mounted procs places disk opened files doubt (begun (table_files (store_with mounted procs))) events ran has later opening)
   ran_files (Err refused) is has = tt
 
-  pub reached_files : (result : Result (Ran D P) (OpenRefused D P)) → IfErr result (λ refused. LeavesOnly g opened refused.disk (IsReached begun.files begun.commits begun.begun))
-      → IfErr result (λ refused. LeavesOnly g disk refused.disk (WasOrReached files doubt begun))
-  reached_files (Ok ran) reached = tt
-  reached_files (Err refused) reached =
-      only_both g disk opened refused.disk (HasOnly (IsEither files doubt)) (IsReached begun.files begun.commits begun.begun) (WasOrReached files doubt begun) (λ image held. inl held) (λ image held. inr held) later opening reached
+-- a crash amid a run that is refused behind the opening leaves what the run had reached when it began
+pub reached_files : {D P : Type 0} (g : Ghosts D) (disk opened : D) (files : Image) (doubt : Option (List FileText)) (begun : Run) → g.moment disk ≤ g.moment opened
+    → LeavesOnly g disk opened (HasOnly (IsEither files doubt)) → (result : Result (Ran D P) (OpenRefused D P))
+    → IfErr result (λ refused. LeavesOnly g opened refused.disk (IsReached begun.files begun.commits begun.begun)) → IfErr result (λ refused. LeavesOnly g disk refused.disk (WasOrReached files doubt begun))
+reached_files g disk opened files doubt begun later opening (Ok ran) reached = tt
+reached_files g disk opened files doubt begun later opening (Err refused) reached =
+    only_both g disk opened refused.disk (HasOnly (IsEither files doubt)) (IsReached begun.files begun.commits begun.begun) (WasOrReached files doubt begun) (λ image held. inl held) (λ image held. inr held) later opening reached
 
 -- ---- a journal that isn't broken
 
@@ -204,16 +177,19 @@ module _ (Reads : Reading) (IsBad : Badness) (bytes : List ℕ) where
 pub memory_is_no_journal : (fault : OpenFault) (at : ℕ) → fault ≡ OfMemory → fault ≢ BadJournal at
 memory_is_no_journal fault at is = λ bad. let e : OfMemory ≡ BadJournal at = sym is ∙ bad in absurd cc
 
+pub memory_is_no_version : (fault : OpenFault) (version : ℕ) → fault ≡ OfMemory → fault ≢ UnknownVersion version
+memory_is_no_version fault version is = λ known. let e : OfMemory ≡ UnknownVersion version = sym is ∙ known in absurd cc
+
 pub memory_is_no_fault : (fault : OpenFault) → fault ≡ OfMemory → fault ≢ OfDisk
 memory_is_no_fault fault is = λ disk. let e : OfMemory ≡ OfDisk = sym is ∙ disk in absurd cc
 
 -- ---- a run that is refused behind the opening
 
 -- a store that was closed as it was opened leaves its disk as calm as before
-pub closed_calm : {D : Type 0} (g : Ghosts D) (old new : D) (run : Run) (files : Image) (doubt : Option (List FileText)) (wrote : Bool) → g.tells new ≡ true → IsEither files doubt (files_of run)
-    → (wrote ≡ false → new ≡ old) → (wrote ≡ true → IsSettled (g.may_leave new) (files_of run)) → IsCalm (g.seen old) (g.may_leave old) files doubt → IsCalm (g.seen new) (g.may_leave new) files doubt
-closed_calm g old new run files doubt true tells either alone settled calm = settled_calm (g.seen new) (g.may_leave new) (files_of run) files doubt (settled refl) (g.read_is_image new tells) either
-closed_calm g old new run files doubt false tells either alone settled calm = subst (λ d. IsCalm (g.seen d) (g.may_leave d) files doubt) (sym (alone refl)) calm
+pub closed_calm : {D : Type 0} (g : Ghosts D) (old new : D) (files : Image) (doubt : Option (List FileText)) (wrote : Bool)
+    → (wrote ≡ false → new ≡ old) → (wrote ≡ true → IsCalm (g.seen new) (g.may_leave new) files doubt) → IsCalm (g.seen old) (g.may_leave old) files doubt → IsCalm (g.seen new) (g.may_leave new) files doubt
+closed_calm g old new files doubt true alone settled calm = settled refl
+closed_calm g old new files doubt false alone settled calm = subst (λ d. IsCalm (g.seen d) (g.may_leave d) files doubt) (sym (alone refl)) calm
 
 -- and so the run leaves it as calm as it was handed in, where no fault came
 pub refused_calm : {D P : Type 0} (g : Ghosts D) (disk opened : D) (result : Result (Ran D P) (OpenRefused D P)) (files : Image) (doubt : Option (List FileText)) → GoesOn g disk opened → GoesOn g opened (disk_of result)

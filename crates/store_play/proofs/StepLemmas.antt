@@ -128,7 +128,7 @@ module _ (formats : Formats) {D P : Type 0} (g : Ghosts D) (files : List Mounted
           places = refl;
         };
         holds = record {
-          stands = record { here = record { files = h.stands.here.files; start = h.stands.here.start; stands = goes.stands }; on_disk = h.stands.on_disk; entries = h.stands.entries };
+          stands = record { here = record { files = h.stands.here.files; start = h.stands.here.start; stands = goes.stands }; on_disk = h.stands.on_disk; names = h.stands.names; entries = h.stands.entries };
           handles = moved r old new there lt moves;
           held = h.held;
         };
@@ -166,7 +166,7 @@ module _ (formats : Formats) {D P : Type 0} (g : Ghosts D) (files : List Mounted
             places = length-set places p (Some new);
           };
           holds = record {
-            stands = record { here = record { files = h.stands.here.files; start = h.stands.here.start; stands = goes.stands }; on_disk = h.stands.on_disk; entries = h.stands.entries };
+            stands = record { here = record { files = h.stands.here.files; start = h.stands.here.start; stands = goes.stands }; on_disk = h.stands.on_disk; names = h.stands.names; entries = h.stands.entries };
             handles = h.handles;
             held = held_with new lt is_made;
           };
@@ -262,7 +262,7 @@ module _ (formats : Formats) {D P : Type 0} (g : Ghosts D) (files : List Mounted
         (omega (arith, length-map files (λ (file : MountedFile). file.mount), (h.handles r old there).places)) is.is accepted made.made
 
     pub belongs : Belongs formats g store opened core (records_of records) known world run p old prepared
-    belongs = record { here = belongs_here; on_disk = h.stands.on_disk }
+    belongs = record { here = belongs_here; on_disk = h.stands.on_disk; names = h.stands.names }
 
     committed : (after : Core D P) (new : Record) (risen : Bool) (result : Result Done CommitFault) → r < length records → p < length places → Moves old new
         → HasAnswered formats g store opened core after (records_of records) known run p old new prepared risen result

@@ -12,6 +12,7 @@ use Rattle.journal_steps.specs.Outcomes.{IsEither, SameFiles}
 use Rattle.intent_journal.specs.States.{IsCalm}
 use Rattle.journal_codec.specs.declared.files.FileText.{FileText}
 use Rattle.model_crashes.specs.Runs.{Run, files_of, IsReached, new_run}
+use Rattle.model_files.specs.Files.{table_files}
 use Rattle.model_files.specs.Texts.{entries_of}
 use Rattle.model_maps.specs.KeyMap.{KeyMap}
 use Rattle.model_store.specs.Cores.{first_core}
@@ -28,7 +29,7 @@ use Rattle.mounted_files.specs.declared.files.MountedFile.{MountedFile}
 use Rattle.store_core.specs.Cores.{StandsFor, core_with}
 use Rattle.store_core.specs.Faults.{RefusesStore}
 use Rattle.store_core.specs.declared.cores.Core.{Core}
-use Rattle.store_core.specs.declared.faults.OpenFault.TheVariants.{BadJournal, DiskFault, Memory}
+use Rattle.store_core.specs.declared.faults.OpenFault.TheVariants.{BadJournal, DiskFault, Memory, UnknownVersion}
 use Rattle.store_core.specs.declared.faults.OpenRefused.{OpenRefused}
 use Rattle.store_play.specs.Causes.{IsCaused}
 use Rattle.store_play.specs.Handles.{procs_at}
@@ -108,35 +109,36 @@ pub record HasRun (formats : Formats) {D P : Type 0} (g : Ghosts D) (mounted : L
 abbrev pub FromCalm : {D : Type 0} → Ghosts D → D → (Image → Option (List FileText) → Type 0) → Type 0
 FromCalm g disk P = (files : Image) (doubt : Option (List FileText)) → IsCalm (g.seen disk) (g.may_leave disk) files doubt → P files doubt
 
--- the run that begins on the files that the journal of a disk leaves, with what that leaves in doubt
-abbrev pub opened_run : {D : Type 0} → Ghosts D → D → Option (List FileText) → Run
-opened_run g disk later = new_run (opened_files (g.seen disk)) (g.faults disk) later
+-- the run that begins on the files that the journals of a disk leave, with what they leave in doubt, under a head with some names
+abbrev pub opened_run : {D : Type 0} → Ghosts D → D → Option (List FileText) → List (List ℕ) → Run
+opened_run g disk later names = new_run names (opened_files (g.seen disk)) (g.faults disk) later
 
 -- one that may begin so has a property
-abbrev pub ForOpenedRun : {D : Type 0} → Ghosts D → D → (Run → Type 0) → Type 0
+abbrev pub ForOpenedRun : {D : Type 0} → Ghosts D → D → ((List (List ℕ) → Run) → Type 0) → Type 0
 ForOpenedRun g disk Property = (later : Option (List FileText)) × MayBeLeft (g.seen disk) later × Property (opened_run g disk later)
 
--- events were played on the store of some opened files, behind a run that began as the first one
-abbrev pub HasRunFiles : Formats → Reading → Badness → {D P : Type 0} → Ghosts D → List KeyMap → ℕ → List Event → D → Image → Option (List FileText) → Run → Ran D P → Type 0
+-- events were played on the store of some opened files, behind a run that began as the first one, under a head that names the files of the store
+abbrev pub HasRunFiles : Formats → Reading → Badness → {D P : Type 0} → Ghosts D → List KeyMap → ℕ → List Event → D → Image → Option (List FileText) → (List (List ℕ) → Run) → Ran D P → Type 0
 HasRunFiles formats Reads IsBad g procs places events disk files doubt first ran =
-    (mounted : List MountedFile) × IsOpened Reads IsBad (opened_files (g.seen disk)) mounted × HasRun formats g mounted procs places disk files doubt first events ran
+    (mounted : List MountedFile) × IsOpened Reads IsBad (opened_files (g.seen disk)) mounted
+    × HasRun formats g mounted procs places disk files doubt (first (table_files (store_with mounted procs))) events ran
 
 -- of `run`
 pub record RunsStore (formats : Formats) (Reads : Reading) (IsBad : Badness) {D P : Type 0} (g : Ghosts D) (refusals : P → ℕ) (procs : List KeyMap) (places : ℕ) (events : List Event) (disk : D) (matcher : P) (result : Result (Ran D P) (OpenRefused D P)) : Type 0 where
   pub sound : CrashesCalm g (disk_of result)
   pub ran : FromCalm g disk (λ files doubt. IfOk result (λ ran. ForOpenedRun g disk (λ first. HasRunFiles formats Reads IsBad g procs places events disk files doubt first ran)))
-  pub own : FromCalm g disk (λ files doubt. SameFiles files (opened_files (g.seen disk)) → IfOk result (HasRunFiles formats Reads IsBad g procs places events disk files doubt (new_run files (g.faults disk) doubt)))
+  pub own : FromCalm g disk (λ files doubt. SameFiles files (opened_files (g.seen disk)) → IfOk result (HasRunFiles formats Reads IsBad g procs places events disk files doubt (λ names. new_run names files (g.faults disk) doubt)))
   pub causes : IfOk result (λ ran. All (IsCaused (g.faults disk) (g.faults ran.disk) (refusals matcher) (refusals ran.patterns)) ran.answers)
   pub later : IfOk result (λ ran. refusals matcher ≤ refusals ran.patterns)
-  -- it is refused for the files of the opening, never for a bad journal, or for a fault, with its cause
+  -- it is refused for the files of the opening, never for the bytes of a journal, or for a fault, with its cause
   pub refused : FromCalm g disk (λ files doubt. IfErr result (λ refused. RefusesStore Reads IsBad (opened_files (g.seen disk) own_mount.file) refused.fault))
-  pub calm : IfErr result (λ refused. (at : ℕ) → refused.fault ≢ BadJournal at)
+  pub calm : IfErr result (λ refused. ((at : ℕ) → refused.fault ≢ BadJournal at) × ((version : ℕ) → refused.fault ≢ UnknownVersion version))
   pub cause : IfErr result (λ refused. refused.fault ≡ DiskFault → HasRisen (g.faults disk) (g.faults refused.disk))
   pub patterns : IfErr result (λ refused. refused.patterns ≡ matcher)
   -- and leaves the disk as calm as before, where it didn't fail, and whole whenever it crashed
   pub calm_still : FromCalm g disk (λ files doubt. IfErr result (λ refused. ¬ HasRisen (g.faults disk) (g.faults refused.disk) → IsCalm (g.seen refused.disk) (g.may_leave refused.disk) files doubt))
-  pub any_moment : FromCalm g disk (λ files doubt. IfErr result (λ refused. ForOpenedRun g disk (λ first. LeavesOnly g disk refused.disk (WasOrReached files doubt first))))
-  pub own_any_moment : FromCalm g disk (λ files doubt. SameFiles files (opened_files (g.seen disk)) → IfErr result (λ refused. LeavesOnly g disk refused.disk (WasOrReached files doubt (new_run files (g.faults disk) doubt))))
+  pub any_moment : FromCalm g disk (λ files doubt. IfErr result (λ refused. ForOpenedRun g disk (λ first. (names : List (List ℕ)) → LeavesOnly g disk refused.disk (WasOrReached files doubt (first names)))))
+  pub own_any_moment : FromCalm g disk (λ files doubt. SameFiles files (opened_files (g.seen disk)) → IfErr result (λ refused. (names : List (List ℕ)) → LeavesOnly g disk refused.disk (WasOrReached files doubt (new_run names files (g.faults disk) doubt))))
   pub goes : GoesOn g disk (disk_of result)
 
 -- a core that was just opened stands for a run

@@ -14,7 +14,7 @@ Entry = List FileText
 -- the same disk is calm with other files and another doubt that all outcomes go by
 pub calm_as : (seen : Image) (leaves : List ℕ → List ℕ → Type 0) (files others : Image) (doubt other : Option Entry) → IsCalm seen leaves files doubt → ((o : Image) → IsEither files doubt o → IsEither others other o) → IsCalm seen leaves others other
 calm_as seen leaves files others doubt other calm follows =
-    record { same = calm.same; journal = calm.journal; not_broken = calm.not_broken; outcomes = λ image outcome is has. follows outcome (calm.outcomes image outcome is has) }
+    record { same = calm.same; former = calm.former; journal = calm.journal; not_broken = calm.not_broken; outcomes = λ image outcome is has. follows outcome (calm.outcomes image outcome is has) }
 
 -- files that are the same take an entry alike
 pub with-same : (files others : Image) (entry : Entry) → SameFiles files others → SameFiles (with_entry files entry) (with_entry others entry)

@@ -15,18 +15,19 @@ use Rattle.model_maps.specs.KeyMap.{KeyMap}
 use Rattle.model_names.specs.Name.{Name}
 use Rattle.mounted_files.specs.Files.{Holds}
 use Rattle.regex_check.specs.declared.patterns.Patterns as matchers
+use Rattle.store_lines.specs.Lines.{bad_journal, unknown_journal}
 use Rattle.tool_commands.specs.Report.{IsAnswered, Report}
 use Rattle.tool_commands.specs.StepView.{report_of}
 use Rattle.tool_commands.specs.declared.reports.Report as code
 use Rattle.tool_words.specs.Request.{Asks, Imports, On, Question, Replace, Request}
 use Rattle.tool_single.specs.Answer.{Answer, tells}
 use Rattle.tool_single.specs.Answers.{AnswersImport, AnswersOver, AnswersRequest, Held}
-use Rattle.tool_single.specs.Broken.{TellsBroken}
+use Rattle.tool_single.specs.Broken.{TellsOfJournal}
 use Rattle.tool_single.specs.Carried.{CarriesOut, PutsQuestion, Refusing}
 use Rattle.tool_single.specs.Input.{FailsToRead, IsInput, LeavesInput, taken}
 use Rattle.tool_single.specs.Serving.{Serve, Unserved}
 use Rattle.tool_single.specs.Stops.{or_memory}
-use Rattle.tool_single.specs.Untold.{ReportsUntold}
+use Rattle.tool_single.specs.Untold.{AsksStoreWith, ReportsUntold}
 use Rattle.tool_single.specs.declared.answers.Ended.{Ended}
 use Rattle.tool_single.specs.declared.answers.Stop.{Stop}
 use Rattle.tool_single.specs.declared.answers.Stop.TheVariants as stops
@@ -51,7 +52,9 @@ module _ {S D P : Type 0} (s : sources.Ghosts S) (d : disks.Ghosts D) (p : match
     untouched = λ tells_disk none given fed. puts.untouched tells_disk none;
     unstored = puts.unstored;
     broken = λ tells_disk at is given fed. puts.broken tells_disk at is;
+    unknown = λ tells_disk version is given fed. puts.unknown tells_disk version is;
     broken_stays = puts.broken_stays;
+    broken_kept = λ tells_disk fault is kept given fed asks. puts.broken_kept tells_disk fault is kept;
     untold = puts.status;
     asked = λ is. record { asks = λ given fed. tt; whole = refl };
     unasked = λ given fed none. absurd (none tt);
@@ -74,8 +77,10 @@ module _ {S D P : Type 0} (s : sources.Ghosts S) (d : disks.Ghosts D) (p : match
     calm = λ tells_disk files doubt calm. serve_calm d files doubt Over ended.answer disk ended.disk (puts.served tells_disk files doubt calm) puts.cause;
     untouched = λ tells_disk none bytes is nothing. puts.untouched tells_disk none (λ answer over. nothing answer (Held keys (holds bytes is) over));
     unstored = puts.unstored;
-    broken = λ tells_disk at is bytes left. told_of_held name kind bytes at keys ended.answer (holds bytes left) (puts.broken tells_disk at is);
+    broken = λ tells_disk at is bytes left. told_of_held name kind bytes (bad_journal at) keys ended.answer (holds bytes left) (puts.broken tells_disk at is);
+    unknown = λ tells_disk version is bytes left. told_of_held name kind bytes (unknown_journal version) keys ended.answer (holds bytes left) (puts.unknown tells_disk version is);
     broken_stays = puts.broken_stays;
+    broken_kept = λ tells_disk fault is kept bytes left asks. puts.broken_kept tells_disk fault is kept;
     untold = puts.status;
     asked = λ is. record { asks = λ bytes left. (keys, holds bytes left); whole = leaves (Unit {0}) };
     unasked = λ bytes left none. absurd (none (keys, holds bytes left));
@@ -100,17 +105,20 @@ module _ {S D P : Type 0} (s : sources.Ghosts S) (d : disks.Ghosts D) (p : match
     -- with some answer
     handed : (d.tells disk ≡ true → (files : Image) (doubt : Option (List FileText)) → IsCalm (d.seen disk) (d.may_leave disk) files doubt → (given : List ℕ) → IsInput wanted (s.left source) given
         → Serve d files doubt (AnswersRequest (Refusing p patterns ended) wanted given seen) ended.answer disk ended.disk)
-        → ((at : ℕ) (given : List ℕ) → IsInput wanted (s.left source) given → IfOk ended.answer (λ report. TellsBroken wanted given at (report_of report))) → IfOk ended.answer (λ report. ReportsUntold wanted (report_of report))
+        → ((line given : List ℕ) → IsInput wanted (s.left source) given → IfOk ended.answer (λ report. TellsOfJournal wanted given line (report_of report)))
+        → ((given : List ℕ) → IsInput wanted (s.left source) given → IsOk ended.answer → AsksStoreWith wanted given → ⊥) → IfOk ended.answer (λ report. ReportsUntold wanted (report_of report))
         → IfOk ended.answer (λ report. IsAnswered report.status) → (ended.answer ≡ Err stops.ReadFault → FailsToRead wanted (s.faults source) (s.faults source_now)) → ended.answer ≢ Err stops.DiskFault
         → CarriesOut s d p wanted source source_now disk patterns ended
-    handed served broken untold own read no_disk = record {
+    handed served told unasked untold own read no_disk = record {
       served = served;
       unserved = λ tells_disk files doubt calm stopped. subst (Unserved d files doubt disk) (sym disk_is) (alone_unserved d disk files doubt tells_disk calm);
       calm = λ tells_disk files doubt calm still. handed_calm d disk ended.disk files doubt disk_is tells_disk calm;
       untouched = λ tells_disk none given fed nothing. reads;
       unstored = λ tells_disk none not_done. reads;
-      broken = λ tells_disk at is given fed. broken at given fed;
-      broken_stays = λ tells_disk at is. reads;
+      broken = λ tells_disk at is given fed. told (bad_journal at) given fed;
+      unknown = λ tells_disk version is given fed. told (unknown_journal version) given fed;
+      broken_stays = λ tells_disk fault is kept. reads;
+      broken_kept = λ tells_disk fault is kept given fed asks answered. absurd (unasked given fed answered asks);
       untold = untold;
       asked = λ is. absurd (no_disk is);
       unasked = λ given fed none. (disk_is, patterns_is);
@@ -125,13 +133,14 @@ module _ {S D P : Type 0} (s : sources.Ghosts S) (d : disks.Ghosts D) (p : match
 
     -- what is told without the store, unless memory is wanting
     pub told-carried : {E : Type 0} (made : Result code.Report E) (told : Report) → ended.answer ≡ or_memory made → IfOk made (λ report. report_of report ≡ told) → IfOk made (λ report. IsAnswered report.status)
-        → ((given : List ℕ) → IsInput wanted (s.left source) given → AnswersRequest (Refusing p patterns ended) wanted given seen (tells told)) → ((at : ℕ) (given : List ℕ) → IsInput wanted (s.left source) given → TellsBroken wanted given at told)
-        → ReportsUntold wanted told → CarriesOut s d p wanted source source_now disk patterns ended
-    told-carried {E} made told is tells_it own answers broken untold =
+        → ((given : List ℕ) → IsInput wanted (s.left source) given → AnswersRequest (Refusing p patterns ended) wanted given seen (tells told)) → ((line given : List ℕ) → IsInput wanted (s.left source) given → TellsOfJournal wanted given line told)
+        → ((given : List ℕ) → IsInput wanted (s.left source) given → AsksStoreWith wanted given → ⊥) → ReportsUntold wanted told → CarriesOut s d p wanted source source_now disk patterns ended
+    told-carried {E} made told is tells_it own answers of_journal unasked untold =
         handed
         (λ tells_disk files doubt calm given fed. handed_on d disk ended.disk files doubt (AnswersRequest (Refusing p patterns ended) wanted given seen) made ended.answer is disk_is tells_disk calm
         (of_told (λ report. AnswersRequest (Refusing p patterns ended) wanted given seen (tells report)) (answers given fed)))
-        (λ at given fed. answered (λ report. TellsBroken wanted given at (report_of report)) (of_told (TellsBroken wanted given at) (broken at given fed)))
+        (λ line given fed. answered (λ report. TellsOfJournal wanted given line (report_of report)) (of_told (TellsOfJournal wanted given line) (of_journal line given fed)))
+        (λ given fed made_it. unasked given fed)
         (answered (λ report. ReportsUntold wanted (report_of report)) (of_told (ReportsUntold wanted) untold))
         (answered (λ report. IsAnswered report.status) own)
         (λ stopped. absurd (let memory = not_stopped made ended.answer stops.ReadFault is stopped in cc))
@@ -154,9 +163,14 @@ module _ {S D P : Type 0} (s : sources.Ghosts S) (d : disks.Ghosts D) (p : match
         (λ tells_disk files doubt calm given fed. subst (λ (e : D). Serve d files doubt (AnswersRequest (Refusing p patterns ended) wanted given seen) ended.answer disk e) (sym disk_is)
         (subst (λ (r : Result code.Report Stop). Serve d files doubt (AnswersRequest (Refusing p patterns ended) wanted given seen) r disk disk) (sym is)
         (alone_stopped d disk files doubt (AnswersRequest (Refusing p patterns ended) wanted given seen) stop tells_disk calm no_disk)))
-        (λ at given fed. none (λ report. TellsBroken wanted given at (report_of report))) (none (λ report. ReportsUntold wanted (report_of report))) (none (λ report. IsAnswered report.status))
+        (λ line given fed. none (λ report. TellsOfJournal wanted given line (report_of report)))
+        (λ given fed made_it asks. no_answer made_it)
+        (none (λ report. ReportsUntold wanted (report_of report))) (none (λ report. IsAnswered report.status))
         (λ stopped. read (let both : ◌≡◌ {A = Result code.Report Stop} (Err stop) (Err stops.ReadFault) = sym is ∙ stopped in cc))
         (λ stopped. no_disk (let both : ◌≡◌ {A = Result code.Report Stop} (Err stop) (Err stops.DiskFault) = sym is ∙ stopped in cc))
       where
         none : (Q : code.Report → Type 0) → IfOk ended.answer Q
         none Q = subst (λ (r : Result code.Report Stop). IfOk r Q) (sym is) tt
+
+        no_answer : IsOk ended.answer → ⊥
+        no_answer made_it = let stopped = subst (λ (r : Result code.Report Stop). IsOk r) is made_it in cc

@@ -6,6 +6,7 @@ use Rattle.journal_codec.specs.Entry.{IsEntry}
 use Rattle.journal_codec.specs.declared.files.FileText.{FileText}
 use Rattle.intent_journal.specs.Journal.{JournalValue}
 use Rattle.model_crashes.specs.Runs.{Run, IsOneOf, after_begun, after_commit}
+use Rattle.model_files.specs.Files.{table_files}
 use Rattle.model_files.specs.Texts as texts
 use Rattle.model_history.specs.History as past
 use Rattle.model_maps.specs.KeyMap.{KeyMap, no_keys}
@@ -152,13 +153,13 @@ module _ {D P : Type 0} (g : Ghosts D) (files : List MountedFile) (core : Core D
       let large = subst (λ (w : CommitFault). IsJudged formats store risen core.history.commits core.keys (prepared_of set) (Err w)) is judged in
       not_large large.0 bytes large.3
 
-  pub joined : (opened : D) (run : Run) → IsStore g opened core.journal run → Belongs formats g store opened core records made world run 0 rec set
-  joined opened run on_disk = record { here = belongs; on_disk = on_disk }
+  pub joined : (opened : D) (run : Run) → run.names ≡ table_files store → IsStore g opened core.journal run → Belongs formats g store opened core records made world run 0 rec set
+  joined opened run names on_disk = record { here = belongs; on_disk = on_disk; names = names }
 
   module _ (MayRefuse : List ℕ → Type 0) (risen : Bool) (out : List ℕ) (after : Core D P) (new : Record) where
     -- the set was committed with this answer, for each run that the journal stands for
     abbrev ForEachRun : Result Done CommitFault → Type 0
-    ForEachRun result = (opened : D) (run : Run) → IsStore g opened core.journal run → HasAnswered formats g store opened core after records made run 0 rec new set risen result
+    ForEachRun result = (opened : D) (run : Run) → run.names ≡ table_files store → IsStore g opened core.journal run → HasAnswered formats g store opened core after records made run 0 rec new set risen result
 
     abbrev Answered : Answer → Type 0
     Answered = AnswersSet MayRefuse files parent keys out
@@ -176,7 +177,7 @@ module _ {D P : Type 0} (g : Ghosts D) (files : List MountedFile) (core : Core D
 
       some : stored ≢ []
       some none =
-          let whole : IsEntry (entry_of stored) = subst IsEntry entry_is (commit_entry formats store core records made world 0 rec set belongs (commit_of (prepared_of set)) aside is) in
+          let whole : IsEntry (entry_of stored) = subst IsEntry entry_is (commit_entry formats store core records made world 0 rec set belongs (commit_of (prepared_of set)) aside is).entry in
           let empty : length (entry_of stored) ≡ 0 = ap (λ (ts : Texts). length (entry_of ts)) none in
           absurd (omega (arith, whole.not_empty, empty))
 
@@ -192,12 +193,12 @@ module _ {D P : Type 0} (g : Ghosts D) (files : List MountedFile) (core : Core D
     still : (opened : D) (run : Run) → IsStore g opened core.journal run → IsUnwritten core after → IsStore g opened after.journal run
     still opened run on_disk kept = subst (λ (j : JournalValue D). IsStore g opened j run) (sym kept.journal) on_disk
 
-    pub committed_serves : (number aside : ℕ) → IsJudged formats store risen core.history.commits core.keys (prepared_of set) (Ok (done.Committed number aside)) → ForEachRun (Ok (done.Committed number aside)) → Serves g Answered (told out) core after
+    pub committed_serves : (number aside : ℕ) → IsJudged formats store risen core.history.commits core.keys (prepared_of set) (Ok (done.Committed number aside)) → ForEachRun (Ok (done.Committed number aside)) → Serves g files Answered (told out) core after
     committed_serves number aside judged has = record {
       answer = answer.stores stored out;
       answers = answers aside judged.1;
       told = refl;
-      committed = λ opened run on_disk. goes_on opened run (has opened run on_disk);
+      committed = λ opened run names on_disk. goes_on opened run (has opened run names on_disk);
       kept = λ none. absurd (some aside judged.1 none);
       done = λ there. refl;
     }
@@ -207,56 +208,56 @@ module _ {D P : Type 0} (g : Ghosts D) (files : List MountedFile) (core : Core D
             let later_is : has.later ≡ after_commit run (entry_of stored) = subst (λ (t : Told). RunsOn formats store core.keys run (made 0) t has.later) has.is_answer.1 has.committed.runs_on ∙ ap (after_commit run) (entry_is aside judged.1) in
             subst (λ (r : Run). IsStore g opened after.journal r) (later_is ∙ with_some run stored (some aside judged.1)) has.committed.on_disk
 
-    pub same_serves : (front aside : ℕ) → IsJudged formats store risen core.history.commits core.keys (prepared_of set) (Ok (done.Same front aside)) → IsUnwritten core after → Serves g Answered (told out) core after
+    pub same_serves : (front aside : ℕ) → IsJudged formats store risen core.history.commits core.keys (prepared_of set) (Ok (done.Same front aside)) → IsUnwritten core after → Serves g files Answered (told out) core after
     same_serves front aside judged kept = record {
       answer = answer.done out;
       answers = Judged early (late.Same aside) (alone (late.Same aside) judged.1) refl;
       told = refl;
-      committed = λ opened run on_disk. still opened run on_disk kept;
+      committed = λ opened run names on_disk. still opened run on_disk kept;
       kept = λ none. kept;
       done = λ there. refl;
     }
 
-    pub done_serves : (d : Done) → IsJudged formats store risen core.history.commits core.keys (prepared_of set) (Ok d) → ForEachRun (Ok d) → (has_written (Ok d) ≡ false → IsUnwritten core after) → Serves g Answered (told out) core after
+    pub done_serves : (d : Done) → IsJudged formats store risen core.history.commits core.keys (prepared_of set) (Ok d) → ForEachRun (Ok d) → (has_written (Ok d) ≡ false → IsUnwritten core after) → Serves g files Answered (told out) core after
     done_serves (done.Committed number aside) judged has kept = committed_serves number aside judged has
     done_serves (done.Same front aside) judged has kept = same_serves front aside judged (kept refl)
 
-    pub rule_serves : (violation : Violation) (front : ℕ) (report : Report) → ((pattern : List ℕ) → T risen → MayRefuse pattern) → report ≡ warned 5 (invalid violation) → IsJudged formats store risen core.history.commits core.keys (prepared_of set) (Err (fault.Invalid violation front)) → IsUnwritten core after → Serves g Answered report core after
+    pub rule_serves : (violation : Violation) (front : ℕ) (report : Report) → ((pattern : List ℕ) → T risen → MayRefuse pattern) → report ≡ warned 5 (invalid violation) → IsJudged formats store risen core.history.commits core.keys (prepared_of set) (Err (fault.Invalid violation front)) → IsUnwritten core after → Serves g files Answered report core after
     rule_serves violation front report may told_is judged kept = record {
       answer = answer.refused 5 (invalid violation);
       answers = Judged early (late.Invalid violation risen) (alone (late.Invalid violation risen) judged.1) (may violation.given, refl);
       told = sym told_is;
-      committed = λ opened run on_disk. still opened run on_disk kept;
+      committed = λ opened run names on_disk. still opened run on_disk kept;
       kept = λ none. kept;
       done = λ some. absurd (some refl);
     }
 
-    pub full_serves : (weight front : ℕ) (report : Report) → report ≡ warned 5 (database_full weight) → IsJudged formats store risen core.history.commits core.keys (prepared_of set) (Err (fault.DatabaseFull weight front)) → IsUnwritten core after → Serves g Answered report core after
+    pub full_serves : (weight front : ℕ) (report : Report) → report ≡ warned 5 (database_full weight) → IsJudged formats store risen core.history.commits core.keys (prepared_of set) (Err (fault.DatabaseFull weight front)) → IsUnwritten core after → Serves g files Answered report core after
     full_serves weight front report told_is judged kept = record {
       answer = answer.refused 5 (database_full weight);
       answers = Judged early (late.DatabaseFull weight) (alone (late.DatabaseFull weight) judged.1) refl;
       told = sym told_is;
-      committed = λ opened run on_disk. still opened run on_disk kept;
+      committed = λ opened run names on_disk. still opened run on_disk kept;
       kept = λ none. kept;
       done = λ some. absurd (some refl);
     }
 
-    pub history_serves : (weight front : ℕ) (report : Report) → report ≡ warned 5 (history_full weight) → IsJudged formats store risen core.history.commits core.keys (prepared_of set) (Err (fault.HistoryFull weight front)) → IsUnwritten core after → Serves g Answered report core after
+    pub history_serves : (weight front : ℕ) (report : Report) → report ≡ warned 5 (history_full weight) → IsJudged formats store risen core.history.commits core.keys (prepared_of set) (Err (fault.HistoryFull weight front)) → IsUnwritten core after → Serves g files Answered report core after
     history_serves weight front report told_is judged kept = record {
       answer = answer.refused 5 (history_full weight);
       answers = Judged early (late.HistoryFull weight) (alone (late.HistoryFull weight) judged.1) refl;
       told = sym told_is;
-      committed = λ opened run on_disk. still opened run on_disk kept;
+      committed = λ opened run names on_disk. still opened run on_disk kept;
       kept = λ none. kept;
       done = λ some. absurd (some refl);
     }
 
-    pub fault_fails : (front : ℕ) → after.wrote ≡ true → IsJudged formats store risen core.history.commits core.keys (prepared_of set) (Err (fault.DiskFault front)) → ForEachRun (Err (fault.DiskFault front)) → FailsToStore g Answered core after
+    pub fault_fails : (front : ℕ) → after.wrote ≡ true → IsJudged formats store risen core.history.commits core.keys (prepared_of set) (Err (fault.DiskFault front)) → ForEachRun (Err (fault.DiskFault front)) → FailsToStore g files Answered core after
     fault_fails front wrote judged has = record {
       answer = answer.stores stored out;
       answers = answers judged.0 judged.2;
       some = some judged.0 judged.2;
-      begun = λ opened run on_disk. begins opened run (has opened run on_disk);
+      begun = λ opened run names on_disk. begins opened run (has opened run names on_disk);
       wrote = wrote;
     }
       where
@@ -272,17 +273,17 @@ module _ {D P : Type 0} (g : Ghosts D) (files : List MountedFile) (core : Core D
 
     -- what a set comes to that isn't committed
     pub refused_serving : (why : CommitFault) (result : Result code.Report Stop) → ((pattern : List ℕ) → T risen → MayRefuse pattern) → IsRefusalOf why result → IsJudged formats store risen core.history.commits core.keys (prepared_of set) (Err why) → ForEachRun (Err why)
-        → (has_written (Err why) ≡ false → IsUnwritten core after) → (has_written (Err why) ≡ true → after.wrote ≡ true) → Serving g Answered result core after
+        → (has_written (Err why) ≡ false → IsUnwritten core after) → (has_written (Err why) ≡ true → after.wrote ≡ true) → Serving g files Answered result core after
     refused_serving (fault.Conflict mount by front) result may refusal judged has kept wrote = absurd refusal
     refused_serving (fault.FileTooLarge mount bytes front) result may refusal judged has kept wrote = absurd refusal
     refused_serving (fault.Invalid violation front) (Ok report) may refusal judged has kept wrote = rule_serves violation front (report_of report) may refusal judged (kept refl)
-    refused_serving (fault.Invalid violation front) (Err stop) may refusal judged has kept wrote = subst (λ (s : Stop). Serving g Answered (Err s) core after) (sym refusal) (kept refl)
+    refused_serving (fault.Invalid violation front) (Err stop) may refusal judged has kept wrote = subst (λ (s : Stop). Serving g files Answered (Err s) core after) (sym refusal) (kept refl)
     refused_serving (fault.DatabaseFull weight front) (Ok report) may refusal judged has kept wrote = full_serves weight front (report_of report) refusal judged (kept refl)
-    refused_serving (fault.DatabaseFull weight front) (Err stop) may refusal judged has kept wrote = subst (λ (s : Stop). Serving g Answered (Err s) core after) (sym refusal) (kept refl)
+    refused_serving (fault.DatabaseFull weight front) (Err stop) may refusal judged has kept wrote = subst (λ (s : Stop). Serving g files Answered (Err s) core after) (sym refusal) (kept refl)
     refused_serving (fault.HistoryFull weight front) (Ok report) may refusal judged has kept wrote = history_serves weight front (report_of report) refusal judged (kept refl)
-    refused_serving (fault.HistoryFull weight front) (Err stop) may refusal judged has kept wrote = subst (λ (s : Stop). Serving g Answered (Err s) core after) (sym refusal) (kept refl)
-    refused_serving (fault.DiskFault front) result may refusal judged has kept wrote = subst (λ (r : Result code.Report Stop). Serving g Answered r core after) (sym refusal) (fault_fails front (wrote refl) judged has)
-    refused_serving fault.Memory result may refusal judged has kept wrote = subst (λ (r : Result code.Report Stop). Serving g Answered r core after) (sym refusal) (kept refl)
+    refused_serving (fault.HistoryFull weight front) (Err stop) may refusal judged has kept wrote = subst (λ (s : Stop). Serving g files Answered (Err s) core after) (sym refusal) (kept refl)
+    refused_serving (fault.DiskFault front) result may refusal judged has kept wrote = subst (λ (r : Result code.Report Stop). Serving g files Answered r core after) (sym refusal) (fault_fails front (wrote refl) judged has)
+    refused_serving fault.Memory result may refusal judged has kept wrote = subst (λ (r : Result code.Report Stop). Serving g files Answered r core after) (sym refusal) (kept refl)
 
 stop_apart : (stop : Stop) → stop ≡ stops.Memory → ◌≡◌ {A = Result code.Report Stop} (Err stop) (Err stops.DiskFault) → ⊥
 stop_apart stops.Memory memory is = absurd cc

@@ -17,7 +17,10 @@ pub mod OpeningLemmas
 pub mod InputLemmas
 pub mod EndLemmas
 pub mod BrokenLemmas
+pub mod HeaderPlaces
+pub mod ListedPlaces
 pub mod BrokenPlaces
+pub mod JournalPlaces
 pub mod CarryLemmas
 pub mod RunLemmas
 pub mod TakeLemmas

@@ -1,5 +1,5 @@
 -- What one run leaves to the next.
-use Rattle.std.proofs.Common.{◌≡◌, ◌⊎◌, inl, inr, ℕ, ◌≤◌, true, List, [], ◌∷◌, Option, Some, None, Result, refl, sym, ap, subst, ◌∙◌, arith}
+use Rattle.std.proofs.Common.{◌≡◌, ◌⊎◌, inl, inr, ℕ, ◌≤◌, true, List, [], ◌∷◌, Option, Some, None, refl, sym, ap, subst, ◌∙◌, arith}
 use Rattle.std.proofs.lemmas.Option.{none-some}
 use Rattle.intent_journal.specs.Opened.{open_list, opened_files}
 use Rattle.journal_steps.specs.Moments.{LeavesOnly}
@@ -8,7 +8,6 @@ use Rattle.journal_steps.specs.Outcomes.{with_entry, SameFiles, IsEither}
 use Rattle.intent_journal.specs.States.{IsCalm}
 use Rattle.intent_journal.proofs.ListCalm.{one_calm}
 use Rattle.intent_journal.proofs.Opened.{calm_files, opening_reads}
-use Rattle.journal_codec.specs.Entry.{journal_name}
 use Rattle.journal_codec.specs.declared.files.FileText.{FileText}
 use Rattle.kdb_outside.specs.Crashes.{EveryImage}
 use Rattle.kdb_outside.specs.Faults.{HasRisen}
@@ -26,13 +25,13 @@ use Rattle.tool_single.proofs.DecidedLemmas.{one_outcome}
 -- ---- a decided journal has one outcome
 
 -- it is one of two, if all its outcomes are one of them
-pub decided_either : (files image : Image) (doubt : Option (List FileText)) → IsDecided (image journal_name)
+pub decided_either : (files image : Image) (doubt : Option (List FileText)) → IsDecided image
     → HasOnly (IsEither files doubt) image
     → IsEither files doubt (opened_files image)
 decided_either files image doubt decided only =
     only.each (opened_files image) (open_list image, opening_reads image only.not_broken, λ file own. refl)
 
-pub decided_only : (files image : Image) → IsDecided (image journal_name) → ¬ IsBroken image
+pub decided_only : (files image : Image) → IsDecided image → ¬ IsBroken image
     → SameFiles (opened_files image) files → HasOnly (IsEither files None) image
 decided_only files image decided whole same = record {
   not_broken = whole;
@@ -113,7 +112,7 @@ pub record IsLeft (files image : Image) (texts : Texts) : Type 0 where
   pub all : (kept ≡ []) ⊎ (kept ≡ texts)
   pub only : HasOnly (IsEither (with_stored kept files) None) image
 
-amid : (files opened : Image) (texts : Texts) (image : Image) → SameFiles opened files → IsDecided (image journal_name)
+amid : (files opened : Image) (texts : Texts) (image : Image) → SameFiles opened files → IsDecided image
     → MayBeLeft files None opened texts image → IsLeft files image texts
 amid files opened [] image same decided only = record { kept = []; all = inl refl; only = only }
 amid files opened (text ∷ texts) image same decided (inl only) = record { kept = []; all = inl refl; only = only }
@@ -138,7 +137,7 @@ calm_with : (seen : Image) (leaves : List ℕ → List ℕ → Type 0) (files ot
     → IsCalm seen leaves others other
     → EveryImage leaves (HasOnly (IsEither files doubt)) → IsCalm seen leaves files doubt
 calm_with seen leaves files others doubt other calm only =
-    record { same = calm.same; journal = calm.journal; not_broken = calm.not_broken; outcomes = λ image outcome is has. (only image is).each outcome has }
+    record { same = calm.same; former = calm.former; journal = calm.journal; not_broken = calm.not_broken; outcomes = λ image outcome is has. (only image is).each outcome has }
 
 -- a disk that stays calm is at rest
 calm_rests : {D : Type 0} (g : Ghosts D) (files : Image) (doubt : Option (List FileText)) (texts : Texts) (disk end : D)
@@ -163,7 +162,7 @@ pub record Passes {D : Type 0} (g : Ghosts D) (files : Image) (run : OneRun D) (
 
 passes : {D : Type 0} (g : Ghosts D) (files : Image) (run : OneRun D) (next : D) → Went g files None run
     → SameFiles (opened_files (g.seen run.found)) files
-    → (ending : Ending) → run.ending ≡ ending → Finds g run next ending → (run.ending ≡ CutOff → IsDecided (g.seen next journal_name)) → Passes g files run next
+    → (ending : Ending) → run.ending ≡ ending → Finds g run next ending → (run.ending ≡ CutOff → IsDecided (g.seen next)) → Passes g files run next
 passes g files run next went found Ended is finds decided =
     let rests = rests_by g files None run went finds.1 in
     record {
@@ -213,7 +212,7 @@ history_of g counts reads first files (run ∷ runs) last calm are decided =
     let here = subst (λ d. IsCalm (g.seen d) (g.may_leave d) files None) (sym are.0) calm in
     let found = no_doubt files (opened_files (g.seen run.found)) (calm_files (g.seen run.found) (g.may_leave run.found) files None here (reads run.found are.1.tells)) in
     let next = are.2.0 in
-    let whole = λ (cut : run.ending ≡ CutOff). subst (λ d. IsDecided (g.seen d journal_name)) (first_found g next runs last are.2.2) (decided.0 cut) in
+    let whole = λ (cut : run.ending ≡ CutOff). subst (λ d. IsDecided (g.seen d)) (first_found g next runs last are.2.2) (decided.0 cut) in
     let passed = passes g files run next (went_of g files None run counts are.1 here) found run.ending refl are.2.1 whole in
     let behind = history_of g counts reads next (with_stored passed.texts files) runs last passed.calm are.2.2 decided.1 in
     (passed.texts ∷ behind.0, (passed.stored, behind.1))

@@ -1,5 +1,5 @@
 -- What a command does to a disk, from what it did to the open store and what the opening and the close leave.
-use Rattle.std.proofs.Common.{◌≡◌, ◌≢◌, ◌⊎◌, inl, inr, ◌≤◌, true, false, List, [], ◌∷◌, Option, Some, None, Result, Ok, Err, IfOk, refl, sym, ap, subst, ◌∙◌}
+use Rattle.std.proofs.Common.{◌≡◌, ◌≢◌, ◌⊎◌, inl, inr, ℕ, ◌≤◌, true, false, List, [], ◌∷◌, Option, Some, None, Result, Ok, Err, IfOk, refl, sym, ap, subst, ◌∙◌}
 use Rattle.intent_journal.specs.Opened.{IsFresh, open_list, opened_files}
 use Rattle.intent_journal.specs.Opens.{has_any}
 use Rattle.intent_journal.specs.Journal.{JournalValue}
@@ -21,6 +21,8 @@ use Rattle.kdb_outside.proofs.Rises.{risen_since}
 use Rattle.model_crashes.specs.Runs.{Run, IsReached, after_begun, files_of, new_run}
 use Rattle.model_crashes.proofs.Moments.{only_both, only_now}
 use Rattle.model_crashes.proofs.Reached.{only_weaker}
+use Rattle.model_files.specs.Files.{table_files}
+use Rattle.mounted_files.specs.declared.files.MountedFile.{MountedFile}
 use Rattle.store_core.specs.Frames.{IsUnwritten}
 use Rattle.store_core.specs.declared.cores.Core.{Core}
 use Rattle.store_phases.specs.Resting.{RestsOn}
@@ -28,8 +30,9 @@ use Rattle.store_phases.specs.Stores.{IsStore}
 use Rattle.tool_commands.specs.Report.{Report}
 use Rattle.tool_commands.specs.StepView.{report_of}
 use Rattle.tool_commands.specs.declared.reports.Report as code
+use Rattle.tool_single.specs.Alone.{store_alone}
 use Rattle.tool_single.specs.Answer.{Answer, Texts, entry_of, tells, with_stored}
-use Rattle.tool_single.specs.Crashing.{MayBeLeft, MayRemain, StaysCalm, Alone, Stored}
+use Rattle.tool_single.specs.Crashing.{HasNothingToWrite, MayBeLeft, MayRemain, StaysCalm, Alone, Stored}
 use Rattle.tool_single.specs.Serving.{Serves, BeginsEntry, FailsToStore, Serving, MayStore, Served, StoresNothing, Unserved, Failing, Storing, Seeking, Serve, run_with}
 use Rattle.tool_single.specs.Serving as serving
 use Rattle.tool_single.specs.Stops.{or_memory}
@@ -38,19 +41,21 @@ use Rattle.tool_single.specs.declared.answers.Stop.TheVariants as stops
 use Rattle.tool_single.proofs.CalmLemmas.{calm_on}
 use Rattle.tool_single.proofs.CrashLemmas.{found, reached_none, reached_begun, reached_commit, left_found}
 
--- an opened store stands for a run without a commit, on the files that the opening leaves and with a doubt that stands for no other files
-pub record HasBegun {D : Type 0} (g : Ghosts D) (disk : D) (files : Image) (doubt : Option (List FileText)) (journal : JournalValue D) : Type 0 where
+-- an opened store stands for a run without a commit, under a head with these names, on the files that the opening leaves and with a doubt that stands for no
+-- other files
+pub record HasBegun {D : Type 0} (g : Ghosts D) (disk : D) (files : Image) (doubt : Option (List FileText)) (names : List (List ℕ)) (journal : JournalValue D) : Type 0 where
   pub first : Option (List FileText)
-  pub store : IsStore g journal.disk journal (new_run (opened_files (g.seen disk)) (g.faults disk) first)
+  pub store : IsStore g journal.disk journal (new_run names (opened_files (g.seen disk)) (g.faults disk) first)
   pub within : (o : Image) → IsEither (opened_files (g.seen disk)) first o → IsEither files doubt o
   pub settled : open_list (g.seen disk) ≢ [] → first ≡ None
 
 -- what an opening left of the disk
-pub record HasOpened {D P : Type 0} (g : Ghosts D) (disk : D) (files : Image) (doubt : Option (List FileText)) (core : Core D P) : Type 0 where
-  pub begun : HasBegun g disk files doubt core.journal
+pub record HasOpened {D P : Type 0} (g : Ghosts D) (disk : D) (files : Image) (doubt : Option (List FileText)) (names : List (List ℕ)) (core : Core D P) : Type 0 where
+  pub begun : HasBegun g disk files doubt names core.journal
   pub goes : GoesOn g disk core.journal.disk
   pub meanwhile : LeavesOnly g disk core.journal.disk (HasOnly (IsEither files doubt))
-  pub alone : open_list (g.seen disk) ≡ [] → OnlyReads g disk core.journal.disk
+  pub alone : HasNothingToWrite (g.seen disk) → OnlyReads g disk core.journal.disk
+  pub found : ¬ HasRisen (g.faults disk) (g.faults core.journal.disk) → SameFiles (opened_files (g.seen core.journal.disk)) (opened_files (g.seen disk))
   pub wrote : core.wrote ≡ has_any (open_list (g.seen disk))
   pub fresh : IsFresh core.journal
 
@@ -66,13 +71,13 @@ pub record HasClosed {D P : Type 0} (g : Ghosts D) (core : Core D P) (end : D) :
   pub goes : GoesOn g core.journal.disk end
   pub calm : (opened : D) (run : Run) → IsStore g opened core.journal run → ¬ HasRisen run.faults (g.faults end) → IsCalm (g.seen end) (g.may_leave end) (files_of run) run.doubt
 
--- an opening only read the disk, since no entry was open
+-- an opening only read the disk, since it had nothing to write
 pub record WasRead {D P : Type 0} (g : Ghosts D) (disk : D) (core : Core D P) : Type 0 where
   pub alone : OnlyReads g disk core.journal.disk
   pub wrote : core.wrote ≡ false
   pub fresh : IsFresh core.journal
 
--- ---- where no entry was open
+-- ---- where the opening had nothing to write
 
 module _ {D P : Type 0} (g : Ghosts D) (disk end : D) (old new : Core D P) (read : WasRead g disk old) (closes : new.wrote ≡ false → IsFresh new.journal → end ≡ new.journal.disk) where
   pub still_read : IsUnwritten old new → OnlyReads g disk end
@@ -82,22 +87,22 @@ module _ {D P : Type 0} (g : Ghosts D) (disk end : D) (old new : Core D P) (read
       subst (OnlyReads g disk) (sym (closes wrote fresh ∙ ap (λ (j : JournalValue D). j.disk) kept.journal)) read.alone
 
   -- nothing is written where no answer stores anything
-  pub serving_untouched : (Answered : Answer → Type 0) (result : Result code.Report Stop) → Serving g Answered result old new → StoresNothing Answered → OnlyReads g disk end
-  serving_untouched Answered (Ok report) serves nothing = still_read (serves.kept (nothing serves.answer serves.answers))
-  serving_untouched Answered (Err stops.Memory) kept nothing = still_read kept
-  serving_untouched Answered (Err stops.DiskFault) fails nothing = absurd (fails.some (nothing fails.answer fails.answers))
-  serving_untouched Answered (Err stops.ReadFault) serving nothing = absurd serving
+  pub serving_untouched : (mounted : List MountedFile) (Answered : Answer → Type 0) (result : Result code.Report Stop) → Serving g mounted Answered result old new → StoresNothing Answered → OnlyReads g disk end
+  serving_untouched mounted Answered (Ok report) serves nothing = still_read (serves.kept (nothing serves.answer serves.answers))
+  serving_untouched mounted Answered (Err stops.Memory) kept nothing = still_read kept
+  serving_untouched mounted Answered (Err stops.DiskFault) fails nothing = absurd (fails.some (nothing fails.answer fails.answers))
+  serving_untouched mounted Answered (Err stops.ReadFault) serving nothing = absurd serving
 
   -- nor where the command was not done and the disk didn't fail
-  pub serving_unstored : (Answered : Answer → Type 0) (result : Result code.Report Stop) → Serving g Answered result old new → ¬ MayStore result → OnlyReads g disk end
-  serving_unstored Answered (Ok report) serves not_done = still_read (by serves.answer.stored serves.kept serves.done)
+  pub serving_unstored : (mounted : List MountedFile) (Answered : Answer → Type 0) (result : Result code.Report Stop) → Serving g mounted Answered result old new → ¬ MayStore result → OnlyReads g disk end
+  serving_unstored mounted Answered (Ok report) serves not_done = still_read (by serves.answer.stored serves.kept serves.done)
     where
       by : (stored : Texts) → (stored ≡ [] → IsUnwritten old new) → (stored ≢ [] → report.status ≡ 0) → IsUnwritten old new
       by [] kept done = kept refl
       by (text ∷ texts) kept done = absurd (not_done (done (λ none. absurd cc)))
-  serving_unstored Answered (Err stops.Memory) kept not_done = still_read kept
-  serving_unstored Answered (Err stops.DiskFault) fails not_done = absurd (not_done tt)
-  serving_unstored Answered (Err stops.ReadFault) serving not_done = absurd serving
+  serving_unstored mounted Answered (Err stops.Memory) kept not_done = still_read kept
+  serving_unstored mounted Answered (Err stops.DiskFault) fails not_done = absurd (not_done tt)
+  serving_unstored mounted Answered (Err stops.ReadFault) serving not_done = absurd serving
 
 -- ---- on a calm disk
 
@@ -108,7 +113,7 @@ found_whole g end files told calm = elim (calm_files (g.seen end) (g.may_leave e
   | inr one ↦ absurd (none-some one.0 one.1)
 ]
 
-module _ {D P : Type 0} (g : Ghosts D) (disk end : D) (files : Image) (doubt : Option (List FileText)) (old new : Core D P) (has_opened : HasOpened g disk files doubt old) (has_closed : HasClosed g new end) where
+module _ {D P : Type 0} (g : Ghosts D) (disk end : D) (files : Image) (doubt : Option (List FileText)) (mounted : List MountedFile) (old new : Core D P) (has_opened : HasOpened g disk files doubt (table_files (store_alone mounted)) old) (has_closed : HasClosed g new end) where
   abbrev opened : Image
   opened = opened_files (g.seen disk)
 
@@ -116,7 +121,7 @@ module _ {D P : Type 0} (g : Ghosts D) (disk end : D) (files : Image) (doubt : O
   mid = old.journal.disk
 
   abbrev first : Run
-  first = new_run opened (g.faults disk) has_opened.begun.first
+  first = new_run (table_files (store_alone mounted)) opened (g.faults disk) has_opened.begun.first
 
   -- ---- by what is stored
 
@@ -141,13 +146,16 @@ module _ {D P : Type 0} (g : Ghosts D) (disk end : D) (files : Image) (doubt : O
   whole P from_found Q from_reached reached = only_both g disk mid end (HasOnly (IsEither files doubt)) Q P from_found from_reached has_opened.goes.moment has_opened.meanwhile reached
 
   -- where nothing was stored it finds what this opening left
-  found_none : IsUnwritten old new → g.tells disk ≡ true → g.tells end ≡ true → IsCalm (g.seen end) (g.may_leave end) opened has_opened.begun.first → SameFiles (opened_files (g.seen end)) opened
-  found_none kept telling told calm = by (open_list (g.seen disk)) refl
+  found_none : IsUnwritten old new → g.tells end ≡ true → ¬ HasRisen (g.faults disk) (g.faults end) → IsCalm (g.seen end) (g.may_leave end) opened has_opened.begun.first → SameFiles (opened_files (g.seen end)) opened
+  found_none kept told still calm = by (open_list (g.seen disk)) refl
     where
       by : (list : List (List FileText)) → open_list (g.seen disk) ≡ list → SameFiles (opened_files (g.seen end)) opened
       by [] is =
-          let reads = still_read g disk end old new (record { alone = has_opened.alone is; wrote = has_opened.wrote ∙ ap has_any is; fresh = has_opened.fresh }) has_closed.alone kept in
-          λ file not_own. ap (λ (seen : Image). opened_files seen file) (reads.same telling)
+          let wrote : new.wrote ≡ false = kept.wrote ∙ (has_opened.wrote ∙ ap has_any is) in
+          let fresh : IsFresh new.journal = subst (λ (j : JournalValue D). IsFresh j) (sym kept.journal) has_opened.fresh in
+          let there : end ≡ mid = has_closed.alone wrote fresh ∙ ap (λ (j : JournalValue D). j.disk) kept.journal in
+          subst (λ (d : D). SameFiles (opened_files (g.seen d)) opened) (sym there)
+          (has_opened.found (λ rose. still (subst (λ (d : D). HasRisen (g.faults disk) (g.faults d)) (sym there) rose)))
       by (entry ∷ entries) is =
           let settled = has_opened.begun.settled (λ none. let both = sym is ∙ none in cc) in
           found_whole g end opened told (subst (λ (d : Option (List FileText)). IsCalm (g.seen end) (g.may_leave end) opened d) settled calm)
@@ -161,7 +169,7 @@ module _ {D P : Type 0} (g : Ghosts D) (disk end : D) (files : Image) (doubt : O
         calm = calm;
         none = λ some. absurd (some refl);
         within = λ none. has_opened.begun.within;
-        found = found_none (kept refl) (sym has_opened.goes.tells ∙ has_opened.begun.store.rests.tells) told calm;
+        found = found_none (kept refl) told still calm;
       }
   stays (text ∷ texts) store kept still =
       let calm = has_closed.calm mid (run_with first (text ∷ texts)) store still in
@@ -173,10 +181,10 @@ module _ {D P : Type 0} (g : Ghosts D) (disk end : D) (files : Image) (doubt : O
         found = found_whole g end (with_stored (text ∷ texts) opened) (has_closed.goes.tells ∙ store.rests.tells) calm;
       }
 
-  served : (Answered : Answer → Type 0) (report : Report) → Serves g Answered report old new → Served g files doubt Answered report disk end
+  served : (Answered : Answer → Type 0) (report : Report) → Serves g mounted Answered report old new → Served g files doubt Answered report disk end
   served Answered report serves =
       let stored : Texts = serves.answer.stored in
-      let store : IsStore g mid new.journal (run_with first stored) = serves.committed mid first has_opened.begun.store in
+      let store : IsStore g mid new.journal (run_with first stored) = serves.committed mid first refl has_opened.begun.store in
       record {
         answer = serves.answer;
         answers = serves.answers;
@@ -200,12 +208,12 @@ module _ {D P : Type 0} (g : Ghosts D) (disk end : D) (files : Image) (doubt : O
       let store : IsStore g mid new.journal first = subst (λ (j : JournalValue D). IsStore g mid j first) (sym kept.journal) has_opened.begun.store in
       record {
         crash = whole (HasOnly (IsEither files doubt)) (λ image only. only) (IsReached opened [] first.begun) (λ image. amid [] image) (has_closed.always mid first store);
-        untouched = λ none. still_read g disk end old new (record { alone = has_opened.alone none; wrote = has_opened.wrote ∙ ap has_any none; fresh = has_opened.fresh }) has_closed.alone kept;
+        untouched = λ none. still_read g disk end old new (record { alone = has_opened.alone none; wrote = has_opened.wrote ∙ ap has_any none.none; fresh = has_opened.fresh }) has_closed.alone kept;
         shown = λ still. Stored (has_closed.shown mid first store (λ rose. still (risen_since (g.faults disk) (g.faults new.journal.disk) (g.faults end) store.risen rose)));
         calm = stays [] store (λ none. kept);
       }
 
-  failing : (Answered : Answer → Type 0) → HasRisen (g.faults old.journal.disk) (g.faults new.journal.disk) → FailsToStore g Answered old new → serving.Unstored g files doubt Answered disk end
+  failing : (Answered : Answer → Type 0) → HasRisen (g.faults old.journal.disk) (g.faults new.journal.disk) → FailsToStore g mounted Answered old new → serving.Unstored g files doubt Answered disk end
   failing Answered rose fails = record {
     answer = fails.answer;
     answers = fails.answers;
@@ -214,6 +222,7 @@ module _ {D P : Type 0} (g : Ghosts D) (disk end : D) (files : Image) (doubt : O
         (IsReached opened [] (after_begun first (entry_of stored) begun.doubt).begun) (λ image reached. some stored fails.some image (reached_begun files doubt opened has_opened.begun.first has_opened.begun.within (entry_of stored) image reached))
         (has_closed.always mid (after_begun first (entry_of stored) begun.doubt) begun.store);
     uncommitted = record {
+      names = table_files (store_alone mounted);
       journal = new.journal;
       doubt = begun.doubt;
       rose = risen_since (g.faults disk) (g.faults old.journal.disk) (g.faults new.journal.disk) has_opened.goes.later rose;
@@ -229,13 +238,13 @@ module _ {D P : Type 0} (g : Ghosts D) (disk end : D) (files : Image) (doubt : O
       stored = fails.answer.stored
 
       begun : BeginsEntry g mid first (entry_of stored) new.journal
-      begun = fails.begun mid first has_opened.begun.store
+      begun = fails.begun mid first refl has_opened.begun.store
 
       some : (texts : Texts) → texts ≢ [] → (image : Image) → HasOnly (IsEither files doubt) image ⊎ HasOnly (IsEither opened (Some (entry_of texts))) image → MayBeLeft files doubt opened texts image
       some [] none image left = absurd (none refl)
       some (text ∷ texts) none image left = left
 
-  pub serve : (Answered : Answer → Type 0) (result : Result code.Report Stop) → (result ≡ Err stops.DiskFault → HasRisen (g.faults old.journal.disk) (g.faults new.journal.disk)) → Serving g Answered result old new → Serve g files doubt Answered result disk end
+  pub serve : (Answered : Answer → Type 0) (result : Result code.Report Stop) → (result ≡ Err stops.DiskFault → HasRisen (g.faults old.journal.disk) (g.faults new.journal.disk)) → Serving g mounted Answered result old new → Serve g files doubt Answered result disk end
   serve Answered (Ok report) cause does = served Answered (report_of report) does
   serve Answered (Err stops.Memory) cause does = unserved does
   serve Answered (Err stops.DiskFault) cause does = Storing (failing Answered (cause refl) does)
@@ -247,26 +256,26 @@ pub unwritten_itself : {D P : Type 0} (core : Core D P) → IsUnwritten core cor
 unwritten_itself core = record { journal = refl; history = refl; start = refl; keys = refl; wrote = refl }
 
 -- what is told of one that wasn't written to, whatever its matcher did
-pub quiet_serves : {D P : Type 0} (g : Ghosts D) (Answered : Answer → Type 0) (report : Report) (before after : Core D P) → IsUnwritten before after → Answered (tells report) → Serves g Answered report before after
-quiet_serves {D} g Answered report before after kept answers = record {
+pub quiet_serves : {D P : Type 0} (g : Ghosts D) (mounted : List MountedFile) (Answered : Answer → Type 0) (report : Report) (before after : Core D P) → IsUnwritten before after → Answered (tells report) → Serves g mounted Answered report before after
+quiet_serves {D} g mounted Answered report before after kept answers = record {
   answer = tells report;
   answers = answers;
   told = refl;
-  committed = λ opened run store. subst (λ (j : JournalValue D). IsStore g opened j run) (sym kept.journal) store;
+  committed = λ opened run names store. subst (λ (j : JournalValue D). IsStore g opened j run) (sym kept.journal) store;
   kept = λ nothing. kept;
   done = λ some. absurd (some refl);
 }
 
-pub told_serves : {D P : Type 0} (g : Ghosts D) (Answered : Answer → Type 0) (report : Report) (core : Core D P) → Answered (tells report) → Serves g Answered report core core
-told_serves g Answered report core answers = quiet_serves g Answered report core core (unwritten_itself core) answers
+pub told_serves : {D P : Type 0} (g : Ghosts D) (mounted : List MountedFile) (Answered : Answer → Type 0) (report : Report) (core : Core D P) → Answered (tells report) → Serves g mounted Answered report core core
+told_serves g mounted Answered report core answers = quiet_serves g mounted Answered report core core (unwritten_itself core) answers
 
 -- ---- other answers
 
-pub serving_weaker : {D C : Type 0} (g : Ghosts D) (P Q : Answer → Type 0) (result : Result code.Report Stop) (before after : Core D C) → ((answer : Answer) → P answer → Q answer) → Serving g P result before after → Serving g Q result before after
-serving_weaker g P Q (Ok report) before after follows s = record { answer = s.answer; answers = follows s.answer s.answers; told = s.told; committed = s.committed; kept = s.kept; done = s.done }
-serving_weaker g P Q (Err stops.Memory) before after follows s = s
-serving_weaker g P Q (Err stops.DiskFault) before after follows s = record { answer = s.answer; answers = follows s.answer s.answers; some = s.some; begun = s.begun; wrote = s.wrote }
-serving_weaker g P Q (Err stops.ReadFault) before after follows s = absurd s
+pub serving_weaker : {D C : Type 0} (g : Ghosts D) (mounted : List MountedFile) (P Q : Answer → Type 0) (result : Result code.Report Stop) (before after : Core D C) → ((answer : Answer) → P answer → Q answer) → Serving g mounted P result before after → Serving g mounted Q result before after
+serving_weaker g mounted P Q (Ok report) before after follows s = record { answer = s.answer; answers = follows s.answer s.answers; told = s.told; committed = s.committed; kept = s.kept; done = s.done }
+serving_weaker g mounted P Q (Err stops.Memory) before after follows s = s
+serving_weaker g mounted P Q (Err stops.DiskFault) before after follows s = record { answer = s.answer; answers = follows s.answer s.answers; some = s.some; begun = s.begun; wrote = s.wrote }
+serving_weaker g mounted P Q (Err stops.ReadFault) before after follows s = absurd s
 
 pub serve_weaker : {D : Type 0} (g : Ghosts D) (files : Image) (doubt : Option (List FileText)) (P Q : Answer → Type 0) (result : Result code.Report Stop) (before after : D)
     → ((answer : Answer) → P answer → Q answer) → Serve g files doubt P result before after → Serve g files doubt Q result before after
@@ -277,8 +286,8 @@ serve_weaker g files doubt P Q (Err stops.DiskFault) before after follows (Seeki
 serve_weaker g files doubt P Q (Err stops.ReadFault) before after follows s = s
 
 -- an open store reads no input
-pub serving_no_read : {D C : Type 0} (g : Ghosts D) (P : Answer → Type 0) (result : Result code.Report Stop) (before after : Core D C) → Serving g P result before after → result ≢ Err stops.ReadFault
-serving_no_read g P result before after s is = subst (λ (r : Result code.Report Stop). Serving g P r before after) is s
+pub serving_no_read : {D C : Type 0} (g : Ghosts D) (mounted : List MountedFile) (P : Answer → Type 0) (result : Result code.Report Stop) (before after : Core D C) → Serving g mounted P result before after → result ≢ Err stops.ReadFault
+serving_no_read g mounted P result before after s is = subst (λ (r : Result code.Report Stop). Serving g mounted P r before after) is s
 
 -- a run without an answer whose disk didn't fail stored nothing
 pub serve_unserved : {D : Type 0} (g : Ghosts D) (files : Image) (doubt : Option (List FileText)) (P : Answer → Type 0) (result : Result code.Report Stop) (before after : D)
@@ -328,7 +337,7 @@ alone_served g disk files doubt Answered report told calm answers = record {
   told = refl;
   crash = only_now g disk (HasOnly (IsEither files doubt)) told (calm_only g disk files doubt calm);
   lasting = calm_only g disk files doubt calm;
-  shown = λ still. Alone refl refl;
+  shown = λ still. Alone refl (λ file not_own. refl);
   calm = λ still. alone_calm g disk files doubt told calm;
 }
 
@@ -336,7 +345,7 @@ pub alone_unserved : {D : Type 0} (g : Ghosts D) (disk : D) (files : Image) (dou
 alone_unserved g disk files doubt told calm = record {
   crash = only_now g disk (HasOnly (IsEither files doubt)) told (calm_only g disk files doubt calm);
   untouched = λ none. OnlyReads-none g disk;
-  shown = λ still. Alone refl refl;
+  shown = λ still. Alone refl (λ file not_own. refl);
   calm = λ still. alone_calm g disk files doubt told calm;
 }
 

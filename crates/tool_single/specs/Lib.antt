@@ -10,6 +10,7 @@ pub mod Serving
 pub mod Outcome
 pub mod Ran
 pub mod Ends
+pub mod Places
 pub mod Broken
 pub mod Ending
 pub mod Delivery

@@ -42,7 +42,7 @@ pub record EndsUnstored {D : Type 0} (g : Ghosts D) (files : Image) (doubt : Opt
   pub unstored : serving.Unstored g files doubt Answered disk end
 
 -- none was, for want of memory or a fault: out has gained nothing, and a crash leaves the files as they were found. A disk that didn't fail was only read
--- where no entry was open, shows the files of the opening or what it showed before, and is calm again
+-- where the opening had nothing to write, shows the files of the opening or those that it showed before, and is calm again
 pub record EndsWithout {D : Type 0} (g : Ghosts D) (files : Image) (doubt : Option (List FileText)) (input_failed : Type 0) (disk end : D) (status : ℕ) (out err : Change) : Type 0 where
   pub cause : (status ≡ 70) ⊎ (status ≡ 74)
   pub prefix : GainsFront out.held_before out.held_now []

@@ -1,12 +1,15 @@
 -- Many runs of the tool, one after the other, with crashes between them: what each finds, and what they have stored. (This project's own. After
 -- durable linearizability: behind a crash all is there that was acknowledged before it, and what was cut off is there whole or not at all.)
-use Rattle.std.specs.Prelude.{◌≡◌, ◌≢◌, ◌⊎◌, ℕ, ◌-◌, ◌^◌, ◌<◌, List, [], ◌∷◌, drop, Option, Some, None, true}
-use Rattle.intent_journal.specs.Lists.{HasGate}
+use Rattle.std.specs.Prelude.{◌≡◌, ◌≢◌, ◌⊎◌, ℕ, ◌-◌, ◌^◌, ◌<◌, List, [], ◌∷◌, length, drop, Option, Some, None, true}
+use Rattle.journal_lists.specs.Grammar.{head_size}
+use Rattle.journal_lists.specs.Heads.{head_start}
+use Rattle.journal_lists.specs.Lists.{HasGate}
+use Rattle.journal_lists.specs.Rules.{plain}
 use Rattle.intent_journal.specs.Opened.{opened_files}
-use Rattle.journal_steps.specs.JournalBytes.{IsShut, gate}
+use Rattle.journal_steps.specs.JournalBytes.{gate}
 use Rattle.journal_steps.specs.Outcomes.{SameFiles, IsEither}
-use Rattle.intent_journal.specs.States.{IsCalm}
-use Rattle.journal_codec.specs.Entry.{journal_name}
+use Rattle.intent_journal.specs.States.{IsCalm, HasListGate}
+use Rattle.journal_codec.specs.Entry.{journal_name, journal2_name}
 use Rattle.journal_codec.specs.declared.files.FileText.{FileText}
 use Rattle.kdb_outside.specs.Faults.{HasRisen}
 use Rattle.kdb_outside.specs.Frames.{GoesOn}
@@ -112,13 +115,15 @@ IsHistory g files (run ∷ runs) (texts ∷ stored) last = HasStored g files run
 IsHistory g files (run ∷ runs) [] last = ⊥
 IsHistory g files [] (texts ∷ stored) last = ⊥
 
--- a gate is closed or open, and no other byte stands for it; or too few bytes are there for one
-abbrev pub IsClear : List ℕ → Type 0
-IsClear bytes = IsShut bytes ⊎ (gate bytes ≡ 1)
+-- a gate is closed or open, and no other byte stands for it; or fewer bytes are there than one needs
+abbrev pub IsClear : ℕ → List ℕ → Type 0
+IsClear least bytes = (length bytes < least) ⊎ (gate bytes ≡ 0) ⊎ (gate bytes ≡ 1)
 
--- each gate that the list of a journal comes to is so
-abbrev pub IsDecided : List ℕ → Type 0
-IsDecided journal = (at : ℕ) → HasGate journal at → IsClear (drop at journal)
+-- each gate that a reading of the journals comes to is so: those of the list of `journal`, the header gate of `journal2`, and those of the list behind it
+pub record IsDecided (image : Image) : Type 0 where
+  pub former : (at : ℕ) → HasGate plain (image journal_name) at → IsClear head_size (drop at (image journal_name))
+  pub head : IsClear head_start (image journal2_name)
+  pub list : (at : ℕ) → HasListGate (image journal2_name) at → IsClear head_size (drop at (image journal2_name))
 
 -- the disk that is found behind some run: by the next one, or in the end
 abbrev pub found_next : {D : Type 0} → List (OneRun D) → D → D
@@ -128,7 +133,7 @@ found_next (run ∷ runs) last = run.found
 -- no crash that cut a run off left a gate of the journal amid its byte
 abbrev pub AreDecided : {D : Type 0} → Ghosts D → List (OneRun D) → D → Type 0
 AreDecided g [] last = Unit {0}
-AreDecided g (run ∷ runs) last = (run.ending ≡ CutOff → IsDecided (g.seen (found_next runs last) journal_name)) × AreDecided g runs last
+AreDecided g (run ∷ runs) last = (run.ending ≡ CutOff → IsDecided (g.seen (found_next runs last))) × AreDecided g runs last
 
 -- ---- and where a crash tore a gate
 

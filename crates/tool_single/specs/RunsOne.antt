@@ -1,8 +1,10 @@
 -- What the run of a single command promises, in one record. (This project's own.)
-use Rattle.std.specs.Prelude.{◌≡◌, ◌≢◌, ◌≤◌, ℕ, true, List, [], Option, Some, None}
-use Rattle.intent_journal.specs.Opened.{bad_place, open_list, opened_files}
+use Rattle.std.specs.Prelude.{◌≡◌, ◌≢◌, ◌≤◌, ℕ, true, List, Option, Some, Err}
+use Rattle.intent_journal.specs.Opened.{bad_place, found_in, opened_files, unknown_version, IsKept}
+use Rattle.intent_journal.specs.Openings.{LeavesRetired}
 use Rattle.intent_journal.specs.States.{IsCalm}
 use Rattle.journal_codec.specs.declared.files.FileText.{FileText}
+use Rattle.journal_steps.specs.declared.faults.JournalFault.{JournalFault}
 use Rattle.kdb_outside.specs.Faults.{HasRisen}
 use Rattle.kdb_outside.specs.Frames.{GoesOn, OnlyReads}
 use Rattle.kdb_outside.specs.Images.{Image}
@@ -11,12 +13,13 @@ use Rattle.kdb_outside.specs.declared.disks.Disk as disks
 use Rattle.kdb_outside.specs.declared.sinks.Sink as sinks
 use Rattle.kdb_outside.specs.declared.sources.Source as sources
 use Rattle.regex_check.specs.declared.patterns.Patterns as matchers
+use Rattle.store_lines.specs.Lines.{bad_journal, unknown_journal}
 use Rattle.tool_commands.specs.Report.{IsAnswered}
 use Rattle.tool_words.specs.Rows.{request}
 use Rattle.tool_single.specs.Answer.{Texts}
 use Rattle.tool_single.specs.Answers.{Answers}
-use Rattle.tool_single.specs.Broken.{EndsBroken}
-use Rattle.tool_single.specs.Crashing.{StaysCalm}
+use Rattle.tool_single.specs.Broken.{EndsByJournal}
+use Rattle.tool_single.specs.Crashing.{HasNothingToWrite, StaysCalm}
 use Rattle.tool_single.specs.Ends.{EndsByWords, EndsInFault, EndsWithoutMemory}
 use Rattle.tool_single.specs.Input.{FailsToRead, IsInput, LeavesInput, LosesInput}
 use Rattle.tool_single.specs.Ran.{Ran}
@@ -43,11 +46,18 @@ pub record RunsOne {S K E D P : Type 0} (s : sources.Ghosts S) (k : sinks.Ghosts
   -- keys
   pub words : EndsByWords (request line) status (change_of k out out_now) (change_of e err err_now)
   pub unasked : (given : List ℕ) → IsInput (request line) (s.left source) given → (AsksStoreWith (request line) given → ⊥) → (end ≡ disk) × (patterns_now ≡ patterns)
-  -- A journal with an open gate, and no whole body of an entry behind it, is told in the place of an answer, by its place; an import whose input holds
-  -- no keys is told so before that. However the run ends, the disk is only read. No crash of this store leaves such a journal, and so no calm disk has one
+  -- A journal with an open gate, and no whole head or no whole body of an entry behind it, is told in the place of an answer, by its place, and one of a
+  -- version that isn't known by that; an import whose input holds no keys is told so before that. No crash of this store leaves such a journal, and so no
+  -- calm disk has one
   pub broken : d.tells disk ≡ true → (at : ℕ) → bad_place (d.seen disk) ≡ Some at → (given : List ℕ) → IsInput (request line) (s.left source) given
-      → EndsBroken (request line) given at status (change_of k out out_now) (change_of e err err_now)
-  pub broken_stays : d.tells disk ≡ true → (at : ℕ) → bad_place (d.seen disk) ≡ Some at → OnlyReads d disk end
+      → EndsByJournal (request line) given (bad_journal at) status (change_of k out out_now) (change_of e err err_now)
+  pub unknown : d.tells disk ≡ true → (version : ℕ) → unknown_version (d.seen disk) ≡ Some version → (given : List ℕ) → IsInput (request line) (s.left source) given
+      → EndsByJournal (request line) given (unknown_journal version) status (change_of k out out_now) (change_of e err err_now)
+  -- However the run ends, the disk is only read then, where there is no former journal, or where it is that one which isn't whole;
+  pub broken_stays : d.tells disk ≡ true → (fault : JournalFault) → found_in (d.seen disk) ≡ Err fault → IsKept (d.seen disk) → OnlyReads d disk end
+  -- and else a run that tells it has retired the former journal, and brought its entries into their files, and changed nothing else
+  pub broken_kept : d.tells disk ≡ true → (fault : JournalFault) → found_in (d.seen disk) ≡ Err fault → ¬ IsKept (d.seen disk)
+      → (given : List ℕ) → IsInput (request line) (s.left source) given → AsksStoreWith (request line) given → IsAnswered status → LeavesRetired d disk end
   -- Want of memory puts nothing on out and its line on err
   pub memory : EndsWithoutMemory status (change_of k out out_now) (change_of e err err_now)
   -- A fault has its cause in this call, and err tells which where err itself didn't fail: the disk's only where the store was asked, behind the input, and
@@ -56,15 +66,16 @@ pub record RunsOne {S K E D P : Type 0} (s : sources.Ghosts S) (k : sinks.Ghosts
       (LosesInput (FailsToRead (request line) (s.faults source) (s.faults source_now)) disk end patterns patterns_now) status (change_of k out out_now) (change_of e err err_now)
   -- So without a fault the run ends with the answer's status, or in want of memory
   pub complete : (HasRisen (d.faults disk) (d.faults end) → ⊥) → (FailsToRead (request line) (s.faults source) (s.faults source_now) → ⊥) → (HasRisen (k.faults out) (k.faults out_now) → ⊥) → (HasRisen (e.faults err) (e.faults err_now) → ⊥) → status ≢ 74
-  -- Want of memory never comes behind a commit: at every moment since the call began a crash leaves the files as they were found, and where the journal
-  -- holds no open entry that is to be brought in, the disk is only read
+  -- Want of memory never comes behind a commit: at every moment since the call began a crash leaves the files as they were found, and where the opening
+  -- has nothing to write, the disk is only read
   pub unwritten : d.tells disk ≡ true → (files : Image) (doubt : Option (List FileText)) → IsCalm (d.seen disk) (d.may_leave disk) files doubt → status ≡ 70 → Unserved d files doubt disk end
-  -- Where no entry is open, and the disk need not be calm for that, nothing is written where no answer stores anything, whatever fails;
-  pub untouched : d.tells disk ≡ true → open_list (d.seen disk) ≡ [] → (given : List ℕ) → IsInput (request line) (s.left source) given
+  -- Where the opening has nothing to write, since no entry is open and there is no former journal, and the disk need not be calm for that, nothing is written
+  -- where no answer stores anything, whatever fails;
+  pub untouched : d.tells disk ≡ true → HasNothingToWrite (d.seen disk) → (given : List ℕ) → IsInput (request line) (s.left source) given
       → StoresNothing (Answers (λ _. HasRisen (p.refusals patterns) (p.refusals patterns_now)) line given (d.seen disk)) → OnlyReads d disk end
   -- nor does a run write that ends in want of memory or is refused, one that the journal refuses too: that ends neither as a command that was done nor in
   -- a fault
-  pub unstored : d.tells disk ≡ true → open_list (d.seen disk) ≡ [] → status ≢ 0 → status ≢ 74 → OnlyReads d disk end
+  pub unstored : d.tells disk ≡ true → HasNothingToWrite (d.seen disk) → status ≢ 0 → status ≢ 74 → OnlyReads d disk end
   -- An import takes so much of the input, and every other command takes none
   pub input : LeavesInput s (request line) (IsAnswered status) source source_now
   -- The disk tells as much as before, and no count of faults or of refused patterns falls

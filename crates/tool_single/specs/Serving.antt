@@ -1,6 +1,6 @@
 -- What a command does to a store, by how it ended: on the open store, and on the disk from the opening to the close. (This project's own.)
 use Rattle.std.specs.Prelude.{◌≡◌, ◌≢◌, ℕ, true, List, [], ◌∷◌, length, Option, None, Result, Ok, Err}
-use Rattle.intent_journal.specs.Opened.{open_list, opened_files}
+use Rattle.intent_journal.specs.Opened.{opened_files}
 use Rattle.intent_journal.specs.Journal.{JournalValue}
 use Rattle.journal_steps.specs.Moments.{LeavesOnly}
 use Rattle.intent_journal.specs.Outcomes.{HasOnly}
@@ -12,6 +12,7 @@ use Rattle.kdb_outside.specs.Frames.{OnlyReads}
 use Rattle.kdb_outside.specs.Images.{Image}
 use Rattle.kdb_outside.specs.declared.disks.Disk.{Ghosts}
 use Rattle.model_crashes.specs.Runs.{Run, IsOneOf, after_begun, after_commit}
+use Rattle.model_files.specs.Files.{table_files}
 use Rattle.model_maps.specs.KeyMap.{KeyMap, no_keys}
 use Rattle.model_names.specs.Name.{Name}
 use Rattle.model_store.specs.Events.{first_bad}
@@ -33,7 +34,7 @@ use Rattle.tool_commands.specs.Report.{Report}
 use Rattle.tool_commands.specs.StepView.{report_of}
 use Rattle.tool_commands.specs.declared.reports.Report as code
 use Rattle.tool_single.specs.Answer.{Answer, Texts, entry_of}
-use Rattle.tool_single.specs.Crashing.{IsUncommitted, MayBeLeft, MayRemain, Shows, StaysCalm}
+use Rattle.tool_single.specs.Crashing.{HasNothingToWrite, IsUncommitted, MayBeLeft, MayRemain, Shows, StaysCalm}
 use Rattle.tool_single.specs.Alone.{store_alone, the_handle}
 use Rattle.tool_single.specs.Sets.{formats}
 use Rattle.tool_single.specs.declared.answers.Stop.{Stop}
@@ -72,13 +73,13 @@ abbrev pub run_with : Run → Texts → Run
 run_with run [] = run
 run_with run (text ∷ texts) = after_commit run (entry_of (text ∷ texts))
 
--- an answer was given, and what it stores is committed, by a command that was done; where it stores nothing the store is as it was. Any run
--- that the journal stood for goes on by it
-pub record Serves {D P : Type 0} (g : Ghosts D) (Answered : Answer → Type 0) (report : Report) (before after : Core D P) : Type 0 where
+-- an answer was given over mounted files, and what it stores is committed, by a command that was done; where it stores nothing the store is as it
+-- was. Any run that the journal stood for, under a head that names these files, goes on by it
+pub record Serves {D P : Type 0} (g : Ghosts D) (mounted : List MountedFile) (Answered : Answer → Type 0) (report : Report) (before after : Core D P) : Type 0 where
   pub answer : Answer
   pub answers : Answered answer
   pub told : answer.report ≡ report
-  pub committed : (opened : D) (run : Run) → IsStore g opened before.journal run → IsStore g opened after.journal (run_with run answer.stored)
+  pub committed : (opened : D) (run : Run) → run.names ≡ table_files (store_alone mounted) → IsStore g opened before.journal run → IsStore g opened after.journal (run_with run answer.stored)
   pub kept : answer.stored ≡ [] → IsUnwritten before after
   pub done : answer.stored ≢ [] → report.status ≡ 0
 
@@ -89,18 +90,18 @@ pub record BeginsEntry {D : Type 0} (g : Ghosts D) (opened : D) (run : Run) (ent
   pub store : IsStore g opened journal (after_begun run entry doubt)
 
 -- the disk failed to commit what an answer stores, and was written to
-pub record FailsToStore {D P : Type 0} (g : Ghosts D) (Answered : Answer → Type 0) (before after : Core D P) : Type 0 where
+pub record FailsToStore {D P : Type 0} (g : Ghosts D) (mounted : List MountedFile) (Answered : Answer → Type 0) (before after : Core D P) : Type 0 where
   pub answer : Answer
   pub answers : Answered answer
   pub some : answer.stored ≢ []
-  pub begun : (opened : D) (run : Run) → IsStore g opened before.journal run → BeginsEntry g opened run (entry_of answer.stored) after.journal
+  pub begun : (opened : D) (run : Run) → run.names ≡ table_files (store_alone mounted) → IsStore g opened before.journal run → BeginsEntry g opened run (entry_of answer.stored) after.journal
   pub wrote : after.wrote ≡ true
 
-abbrev pub Serving : {D P : Type 0} → Ghosts D → (Answer → Type 0) → Result code.Report Stop → Core D P → Core D P → Type 0
-Serving g Answered (Ok report) before after = Serves g Answered (report_of report) before after
-Serving g Answered (Err stops.Memory) before after = IsUnwritten before after
-Serving g Answered (Err stops.DiskFault) before after = FailsToStore g Answered before after
-Serving g Answered (Err stops.ReadFault) before after = ⊥
+abbrev pub Serving : {D P : Type 0} → Ghosts D → List MountedFile → (Answer → Type 0) → Result code.Report Stop → Core D P → Core D P → Type 0
+Serving g mounted Answered (Ok report) before after = Serves g mounted Answered (report_of report) before after
+Serving g mounted Answered (Err stops.Memory) before after = IsUnwritten before after
+Serving g mounted Answered (Err stops.DiskFault) before after = FailsToStore g mounted Answered before after
+Serving g mounted Answered (Err stops.ReadFault) before after = ⊥
 
 -- the texts that may have been refused as patterns, by the counts of the matcher's refusals: where an answer was given none unless its count has
 -- risen, since it counts the texts that are no patterns too, and where no answer was given any
@@ -131,11 +132,11 @@ pub record Served {D : Type 0} (g : Ghosts D) (files : Image) (doubt : Option (L
   pub shown : ¬ HasRisen (g.faults before) (g.faults after) → Shows answer.stored (opened_files (g.seen before)) (g.seen before) (g.seen after)
   pub calm : ¬ HasRisen (g.faults before) (g.faults after) → StaysCalm g files doubt answer.stored before after
 
--- nothing was stored: a crash amid the call leaves the files as they were found, and where no entry was open the disk was only read; where it didn't fail
--- it shows the files of the opening, or what it showed before, and is calm
+-- nothing was stored: a crash amid the call leaves the files as they were found, and where the opening had nothing to write the disk was only read; where it
+-- didn't fail it shows the files of the opening, or those that it showed before, and is calm
 pub record Unserved {D : Type 0} (g : Ghosts D) (files : Image) (doubt : Option (List FileText)) (before after : D) : Type 0 where
   pub crash : LeavesOnly g before after (HasOnly (IsEither files doubt))
-  pub untouched : open_list (g.seen before) ≡ [] → OnlyReads g before after
+  pub untouched : HasNothingToWrite (g.seen before) → OnlyReads g before after
   pub shown : ¬ HasRisen (g.faults before) (g.faults after) → Shows [] (opened_files (g.seen before)) (g.seen before) (g.seen after)
   pub calm : ¬ HasRisen (g.faults before) (g.faults after) → StaysCalm g files doubt [] before after
 

@@ -56,7 +56,7 @@ pub fn answer_in<D: Disk, P: Patterns + Drop>(
 ) -> Result<Report, Stop>
     requires names { NamesFiles (question_of question) }
     requires open { IsOpen plan.now core.old }
-    ensures serving { Serving D.Disk (AnswersIn (MayRefuse result (P.refusals core.old.patterns) (P.refusals core.new.patterns)) plan.now.mounted (question_of question.entry)) result core.old core.new }
+    ensures serving { Serving D.Disk plan.now.mounted (AnswersIn (MayRefuse result (P.refusals core.old.patterns) (P.refusals core.new.patterns)) plan.now.mounted (question_of question.entry)) result core.old core.new }
     ensures status { IfOk result (λ report. IsStatusOf (question_of question.entry) report.status) }
     ensures cause { result ≡ Err Stop.DiskFault → HasRisen (D.faults core.old.journal.disk) (D.faults core.new.journal.disk) }
     ensures goes { GoesOn D.Disk core.old.journal.disk core.new.journal.disk }
@@ -225,7 +225,7 @@ fn act<D: Disk, P: Patterns + Drop>(
     action: Action<'_>,
 ) -> Result<Report, Stop>
     requires open { IsOpen plan.now core.old }
-    ensures serving { Serving D.Disk (AnswersGot (MayRefuse result (P.refusals core.old.patterns) (P.refusals core.new.patterns)) plan.now.mounted name.now (action_of action.entry) (got_alone plan.now.mounted (parent_of name.now (action_of action.entry)))) result core.old core.new }
+    ensures serving { Serving D.Disk plan.now.mounted (AnswersGot (MayRefuse result (P.refusals core.old.patterns) (P.refusals core.new.patterns)) plan.now.mounted name.now (action_of action.entry) (got_alone plan.now.mounted (parent_of name.now (action_of action.entry)))) result core.old core.new }
     ensures status { IfOk result (λ report. IsEnd (row_of name.now (action_of action.entry)).statuses report.status) }
     ensures cause { result ≡ Err Stop.DiskFault → HasRisen (D.faults core.old.journal.disk) (D.faults core.new.journal.disk) }
     ensures goes { GoesOn D.Disk core.old.journal.disk core.new.journal.disk }
@@ -302,7 +302,7 @@ fn take_step<D: Disk, P: Patterns + Drop>(
 ) -> Result<Report, Stop>
     requires open { IsOpen plan.now core.old }
     requires fetched { HasFetched plan.now.mounted parent.now rec.old }
-    ensures serving { Serving D.Disk (AnswersStep (MayRefuse result (P.refusals core.old.patterns) (P.refusals core.new.patterns)) plan.now.mounted parent.now (seen_step step)) result core.old core.new }
+    ensures serving { Serving D.Disk plan.now.mounted (AnswersStep (MayRefuse result (P.refusals core.old.patterns) (P.refusals core.new.patterns)) plan.now.mounted parent.now (seen_step step)) result core.old core.new }
     ensures status { (own : List ℕ) → TellsEnd own (seen_step step) → IfOk result (λ report. IsEnd own report.status) }
     ensures cause { result ≡ Err Stop.DiskFault → HasRisen (D.faults core.old.journal.disk) (D.faults core.new.journal.disk) }
     ensures goes { GoesOn D.Disk core.old.journal.disk core.new.journal.disk }

@@ -2,14 +2,14 @@
 #![tactic(auto)]
 
 ghost use Rattle.std.specs.Prelude.{◌≡◌, ◌≢◌, ◌<◌, List, [], All, Some, ℕ};
-ghost use Rattle.intent_journal.specs.Opened.{bad_place};
-ghost use Rattle.journal_codec.specs.Entry.{journal_name};
+ghost use Rattle.intent_journal.specs.Opened.{bad_place, unknown_version};
+ghost use Rattle.journal_codec.specs.Entry.{journal_name, journal2_name};
 ghost use Rattle.kdb_outside.specs.Faults.{HasRisen};
 ghost use Rattle.kdb_outside.specs.Images.{Image};
 ghost use Rattle.tool_single.specs.Answer.{Answer};
 ghost use Rattle.tool_single.specs.Answers.{Answers};
-ghost use Rattle.tool_single.specs.Broken.{IsBadAt};
 ghost use Rattle.tool_single.specs.OneCommit.{IsOneCommit};
+ghost use Rattle.tool_single.specs.Places.{HasOtherVersion, IsBadAt};
 ghost use Rattle.model_specified.specs.Violations.{IsNoPattern, MayBeRefused};
 
 mod answering;
@@ -54,10 +54,18 @@ pub fn what_is_stored_is_one_legal_commit()
     ensures { (words : List (List ℕ)) (input : List ℕ) (files : List ℕ → List ℕ) (answer : Answer) → Answers (λ _. Unit {0}) words input files answer → answer.stored ≢ [] → IsOneCommit files answer.stored }
 {}
 
-/// The place that `run` tells of a broken journal of bytes: behind open entries that are whole, each followed by the next, stands an open one that isn't.
-/// One that is too many for a list, or that ends behind the last place of one, is told at the front of its body, bytes that go wrong at the place where they
-/// do, and bytes of an entry that are fewer than the length at their end; and at no other place.
+/// The place that `run` tells of a broken journal of bytes: behind open entries that are whole, each followed by the next, stands an open one that isn't,
+/// in `journal`, or else in `journal2`; or the header of that one isn't whole. An entry that is too many for a list, or that ends behind the last place of
+/// one, is told at the front of its body, and in `journal2` at its length; bytes that go wrong are told at the place where they do, and bytes of an entry or
+/// a header that are fewer than the length at their end; and at no other place. In `journal` a place counts in the body, and in `journal2` from the file's
+/// first byte.
 pub fn a_broken_journal_is_told_by_its_place()
-    ensures told { (seen : Image) (at : ℕ) → All (λ b. b < 256) (seen journal_name) → bad_place seen ≡ Some at → IsBadAt (seen journal_name) at }
-    ensures alone { (seen : Image) (at : ℕ) → All (λ b. b < 256) (seen journal_name) → IsBadAt (seen journal_name) at → bad_place seen ≡ Some at }
+    ensures told { (seen : Image) (at : ℕ) → All (λ b. b < 256) (seen journal_name) → All (λ b. b < 256) (seen journal2_name) → bad_place seen ≡ Some at → IsBadAt seen at }
+    ensures alone { (seen : Image) (at : ℕ) → All (λ b. b < 256) (seen journal_name) → All (λ b. b < 256) (seen journal2_name) → IsBadAt seen at → bad_place seen ≡ Some at }
+{}
+
+/// The version that `run` tells of a journal that this program doesn't know: the header gate of `journal2` is open before it, and `journal` is whole.
+pub fn an_unknown_journal_is_told_by_its_version()
+    ensures told { (seen : Image) (version : ℕ) → All (λ b. b < 256) (seen journal_name) → unknown_version seen ≡ Some version → HasOtherVersion seen version }
+    ensures alone { (seen : Image) (version : ℕ) → All (λ b. b < 256) (seen journal_name) → HasOtherVersion seen version → unknown_version seen ≡ Some version }
 {}

@@ -16,7 +16,7 @@ use key_meta::Memory;
 use regex_check::Patterns;
 use std::alloc::{AllocError, Global};
 use store_core::{Closed, OpenFault, OpenRefused, Opened, open_store};
-use store_lines::{bad_file, bad_journal, bad_table, too_long};
+use store_lines::{bad_file, bad_journal, bad_table, too_long, unknown_journal};
 use tool_commands::{REFUSED, Report, own_point, warn};
 use tool_words::Question;
 
@@ -95,6 +95,7 @@ fn line_of_store(alloc: Global, fault: &OpenFault) -> Result<String, Memory>
         OpenFault::BadFile { line } => bad_file(alloc, &own_point(alloc)?, *line),
         OpenFault::BadTable { fault } => bad_table(alloc, fault),
         OpenFault::BadJournal { at } => bad_journal(alloc, *at),
+        OpenFault::UnknownVersion { version } => unknown_journal(alloc, *version),
         OpenFault::Memory => Err(AllocError),
         OpenFault::DiskFault => unreachable!(),
     }

@@ -1,7 +1,7 @@
 use Rattle.std.proofs.Common.{[], take, drop, ◌-◌, length, List, sym, subst, ◌∙◌}
 use Rattle.journal_codec.specs.declared.files.FileText.{FileText}
 use Rattle.intent_journal.specs.Bringing.{Brings}
-use Rattle.intent_journal.specs.Lists.{as_one}
+use Rattle.journal_lists.specs.Lists.{as_one}
 use Rattle.intent_journal.proofs.BringSteps.{brings_front, brings_entry, list_parts}
 use Rattle.intent_journal.proofs.bringing.+bring_all.Goals as goal
 

@@ -1,6 +1,6 @@
 use Rattle.std.proofs.Common.{◌<◌, length, Ok, ◌∙◌, arith}
 use Rattle.kdb_outside.proofs.Frames.{GoesOn-then}
-use Rattle.intent_journal.specs.Lists.{as_one}
+use Rattle.journal_lists.specs.Lists.{as_one}
 use Rattle.intent_journal.proofs.BringSteps.{brings_more, brings_failed}
 use Rattle.intent_journal.proofs.bringing.bring_entry.Goals as goal
 

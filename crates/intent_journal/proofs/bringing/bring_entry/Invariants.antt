@@ -1,7 +1,7 @@
 use Rattle.std.proofs.Common.{◌≡◌, true, take, Ok}
 use Rattle.kdb_outside.specs.Frames.{GoesOn}
 use Rattle.intent_journal.specs.Bringing.{Brings}
-use Rattle.intent_journal.specs.Lists.{as_one}
+use Rattle.journal_lists.specs.Lists.{as_one}
 use Rattle.intent_journal.proofs.bringing.bring_entry.Given as goal
 
 abbrev pub invariant-loop-text : goal.invariant-loop-text

@@ -1,4 +1,4 @@
-use Rattle.intent_journal.proofs.Opened.{calm_files, opened_fresh, opened_good, opened_bad, opened_holds}
+use Rattle.intent_journal.proofs.Opened.{calm_files, opened_fresh, opened_good, opened_bad, opened_unknown, opened_holds}
 use Rattle.intent_journal.proofs.laws.an_opening_tells_what_it_read.Goals as goal
 
 pub returns-clause-fresh : goal.returns-clause-fresh
@@ -9,6 +9,9 @@ returns-clause-good g c tells result opens = opened_good g.D.Disk c.args.disk.no
 
 pub returns-clause-bad : goal.returns-clause-bad
 returns-clause-bad g c tells result opens = opened_bad g.D.Disk c.args.disk.now result opens tells
+
+pub returns-clause-unknown : goal.returns-clause-unknown
+returns-clause-unknown g c tells result opens = opened_unknown g.D.Disk c.args.disk.now result opens tells
 
 pub returns-clause-either : goal.returns-clause-either
 returns-clause-either g c tells files doubt calm =

@@ -2,7 +2,7 @@ use Rattle.std.proofs.Common.{List, None, ap, ◌∙◌, take_all}
 use Rattle.std.specs.Option.{option_map}
 use Rattle.general_words.proofs.Lists.{at_place}
 use Rattle.journal_codec.specs.declared.files.FileText.{FileText}
-use Rattle.intent_journal.specs.Lists.{as_one}
+use Rattle.journal_lists.specs.Lists.{as_one}
 use Rattle.intent_journal.specs.Pending.{content_of, least}
 use Rattle.intent_journal.proofs.LeastNames.{least-more, least-contents}
 use Rattle.intent_journal.proofs.pending.least_in.Goals as goal

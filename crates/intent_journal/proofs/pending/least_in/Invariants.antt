@@ -1,6 +1,6 @@
 use Rattle.std.proofs.Common.{◌≡◌, None, take}
 use Rattle.std.specs.Option.{option_map}
-use Rattle.intent_journal.specs.Lists.{as_one}
+use Rattle.journal_lists.specs.Lists.{as_one}
 use Rattle.intent_journal.specs.Pending.{content_of, least}
 use Rattle.intent_journal.proofs.pending.least_in.Given as goal
 

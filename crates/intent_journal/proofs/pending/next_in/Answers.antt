@@ -1,7 +1,7 @@
 use Rattle.std.proofs.Common.{ap, sym, ◌∙◌}
 use Rattle.std.specs.FinMap as map
 use Rattle.std.specs.Option.{option_map}
-use Rattle.intent_journal.specs.Lists.{as_one}
+use Rattle.journal_lists.specs.Lists.{as_one}
 use Rattle.intent_journal.specs.Pending.{content_of, contents_of, pending_in}
 use Rattle.intent_journal.proofs.LeastNames.{first_above-next, none_next}
 use Rattle.intent_journal.proofs.pending.next_in.Goals as goal

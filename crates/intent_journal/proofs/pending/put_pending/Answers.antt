@@ -4,7 +4,7 @@ use Rattle.general_words.proofs.Lists.{some_is}
 use Rattle.journal_steps.specs.Moments.{KeepsElse, KeepsUnnamed}
 use Rattle.journal_steps.specs.Steps.{PutsFile}
 use Rattle.journal_steps.proofs.Meanwhile.{else_weaker}
-use Rattle.intent_journal.specs.Lists.{as_one}
+use Rattle.journal_lists.specs.Lists.{as_one}
 use Rattle.intent_journal.specs.Pending.{Content, content_of, pending_in}
 use Rattle.intent_journal.proofs.LeastNames.{past_end, unnamed_apart}
 use Rattle.intent_journal.proofs.pending.put_pending.Goals as goal

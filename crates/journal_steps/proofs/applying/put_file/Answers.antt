@@ -1,4 +1,5 @@
-use Rattle.std.proofs.Common.{◌∙◌, arith}
+use Rattle.std.proofs.Common.{ap, ◌∙◌, arith}
+use Rattle.kdb_outside.specs.Images.{Image}
 use Rattle.kdb_outside.proofs.Frames.{KeepsOtherImages-then}
 use Rattle.journal_steps.specs.Moments.{KeepsElse}
 use Rattle.journal_steps.proofs.Meanwhile.{else_first, else_then, else_kept}
@@ -13,6 +14,9 @@ pub returns-in_err-cut-clause-others : goal.returns-in_err-cut-clause-others
 returns-in_err-cut-clause-others g c tells =
     KeepsOtherImages-then _ _ _ _ (c.write_at.ensures.images tells).others (c.cut.ensures.images (c.write_at.ensures.tells ∙ tells)).others
 
+pub returns-in_err-cut-clause-seen : goal.returns-in_err-cut-clause-seen
+returns-in_err-cut-clause-seen g c tells other ne = c.cut.ensures.others (c.write_at.ensures.tells ∙ tells) other ne ∙ c.write_at.ensures.others tells other ne
+
 pub returns-in_err-cut-clause-time : goal.returns-in_err-cut-clause-time
 returns-in_err-cut-clause-time g c tells =
     let tells_then = c.write_at.ensures.tells ∙ tells in
@@ -25,6 +29,11 @@ returns-clause-others g c tells =
     let tells_then = c.write_at.ensures.tells ∙ tells in
     let written_and_cut = KeepsOtherImages-then _ _ _ _ (c.write_at.ensures.images tells).others (c.cut.ensures.images tells_then).others in
     KeepsOtherImages-then _ _ _ _ written_and_cut (c.sync.ensures.others (c.cut.ensures.tells ∙ tells_then))
+
+pub returns-clause-seen : goal.returns-clause-seen
+returns-clause-seen g c tells other ne =
+    let tells_then = c.write_at.ensures.tells ∙ tells in
+    ap (λ (s : Image). s other) (c.sync.ensures.same (c.cut.ensures.tells ∙ tells_then)) ∙ c.cut.ensures.others tells_then other ne ∙ c.write_at.ensures.others tells other ne
 
 pub returns-clause-time : goal.returns-clause-time
 returns-clause-time g c tells =

@@ -1,5 +1,5 @@
-use Rattle.std.proofs.Common.{◌∙◌, rules}
-use Rattle.kdb_outside.specs.Images.{IsTornWrite}
+use Rattle.std.proofs.Common.{ap, ◌∙◌, rules}
+use Rattle.kdb_outside.specs.Images.{Image, IsTornWrite}
 use Rattle.journal_steps.specs.Moments.{IsStepOf}
 use Rattle.journal_steps.proofs.Meanwhile.{else_first, else_then, step_of, Touches-sync}
 use Rattle.journal_steps.proofs.writing.write_through.Goals as goal
@@ -24,3 +24,6 @@ returns-clause-writes g c tells =
       images = touches;
       time = else_then _ _ _ _ _ _ P first c.write_at.ensures.moment (c.sync.ensures.time tells_then) (step_of _ _ _ _ touches);
     }
+
+pub returns-clause-seen : goal.returns-clause-seen
+returns-clause-seen g c tells other ne = ap (λ (s : Image). s other) (c.sync.ensures.same (c.write_at.ensures.tells ∙ tells)) ∙ c.write_at.ensures.others tells other ne

@@ -1,10 +1,11 @@
 -- How a batch ends, from what was done for it and what became of its answer on out and err.
 use Rattle.kdb_outside.specs.Faults.{HasRisen}
 use Rattle.kdb_outside.specs.SinkChange.{change_of}
-use Rattle.kdb_tool.proofs.EndLemmas.{broken-ends, complete-ends, in-fault, ran-batch, refused-ends, stores-none, without-memory}
+use Rattle.kdb_tool.proofs.EndLemmas.{complete-ends, in-fault, journal-ends, ran-batch, refused-ends, stores-none, without-memory}
 use Rattle.kdb_tool.proofs.TaskLemmas.{leaves-more}
 use Rattle.kdb_tool.proofs.running.run_batch.Goals as goal
 use Rattle.kdb_tool.specs.Scripts.{FailsToRead, HasAsked, takes_words}
+use Rattle.store_lines.specs.Lines.{bad_journal, unknown_journal}
 use Rattle.tool_commands.specs.Report.{IsAnswered, warned}
 use Rattle.tool_single.proofs.EndLemmas.{made_of}
 use Rattle.tool_single.specs.Input.{LosesInput}
@@ -33,8 +34,10 @@ returns g c =
       calm = done.ensures.calm;
       by_words = λ refuses. refused-ends status out err (warned 1 options_refused) ended.answer (done.ensures.words refuses) finished;
       unasked = done.ensures.unasked;
-      broken = λ tells at is given fed. broken-ends status out err words given at ended.answer (done.ensures.broken tells at is given fed) finished;
+      broken = λ tells at is given fed. journal-ends status out err words given (bad_journal at) ended.answer (done.ensures.broken tells at is given fed) finished;
+      unknown = λ tells version is given fed. journal-ends status out err words given (unknown_journal version) ended.answer (done.ensures.unknown tells version is given fed) finished;
       broken_stays = done.ensures.broken_stays;
+      broken_kept = λ tells fault is kept given fed asks answered. done.ensures.broken_kept tells fault is kept given fed asks (made_of ended.answer status out err finished answered);
       memory = without-memory status out err Rose ended.answer done.ensures.reported finished;
       fault = fault;
       complete = λ no_disk no_input. complete-ends status out err Rose Asked Unread fault no_disk (λ lost. no_input lost.risen);

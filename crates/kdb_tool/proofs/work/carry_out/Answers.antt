@@ -2,11 +2,11 @@
 use Rattle.std.proofs.Common.{◌≡◌, Err, refl, sym, ap, subst, arith}
 use Rattle.std.proofs.lemmas.Result.{IfOk-weaker}
 use Rattle.intent_journal.specs.Opened.{opened_files}
-use Rattle.kdb_tool.proofs.TaskLemmas.{leaves-more, no_play, play-asks, refused-answers, refused-broken, why_in}
+use Rattle.kdb_tool.proofs.TaskLemmas.{leaves-more, no_play, play-asks, refused-answers, refused-asks, refused-journal, why_in}
 use Rattle.kdb_outside.proofs.Frames.{OnlyReads-goes_on, OnlyReads-none}
-use Rattle.kdb_tool.proofs.WorkLemmas.{at-rest, broken-asked, handed-reads, made-is, made-not_of_disk, made-reported, made-tells, reads-none, stop-is, stopped-not_of_disk, works-calm, works-more}
+use Rattle.kdb_tool.proofs.WorkLemmas.{at-rest, handed-reads, journal-asked, made-is, made-not_of_disk, made-reported, made-tells, reads-none, stop-is, stopped-not_of_disk, works-calm, works-more}
 use Rattle.kdb_tool.proofs.work.carry_out.Goals as goal
-use Rattle.kdb_tool.specs.Ends.{TellsBroken}
+use Rattle.kdb_tool.specs.Ends.{TellsOfJournal}
 use Rattle.kdb_tool.specs.Scripts.{AsksFor, takes_words}
 use Rattle.kdb_tool.specs.Tasks.{IsTask, warning_of}
 use Rattle.kdb_tool.specs.Unplayed.{AnswersUnplayed, IsUnopened, NotOpened}
@@ -14,6 +14,7 @@ use Rattle.kdb_tool.specs.Working.{NotPlayed}
 use Rattle.kdb_tool.specs.declared.tasks.NoScript.TheVariants.{OptionsRefused}
 use Rattle.kdb_tool.specs.declared.tasks.Task.{Task}
 use Rattle.kdb_tool.specs.declared.tasks.Task.TheVariants.{Refuse}
+use Rattle.store_lines.specs.Lines.{bad_journal, unknown_journal}
 use Rattle.tool_single.proofs.CarryLemmas.{not_stopped}
 use Rattle.tool_single.proofs.ServeLemmas.{alone_stopped, handed_calm, handed_on}
 use Rattle.tool_single.specs.declared.answers.Stop.TheVariants.{DiskFault, ReadFault}
@@ -42,8 +43,13 @@ returns-in-Ok-Play g c = record {
   broken = λ tells_disk at is given fed.
       let words = c.args.words.now in
       let asks = play-asks words given c.in-Ok-Play.script (subst (IsTask words given) c.in-Ok-Play.field-0-is (c.in-Ok-Play.ensures.told given fed)) in
-      broken-asked words given at c.in-Ok-Play.script c.play_script.result.answer asks (c.play_script.ensures.broken tells_disk at is);
+      journal-asked words given (bad_journal at) c.in-Ok-Play.script c.play_script.result.answer asks (c.play_script.ensures.broken tells_disk at is);
+  unknown = λ tells_disk version is given fed.
+      let words = c.args.words.now in
+      let asks = play-asks words given c.in-Ok-Play.script (subst (IsTask words given) c.in-Ok-Play.field-0-is (c.in-Ok-Play.ensures.told given fed)) in
+      journal-asked words given (unknown_journal version) c.in-Ok-Play.script c.play_script.result.answer asks (c.play_script.ensures.unknown tells_disk version is);
   broken_stays = c.play_script.ensures.broken_stays;
+  broken_kept = λ tells_disk fault is kept given fed asks told. c.play_script.ensures.broken_kept tells_disk fault is kept told;
   asked = λ is.
       let words = c.args.words.now in
       let script = c.in-Ok-Play.script in
@@ -83,8 +89,17 @@ returns-in-Ok-Refuse g c = record {
       let words = c.args.words.now in
       let why = c.in-Ok-Refuse.why in
       let task : IsTask words given (Refuse why) = subst (IsTask words given) c.in-Ok-Refuse.field-0-is (c.in-Ok-Refuse.ensures.told given fed) in
-      made-is (TellsBroken words given at) (warning_of why) c.warn_of_script.result c.without_store.result.answer c.without_store.ensures.answer c.warn_of_script.ensures.warned (refused-broken words given at why task);
-  broken_stays = λ tells_disk at is. handed-reads g.D.Disk c.args.disk c.without_store.result.disk c.without_store.ensures.disk;
+      made-is (TellsOfJournal words given (bad_journal at)) (warning_of why) c.warn_of_script.result c.without_store.result.answer c.without_store.ensures.answer c.warn_of_script.ensures.warned (refused-journal words given (bad_journal at) why task);
+  unknown = λ tells_disk version is given fed.
+      let words = c.args.words.now in
+      let why = c.in-Ok-Refuse.why in
+      let task : IsTask words given (Refuse why) = subst (IsTask words given) c.in-Ok-Refuse.field-0-is (c.in-Ok-Refuse.ensures.told given fed) in
+      made-is (TellsOfJournal words given (unknown_journal version)) (warning_of why) c.warn_of_script.result c.without_store.result.answer c.without_store.ensures.answer c.warn_of_script.ensures.warned
+      (refused-journal words given (unknown_journal version) why task);
+  broken_stays = λ tells_disk fault is kept. handed-reads g.D.Disk c.args.disk c.without_store.result.disk c.without_store.ensures.disk;
+  broken_kept = λ tells_disk fault is kept given fed asks told.
+      let words = c.args.words.now in
+      absurd (refused-asks words given c.in-Ok-Refuse.why (subst (IsTask words given) c.in-Ok-Refuse.field-0-is (c.in-Ok-Refuse.ensures.told given fed)) asks);
   asked = λ is. absurd (made-not_of_disk c.warn_of_script.result c.without_store.result.answer c.without_store.ensures.answer c.warn_of_script.ensures.own is);
   unasked = λ given fed none. (c.without_store.ensures.disk, c.without_store.ensures.patterns);
   input = leaves-more g.S.Source (takes_words c.args.words.now) _ _ c.args.input.now _ (λ answered. refl) c.in-Ok-Refuse.ensures.input;
@@ -106,7 +121,9 @@ returns-in-Err g c = record {
   reported = tt;
   unstored = λ tells_disk none. tt;
   broken = λ tells_disk at is given fed. tt;
-  broken_stays = λ tells_disk at is. OnlyReads-none g.D.Disk c.args.disk;
+  unknown = λ tells_disk version is given fed. tt;
+  broken_stays = λ tells_disk fault is kept. OnlyReads-none g.D.Disk c.args.disk;
+  broken_kept = λ tells_disk fault is kept given fed asks told. absurd cc;
   asked = λ is. absurd (stopped-not_of_disk c.in-Err.stop (λ e. c.in-Err.ensures.own (ap Err e)) is);
   unasked = λ given fed none. (refl, refl);
   input = c.in-Err.ensures.input;

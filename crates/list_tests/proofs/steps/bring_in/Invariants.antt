@@ -4,6 +4,7 @@ use Rattle.list_tests.proofs.steps.bring_in.Given as goal
 
 abbrev pub invariant-loop-i : goal.invariant-loop-i
 invariant-loop-i g l = record {
+  headed : l.journal.headed ≡ true;
   sure : l.journal.in_doubt ≡ false;
   list : l.journal.list ≡ l.fn.journal.list;
   tells : g.D.Disk.tells l.journal.disk ≡ g.D.Disk.tells l.fn.journal.disk;

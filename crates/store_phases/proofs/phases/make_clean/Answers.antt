@@ -1,51 +1,40 @@
-use Rattle.std.proofs.Common.{◌∙◌, sym, rules}
-use Rattle.std.proofs.lemmas.Result.{MatchResult-from_err}
-use Rattle.journal_steps.specs.Outcomes.{with_entries, IsEither}
-use Rattle.intent_journal.specs.Outcomes.{HasOnly}
-use Rattle.store_phases.proofs.Resting.{either_moment, finished_rests, finished_settled, moments_then, no_entry, outcome_moment, resting_doubt, rests_in_doubt, rests_listed, settled_empty}
+use Rattle.std.proofs.Common.{sym, ◌∙◌}
+use Rattle.std.proofs.lemmas.Result.{on_ok_weaker}
+use Rattle.store_phases.proofs.Resting.{cleaned_settled, finished_rest, no_entry, rest_then, rests_settled, settled_rest}
 use Rattle.store_phases.proofs.phases.make_clean.Goals as goal
 
-pub returns-in_err-settle-clause-passes : goal.returns-in_err-settle-clause-passes
-returns-in_err-settle-clause-passes g c files doubt rests =
-    let old = c.args.journal.now in
-    let new = c.settle.new.self in
-    let tells = c.settle.ensures.step.goes.tells ∙ rests.tells in
-    let passes = c.in_err-settle.ensures.passes rests.tells rests.before doubt (resting_doubt g.D.Disk old files doubt rests) in
-    record {
-      ok = search rules;
-      err = MatchResult-from_err _ _ _ c.from_residual.ensures.0
-          (λ _. rests_in_doubt g.D.Disk new files rests.before old.list c.settle.ensures.list rests.with_list tells doubt c.in_err-settle.ensures.err passes.err);
-      any_moment = either_moment g.D.Disk old.disk new.disk files (with_entries rests.before old.list) doubt rests.with_list passes.any_moment;
-    }
+pub finish-requires-clause-headed : goal.finish-requires-clause-headed
+finish-requires-clause-headed g c = c.is_empty.ensures.headed c.if-is_empty.false
 
-pub returns-then-is_empty-clause-passes : goal.returns-then-is_empty-clause-passes
-returns-then-is_empty-clause-passes g c files doubt rests =
-    let old = c.args.journal.now in
-    let new = c.settle.new.self in
-    let passes = c.in_ok-settle.ensures.passes rests.tells rests.before doubt (resting_doubt g.D.Disk old files doubt rests) in
-    let none = sym c.settle.ensures.list ∙ no_entry new.list (sym c.is_empty.ensures ∙ c.if-is_empty.true) in
-    record {
-      ok = settled_empty (g.D.Disk.may_leave new.disk) files rests.before old.list none rests.with_list passes.ok;
-      err = tt;
-      any_moment = either_moment g.D.Disk old.disk new.disk files (with_entries rests.before old.list) doubt rests.with_list passes.any_moment;
-    }
+pub returns-in_err-settle-clause-rests : goal.returns-in_err-settle-clause-rests
+returns-in_err-settle-clause-rests g c names files doubt rests =
+    let settle = c.settle.ensures in
+    settled_rest g.D.Disk c.args.journal.now c.settle.new.self c.settle.result names files doubt settle.same settle.step settle.ok settle.err rests settle.passes settle.bares
 
-pub returns-clause-passes : goal.returns-clause-passes
-returns-clause-passes g c files doubt rests =
+pub returns-then-is_empty-clause-rests : goal.returns-then-is_empty-clause-rests
+returns-then-is_empty-clause-rests g c names files doubt rests =
+    let settle = c.settle.ensures in
+    settled_rest g.D.Disk c.args.journal.now c.settle.new.self c.settle.result names files doubt settle.same settle.step settle.ok settle.err rests settle.passes settle.bares
+
+pub returns-then-is_empty-clause-settled : goal.returns-then-is_empty-clause-settled
+returns-then-is_empty-clause-settled g c names files doubt rests =
+    let new = c.settle.new.self in
+    let settle = c.settle.ensures in
+    let behind = settled_rest g.D.Disk c.args.journal.now new c.settle.result names files doubt settle.same settle.step settle.ok settle.err rests settle.passes settle.bares in
+    rests_settled g.D.Disk new names files doubt behind.rests (no_entry new.list (sym c.is_empty.ensures.exact ∙ c.if-is_empty.true)) c.in_ok-settle.ensures.ok
+
+pub returns-clause-rests : goal.returns-clause-rests
+returns-clause-rests g c names files doubt rests =
     let old = c.args.journal.now in
     let mid = c.settle.new.self in
-    let new = c.finish.new.self in
-    let either = HasOnly (IsEither files doubt) in
-    let mid_tells = c.settle.ensures.step.goes.tells ∙ rests.tells in
-    let tells = c.finish.ensures.step.goes.tells ∙ mid_tells in
-    let settled = c.in_ok-settle.ensures.passes rests.tells rests.before doubt (resting_doubt g.D.Disk old files doubt rests) in
-    let sure = c.in_ok-settle.ensures.ok in
-    let middle = rests_listed g.D.Disk mid files rests.before old.list c.settle.ensures.list rests.with_list mid_tells doubt sure settled.ok in
-    let passes = c.finish.ensures.passes mid_tells middle.before (middle.sure sure) in
-    record {
-      ok = finished_settled g.D.Disk new files middle.before mid.list middle.with_list c.finish.result passes.ok;
-      err = finished_rests g.D.Disk new files middle.before mid.list middle.with_list tells doubt c.finish.result c.finish.ensures.lag c.finish.ensures.doubt passes.err;
-      any_moment = moments_then g.D.Disk old.disk mid.disk new.disk either c.settle.ensures.step.goes.moment
-          (either_moment g.D.Disk old.disk mid.disk files (with_entries rests.before old.list) doubt rests.with_list settled.any_moment)
-          (outcome_moment g.D.Disk mid.disk new.disk files (with_entries middle.before mid.list) doubt middle.with_list passes.any_moment);
-    }
+    let settle = c.settle.ensures in
+    let finish = c.finish.ensures in
+    let first = settled_rest g.D.Disk old mid c.settle.result names files doubt settle.same settle.step settle.ok settle.err rests settle.passes settle.bares in
+    let second = finished_rest g.D.Disk mid c.finish.new.self c.finish.result names files doubt (c.is_empty.ensures.headed c.if-is_empty.false) c.in_ok-settle.ensures.ok first.rests
+    finish.step finish.head finish.ok finish.lag finish.doubt finish.passes in
+    rest_then g.D.Disk old mid c.finish.new.self names files doubt settle.step.goes.moment first second
+
+pub returns-clause-settled : goal.returns-clause-settled
+returns-clause-settled g c names files doubt rests =
+    cleaned_settled g.D.Disk c.finish.new.self names files doubt c.finish.result (on_ok_weaker c.finish.result (λ state. (state.1, state.0)) c.finish.ensures.ok)
+    (returns-clause-rests g c names files doubt rests).rests

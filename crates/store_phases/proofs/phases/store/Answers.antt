@@ -1,11 +1,13 @@
-use Rattle.std.proofs.Common.{Some, inl, inr, refl, ◌∙◌, arith}
+use Rattle.std.proofs.Common.{◌≤◌, Some, None, List, ◌++◌, ◌∷◌, [], inl, inr, refl, sym, subst, arith}
 use Rattle.std.proofs.lemmas.Result.{MatchResult-from_err, on_err_weaker}
+use Rattle.journal_codec.specs.declared.files.FileText.{FileText}
 use Rattle.journal_steps.specs.Outcomes.{IsEither}
+use Rattle.intent_journal.specs.Journal.{IsList}
 use Rattle.intent_journal.specs.Outcomes.{HasOnly}
-use Rattle.intent_journal.proofs.Bodies.{length-spelled_on}
+use Rattle.journal_lists.proofs.Bodies.{length-spelled_on}
 use Rattle.model_crashes.specs.Runs.{IsAmid}
 use Rattle.model_crashes.proofs.Moments.{only_both, only_follows}
-use Rattle.store_phases.proofs.Resting.{encoded_size, rests_sure}
+use Rattle.store_phases.proofs.Resting.{either_any, encoded_size}
 use Rattle.store_phases.proofs.phases.store.Goals as goal
 
 pub make_room-requires : goal.make_room-requires
@@ -17,37 +19,52 @@ make_room-requires g c =
 pub begin-requires-clause-fits : goal.begin-requires-clause-fits
 begin-requires-clause-fits g c =
     let sized = encoded_size c.args.files c.args.encoded.now c.requires.encoded in
-    c.in_ok-make_room.ensures.fits c.args.files c.requires.entry (omega arith)
+    subst (λ (list : List (List FileText)). IsList (list ++ c.args.files ∷ [])) (sym c.head.ensures.list) (c.in_ok-make_room.ensures.fits c.args.files c.requires.entry (omega arith))
 
 pub returns-in_err-make_room-clause-failed : goal.returns-in_err-make_room-clause-failed
-returns-in_err-make_room-clause-failed g c before doubt rests =
-    MatchResult-from_err _ _ _ c.from_residual.ensures.0 (λ _. (doubt, inr (inl refl), (c.in_err-make_room.ensures.passes before doubt rests).err))
+returns-in_err-make_room-clause-failed g c names before doubt rests is of_run =
+    MatchResult-from_err _ _ _ c.from_residual.ensures.0 (λ _. (doubt, inr (inl refl), (c.make_room.ensures.rests names before doubt rests).rests))
 
 pub returns-in_err-make_room-clause-any_moment : goal.returns-in_err-make_room-clause-any_moment
-returns-in_err-make_room-clause-any_moment g c before doubt rests =
+returns-in_err-make_room-clause-any_moment g c names before doubt rests is of_run =
     only_follows g.D.Disk c.args.journal.now.disk c.make_room.new.journal.disk (HasOnly (IsEither before doubt)) (IsAmid before doubt c.args.files) (λ image has. inl has)
-    (c.make_room.ensures.passes before doubt rests).any_moment
+    (c.make_room.ensures.rests names before doubt rests).any_moment
+
+pub returns-in_err-head-clause-failed : goal.returns-in_err-head-clause-failed
+returns-in_err-head-clause-failed g c names before doubt rests is of_run =
+    let room = (c.make_room.ensures.rests names before doubt rests).rests in
+    MatchResult-from_err _ _ _ c.from_residual-in_err-head.ensures.0 (λ _. (None, inl refl, (c.head.ensures.rests names before doubt room is of_run.header).rests))
+
+pub returns-in_err-head-clause-any_moment : goal.returns-in_err-head-clause-any_moment
+returns-in_err-head-clause-any_moment g c names before doubt rests is of_run =
+    let room = c.make_room.ensures.rests names before doubt rests in
+    only_both g.D.Disk c.args.journal.now.disk c.make_room.new.journal.disk c.head.new.journal.disk (HasOnly (IsEither before doubt)) (HasOnly (IsEither before None))
+    (IsAmid before doubt c.args.files) (λ image has. inl has) (λ image has. inl (either_any before doubt image has)) c.make_room.ensures.phase.goes.moment room.any_moment
+    (c.head.ensures.rests names before doubt room.rests is of_run.header).any_moment
 
 pub returns-clause-committed : goal.returns-clause-committed
-returns-clause-committed g c before doubt rests =
-    let room = c.make_room.new.journal in
-    let tells = c.make_room.ensures.phase.goes.tells ∙ rests.tells in
-    let middle = rests_sure g.D.Disk room before doubt tells c.in_ok-make_room.ensures.ok.0 (c.in_ok-make_room.ensures.passes before doubt rests).ok in
-    (c.begin.ensures.passes before doubt middle).ok
+returns-clause-committed g c names before doubt rests is of_run =
+    let room = (c.make_room.ensures.rests names before doubt rests).rests in
+    let headed = (c.head.ensures.rests names before doubt room is of_run.header).rests in
+    (c.begin.ensures.passes names before None headed of_run).ok
 
 pub returns-clause-failed : goal.returns-clause-failed
-returns-clause-failed g c before doubt rests =
-    let room = c.make_room.new.journal in
-    let tells = c.make_room.ensures.phase.goes.tells ∙ rests.tells in
-    let middle = rests_sure g.D.Disk room before doubt tells c.in_ok-make_room.ensures.ok.0 (c.in_ok-make_room.ensures.passes before doubt rests).ok in
-    on_err_weaker c.begin.result (λ behind. (Some c.args.files, inr (inr refl), behind)) (c.begin.ensures.passes before doubt middle).err
+returns-clause-failed g c names before doubt rests is of_run =
+    let room = (c.make_room.ensures.rests names before doubt rests).rests in
+    let headed = (c.head.ensures.rests names before doubt room is of_run.header).rests in
+    on_err_weaker c.begin.result (λ behind. (Some c.args.files, inr (inr refl), behind)) (c.begin.ensures.passes names before None headed of_run).err
 
 pub returns-clause-any_moment : goal.returns-clause-any_moment
-returns-clause-any_moment g c before doubt rests =
-    let room = c.make_room.new.journal in
-    let phase = c.make_room.ensures.phase in
-    let tells = phase.goes.tells ∙ rests.tells in
-    let passes = c.in_ok-make_room.ensures.passes before doubt rests in
-    let middle = rests_sure g.D.Disk room before doubt tells c.in_ok-make_room.ensures.ok.0 passes.ok in
-    only_both g.D.Disk c.args.journal.now.disk room.disk c.begin.new.journal.disk (HasOnly (IsEither before doubt)) (HasOnly (IsEither before (Some c.args.files)))
-    (IsAmid before doubt c.args.files) (λ image has. inl has) (λ image has. inr has) phase.goes.moment passes.any_moment (c.begin.ensures.passes before doubt middle).any_moment
+returns-clause-any_moment g c names before doubt rests is of_run =
+    let entry = c.args.files in
+    let old = c.args.journal.now in
+    let mid = c.head.new.journal in
+    let new = c.begin.new.journal in
+    let room = c.make_room.ensures.rests names before doubt rests in
+    let headed = c.head.ensures.rests names before doubt room.rests is of_run.header in
+    let amid = IsAmid before doubt entry in
+    let first = only_both g.D.Disk old.disk c.make_room.new.journal.disk mid.disk (HasOnly (IsEither before doubt)) (HasOnly (IsEither before None)) amid
+    (λ image has. inl has) (λ image has. inl (either_any before doubt image has)) c.make_room.ensures.phase.goes.moment room.any_moment headed.any_moment in
+    let later : g.D.Disk.moment old.disk ≤ g.D.Disk.moment mid.disk = let one = c.make_room.ensures.phase.goes.moment in let two = c.head.ensures.phase.goes.moment in omega arith in
+    only_both g.D.Disk old.disk mid.disk new.disk amid (HasOnly (IsEither before (Some entry))) amid (λ image has. has) (λ image has. inr has) later first
+    (c.begin.ensures.passes names before None headed.rests of_run).any_moment

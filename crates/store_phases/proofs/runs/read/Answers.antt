@@ -1,7 +1,7 @@
 use Rattle.std.proofs.Common.{List, ℕ, subst}
 use Rattle.std.specs.Prelude.{IfOk}
 use Rattle.backend_files.specs.WholeFile.{IsWhole}
-use Rattle.store_phases.proofs.Stores.{IsStore-read, read_of_run}
+use Rattle.store_phases.proofs.Stores.{IsStore-read, read_of_run, same_but_disk}
 use Rattle.store_phases.proofs.runs.read.Goals as goal
 
 pub returns-clause-told : goal.returns-clause-told
@@ -10,4 +10,5 @@ returns-clause-told g c opened run store none own =
 
 pub returns-clause-store : goal.returns-clause-store
 returns-clause-store g c opened run store =
-    IsStore-read g.D.Disk opened c.args.journal.now c.read_file.new.self run c.read_file.ensures.reads c.read_file.ensures.journal.0 c.read_file.ensures.journal.1 store
+    let same = same_but_disk c.args.journal.now c.read_file.new.self c.read_file.ensures.journal in
+    IsStore-read g.D.Disk opened c.args.journal.now c.read_file.new.self run c.read_file.ensures.reads same.0 same.1 store

@@ -1,5 +1,5 @@
 -- Handle by handle.
-use Rattle.std.proofs.Common.{◌≡◌, ℕ, ◌+◌, List, length, None, sym, ap, subst, ◌∙◌, arith}
+use Rattle.std.proofs.Common.{ℕ, ◌+◌, List, length, sym, ap, subst, ◌∙◌, arith}
 use Rattle.std.proofs.lemmas.List.{length_push}
 use Rattle.store_play.specs.Handles.{AreHandlesOf, AreNew, IsHandle, IsNew, procs_at}
 use Rattle.store_play.proofs.HandleLemmas.{each-next, proc_there}

@@ -64,9 +64,9 @@ returns g c = record {
       let core = c.play_new-played.new.core in
       let same = sym c.in-Err.ensures.none in
       let store = subst (λ (k : Core g.row.D.Denot g.row.P.Denot). IsStore g.D.Disk start k.journal run) same stands.on_disk in
-      closed_calm g.D.Disk core.journal.disk c.close-disk.result.disk run files doubt core.wrote (c.close-disk.ensures.goes.tells ∙ store.rests.tells) either
+      closed_calm g.D.Disk core.journal.disk c.close-disk.result.disk files doubt core.wrote
       (λ unwritten. c.close-disk.ensures.left_alone unwritten (subst (λ (k : Core g.row.D.Denot g.row.P.Denot). IsFresh k.journal) same fresh))
-      (λ wrote. c.close-disk.ensures.settled start run store (subst (λ (k : Core g.row.D.Denot g.row.P.Denot). ¬ HasRisen (g.D.Disk.faults k.journal.disk) (g.D.Disk.faults c.close-disk.result.disk)) same still) (inl wrote))
+      (λ wrote. c.close-disk.ensures.calm_with start run store (subst (λ (k : Core g.row.D.Denot g.row.P.Denot). ¬ HasRisen (g.D.Disk.faults k.journal.disk) (g.D.Disk.faults c.close-disk.result.disk)) same still) (inl wrote) files doubt either)
       (subst (λ (k : Core g.row.D.Denot g.row.P.Denot). IsCalm (g.D.Disk.seen k.journal.disk) (g.D.Disk.may_leave k.journal.disk) files doubt) same calm);
   goes = subst (λ (core : Core g.row.D.Denot g.row.P.Denot). GoesOn g.D.Disk core.journal.disk c.close-disk.result.disk) c.in-Err.ensures.none c.close-disk.ensures.goes;
 }

@@ -13,8 +13,8 @@ pub returns-in-Tells-clause-serving : goal.returns-in-Tells-clause-serving
 returns-in-Tells-clause-serving g c =
     let refused = g.P.Patterns.refusals in
     let Rose : List ℕ → Type 0 = λ pattern. HasRisen (refused c.args.core.now.patterns) (refused c.args.core.now.patterns) in
-    subst (λ (s : Step). Serves g.D.Disk (AnswersStep Rose c.args.plan.now.mounted c.args.parent.now (seen_step s)) (report_of c.in-Tells.report) c.args.core.now c.args.core.now) (sym c.in-Tells.is)
-    (told_serves g.D.Disk (AnswersStep Rose c.args.plan.now.mounted c.args.parent.now (Tells (report_of c.in-Tells.report))) (report_of c.in-Tells.report) c.args.core.now refl)
+    subst (λ (s : Step). Serves g.D.Disk c.args.plan.now.mounted (AnswersStep Rose c.args.plan.now.mounted c.args.parent.now (seen_step s)) (report_of c.in-Tells.report) c.args.core.now c.args.core.now) (sym c.in-Tells.is)
+    (told_serves g.D.Disk c.args.plan.now.mounted (AnswersStep Rose c.args.plan.now.mounted c.args.parent.now (Tells (report_of c.in-Tells.report))) (report_of c.in-Tells.report) c.args.core.now refl)
 
 pub returns-in-Sets-clause-serving : goal.returns-in-Sets-clause-serving
 returns-in-Sets-clause-serving g c =
@@ -22,4 +22,4 @@ returns-in-Sets-clause-serving g c =
     let core = c.args.core.now in
     let after = c.set_keys.new.core in
     let Refusing = MayRefuse c.set_keys.result (refused core.patterns) (refused after.patterns) in
-    subst (λ (s : Step). Serving g.D.Disk (AnswersStep Refusing c.args.plan.now.mounted c.args.parent.now (seen_step s)) c.set_keys.result core after) (sym c.in-Sets.is) c.set_keys.ensures.serving
+    subst (λ (s : Step). Serving g.D.Disk c.args.plan.now.mounted (AnswersStep Refusing c.args.plan.now.mounted c.args.parent.now (seen_step s)) c.set_keys.result core after) (sym c.in-Sets.is) c.set_keys.ensures.serving

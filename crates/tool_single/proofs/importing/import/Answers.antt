@@ -1,7 +1,9 @@
 -- What the input holds as a file would is asked to replace the keys there, or is refused as a file is.
 use Rattle.std.proofs.Common.{◌≡◌, ℕ, List, [], Some, Err, refl, ap, subst, arith}
 use Rattle.std.proofs.lemmas.Result.{IfOk-weaker}
+use Rattle.all_formats.specs.Laws as laws
 use Rattle.all_formats.specs.Meanings as all
+use Rattle.mounted_files.proofs.OneOpening.{Holds-not_bad}
 use Rattle.mounted_files.specs.Faults.{fault_of}
 use Rattle.mounted_files.specs.Files.{IsCause}
 use Rattle.mounted_files.specs.Holding.{IsHolding}
@@ -34,7 +36,8 @@ returns-in-Ok-Bad g c =
     λ bytes is. subst (λ (h : Holding). IsHolding all.Reads all.IsBadAt name kind (taken bytes) h) c.in-Ok-Bad.field-0-is (read.told bytes is) in
     let ended = c.without_store in
     told-carried g.S.Source g.D.Disk g.P.Patterns c.args.input.now c.take_keys.new.input c.args.disk c.args.patterns ended.result (Imports name kind) ended.ensures.disk ended.ensures.patterns (record { front = read.front; all = λ yes. read.all }) read.later
-    c.refuse_input.result (warned 5 line) ended.ensures.answer c.refuse_input.ensures.told (IfOk-weaker c.refuse_input.result _ _ (λ report is. refused-answered 5 report.status (omega arith) is) c.refuse_input.ensures.status) (λ bytes is. Bad cause (is_cause bytes is) refl) (λ at bytes is. broken.Bad cause (is_cause bytes is) refl) (refused-end [] 5 refl)
+    c.refuse_input.result (warned 5 line) ended.ensures.answer c.refuse_input.ensures.told (IfOk-weaker c.refuse_input.result _ _ (λ report is. refused-answered 5 report.status (omega arith) is) c.refuse_input.ensures.status) (λ bytes is. Bad cause (is_cause bytes is) refl) (λ line bytes is. broken.Bad cause (is_cause bytes is) refl)
+    (λ bytes is asks. Holds-not_bad all.Reads all.IsBadAt laws.Reads-once laws.Reads-not_bad laws.IsBadAt-once name kind (taken bytes) asks.0 cause asks.1 (is_cause bytes is)) (refused-end [] 5 refl)
 
 pub returns-in-Err : goal.returns-in-Err
 returns-in-Err g c =

@@ -40,10 +40,10 @@ returns-in-Ok-clause-serving g c = λ parent keys fetched is_made.
     let refused = g.P.Patterns.refusals in
     let Rose : List ℕ → Type 0 = λ pattern. HasRisen (refused c.args.core.now.patterns) (refused c.commit.new.self.patterns) in
     let risen = has_risen (refused c.args.core.now.patterns) (refused c.commit.new.self.patterns) in
-    subst (λ (r : Report). Serves g.D.Disk (AnswersSet Rose files parent keys out) r core after) (sym c.tell-report.ensures.told)
+    subst (λ (r : Report). Serves g.D.Disk files (AnswersSet Rose files parent keys out) r core after) (sym c.tell-report.ensures.told)
     (done_serves g.D.Disk files core c.args.rec.now c.args.prepared here parent keys fetched is_made Rose risen out after c.commit.new.rec c.in-Ok.field-0 (c.in-Ok.ensures.judged (λ h. no_keys))
-    (λ opened run on_disk. c.in-Ok.ensures.committed (λ h. no_keys) opened (records g.D.Disk files core c.args.rec.now c.args.prepared here parent keys fetched is_made) (made g.D.Disk files core c.args.rec.now c.args.prepared here parent keys fetched is_made)
-    (world g.D.Disk files core c.args.rec.now c.args.prepared here parent keys fetched is_made) run 0 (joined g.D.Disk files core c.args.rec.now c.args.prepared here parent keys fetched is_made opened run on_disk))
+    (λ opened run names on_disk. c.in-Ok.ensures.committed (λ h. no_keys) opened (records g.D.Disk files core c.args.rec.now c.args.prepared here parent keys fetched is_made) (made g.D.Disk files core c.args.rec.now c.args.prepared here parent keys fetched is_made)
+    (world g.D.Disk files core c.args.rec.now c.args.prepared here parent keys fetched is_made) run 0 (joined g.D.Disk files core c.args.rec.now c.args.prepared here parent keys fetched is_made opened run names on_disk))
     c.in-Ok.ensures.unwritten)
 
 pub returns-in-Err-clause-serving : goal.returns-in-Err-clause-serving
@@ -58,8 +58,8 @@ returns-in-Err-clause-serving g c = λ parent keys fetched is_made.
     let risen = has_risen (refused c.args.core.now.patterns) (refused c.commit.new.self.patterns) in
     refused_serving g.D.Disk files core c.args.rec.now c.args.prepared here parent keys fetched is_made Refusing risen out after c.commit.new.rec c.in-Err.fault c.refuse_commit.result
     (rose_may c.refuse_commit.result (refused core.patterns) (refused after.patterns)) c.refuse_commit.ensures.refused (c.in-Err.ensures.judged (λ h. no_keys))
-    (λ opened run on_disk. c.in-Err.ensures.committed (λ h. no_keys) opened (records g.D.Disk files core c.args.rec.now c.args.prepared here parent keys fetched is_made) (made g.D.Disk files core c.args.rec.now c.args.prepared here parent keys fetched is_made)
-    (world g.D.Disk files core c.args.rec.now c.args.prepared here parent keys fetched is_made) run 0 (joined g.D.Disk files core c.args.rec.now c.args.prepared here parent keys fetched is_made opened run on_disk))
+    (λ opened run names on_disk. c.in-Err.ensures.committed (λ h. no_keys) opened (records g.D.Disk files core c.args.rec.now c.args.prepared here parent keys fetched is_made) (made g.D.Disk files core c.args.rec.now c.args.prepared here parent keys fetched is_made)
+    (world g.D.Disk files core c.args.rec.now c.args.prepared here parent keys fetched is_made) run 0 (joined g.D.Disk files core c.args.rec.now c.args.prepared here parent keys fetched is_made opened run names on_disk))
     c.in-Err.ensures.unwritten c.in-Err.ensures.wrote
 
 pub returns-in-Err-clause-cause : goal.returns-in-Err-clause-cause

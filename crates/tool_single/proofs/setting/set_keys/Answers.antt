@@ -37,6 +37,6 @@ pub returns-in_ok-refuse_set-in-Err-clause-serving : goal.returns-in_ok-refuse_s
 returns-in_ok-refuse_set-in-Err-clause-serving g c =
     let refused = g.P.Patterns.refusals in
     let Rose : List ℕ → Type 0 = λ pattern. HasRisen (refused c.args.core.now.patterns) (refused c.args.core.now.patterns) in
-    told_serves g.D.Disk (AnswersSet Rose c.args.plan.now.mounted c.args.parent.now c.args.keys.now (string_bytes c.args.out)) (report_of c.in_ok-refuse_set-in-Err.field-0) c.args.core.now
+    told_serves g.D.Disk c.args.plan.now.mounted (AnswersSet Rose c.args.plan.now.mounted c.args.parent.now c.args.keys.now (string_bytes c.args.out)) (report_of c.in_ok-refuse_set-in-Err.field-0) c.args.core.now
     (refused_answers c.args.plan.now.mounted c.args.parent.now c.args.keys.now c.args.rec.now c.requires.fetched Rose (string_bytes c.args.out) c.in-Err.fault (tells (report_of c.in_ok-refuse_set-in-Err.field-0))
     (c.in-Err.ensures.refused (not_memory c.in-Err.fault _ c.in_ok-refuse_set-in-Err.ensures.refused) (λ h. no_keys)) c.in_ok-refuse_set-in-Err.ensures.refused)

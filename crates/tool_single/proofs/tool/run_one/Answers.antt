@@ -2,6 +2,7 @@
 use Rattle.std.proofs.Common.{inl}
 use Rattle.kdb_outside.specs.Faults.{HasRisen}
 use Rattle.kdb_outside.specs.SinkChange.{change_of}
+use Rattle.store_lines.specs.Lines.{bad_journal, unknown_journal}
 use Rattle.tool_single.specs.Input.{FailsToRead, LosesInput}
 use Rattle.tool_single.specs.Serving.{MayRefuse}
 use Rattle.tool_single.specs.Untold.{HasAsked}
@@ -9,7 +10,7 @@ use Rattle.tool_words.specs.Rows.{request}
 use Rattle.tool_commands.specs.Report.{IsAnswered}
 use Rattle.tool_single.proofs.AnswersMore.{stores_nothing}
 use Rattle.tool_single.proofs.EndLemmas.{by_words, without_memory, in_fault, complete, made_of, not_stored, of_memory}
-use Rattle.tool_single.proofs.BrokenLemmas.{ends_broken}
+use Rattle.tool_single.proofs.BrokenLemmas.{ends_by_journal}
 use Rattle.tool_single.proofs.InputLemmas.{leaves_input}
 use Rattle.tool_single.proofs.RunLemmas.{ran}
 use Rattle.tool_single.proofs.tool.run_one.Goals as goal
@@ -37,8 +38,10 @@ returns g c =
       calm = done.ensures.calm;
       words = by_words g.S.Source input input_now answer (request words) status out err done.ensures.untold done.ensures.asked (λ is. (done.ensures.read is).risen) finished;
       unasked = done.ensures.unasked;
-      broken = λ tells at is given fed. ends_broken answer (request words) given at status out err (done.ensures.broken tells at is given fed) finished;
+      broken = λ tells at is given fed. ends_by_journal answer (request words) given (bad_journal at) status out err (done.ensures.broken tells at is given fed) finished;
+      unknown = λ tells version is given fed. ends_by_journal answer (request words) given (unknown_journal version) status out err (done.ensures.unknown tells version is given fed) finished;
       broken_stays = done.ensures.broken_stays;
+      broken_kept = λ tells fault is kept given fed asks answered. done.ensures.broken_kept tells fault is kept given fed asks (made_of answer status out err finished answered);
       memory = without_memory answer status out err done.ensures.own finished;
       fault = fault;
       complete = λ no_disk no_input. complete Failed Unread status out err fault (λ failed. no_disk failed.0) (λ lost. no_input lost.risen);

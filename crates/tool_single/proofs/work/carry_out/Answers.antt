@@ -43,7 +43,7 @@ returns-in-Ok-Refuses g c =
     let ended = c.without_store in
     subst (λ (r : Request). CarriesOut g.S.Source g.D.Disk g.P.Patterns r c.args.input.now c.args.input.now c.args.disk c.args.patterns ended.result) (sym asked)
     (told-carried g.S.Source g.D.Disk g.P.Patterns c.args.input.now c.args.input.now c.args.disk c.args.patterns ended.result (Refuses (status_of refusal) (text_of refusal)) ended.ensures.disk ended.ensures.patterns refl (omega arith)
-    c.warn_of_words.result told ended.ensures.answer c.warn_of_words.ensures.warned c.warn_of_words.ensures.own (λ given fed. refl) (λ at given fed. tt) refl)
+    c.warn_of_words.result told ended.ensures.answer c.warn_of_words.ensures.warned c.warn_of_words.ensures.own (λ given fed. refl) (λ line given fed. tt) (λ given fed asks. asks) refl)
 
 pub returns-in-Ok-Bars : goal.returns-in-Ok-Bars
 returns-in-Ok-Bars g c =
@@ -52,7 +52,7 @@ returns-in-Ok-Bars g c =
     let ended = c.without_store-in-Ok-Bars in
     subst (λ (r : Request). CarriesOut g.S.Source g.D.Disk g.P.Patterns r c.args.input.now c.args.input.now c.args.disk c.args.patterns ended.result) (sym asked)
     (told-carried g.S.Source g.D.Disk g.P.Patterns c.args.input.now c.args.input.now c.args.disk c.args.patterns ended.result (Bars name) ended.ensures.disk ended.ensures.patterns refl (omega arith)
-    c.warn_of_name.result (warned 2 (not_writable name)) ended.ensures.answer c.warn_of_name.ensures (IfOk-weaker c.warn_of_name.result _ _ (λ report told. refused-answered 2 report.status (omega arith) (ap (λ (r : Report). r.status) told)) c.warn_of_name.ensures) (λ given fed. refl) (λ at given fed. tt) refl)
+    c.warn_of_name.result (warned 2 (not_writable name)) ended.ensures.answer c.warn_of_name.ensures (IfOk-weaker c.warn_of_name.result _ _ (λ report told. refused-answered 2 report.status (omega arith) (ap (λ (r : Report). r.status) told)) c.warn_of_name.ensures) (λ given fed. refl) (λ line given fed. tt) (λ given fed asks. asks) refl)
 
 pub returns-in_default : goal.returns-in_default
 returns-in_default g c =

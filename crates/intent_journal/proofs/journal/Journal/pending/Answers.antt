@@ -2,7 +2,7 @@ use Rattle.std.proofs.Common.{◌≤◌, List, length, ap, sym, subst, ◌∙◌
 use Rattle.std.specs.List.{AllByRecursion}
 use Rattle.journal_codec.specs.declared.files.FileText.{FileText}
 use Rattle.journal_codec.specs.Entry.{IsEntry}
-use Rattle.intent_journal.specs.Grammar.{most_entries}
+use Rattle.journal_lists.specs.Grammar.{most_entries}
 use Rattle.intent_journal.specs.Pending.{pending_in}
 use Rattle.intent_journal.proofs.journal.Journal.pending.Goals as goal
 

@@ -1,20 +1,22 @@
-use Rattle.std.proofs.Common.{[], ◌∷◌, arith}
-use Rattle.journal_steps.proofs.Steps.{failed_writes}
-use Rattle.intent_journal.proofs.Sound.{sound_none, sound_emptied}
+use Rattle.std.proofs.Common.{List, ap, refl, subst, ◌∙◌}
+use Rattle.journal_codec.specs.declared.files.FileText.{FileText}
+use Rattle.journal_steps.specs.Outcomes.{with_entries, IsEither}
+use Rattle.intent_journal.specs.States.{IsListed, IsInDoubt}
+use Rattle.intent_journal.specs.Steps.{Passes}
+use Rattle.intent_journal.proofs.Sound.{sound_emptied}
 use Rattle.intent_journal.proofs.journal.Journal.shut.Goals as goal
-
-pub returns-in_err-close_list-clause-writes : goal.returns-in_err-close_list-clause-writes
-returns-in_err-close_list-clause-writes g c =
-    rw (← c.self.view_is) (λ tells. failed_writes g.D.Disk _ _ _ _ _ 0 (0 ∷ []) c.from_residual.ensures.0 (c.close_list.ensures.writes tells))
-
-pub returns-clause-writes : goal.returns-clause-writes
-returns-clause-writes g c = rw (← c.self.view_is) (λ tells. c.in_ok-close_list.ensures.writes tells)
 
 pub invariant_of-self : goal.invariant_of-self
 invariant_of-self g c =
-    sound_none _ _ _ _ _ c.self.invariant.named c.clear.ensures.items (omega (arith, c.self.invariant.spare, c.clear.ensures.capacity))
+    let headed = ap (λ j. j.headed) c.self.view_is ∙ c.requires.headed in
+    sound_emptied _ _ _ _ _ _ _ _ _ _ _ _ c.self.invariant headed c.clear.ensures.items refl c.clear.ensures.capacity
 
-pub invariant_of-self-2 : goal.invariant_of-self-2
-invariant_of-self-2 g c =
-    sound_emptied g.D.Disk c.self.inside.disk c.close_list.new.disk _ _ _ c.self.invariant.named c.clear.ensures.items (omega (arith, c.self.invariant.spare, c.clear.ensures.capacity))
-    c.close_list.ensures.goes (λ tells. c.in_ok-close_list.ensures.writes tells)
+pub returns-clause-passes : goal.returns-clause-passes
+returns-clause-passes g c =
+    let disk = c.self.inside.disk in
+    let new = c.settle.new.self.disk in
+    rw (← c.self.view_is) (λ tells names before headed starts doubt.
+    subst
+    (λ (l : List (List FileText)). IsInDoubt (g.D.Disk.may_leave disk) names before l doubt
+    → Passes g.D.Disk disk new c.settle.result (λ leaves. IsListed leaves names before l) (λ leaves. IsInDoubt leaves names before l doubt) (IsEither (with_entries before l) doubt))
+    c.clear.ensures.items (c.settle.ensures.passes tells names before headed starts doubt))

@@ -2,21 +2,21 @@
 use Rattle.std.proofs.Common.{ℕ, ◌<◌, ◌≤◌, Bool, All, List, [], ◌∷◌, ◌++◌, length, map as over, Ok, Err, refl, sym, subst}
 use Rattle.commit_log.specs.CommitView as log
 use Rattle.commit_log.specs.Log.{Log}
-use Rattle.journal_codec.specs.Entry.{IsEntry}
 use Rattle.model_history.specs.History.{history_weight, heaviest_history}
 use Rattle.model_maps.specs.KeyMap.{KeyMap}
 use Rattle.model_store.specs.Rules.{has_risen}
 use Rattle.model_store.specs.Store.{Formats, formats_of, store_of}
 use Rattle.model_store.specs.Verdicts.{IsLate}
-use Rattle.mount_table.specs.declared.mounts.Mount.{Mount}
 use Rattle.mounted_files.specs.declared.files.MountedFile.{MountedFile}
 use Rattle.set_split.specs.declared.parts.Part.{Part}
 use Rattle.store_core.specs.Entering.{EntersHistory}
+use Rattle.store_core.specs.Heads.{names_at}
 use Rattle.store_core.specs.declared.committing.CommitFault.TheVariants as fault
 use Rattle.store_core.specs.declared.committing.Done.TheVariants as done
 use Rattle.store_core.specs.declared.cores.Core.{Core}
 use Rattle.store_core.proofs.AnswerLemmas.{conflict_within, is_entry, large_within, may_renew, not_full, own_count, places_within}
 use Rattle.store_core.proofs.CommitEnds.{commits_conflict, commits_entry, commits_nothing, commits_too_large}
+use Rattle.store_phases.specs.Phases.{IsOfRun}
 use Rattle.store_verdict.specs.LateView.{late_of}
 use Rattle.store_verdict.specs.PreparedView.{prepared_of}
 use Rattle.store_verdict.specs.RecordView.{places_of, record_of}
@@ -119,7 +119,7 @@ enter-requires g c =
     let late = subst (Decided (formats_of g.F.Formats) files core c.args.prepared (has_risen (g.P.Patterns.refusals core.patterns) (g.P.Patterns.refusals c.judge_set.new.patterns))) c.in-Commits.is c.in-Ok.ensures.late in
     let brings = subst (Brings (formats_of g.F.Formats) files c.in-Ok.judged.keys c.args.prepared) c.in-Commits.is c.in-Ok.ensures.renewed in
     record {
-      entry = subst (λ (set : Prepared). IsEntry set.texts) (sym c.with_texts-prepared.ensures)
+      entry = subst (λ (set : Prepared). IsOfRun (names_at (over (λ (file : MountedFile). file.mount) files)) set.texts) (sym c.with_texts-prepared.ensures)
           (is_entry (formats_of g.F.Formats) (store_of files ready.procs) core ready.records ready.made ready.world ready.number c.args.rec.now c.args.prepared ready.belongs commit c.in-Commits.left_aside (late ready.procs)
           c.in-Ok.judged.keys c.in-Ok.ensures.keys c.in-Commits.renewed (brings ready.procs));
       light = subst (λ (log : Log). history_weight (log.commits ++ commit ∷ []) ≤ heaviest_history) (sym c.in-Ok.ensures.same)
@@ -142,5 +142,4 @@ returns-in-Commits g c =
     commits_entry (formats_of g.F.Formats) g.D.Disk g.P.Patterns.refusals files core c.judge_set.new.patterns c.args.rec.now c.args.prepared c.in-Ok.ensures.later c.judge_set.new.history c.in-Ok.ensures.same
     commit c.in-Commits.left_aside late c.in-Ok.judged.keys c.in-Ok.ensures.keys c.in-Commits.renewed brings c.enter.new.self c.enter.new.rec c.enter.result
     (subst (λ (set : Prepared). EntersHistory g.D.Disk (over (λ (file : MountedFile). file.mount) files) commit c.in-Commits.left_aside c.in-Ok.judged.keys set moved c.enter.new.self c.args.rec.now c.enter.new.rec c.enter.result)
-    c.with_texts-prepared.ensures (subst (λ (mounts : List Mount). EntersHistory g.D.Disk mounts commit c.in-Commits.left_aside c.in-Ok.judged.keys c.with_texts-prepared.result moved c.enter.new.self c.args.rec.now c.enter.new.rec c.enter.result)
-    c.table.ensures c.enter.ensures))
+    c.with_texts-prepared.ensures c.enter.ensures)

@@ -1,5 +1,0 @@
--- The entries that are left.
-use Rattle.intent_journal.proofs.reading.+read_rest.Given as goal
-
-abbrev pub decreases-read_rest : goal.decreases-read_rest
-decreases-read_rest g l = l.left

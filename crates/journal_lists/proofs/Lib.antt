@@ -1,0 +1,10 @@
+pub mod Bytes
+pub mod Bodies
+pub mod ListReads
+pub mod OpenReads
+pub mod Gates
+pub mod Rules
+pub mod Heads
+pub mod Journals
+pub mod FirstGates
+pub mod HeadReads
