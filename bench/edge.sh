@@ -8,6 +8,7 @@
 set -u
 cd "$(dirname "$0")/.."
 . bench/words.sh
+top=$PWD
 put edge "$@"
 program
 chmod 755 "$work"
@@ -252,6 +253,9 @@ open(f"{sys.argv[1]}/{sys.argv[2]}", "wb").write(held)' "$1" "$2" "$3"
 }
 entry=$(printf 'kdbOpen 2\n$key string 4 1\nsw/a\n7\n$end\n.')
 entry=${entry%.}
+
+# Folders that the executable of a former program left, closed, open or cut off (bench/former_folders.txt).
+told 'folders of a former program' "$(python3 "$top/bench/former_folders.py" "$kdb" "$work/former")" '13 of 13'
 
 if [ "$(id -u)" = 0 ]; then
   # Links that lead elsewhere, in the folder of another user.

@@ -11,9 +11,9 @@
 #
 # A word stands for one part; further ones, but behind full or many, for commands (bench/faults_cases.py). `quick`
 # in front of all tries a part of each, in a minute or two. What is tried is the commands get, validate, set, rm, mv,
-# mount, merge, import, batch and gen, the first set of all (first), and a get over an open journal (opened). Wants
-# build/kdb (first-use.sh makes it), strace and a C compiler; the full file systems want the right to mount. The whole
-# takes some ten minutes on four processors. Not part of the gate.
+# mount, merge, import, batch and gen, the first set of all (first), and a get over an open journal (opened) and over
+# that of a former program (former). Wants build/kdb (first-use.sh makes it), strace and a C compiler; the full file
+# systems want the right to mount. The whole takes some ten minutes on four processors. Not part of the gate.
 set -u
 cd "$(dirname "$0")/.." || exit 1
 . bench/words.sh

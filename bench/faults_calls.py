@@ -162,9 +162,9 @@ def main():
 Each call of the system that a command makes fails alone, or the program is killed at it, and then the store is opened
 again: {trials.tried:,} runs. What is counted is in how many cases the files are then the old or the new ones, and how
 many of the failing calls the program told by status 74; no case left files that are neither. `first` is the first set
-of all, `opened` a get over an open journal, which a kill left, and `mv`, `merge` and `import` go over two files.
-`batch` makes three sets, each over two files; `amid` are those that are behind one of the first two. `gen` has no
-files.
+of all, `opened` a get over an open journal, which a kill left, `former` a get over that of a former program, and `mv`,
+`merge` and `import` go over two files. `batch` makes three sets, each over two files; `amid` are those that are behind
+one of the first two. `gen` has no files.
 """)
     names = list(FAULTS)
     table(found, names[:4])
