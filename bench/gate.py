@@ -343,8 +343,8 @@ def run_gate(command):
         "",
         *rows,
         "",
-        f"{told(sums)}, `rt` itself {own:.1f}, and {short:.1f} of processes that no sample saw:"
-        f" {sum(spent.values()) / TICKS / 60:.1f} together.",
+        f"{told(sums)}, `rt` itself {own:.1f}, and {short:.1f} of processes that no sample saw:",
+        f"{sum(spent.values()) / TICKS / 60:.1f} together.",
     ]
     put(said, COSTS)
     return status
