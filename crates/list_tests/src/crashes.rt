@@ -76,6 +76,37 @@ fn store_both<D: Disk>(
     journal.finish()
 }
 
+/// Adds the first entry alone to the list, and brings it in.
+fn store_first<D: Disk>(
+    journal: &mut Journal<D>,
+    header: &[u8],
+    one: &[u8],
+    first: List<FileText>,
+) -> Result<(), Failed>
+    requires header { IsHeaderBytes header.now }
+    requires first { IsEntry first }
+    requires one { one.now ≡ behind_gate first ++ 0 ∷ [] }
+{
+    begin(journal, header)?;
+    add(journal, one, first)?;
+    journal.finish()
+}
+
+/// The disk once the first entry was stored on it as far as it let it, and whether it was stored to the end.
+fn first_stored_on(alloc: Global, disk: MemDisk) -> Result<(bool, MemDisk), Fail> {
+    let first = entry_of(alloc, FIRST)?;
+    let one = encode(alloc, first.as_slice())?;
+    let header = head(alloc)?;
+    match Journal::open(alloc, disk) {
+        Ok(journal) => {
+            let mut journal = journal;
+            let outcome = store_first(&mut journal, &header, &one, first);
+            Ok((outcome == Ok(()), journal.into_disk()))
+        }
+        Err(refused) => Ok((false, refused.disk)),
+    }
+}
+
 /// The disk once both entries were stored on it as far as it let them, and whether they were stored to the end.
 fn stored_on(alloc: Global, disk: MemDisk) -> Result<(bool, MemDisk), Fail> {
     let first = entry_of(alloc, FIRST)?;
@@ -191,6 +222,58 @@ fn leaves_no_entry_or_whole_ones_in_their_order(rt: HostRuntime) -> Result<(), F
     for held in ROWS {
         assert!(rt; every_failure_fits(alloc, held, 24)?, "{held:?}");
         assert_eq!(rt; stored_whole(alloc, held)?, (true, 24, Some(2)), "{held:?}");
+    }
+    Ok(())
+}
+
+/// What is left of the first entry alone, on a disk that stopped behind so many calls and was crashed.
+fn left_of_first(
+    alloc: Global,
+    held: Held<'_>,
+    calls: u64,
+    choice: u64,
+) -> Result<Option<u64>, Fail> {
+    let disk = disk_with(alloc, held, Vec::new(alloc), Some(calls))?;
+    let (_, disk) = first_stored_on(alloc, disk)?;
+    left_on(alloc, held, disk.crash(choice)?)
+}
+
+/// Whether the entry is lost up to the tenth call, may be there behind the eleventh, and is there from the twelfth on.
+fn every_stop_fits(alloc: Global, held: Held<'_>, choice: u64) -> Result<bool, Fail> {
+    for calls in 0..=20 {
+        let fits = match left_of_first(alloc, held, calls, choice)? {
+            Some(0) => calls <= 11,
+            Some(1) => 11 <= calls,
+            _ => false,
+        };
+        if !fits {
+            return Ok(false);
+        }
+    }
+    Ok(true)
+}
+
+/// Whether the first entry is stored on a disk whose calls all go through, how many calls that takes, and what is left.
+fn first_stored_whole(alloc: Global, held: Held<'_>) -> Result<(bool, u64, Option<u64>), Fail> {
+    let disk = disk_with(alloc, held, Vec::new(alloc), None)?;
+    let (stored, disk) = first_stored_on(alloc, disk)?;
+    let calls = disk.calls();
+    Ok((stored, calls, left_on(alloc, held, disk)?))
+}
+
+/// One set of two files.
+#[test]
+fn leaves_an_entry_of_two_files_whole_or_not_at_all(rt: HostRuntime) -> Result<(), Fail> {
+    let alloc = rt.alloc();
+    for held in ROWS {
+        assert_eq!(rt;
+            first_stored_whole(alloc, held)?,
+            (true, 20, Some(1)),
+            "{held:?}"
+        );
+        for choice in 0..10 {
+            assert!(rt; every_stop_fits(alloc, held, choice)?, "{held:?} {choice}");
+        }
     }
     Ok(())
 }
