@@ -7,7 +7,8 @@ crate costs between the two lines that mark the table there.
 Figures are processor minutes of the gate's own processes, which are sampled each second. What all of them spent between
 two samples is exact: a process that ended has left its time with the one that waited for it. Of that each process has
 what its own samples say, and what is left goes in equal parts to those that ended in between. So the sum is true to the
-ticks of the system's clock, and a row to a second for each of its processes.
+ticks of the system's clock, and a row to a second for each of its processes. How fast a processor is meanwhile, what a
+loop of additions takes says, so that runs can be compared: a shared machine may take twice the minutes of a quiet one.
 
 gate.py --join PAGE.. joins what runs wrote into copies of that page, each of which proved a part: a later page's figure
 stands in the place of an earlier one's.
@@ -148,6 +149,14 @@ def pass_on(stream, lines):
         lines.append(line)
 
 
+def speed():
+    """The seconds of a processor that ten million additions would take now, by a twentieth of them."""
+    begun, total = time.thread_time(), 0
+    for number in range(500_000):
+        total += number
+    return (time.thread_time() - begun) * 20
+
+
 def busy():
     """The ticks that all processes of the machine have spent."""
     words = text_of("/proc/stat").split("\n")[0].split()[1:]
@@ -156,7 +165,7 @@ def busy():
 
 def measured(command):
     """Runs a command, and returns its status, its lines, its meter and what the machine did meanwhile."""
-    begun, ours, loads, lines = time.time(), busy(), [], []
+    begun, ours, loads, speeds, lines = time.time(), busy(), [], [], []
     how = {"stdout": subprocess.PIPE, "stderr": subprocess.STDOUT, "text": True, "errors": "replace"}
     ran = subprocess.Popen(command, **how)
     reader = threading.Thread(target=pass_on, args=(ran.stdout, lines), daemon=True)
@@ -168,6 +177,8 @@ def measured(command):
             break
         meter.sample()
         loads.append(os.getloadavg()[0])
+        if len(loads) % 20 == 1:
+            speeds.append(speed())
         time.sleep(1)
     ran.returncode = os.waitstatus_to_exitcode(status)
     reader.join(5)
@@ -176,6 +187,7 @@ def measured(command):
     machine = {
         "minutes": (time.time() - begun) / 60,
         "load": sum(loads) / max(len(loads), 1),
+        "speed": sum(speeds) / max(len(speeds), 1),
         "others": max((busy() - ours) / TICKS - seconds, 0) / 60,
     }
     return ran.returncode, lines, meter, machine, seconds / 60
@@ -337,6 +349,7 @@ def run_gate(command):
         f"with `{version.strip()}`, on {len(os.sched_getaffinity(0))} processors and {memory:.0f} GiB of memory,",
         f"at a mean load of {machine['load']:.1f}; other programs took {machine['others']:.1f} processor minutes"
         " meanwhile.",
+        f"Ten million additions of Python took {machine['speed']:.2f} seconds of a processor then.",
         f"{done[-1][0].upper()}{done[-1][1:]}.",
         *(["What was kept cost nothing here."] if kept else []),
         *([f"It ended with status {status}, so it is no whole gate."] if status else []),

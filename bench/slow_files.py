@@ -64,9 +64,19 @@ def metadata(size):
     return [("_", "", texts)], plain(word(i) for i in range(int(40000 * size)))
 
 
+def metadata_over_own(size):
+    texts = [(f"m{i:03}", "x" * 96) for i in range(int(600 * size))]
+    return [("_", "", texts)], [(word(i), "", (("own", ""),)) for i in range(int(20000 * size))]
+
+
 def pattern(size):
     checks = (("check/validation", r"^(\w{0,60}){4}$"),)
     return [("_", "", checks)], plain((word(i) for i in range(int(1000 * size))), "v")
+
+
+def patterns_in_turn(size):
+    specs = [(f"_/{part}", "", (("check/validation", rf"^(\w{{0,60}}){{4}}{part}?$"),)) for part in "ab"]
+    return specs, plain((f"{word(i // 2)}/{'ab'[i % 2]}" for i in range(int(1000 * size))), "v")
 
 
 def refused(size):
@@ -74,10 +84,17 @@ def refused(size):
     return [("_", "", checks)], plain((word(i) for i in range(int(100 * size))), "v")
 
 
-def enumeration(size):
-    items = int(10000 * size)
+def enumerated(items, keys):
     checks = [(f"check/enum/{index(i)}", f"v{i}") for i in range(items)]
-    return [("_", "", checks)], plain((word(i) for i in range(int(1000 * size))), f"v{items - 1}")
+    return [("_", "", checks)], plain((word(i) for i in range(keys)), f"v{items - 1}")
+
+
+def enumeration(size):
+    return enumerated(int(10000 * size), int(1000 * size))
+
+
+def enumeration_of_many(size):
+    return enumerated(int(10000 * size), int(30000 * size))
 
 
 KINDS = [
@@ -86,9 +103,12 @@ KINDS = [
     ("49,900 paths specified beside 49,900 keys", exact),
     ("24,000 defaults beside 24,000 keys", defaults),
     ("60,000 bytes of metadata for 40,000 keys", metadata),
+    ("the same for 20,000 keys with metadata of their own", metadata_over_own),
     ("a large pattern for 1,000 keys", pattern),
+    ("two large patterns that take turns, for 1,000 keys", patterns_in_turn),
     ("a pattern that is refused, for 100 keys", refused),
     ("an enumeration of 10,000 for 1,000 keys", enumeration),
+    ("an enumeration of 10,000 for 30,000 keys", enumeration_of_many),
 ]
 
 
