@@ -1,4 +1,5 @@
 pub mod BareLemmas
+pub mod LayerLemmas
 pub mod LayingLemmas
 pub mod NarrowLemmas
 pub mod OneNameLemmas

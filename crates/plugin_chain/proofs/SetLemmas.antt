@@ -1,5 +1,5 @@
 -- The defaults and the specified entries of a set, key by key.
-use Rattle.std.proofs.Common.{◌≡◌, ℕ, Bool, true, false, cond, T, List, [], ◌∷◌, length, Option, Some, None, refl, sym, ap, ap₂, subst, ◌∙◌, inl, inr}
+use Rattle.std.proofs.Common.{◌≡◌, ℕ, Bool, true, false, cond, T, List, [], ◌∷◌, Option, Some, None, refl, sym, ap, ap₂, subst, ◌∙◌, inl, inr}
 use Rattle.std.specs.Prelude.{if◌then◌else◌, codes, Result, Ok, Err, IfOk}
 use Rattle.std.specs.Bool.{Decides, one_answer}
 use Rattle.std.specs.FinMap as finite
@@ -63,10 +63,9 @@ value_or own value None = refl
 value_or own value (Some bit) = refl
 
 -- where nothing is said, only the value may change
-pub value_alone : (specs : KeyMap) (name : Name) (entry : Entry) (said : Meta) (o : Option Entry) → said ≡ (if is_specified name.namespace then said_of specs name.parts else finite.empty) → length (finite.entries said) ≡ 0
+pub value_alone : (specs : KeyMap) (name : Name) (entry : Entry) (said : Meta) (o : Option Entry) → said ≡ (if is_specified name.namespace then said_of specs name.parts else finite.empty) → said ≡ finite.empty
     → o ≡ option_map (entry_with entry.meta) (bit_under entry.meta entry.value) → unwrap_or o entry ≡ specified_entry specs name entry
-value_alone specs name entry said o is none changed =
-    let nothing : said ≡ finite.empty = finite.empty_of_len said (finite.len-entries said ∙ none) in
+value_alone specs name entry said o is nothing changed =
     let own : entry.meta ≡ specified_meta specs name entry.meta = sym (ap (λ m. laid_over (m ∷ entry.meta ∷ [])) nothing ∙ laid_over-empty (entry.meta ∷ []) ∙ laid_over-alone entry.meta) ∙ meta_is specs name entry.meta said is in
     ap (λ p. unwrap_or p entry) changed
     ∙ value_or entry.meta entry.value (bit_under entry.meta entry.value)
@@ -74,9 +73,9 @@ value_alone specs name entry said o is none changed =
 
 -- the same of a call that may fail
 pub value_alone_ok : {E : Type 0} {X : Type 0} (view : X → Entry) (specs : KeyMap) (name : Name) (entry : Entry) (said : Meta) (r : Result (Option X) E) → said ≡ (if is_specified name.namespace then said_of specs name.parts else finite.empty)
-    → length (finite.entries said) ≡ 0 → IfOk r (λ o. option_map view o ≡ option_map (entry_with entry.meta) (bit_under entry.meta entry.value)) → IfOk r (λ o. unwrap_or (option_map view o) entry ≡ specified_entry specs name entry)
-value_alone_ok view specs name entry said (Ok o) is none changed = value_alone specs name entry said (option_map view o) is none changed
-value_alone_ok view specs name entry said (Err e) is none changed = changed
+    → said ≡ finite.empty → IfOk r (λ o. option_map view o ≡ option_map (entry_with entry.meta) (bit_under entry.meta entry.value)) → IfOk r (λ o. unwrap_or (option_map view o) entry ≡ specified_entry specs name entry)
+value_alone_ok view specs name entry said (Ok o) is nothing changed = value_alone specs name entry said (option_map view o) is nothing changed
+value_alone_ok view specs name entry said (Err e) is nothing changed = changed
 
 -- where something is said, the value goes by what is said over its own metadata
 pub value_under_said : (specs : KeyMap) (name : Name) (entry : Entry) (said meta : Meta) (value : List ℕ) → said ≡ (if is_specified name.namespace then said_of specs name.parts else finite.empty)

@@ -1,6 +1,6 @@
 -- The violations so far, in the midst of a walk over the keys of a set.
-use Rattle.std.proofs.Common.{◌≡◌, ℕ, Bool, true, false, cond, List, [], ◌∷◌, ◌++◌, map, Option, Some, refl, sym, ap, ap₂, subst, ◌∙◌, append-nil, append_assoc}
-use Rattle.std.specs.Prelude.{slice_get, Result, IfOk}
+use Rattle.std.proofs.Common.{◌≡◌, ℕ, Bool, true, false, cond, List, [], ◌∷◌, ◌++◌, length, map, Option, Some, refl, sym, ap, ap₂, subst, ◌∙◌, append-nil, append_assoc}
+use Rattle.std.specs.Prelude.{slice_get, Result, IfOk, if◌then◌else◌}
 use Rattle.std.specs.FinMap as finite
 use Rattle.std.specs.List.{filter}
 use Rattle.std.specs.Option.{option_to_list}
@@ -11,14 +11,17 @@ use Rattle.model_maps.specs.Entry.{Entry, Meta}
 use Rattle.model_maps.specs.KeyMap.{KeyMap}
 use Rattle.model_rules.specs.Rules.{BreaksType, BreaksRange, BreaksEnum, Tells}
 use Rattle.model_rules.specs.declared.breaches.Broken.{Broken}
-use Rattle.model_specified.specs.SpecMeta.{spec_keys}
-use Rattle.model_specified.specs.Specified.{specified_key, with_defaults}
+use Rattle.model_specified.specs.SpecMeta.{laid_over, said_of, spec_keys}
+use Rattle.model_specified.specs.Specified.{is_specified, specified_key, specified_value, with_defaults}
 use Rattle.model_specified.specs.Violations.{AreOfKeys, AreViolations, BeginWith, IsFirstViolation, TellsPattern, checked_keys, is_checked, violation_at}
 use Rattle.model_specified.specs.declared.violations.Violation.{Violation}
+use Rattle.model_specified.proofs.LaidOver.{laid_over-alone, laid_over-empty}
 use Rattle.model_specified.proofs.Refusals.{begin-with}
 use Rattle.model_specified.proofs.SpecifiedLemmas.{entries-specified}
 use Rattle.model_specified.proofs.ViolationLemmas.{AreOfKey-still, AreOfKeys-append, AreOfKeys-one, AreOfKeys-still}
 use Rattle.plugin_chain.specs.Steps.{Adds, AddsIf, IsFirstOf, checked}
+use Rattle.plugin_chain.proofs.LayerLemmas.{bare_more}
+use Rattle.plugin_chain.proofs.SetLemmas.{value_under_said}
 
 -- what is added to a list that is as another was added to that one
 pub added_to : {A : Type 0} (now room after more : List A) → after ≡ room ++ more → room ≡ now → after ≡ now ++ more
@@ -128,4 +131,20 @@ pub first_is : {E : Type 0} (M : Type 0) (keys specs made : KeyMap) (is_chosen :
     → IfOk r (IsFirstOf M (checked specs is_chosen (finite.entries made))) → IfOk r (IsFirstViolation M is_chosen keys)
 first_is M keys specs made is_chosen r is_specs is_made h = subst (λ ks. IfOk r (IsFirstOf M ks)) (checked_are keys specs made is_chosen is_specs is_made) h
 
--- ---- a key where it stands as the specifications have it
+-- ---- a key as the specifications have it
+
+-- by the metadata that it comes to
+pub key_under : (specs : KeyMap) (name : Name) (entry : Entry) (said meta : Meta) (value : List ℕ) → said ≡ (if is_specified name.namespace then said_of specs name.parts else finite.empty) → meta ≡ laid_over (said ∷ entry.meta ∷ []) → value ≡ entry.value
+    → (name, record { value = specified_value meta value; meta = meta }) ≡ specified_key specs (name, entry)
+key_under specs name entry said meta value is made same = ap (λ e. (name, e)) (value_under_said specs name entry said meta (specified_value meta value) is made (ap (specified_value meta) same))
+
+-- where nothing is said
+pub key_alone : (specs : KeyMap) (name : Name) (entry : Entry) (said : Meta) (value : List ℕ) → said ≡ (if is_specified name.namespace then said_of specs name.parts else finite.empty) → said ≡ finite.empty → value ≡ entry.value
+    → (name, record { value = specified_value entry.meta value; meta = entry.meta }) ≡ specified_key specs (name, entry)
+key_alone specs name entry said value is nothing same =
+    key_under specs name entry said entry.meta value is (sym (ap (λ m. laid_over (m ∷ entry.meta ∷ [])) nothing ∙ laid_over-empty (entry.meta ∷ []) ∙ laid_over-alone entry.meta)) same
+
+-- where it has no metadata of its own
+pub key_said : (specs : KeyMap) (name : Name) (entry : Entry) (said meta : Meta) (value : List ℕ) → said ≡ (if is_specified name.namespace then said_of specs name.parts else finite.empty) → meta ≡ said → length (finite.entries entry.meta) ≡ 0 → value ≡ entry.value
+    → (name, record { value = specified_value meta value; meta = meta }) ≡ specified_key specs (name, entry)
+key_said specs name entry said meta value is same bare own = key_under specs name entry said meta value is (same ∙ bare_more said entry.meta bare) own

@@ -1,15 +1,20 @@
 //! The four checks of a key.
-ghost use Rattle.std.specs.Prelude.{◌≡◌, ◌≤◌, ◌++◌, map, IfOk, IfSome, OnOk};
+ghost use Rattle.std.specs.Prelude.{◌≡◌, ◌≤◌, ◌++◌, codes, map, IfOk, IfSome, OnOk};
 ghost use Rattle.std.specs.Option.{option_to_list};
 ghost use Rattle.kdb_outside.specs.Faults.{HasRisen};
 ghost use Rattle.key_set.specs.EntryView.{entry_of};
-ghost use Rattle.model_specified.specs.Specified.{specified_key};
+ghost use Rattle.model_maps.specs.Entry.{array_texts};
+ghost use Rattle.model_specified.specs.Specified.{specified_key, specified_value};
 ghost use Rattle.model_specified.specs.Violations.{violation_at};
 ghost use Rattle.plugin_chain.specs.Steps.{Adds, AddsIf};
 
+use crate::booleans::bit_under;
+use crate::enums::{Enumeration, kept_items};
+use crate::layers::lay_all;
+use crate::laying::lay_over;
 use crate::spec_index::SpecIndex;
-use crate::specifying::specified_entry;
-use key_meta::{Memory, Meta};
+use crate::specifying::layers_of_key;
+use key_meta::{Memory, Meta, Text};
 use key_name::KeyName;
 use key_set::Entry;
 use model_rules::Broken;
@@ -17,13 +22,14 @@ use model_specified::Violation;
 use range_check::check_range;
 use regex_check::{Patterns, check_pattern};
 use std::alloc::Global;
-use type_check::{check_enum, check_type};
+use type_check::{check_among, check_type};
 
 /// Checks a key where it is chosen, and adds what it breaks.
-pub fn check_if<P: Patterns>(
+pub fn check_if<'a, P: Patterns>(
     is_chosen: bool,
     patterns: &mut P,
-    specs: &SpecIndex,
+    kept: &mut Option<Enumeration<'a>>,
+    specs: &SpecIndex<'a>,
     name: &KeyName,
     entry: &Entry,
     list: &mut Vec<Violation>,
@@ -34,13 +40,15 @@ pub fn check_if<P: Patterns>(
     if !is_chosen {
         return Ok(());
     }
-    check_key(patterns, specs, name, entry, list)
+    check_key(patterns, kept, specs, name, entry, list)
 }
 
-/// Checks a key as the keys of `spec:` have it, and adds what it breaks.
-fn check_key<P: Patterns>(
+/// Checks a key as the keys of `spec:` have it, and adds what it breaks. Metadata that is laid over no other is looked
+/// at where it stands.
+fn check_key<'a, P: Patterns>(
     patterns: &mut P,
-    specs: &SpecIndex,
+    kept: &mut Option<Enumeration<'a>>,
+    specs: &SpecIndex<'a>,
     name: &KeyName,
     entry: &Entry,
     list: &mut Vec<Violation>,
@@ -49,23 +57,81 @@ fn check_key<P: Patterns>(
     ensures later { P.refusals patterns.old ≤ P.refusals patterns.new }
 {
     let alloc = specs.allocator();
-    match specified_entry(specs, name, entry)? {
-        Some(changed) => check_value(
-            alloc,
-            patterns,
-            name,
-            changed.value.as_str(),
-            &changed.meta,
-            list,
-        ),
-        None => check_value(
-            alloc,
-            patterns,
-            name,
-            entry.value.as_str(),
-            &entry.meta,
-            list,
-        ),
+    let value = entry.value.as_str();
+    let layers = layers_of_key(specs, name)?;
+    if layers.is_empty() {
+        return check_once(alloc, patterns, name, value, &entry.meta, list);
+    }
+    if layers.len() == 1 && entry.meta.is_empty() {
+        return check_again(alloc, patterns, kept, name, value, layers[0].meta, list);
+    }
+    let mut meta = lay_all(alloc, &layers)?;
+    lay_over(&mut meta, &entry.meta)?;
+    check_once(alloc, patterns, name, value, &meta, list)
+}
+
+/// Checks a value under metadata that stands for one key, and adds what it breaks.
+fn check_once<P: Patterns>(
+    alloc: Global,
+    patterns: &mut P,
+    name: &KeyName,
+    value: &str,
+    meta: &Meta,
+    list: &mut Vec<Violation>,
+) -> Result<(), Memory>
+    ensures ok { OnOk result (Adds (HasRisen (P.refusals patterns.old) (P.refusals patterns.new)) (name.now, record { value = specified_value meta.now value.now; meta = meta.now }) list.old.items list.new.items) }
+    ensures later { P.refusals patterns.old ≤ P.refusals patterns.new }
+{
+    // most keys have no metadata
+    if meta.is_empty() {
+        return Ok(());
+    }
+    let items = meta.array("check/enum")?;
+    check_under(alloc, patterns, name, value, meta, items.as_slice(), list)
+}
+
+/// Checks a value under metadata that may stand for many keys, and adds what it breaks.
+fn check_again<'a, P: Patterns>(
+    alloc: Global,
+    patterns: &mut P,
+    kept: &mut Option<Enumeration<'a>>,
+    name: &KeyName,
+    value: &str,
+    meta: &'a Meta,
+    list: &mut Vec<Violation>,
+) -> Result<(), Memory>
+    ensures ok { OnOk result (Adds (HasRisen (P.refusals patterns.old) (P.refusals patterns.new)) (name.now, record { value = specified_value meta.now value.now; meta = meta.now }) list.old.items list.new.items) }
+    ensures later { P.refusals patterns.old ≤ P.refusals patterns.new }
+{
+    if let Some(items) = kept_items(&*kept, meta) {
+        return check_under(alloc, patterns, name, value, meta, items, list);
+    }
+    let new = Enumeration::new(meta)?;
+    let done = check_under(alloc, patterns, name, value, meta, new.items(), list);
+    if !new.items().is_empty() {
+        *kept = Some(new);
+    }
+    done
+}
+
+/// Checks a value under metadata with the items of its enumeration, 1 or 0 in place of a boolean's word, and adds what
+/// it breaks.
+fn check_under<P: Patterns>(
+    alloc: Global,
+    patterns: &mut P,
+    name: &KeyName,
+    value: &str,
+    meta: &Meta,
+    items: &[Text],
+    list: &mut Vec<Violation>,
+) -> Result<(), Memory>
+    requires { items.now ≡ array_texts meta.now (codes "check/enum") }
+    ensures ok { OnOk result (Adds (HasRisen (P.refusals patterns.old) (P.refusals patterns.new)) (name.now, record { value = specified_value meta.now value.now; meta = meta.now }) list.old.items list.new.items) }
+    ensures later { P.refusals patterns.old ≤ P.refusals patterns.new }
+{
+    match bit_under(meta, value) {
+        Some(bit) => check_value(alloc, patterns, name, bit, meta, items, list),
+        None => check_value(alloc, patterns, name, value, meta, items, list),
     }
 }
 
@@ -76,18 +142,16 @@ fn check_value<P: Patterns>(
     name: &KeyName,
     value: &str,
     meta: &Meta,
+    items: &[Text],
     list: &mut Vec<Violation>,
 ) -> Result<(), Memory>
+    requires { items.now ≡ array_texts meta.now (codes "check/enum") }
     ensures ok { OnOk result (Adds (HasRisen (P.refusals patterns.old) (P.refusals patterns.new)) (name.now, record { value = value.now; meta = meta.now }) list.old.items list.new.items) }
     ensures later { P.refusals patterns.old ≤ P.refusals patterns.new }
 {
-    // most keys have no metadata
-    if meta.is_empty() {
-        return Ok(());
-    }
     add(list, name, check_type(alloc, value, meta)?)?;
     add(list, name, check_range(alloc, value, meta)?)?;
-    add(list, name, check_enum(alloc, value, meta)?)?;
+    add(list, name, check_among(alloc, value, items)?)?;
     let room = room_for_refusal(list, name, meta)?;
     add_at(
         list,

@@ -36,19 +36,22 @@ pub fn violations<P: Patterns>(
 }
 
 /// The violations of some keys at or below a name, as the keys of `spec:` have them.
-fn all_at<P: Patterns>(
+fn all_at<'a, P: Patterns>(
     patterns: &mut P,
-    specs: &SpecIndex,
+    specs: &SpecIndex<'a>,
     made: &KeySet,
     at: &KeyName,
 ) -> Result<Vec<Violation>, Memory>
     ensures all { IfOk result (λ list. AreOfKeys (HasRisen (P.refusals patterns.old) (P.refusals patterns.new)) (checked specs.now (is_within at.now) (finite.entries made.now)) list.items) }
     ensures later { P.refusals patterns.old ≤ P.refusals patterns.new }
 {
+    let mut kept = None;
     let mut list = Vec::new(specs.allocator());
     for (name, entry) in made.iter() {
         let is_chosen = is_listed(at, name)?;
-        check_if(is_chosen, patterns, specs, name, entry, &mut list)?;
+        check_if(
+            is_chosen, patterns, &mut kept, specs, name, entry, &mut list,
+        )?;
     }
     Ok(list)
 }
@@ -72,9 +75,9 @@ pub fn first_violation<P: Patterns>(
 }
 
 /// The first violation of some keys that the touched mounts own, as the keys of `spec:` have them.
-fn first_in<P: Patterns>(
+fn first_in<'a, P: Patterns>(
     patterns: &mut P,
-    specs: &SpecIndex,
+    specs: &SpecIndex<'a>,
     made: &KeySet,
     points: &[KeyName],
     touched: &[u32],
@@ -83,10 +86,11 @@ fn first_in<P: Patterns>(
     ensures first { IfOk result (IsFirstOf (HasRisen (P.refusals patterns.old) (P.refusals patterns.new)) (checked specs.now (is_owned points.now touched.now) (finite.entries made.now))) }
     ensures later { P.refusals patterns.old ≤ P.refusals patterns.new }
 {
+    let mut kept = None;
     for (name, entry) in made.iter() {
         let is_chosen = is_touched(points, touched, name);
         let mut own = Vec::new(specs.allocator());
-        check_if(is_chosen, patterns, specs, name, entry, &mut own)?;
+        check_if(is_chosen, patterns, &mut kept, specs, name, entry, &mut own)?;
         if let Some(first) = first_of(own) {
             return Ok(Some(first));
         }

@@ -3,9 +3,10 @@ ghost use Rattle.std.specs.Prelude.{◌≡◌, [], ◌∷◌, IfOk, OnOk, if◌t
 ghost use Rattle.std.specs.Option.{option_map_or};
 ghost use Rattle.std.specs.FinMap as finite;
 ghost use Rattle.plugin_chain.specs.Globs.{AreInSpec};
+ghost use Rattle.plugin_chain.specs.Layers.{laid};
 ghost use Rattle.model_specified.specs.SpecMeta.{is_pattern_of, laid_over, said_of, spec_keys, spec_meta, spec_name};
 
-use crate::laying::lay_over;
+use crate::layers::{Layer, add_layer, lay_all};
 use crate::spec_index::SpecIndex;
 use key_meta::{Memory, Meta};
 use key_name::{KeyName, Namespace};
@@ -18,7 +19,8 @@ pub fn spec_meta(keys: &KeySet, path: &KeyName) -> Result<Meta, Memory>
 {
     let specs = spec_keys(keys)?;
     let index = SpecIndex::new(&specs)?;
-    said_of(&index, path)
+    let layers = layers_of(&index, path)?;
+    lay_all(specs.allocator(), &layers)
 }
 
 /// The keys of `spec:`.
@@ -29,20 +31,20 @@ pub fn spec_keys(keys: &KeySet) -> Result<KeySet, Memory>
     keys.below(&KeyName::root(keys.allocator(), Namespace::Spec))
 }
 
-/// What the keys of `spec:` say of a path.
-pub fn said_of(specs: &SpecIndex, path: &KeyName) -> Result<Meta, Memory>
-    ensures { IfOk result (λ meta. meta ≡ said_of specs.now path.now.parts) }
+/// What the keys of `spec:` say of a path, the path's own key over the patterns.
+pub fn layers_of<'a>(specs: &SpecIndex<'a>, path: &KeyName) -> Result<Vec<Layer<'a>>, Memory>
+    ensures { IfOk result (λ layers. laid layers.items ≡ said_of specs.now path.now.parts) }
 {
     if specs.keys().len() == 0 {
-        return Ok(Meta::new(specs.allocator()));
+        return Ok(Vec::new(specs.allocator()));
     }
     let own = path.with_namespace(Namespace::Spec)?;
-    let mut meta = meta_of(specs.keys(), &own)?;
+    let mut layers = own_layer(specs.keys(), &own)?;
     let globs = specs.candidates(path)?;
     for glob in &globs {
-        if_pattern(&mut meta, is_pattern(path, &own, glob.name), glob.entry)?;
+        if_pattern(&mut layers, is_pattern(path, &own, glob.name), glob.entry)?;
     }
-    Ok(meta)
+    Ok(layers)
 }
 
 /// Whether a name in `spec:` is another than a path's own, and its parts match the path.
@@ -53,22 +55,27 @@ fn is_pattern(path: &KeyName, own: &KeyName, name: &KeyName) -> bool
     path.matches_glob(name) && name != own
 }
 
-/// Lays metadata over that of a key, if it is a pattern's.
-fn if_pattern(meta: &mut Meta, is_pattern: bool, entry: &Entry) -> Result<(), Memory>
-    ensures ok { OnOk result (meta.new ≡ (if is_pattern then laid_over (meta.old ∷ entry.now.meta ∷ []) else meta.old)) }
+/// Adds the metadata of a key below some, if it is a pattern's.
+fn if_pattern<'a>(
+    layers: &mut Vec<Layer<'a>>,
+    is_pattern: bool,
+    entry: &'a Entry,
+) -> Result<(), Memory>
+    ensures ok { OnOk result (laid layers.new.items ≡ (if is_pattern then laid_over (laid layers.old.items ∷ entry.now.meta ∷ []) else laid layers.old.items)) }
 {
     if is_pattern {
-        lay_over(meta, &entry.meta)?;
+        add_layer(layers, &entry.meta)?;
     }
     Ok(())
 }
 
 /// The metadata of a key, or none where it isn't there.
-fn meta_of(specs: &KeySet, name: &KeyName) -> Result<Meta, Memory>
-    ensures { IfOk result (λ meta. meta ≡ option_map_or (λ entry. entry.meta) (finite.get specs.now name.now) finite.empty) }
+fn own_layer<'a>(specs: &'a KeySet, name: &KeyName) -> Result<Vec<Layer<'a>>, Memory>
+    ensures { IfOk result (λ layers. laid layers.items ≡ option_map_or (λ entry. entry.meta) (finite.get specs.now name.now) finite.empty) }
 {
-    match specs.lookup(name) {
-        Some(entry) => entry.meta.copy(),
-        None => Ok(Meta::new(specs.allocator())),
+    let mut layers = Vec::new(specs.allocator());
+    if let Some(entry) = specs.lookup(name) {
+        add_layer(&mut layers, &entry.meta)?;
     }
+    Ok(layers)
 }

@@ -6,12 +6,14 @@ ghost use Rattle.key_set.specs.EntryView.{entry_of};
 ghost use Rattle.model_names.specs.Name.{Name};
 ghost use Rattle.model_specified.specs.SpecMeta.{said_of};
 ghost use Rattle.model_specified.specs.Specified.{bit_under, is_specified, specified, specified_entry, specified_value};
+ghost use Rattle.plugin_chain.specs.Layers.{laid};
 
 use crate::booleans::bit_under;
 use crate::defaults::with_defaults;
+use crate::layers::{Layer, lay_all};
 use crate::laying::lay_over;
 use crate::spec_index::SpecIndex;
-use crate::spec_metas::{said_of, spec_keys};
+use crate::spec_metas::{layers_of, spec_keys};
 use key_meta::{Memory, Meta, Text};
 use key_name::{KeyName, Namespace};
 use key_set::{Entry, KeySet};
@@ -58,10 +60,11 @@ pub fn specified_entry(
 ) -> Result<Option<Entry>, Memory>
     ensures { IfOk result (λ changed. unwrap_or (option_map entry_of changed) (entry_of entry.now) ≡ specified_entry specs.now name.now (entry_of entry.now)) }
 {
-    let mut meta = said_of_key(specs, name)?;
-    if meta.is_empty() {
+    let layers = layers_of_key(specs, name)?;
+    if layers.is_empty() {
         return changed_value(specs.allocator(), entry);
     }
+    let mut meta = lay_all(specs.allocator(), &layers)?;
     lay_over(&mut meta, &entry.meta)?;
     let value = value_under(specs.allocator(), &meta, &entry.value)?;
     Ok(Some(Entry { value, meta }))
@@ -78,13 +81,13 @@ fn value_under(alloc: Global, meta: &Meta, value: &Text) -> Result<Text, Memory>
 }
 
 /// What the keys of `spec:` say of a key: nothing in `spec:` and cascading.
-fn said_of_key(specs: &SpecIndex, name: &KeyName) -> Result<Meta, Memory>
-    ensures { IfOk result (λ meta. meta ≡ (if is_specified name.now.namespace then said_of specs.now name.now.parts else finite.empty)) }
+pub fn layers_of_key<'a>(specs: &SpecIndex<'a>, name: &KeyName) -> Result<Vec<Layer<'a>>, Memory>
+    ensures { IfOk result (λ layers. laid layers.items ≡ (if is_specified name.now.namespace then said_of specs.now name.now.parts else finite.empty)) }
 {
     if is_specified(name.namespace()) {
-        said_of(specs, name)
+        layers_of(specs, name)
     } else {
-        Ok(Meta::new(specs.allocator()))
+        Ok(Vec::new(specs.allocator()))
     }
 }
 

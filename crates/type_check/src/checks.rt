@@ -1,6 +1,7 @@
 //! The checks of a value under its metadata.
-ghost use Rattle.std.specs.Prelude.{◌≡◌, true, false, IfOk};
+ghost use Rattle.std.specs.Prelude.{◌≡◌, true, false, codes, IfOk};
 ghost use Rattle.std.specs.List.{Contains};
+ghost use Rattle.model_maps.specs.Entry.{Meta, array_texts};
 ghost use Rattle.model_rules.specs.Rules.{BreaksEnum, BreaksType, Tells};
 
 use crate::types::{is_of_kind, kind_of};
@@ -39,10 +40,17 @@ pub fn check_enum(alloc: Global, value: &str, meta: &Meta) -> Result<Option<Brok
         return Ok(None);
     }
     let items = meta.array("check/enum")?;
-    if items.as_slice().is_empty() {
+    check_among(alloc, value, items.as_slice())
+}
+
+/// The breach of rule 5 by the items of the array `check/enum`, where they are at hand.
+pub fn check_among(alloc: Global, value: &str, items: &[Text]) -> Result<Option<Broken>, Memory>
+    ensures { (meta : Meta) → items.now ≡ array_texts meta (codes "check/enum") → IfOk result (Tells (BreaksEnum value.now meta)) }
+{
+    if items.is_empty() {
         return Ok(None);
     }
-    if is_among(items.as_slice(), value) {
+    if is_among(items, value) {
         return Ok(None);
     }
     let given = Text::new(alloc, value)?;

@@ -5,6 +5,6 @@ mod checks;
 mod numbers;
 mod types;
 
-pub use checks::{check_enum, check_type};
+pub use checks::{check_among, check_enum, check_type};
 pub use numbers::{number_of, signed_number_of};
 pub use types::kind_of;

@@ -2,8 +2,9 @@
 use Rattle.std.proofs.Common.{◌≡◌, ◌∷◌, drop, map}
 use Rattle.model_specified.specs.SpecMeta.{laid_over, said_of}
 use Rattle.plugin_chain.specs.Globs.{seen}
+use Rattle.plugin_chain.specs.Layers.{laid}
 use Rattle.plugin_chain.proofs.SpecLemmas.{metas_of}
-use Rattle.plugin_chain.proofs.spec_metas.said_of.Given as goal
+use Rattle.plugin_chain.proofs.spec_metas.layers_of.Given as goal
 
 abbrev pub invariant-loop-glob : goal.invariant-loop-glob
-invariant-loop-glob l = laid_over (l.meta ∷ metas_of l.path.parts (map seen (drop l.glob-index l.glob-items))) ≡ said_of l.specs l.path.parts
+invariant-loop-glob l = laid_over (laid l.layers.items ∷ metas_of l.path.parts (map seen (drop l.glob-index l.glob-items))) ≡ said_of l.specs l.path.parts
