@@ -6,10 +6,10 @@ use kdb_handle::{Merging, Reply, Transcripts};
 use kdb_outside::OpenGate;
 use key_name::KeyName;
 use key_set::KeySet;
+use regex_check::RegexPatterns;
 use std::alloc::Global;
 use std::test::*;
 use store_core::Done;
-use thread_patterns::ThreadPatterns;
 
 /// Whether a merge was stored, and each number of commits that it tells is so high.
 fn is_stored_behind(merging: &Merging, commits: u64) -> bool {
@@ -63,7 +63,7 @@ fn phase_of(alloc: Global, sessions: u32, first: u32, last: u32) -> Result<Strin
 /// key.
 fn found_of(
     alloc: Global,
-    played: &Played<MemDisk, ThreadPatterns>,
+    played: &Played<MemDisk, RegexPatterns>,
     sessions: u32,
     last: u32,
 ) -> Result<(usize, u32), Fail> {

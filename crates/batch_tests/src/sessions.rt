@@ -5,12 +5,12 @@ use batch_run::{Played, play_on, what_bytes_read_as_can_be_played};
 use batch_script::parse_script;
 use disk_memory::MemDisk;
 use kdb_outside::Gate;
+use regex_check::RegexPatterns;
 use std::alloc::Global;
 use std::sync::Wait;
 use std::test::*;
 use std::thread::Threads;
 use store_core::{Opened, open_store};
-use thread_patterns::ThreadPatterns;
 
 /// Plays a script on an empty disk.
 pub fn play<G: Gate + Sync, R: Threads + Wait + Sync>(
@@ -18,14 +18,13 @@ pub fn play<G: Gate + Sync, R: Threads + Wait + Sync>(
     alloc: Global,
     gate: &G,
     text: &str,
-) -> Option<Played<MemDisk, ThreadPatterns>> {
+) -> Option<Played<MemDisk, RegexPatterns>> {
     what_bytes_read_as_can_be_played();
     let Ok(script) = parse_script(alloc, text.as_bytes()) else {
         return None;
     };
     let disk = MemDisk::new(alloc, Vec::new(alloc), Vec::new(alloc), None).ok()?;
-    let Ok(Opened { plan, core }) = open_store(alloc, disk, AllFormats, ThreadPatterns::new())
-    else {
+    let Ok(Opened { plan, core }) = open_store(alloc, disk, AllFormats, RegexPatterns::new()) else {
         return None;
     };
     Some(play_on(rt, alloc, gate, plan, core, &script))

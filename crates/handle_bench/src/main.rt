@@ -8,12 +8,12 @@ use disk_memory::MemDisk;
 use handle_teams::{Team, count_by, disk_with_mounts, points_of};
 use key_name::KeyName;
 use key_set::KeySet;
+use regex_check::RegexPatterns;
 use std::alloc::Global;
 use std::env;
 use std::process::ExitCode;
 use std::sync::Wait;
 use std::thread::Threads;
-use thread_patterns::ThreadPatterns;
 
 /// How often a commit is tried.
 const TRIES: u32 = 1_000_000;
@@ -98,13 +98,7 @@ fn committed<R: Threads + Wait + Sync>(
     commits: u32,
 ) -> Option<u64> {
     let commits = commits as u64;
-    let team = Team::open(
-        alloc,
-        disk,
-        AllFormats,
-        ThreadPatterns::new(),
-        parents.len(),
-    )?;
+    let team = Team::open(alloc, disk, AllFormats, RegexPatterns::new(), parents.len())?;
     let closed = team.work(rt, alloc, parents, commits, TRIES).close();
     if closed.history.len() != commits {
         return None;

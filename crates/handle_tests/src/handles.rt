@@ -6,20 +6,20 @@ use handle_teams::{Answer, Ask, Team, disk_with_mounts, points_of};
 use key_name::KeyName;
 use key_set::KeySet;
 use mounted_files::FileState;
+use regex_check::RegexPatterns;
 use std::alloc::Global;
 use std::sync::Wait;
 use std::test::*;
 use std::thread::Threads;
 use store_core::{Closed, open_store};
-use thread_patterns::ThreadPatterns;
 
 /// A team on an empty disk.
 fn team_of(
     alloc: Global,
     handles: usize,
-) -> Result<Team<MemDisk, AllFormats, ThreadPatterns>, Fail> {
+) -> Result<Team<MemDisk, AllFormats, RegexPatterns>, Fail> {
     let disk = MemDisk::new(alloc, Vec::new(alloc), Vec::new(alloc), None)?;
-    Ok(Team::open(alloc, disk, AllFormats, ThreadPatterns::new(), handles).ok_or("it is opened")?)
+    Ok(Team::open(alloc, disk, AllFormats, RegexPatterns::new(), handles).ok_or("it is opened")?)
 }
 
 /// So many parents, in turns `user:/` and `system:/`.
@@ -238,7 +238,7 @@ fn worked<R: Threads + Wait + Sync>(
     handles: usize,
     commits: u64,
     tries: u32,
-) -> Result<Closed<MemDisk, ThreadPatterns>, Fail> {
+) -> Result<Closed<MemDisk, RegexPatterns>, Fail> {
     let parents = parents_of(alloc, handles)?;
     let team = team_of(alloc, handles)?;
     Ok(team.work(rt, alloc, &parents, commits, tries).close())
@@ -250,17 +250,12 @@ fn worked_apart<R: Threads + Wait + Sync>(
     alloc: Global,
     handles: u32,
     commits: u64,
-) -> Result<Closed<MemDisk, ThreadPatterns>, Fail> {
+) -> Result<Closed<MemDisk, RegexPatterns>, Fail> {
     let parents = points_of(alloc, handles)?;
     let disk = disk_with_mounts(alloc, handles, false)?;
-    let team = Team::open(
-        alloc,
-        disk,
-        AllFormats,
-        ThreadPatterns::new(),
-        parents.len(),
-    )
-    .ok_or("it is opened")?;
+    let team = Team::open(alloc, disk, AllFormats, RegexPatterns::new(), parents.len()).ok_or(
+        "it is opened",
+    )?;
     Ok(team.work(rt, alloc, &parents, commits, 1).close())
 }
 
@@ -272,20 +267,15 @@ fn worked_at_one<R: Threads + Wait + Sync>(
     commits: u64,
     by_key: bool,
     tries: u32,
-) -> Result<Closed<MemDisk, ThreadPatterns>, Fail> {
+) -> Result<Closed<MemDisk, RegexPatterns>, Fail> {
     let mut parents = Vec::new(alloc);
     for _ in 0..handles {
         parents.push(KeyName::parse(alloc, "user:/m000")?)?;
     }
     let disk = disk_with_mounts(alloc, 1, by_key)?;
-    let team = Team::open(
-        alloc,
-        disk,
-        AllFormats,
-        ThreadPatterns::new(),
-        parents.len(),
-    )
-    .ok_or("it is opened")?;
+    let team = Team::open(alloc, disk, AllFormats, RegexPatterns::new(), parents.len()).ok_or(
+        "it is opened",
+    )?;
     Ok(team.work(rt, alloc, &parents, commits, tries).close())
 }
 
@@ -308,7 +298,7 @@ fn shown(state: &FileState) -> Option<&KeySet> {
 
 /// The keys of all files of a disk.
 fn keys_of(alloc: Global, disk: MemDisk) -> Result<KeySet, Fail> {
-    let opened = open_store(alloc, disk, AllFormats, ThreadPatterns::new())
+    let opened = open_store(alloc, disk, AllFormats, RegexPatterns::new())
         .ok()
         .ok_or("it is opened")?;
     let mut keys = KeySet::new(alloc);
@@ -323,7 +313,7 @@ fn keys_of(alloc: Global, disk: MemDisk) -> Result<KeySet, Fail> {
 fn has_files_of(
     alloc: Global,
     start: &KeySet,
-    closed: Closed<MemDisk, ThreadPatterns>,
+    closed: Closed<MemDisk, RegexPatterns>,
     count: usize,
 ) -> Result<bool, Fail> {
     let number = closed.history.len();

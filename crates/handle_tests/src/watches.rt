@@ -6,10 +6,10 @@ use handle_teams::Team;
 use key_meta::{Meta, Text};
 use key_name::KeyName;
 use key_set::{Entry, KeySet};
+use regex_check::RegexPatterns;
 use std::alloc::Global;
 use std::sync::Wait;
 use std::test::*;
-use thread_patterns::ThreadPatterns;
 use watch_feed::{Changed, News, Watch};
 
 /// Names of three namespaces: at a path, below it, and beside it.
@@ -119,7 +119,7 @@ fn played<R: Wait>(
     let all = KeyName::parse(alloc, "/")?;
     let parent = KeyName::parse(alloc, parent)?;
     let disk = MemDisk::new(alloc, Vec::new(alloc), Vec::new(alloc), None)?;
-    let team = Team::open(alloc, disk, AllFormats, ThreadPatterns::new(), 2).ok_or("it is opened")?;
+    let team = Team::open(alloc, disk, AllFormats, RegexPatterns::new(), 2).ok_or("it is opened")?;
     let watch = team.watch(alloc, 1, &parent, room);
     let (polls, history) = polls_of(rt, alloc, team, watch, &all, steps);
     // Where memory was wanting for a poll it is missing.
@@ -137,7 +137,7 @@ fn played<R: Wait>(
 fn polls_of<R: Wait>(
     rt: &R,
     alloc: Global,
-    team: Team<MemDisk, AllFormats, ThreadPatterns>,
+    team: Team<MemDisk, AllFormats, RegexPatterns>,
     watch: Option<Watch>,
     all: &KeyName,
     steps: &[Step],

@@ -4,10 +4,10 @@ use crate::notation::push_line;
 use kdb_outside::{Disk, Gate, MemSink, MemSource};
 use kdb_process::run;
 use key_meta::{Memory, Text};
+use regex_check::RegexPatterns;
 use std::alloc::Global;
 use std::sync::Wait;
 use std::thread::Threads;
-use thread_patterns::ThreadPatterns;
 
 /// What a run reads and writes.
 #[derive(Drop)]
@@ -44,7 +44,7 @@ pub fn run_over<G: Gate + Sync, D: Disk + Send, R: Threads + Wait + Sync>(
         &mut streams.out,
         &mut streams.err,
         disk,
-        ThreadPatterns::new(),
+        RegexPatterns::new(),
         gate,
     );
     (status.code(), disk)

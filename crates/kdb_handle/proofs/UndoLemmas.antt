@@ -136,11 +136,6 @@ module _ (formats : Formats) {D P : Type 0} (g : Ghosts D) (code : Coded D) (ref
   inverse_is : (changes : List Change) → IsInverse core.start core.history.commits number changes → IsInverse store.start history number changes
   inverse_is changes is = subst (λ (cs : List Commit). IsInverse store.start cs number changes) history_is (subst (λ (k : KeyMap). IsInverse k core.history.commits number changes) start_is is)
 
-  pub no_inverse : (why : InverseFault) → IsRefusal core.history.commits number why → IsBarred undo (of_inverse why)
-  no_inverse (inverse_fault.NoCommit told front) is = subst (λ (cs : List Commit). IsRefusal cs number (inverse_fault.NoCommit told front)) history_is is
-  no_inverse (inverse_fault.Overtaken name by front) is = subst (λ (cs : List Commit). IsRefusal cs number (inverse_fault.Overtaken name by front)) history_is is
-  no_inverse inverse_fault.Memory is = tt
-
   -- ---- the get
 
   module _ (mounts : List Mount) (mounts_are : mounts ≡ over (λ (file : MountedFile). file.mount) files) (parent : Name) (parent_is : parent ≡ parent_over (points_at mounts) (touched_by core.history.commits number)) where

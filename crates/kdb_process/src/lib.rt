@@ -8,6 +8,7 @@ use disk_real::RealDisk;
 use kdb_outside::{OpenGate, ReaderSource, Sink, WriterSink};
 pub use kdb_tool::run;
 use key_meta::Text;
+use regex_check::RegexPatterns;
 use std::env::VarError;
 use std::io::ErrorKind;
 use std::process::ExitCode;
@@ -15,7 +16,6 @@ use std::sync::Wait;
 use std::thread::Threads;
 use std::{env, io};
 pub use streams::{dead_end, taken_streams};
-use thread_patterns::ThreadPatterns;
 
 /// The folder of the store.
 const FOLDER: &str = ".kdb";
@@ -92,7 +92,7 @@ fn run_in<E: Sink, R: Threads + Wait + Sync>(
         &mut out,
         err,
         disk,
-        ThreadPatterns::new(),
+        RegexPatterns::new(),
         &OpenGate,
     );
     ExitCode::from(status.code())

@@ -49,11 +49,6 @@ module _ {D P : Type 0} (g : Ghosts D) (refused : P → ℕ) (rounds : ℕ) (mou
         comes_to = subst (λ (history : List Commit). ComesTo history (tally_of rounds)) is.history out.comes_to;
       }
 
-  pub tells-played : (answer : Result code.Report Stop) → IsOpened all.Reads all.IsBadAt no_files mounted → script ≡ gen_script rounds → IsPlayed formats g refused mounted script core played
-      → TellsIf rounds (ComesOut rounds played.transcripts played.closed.history.commits) answer → TellsIf rounds (PlaysRounds rounds) answer
-  tells-played (Ok report) opened same is told = (told.0, plays opened same is told.1)
-  tells-played (Err stop) opened same is told = told
-
 -- ---- to out and err
 
 module _ (status : ℕ) (out err : Change) where

@@ -60,27 +60,7 @@ play-asks words input script (OfInput takes is) = record { takes = takes; is_scr
 
 -- ---- the input
 
--- an input that is given where words are taken is the one that its source tells
-pub given-left : (takes : Bool) (left : Option (List ℕ)) (given : List ℕ) → takes ≡ true → IsGiven takes left given → left ≡ Some given
-given-left true left given is fed = fed
-given-left false left given is fed = absurd cc
-
 -- how a call leaves the input that takes nothing more
 pub leaves-more : {S : Type 0} (g : Ghosts S) (takes : Bool) (now_done done : Type 0) (before now : S) → (now_done → done) → LeavesInput g takes done before now → LeavesInput g takes now_done before now
 leaves-more g false now_done done before now weaker leaves = leaves
 leaves-more g true now_done done before now weaker leaves = record { front = leaves.front; all = λ answered. leaves.all (weaker answered) }
-
--- where words are refused it is left alone
-pub leaves-alone : {S : Type 0} (g : Ghosts S) (takes : Bool) (done : Type 0) (source : S) → takes ≡ false → LeavesInput g takes done source source
-leaves-alone g false done source is = refl
-leaves-alone g true done source is = absurd cc
-
--- and where no answer comes of it
-pub leaves-none : {S : Type 0} (g : Ghosts S) (takes : Bool) (done : Type 0) (source : S) → (done → ⊥) → LeavesInput g takes done source source
-leaves-none g false done source none = refl
-leaves-none g true done source none = record { front = λ bytes told. record { count = 0; few = omega arith; is = told }; all = λ yes. absurd (none yes) }
-
-pub leaves-taken : {S : Type 0} (g : Ghosts S) (takes : Bool) (done : Type 0) (before now : S) → takes ≡ true → ((bytes : List ℕ) → g.left before ≡ Some bytes → TakesFront most_taken bytes (g.left now))
-    → ((bytes : List ℕ) → g.left before ≡ Some bytes → done → TakesAll most_taken bytes (g.left now)) → LeavesInput g takes done before now
-leaves-taken g true done before now is front all = record { front = front; all = λ answered bytes left. all bytes left answered }
-leaves-taken g false done before now is front all = absurd cc

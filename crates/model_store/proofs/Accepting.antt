@@ -105,9 +105,6 @@ module _ (store : Store) (history later : List Commit) (number handle : ℕ) (ea
   ok_now : accepts (record_of store (history ++ later) number now) number (set_of store history handle earlier parent keys) ≡ true
   ok_now = sym (ap₂ (λ (r s : Record). accepts r number (prepared (points_of store) handle s parent keys)) same_now same_before) ∙ ok
 
-  pub none_committed : commits_by number later ≡ []
-  none_committed = none_since store history later number handle earlier now parent keys was.within ok_now
-
   pub accepted_record : prepared (points_of store) handle before parent keys ≡ prepared (points_of store) number rec parent keys
   accepted_record =
       ap (λ (r : Record). prepared (points_of store) handle r parent keys) same_before

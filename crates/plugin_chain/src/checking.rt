@@ -20,7 +20,7 @@ use key_set::Entry;
 use model_rules::Broken;
 use model_specified::Violation;
 use range_check::check_range;
-use regex_check::{Patterns, check_pattern};
+use regex_check::{LastPattern, Patterns, check_pattern_again};
 use std::alloc::Global;
 use type_check::{check_among, check_type};
 
@@ -28,6 +28,7 @@ use type_check::{check_among, check_type};
 pub fn check_if<'a, P: Patterns>(
     is_chosen: bool,
     patterns: &mut P,
+    last: &mut LastPattern,
     kept: &mut Option<Enumeration<'a>>,
     specs: &SpecIndex<'a>,
     name: &KeyName,
@@ -40,13 +41,14 @@ pub fn check_if<'a, P: Patterns>(
     if !is_chosen {
         return Ok(());
     }
-    check_key(patterns, kept, specs, name, entry, list)
+    check_key(patterns, last, kept, specs, name, entry, list)
 }
 
 /// Checks a key as the keys of `spec:` have it, and adds what it breaks. Metadata that is laid over no other is looked
 /// at where it stands.
 fn check_key<'a, P: Patterns>(
     patterns: &mut P,
+    last: &mut LastPattern,
     kept: &mut Option<Enumeration<'a>>,
     specs: &SpecIndex<'a>,
     name: &KeyName,
@@ -60,20 +62,30 @@ fn check_key<'a, P: Patterns>(
     let value = entry.value.as_str();
     let layers = layers_of_key(specs, name)?;
     if layers.is_empty() {
-        return check_once(alloc, patterns, name, value, &entry.meta, list);
+        return check_once(alloc, patterns, last, name, value, &entry.meta, list);
     }
     if layers.len() == 1 && entry.meta.is_empty() {
-        return check_again(alloc, patterns, kept, name, value, layers[0].meta, list);
+        return check_again(
+            alloc,
+            patterns,
+            last,
+            kept,
+            name,
+            value,
+            layers[0].meta,
+            list,
+        );
     }
     let mut meta = lay_all(alloc, &layers)?;
     lay_over(&mut meta, &entry.meta)?;
-    check_once(alloc, patterns, name, value, &meta, list)
+    check_once(alloc, patterns, last, name, value, &meta, list)
 }
 
 /// Checks a value under metadata that stands for one key, and adds what it breaks.
 fn check_once<P: Patterns>(
     alloc: Global,
     patterns: &mut P,
+    last: &mut LastPattern,
     name: &KeyName,
     value: &str,
     meta: &Meta,
@@ -87,13 +99,23 @@ fn check_once<P: Patterns>(
         return Ok(());
     }
     let items = meta.array("check/enum")?;
-    check_under(alloc, patterns, name, value, meta, items.as_slice(), list)
+    check_under(
+        alloc,
+        patterns,
+        last,
+        name,
+        value,
+        meta,
+        items.as_slice(),
+        list,
+    )
 }
 
 /// Checks a value under metadata that may stand for many keys, and adds what it breaks.
 fn check_again<'a, P: Patterns>(
     alloc: Global,
     patterns: &mut P,
+    last: &mut LastPattern,
     kept: &mut Option<Enumeration<'a>>,
     name: &KeyName,
     value: &str,
@@ -104,10 +126,10 @@ fn check_again<'a, P: Patterns>(
     ensures later { P.refusals patterns.old ≤ P.refusals patterns.new }
 {
     if let Some(items) = kept_items(&*kept, meta) {
-        return check_under(alloc, patterns, name, value, meta, items, list);
+        return check_under(alloc, patterns, last, name, value, meta, items, list);
     }
     let new = Enumeration::new(meta)?;
-    let done = check_under(alloc, patterns, name, value, meta, new.items(), list);
+    let done = check_under(alloc, patterns, last, name, value, meta, new.items(), list);
     if !new.items().is_empty() {
         *kept = Some(new);
     }
@@ -119,6 +141,7 @@ fn check_again<'a, P: Patterns>(
 fn check_under<P: Patterns>(
     alloc: Global,
     patterns: &mut P,
+    last: &mut LastPattern,
     name: &KeyName,
     value: &str,
     meta: &Meta,
@@ -130,8 +153,8 @@ fn check_under<P: Patterns>(
     ensures later { P.refusals patterns.old ≤ P.refusals patterns.new }
 {
     match bit_under(meta, value) {
-        Some(bit) => check_value(alloc, patterns, name, bit, meta, items, list),
-        None => check_value(alloc, patterns, name, value, meta, items, list),
+        Some(bit) => check_value(alloc, patterns, last, name, bit, meta, items, list),
+        None => check_value(alloc, patterns, last, name, value, meta, items, list),
     }
 }
 
@@ -139,6 +162,7 @@ fn check_under<P: Patterns>(
 fn check_value<P: Patterns>(
     alloc: Global,
     patterns: &mut P,
+    last: &mut LastPattern,
     name: &KeyName,
     value: &str,
     meta: &Meta,
@@ -157,7 +181,7 @@ fn check_value<P: Patterns>(
         list,
         name,
         room,
-        check_pattern(alloc, patterns, value, meta)?,
+        check_pattern_again(alloc, patterns, last, value, meta)?,
     )?;
     Ok(())
 }

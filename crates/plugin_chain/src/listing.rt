@@ -16,7 +16,7 @@ use key_meta::{List, Memory};
 use key_name::KeyName;
 use key_set::KeySet;
 use model_specified::Violation;
-use regex_check::Patterns;
+use regex_check::{LastPattern, Patterns};
 
 /// All violations of the specified set at or below a name, by key in order and for each key by rule. A cascading name stands for
 /// its path in every namespace.
@@ -45,12 +45,13 @@ fn all_at<'a, P: Patterns>(
     ensures all { IfOk result (λ list. AreOfKeys (HasRisen (P.refusals patterns.old) (P.refusals patterns.new)) (checked specs.now (is_within at.now) (finite.entries made.now)) list.items) }
     ensures later { P.refusals patterns.old ≤ P.refusals patterns.new }
 {
+    let mut last = LastPattern::none();
     let mut kept = None;
     let mut list = Vec::new(specs.allocator());
     for (name, entry) in made.iter() {
         let is_chosen = is_listed(at, name)?;
         check_if(
-            is_chosen, patterns, &mut kept, specs, name, entry, &mut list,
+            is_chosen, patterns, &mut last, &mut kept, specs, name, entry, &mut list,
         )?;
     }
     Ok(list)
@@ -86,11 +87,14 @@ fn first_in<'a, P: Patterns>(
     ensures first { IfOk result (IsFirstOf (HasRisen (P.refusals patterns.old) (P.refusals patterns.new)) (checked specs.now (is_owned points.now touched.now) (finite.entries made.now))) }
     ensures later { P.refusals patterns.old ≤ P.refusals patterns.new }
 {
+    let mut last = LastPattern::none();
     let mut kept = None;
     for (name, entry) in made.iter() {
         let is_chosen = is_touched(points, touched, name);
         let mut own = Vec::new(specs.allocator());
-        check_if(is_chosen, patterns, &mut kept, specs, name, entry, &mut own)?;
+        check_if(
+            is_chosen, patterns, &mut last, &mut kept, specs, name, entry, &mut own,
+        )?;
         if let Some(first) = first_of(own) {
             return Ok(Some(first));
         }

@@ -5,6 +5,7 @@ ghost use Rattle.model_rules.specs.Rules.{BreaksPattern, KeepsPattern};
 ghost use Rattle.regex_check.specs.Answers.{HandsNothingOn, Refutes};
 ghost use Rattle.regex_check.specs.Grammar.{Matches, Misses};
 
+use crate::last::LastPattern;
 use crate::patterns::{Patterns, Search};
 use key_meta::{Memory, Meta, Text};
 use model_rules::Broken;
@@ -28,6 +29,24 @@ pub fn check_pattern<P: Patterns>(
     ensures err { OnErr result (P.refusals patterns.new ≡ P.refusals patterns.old) }
     ensures alone { HandsNothingOn meta.now → patterns.new ≡ patterns.old }
 {
+    check_pattern_again(alloc, patterns, &mut LastPattern::none(), value, meta)
+}
+
+/// The breach that `check_pattern` tells, where one pattern may stand for many values: the last is compiled once.
+pub fn check_pattern_again<P: Patterns>(
+    alloc: Global,
+    patterns: &mut P,
+    last: &mut LastPattern,
+    value: &str,
+    meta: &Meta,
+) -> Result<Option<Broken>, Memory>
+    ensures answer { IfOk result (λ answer. MatchOption answer
+        (KeepsPattern Matches value.now meta.now)
+        (BreaksPattern (λ _. HasRisen (P.refusals patterns.old) (P.refusals patterns.new)) Misses value.now meta.now)) }
+    ensures later { P.refusals patterns.old ≤ P.refusals patterns.new }
+    ensures err { OnErr result (P.refusals patterns.new ≡ P.refusals patterns.old) }
+    ensures alone { HandsNothingOn meta.now → patterns.new ≡ patterns.old }
+{
     let Some(pattern) = meta.get("check/validation") else {
         return Ok(None);
     };
@@ -35,13 +54,14 @@ pub fn check_pattern<P: Patterns>(
         let given = Text::new(alloc, pattern)?;
         return Ok(Some(Broken { rule: 6, given }));
     }
-    breach_of(alloc, patterns, pattern, value)
+    breach_of(alloc, patterns, last, pattern, value)
 }
 
 /// What the search for a pattern in a value refutes.
 fn breach_of<P: Patterns>(
     alloc: Global,
     patterns: &mut P,
+    last: &mut LastPattern,
     pattern: &str,
     value: &str,
 ) -> Result<Option<Broken>, Memory>
@@ -54,7 +74,7 @@ fn breach_of<P: Patterns>(
     // Room for either breach is taken before the search: so want of memory hides no refused pattern, and counts none.
     let refused = Text::new(alloc, pattern)?;
     let missed = Text::new(alloc, value)?;
-    match patterns.search(alloc, pattern, value)? {
+    match patterns.search_again(alloc, last, pattern, value)? {
         Search::Found => Ok(None),
         Search::Missing => Ok(Some(Broken {
             rule: 7,

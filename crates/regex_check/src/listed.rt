@@ -4,6 +4,7 @@ ghost use Rattle.kdb_outside.specs.Calls.{IsNextListed, next_count, no_calls};
 ghost use Rattle.kdb_outside.specs.Faults.{HasRisen};
 ghost use Rattle.regex_check.specs.Answers.{Answers, count_after};
 
+use crate::last::LastPattern;
 use crate::patterns::{Patterns, Search};
 use crate::regexes::RegexPatterns;
 use key_meta::Memory;
@@ -63,11 +64,30 @@ impl Patterns for ListedPatterns {
         ensures cause { IfOk result (λ search. search ≡ Search.Refused → HasRisen self.old.faults self.new.faults) }
         ensures later { self.old.faults ≤ self.new.faults }
     {
+        self.search_again(alloc, &mut LastPattern::none(), pattern, value)
+    }
+
+    fn search_again(
+        &mut self,
+        alloc: Global,
+        last: &mut LastPattern,
+        pattern: &str,
+        value: &str,
+    ) -> Result<Search, Memory>
+        ensures listed { IsNextListed self.old → IfOk result (λ search. search ≡ Search.Refused) }
+        ensures made { self.new.made ≡ next_count self.old.made }
+        ensures same { self.new.failing ≡ self.old.failing }
+        ensures counted { IfOk result (λ search. self.new.faults ≡ count_after search self.old.faults) }
+        ensures err { OnErr result (self.new.faults ≡ self.old.faults) }
+        ensures answer { IfOk result (Answers pattern.now value.now) }
+        ensures cause { IfOk result (λ search. search ≡ Search.Refused → HasRisen self.old.faults self.new.faults) }
+        ensures later { self.old.faults ≤ self.new.faults }
+    {
         self.calls = self.calls.saturating_add(1);
         if self.refusing.contains(&self.calls) {
             return Ok(self.refusal());
         }
-        match self.patterns.search(alloc, pattern, value)? {
+        match self.patterns.search_again(alloc, last, pattern, value)? {
             Search::Refused => Ok(self.refusal()),
             search => Ok(search),
         }

@@ -42,9 +42,6 @@ flushed_then g old mid new one two = record {
   goes = GoesOn-then g old.journal.disk mid.journal.disk new.journal.disk one.goes two.goes;
 }
 
-pub flushed_by : {D P : Type 0} (g : Ghosts D) (old new : Core D P) (result : Result Bool Failed) → FlushesStore g old new result → HasFlushed g old new
-flushed_by g old new result is = record { history = is.history; start = is.start; keys = is.keys; patterns = is.patterns; on_disk = is.on_disk; goes = is.goes }
-
 -- a step stands behind flushes, too
 pub stepped_flushed : (formats : Formats) {D P : Type 0} (g : Ghosts D) (files : List MountedFile) (procs : ℕ → KeyMap) (opened : D) (first : Stage) (event : Event) (told : Answer) (mid new : Core D P) (records : List Record) (places : List (Option Prepared))
     → HasFlushed g mid new → Stepped formats g files procs opened first event told mid records places → Stepped formats g files procs opened first event told new records places

@@ -4,7 +4,7 @@ use Rattle.std.specs.Option.{option_map}
 use Rattle.std.proofs.Common.{sym, ap, ◌∙◌, arith, Bor}
 use Rattle.model_rules.specs.Rules.{LongPattern, breach}
 use Rattle.regex_check.proofs.HandedPatterns.{handed_on}
-use Rattle.regex_check.proofs.checks.check_pattern.Goals as goal
+use Rattle.regex_check.proofs.checks.check_pattern_again.Goals as goal
 
 pub returns-then-pattern-gt-LONGEST_PATTERN-clause-answer :
     goal.returns-then-pattern-gt-LONGEST_PATTERN-clause-answer
