@@ -1,2 +1,4 @@
 pub mod TrimLemmas
 pub mod KeyLemmas
+pub mod PlainLemmas
+pub mod BareLemmas

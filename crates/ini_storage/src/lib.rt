@@ -3,6 +3,7 @@
 
 mod escapes;
 mod meanings;
+mod plain;
 mod progress;
 mod reading;
 mod sides;

@@ -4,6 +4,7 @@ ghost use Rattle.model_maps.specs.KeyMap.{weight, heaviest_map};
 ghost use Rattle.ini_storage.specs.Steps.{Steps, Adds};
 
 use crate::meanings::{Meaning, meaning_of};
+use crate::plain::{Plainly, has_backslash, plain_meaning};
 use file_lines::{name_of, value_of};
 use key_meta::{Memory, Meta, Text};
 use key_set::{Entry, HEAVIEST_MAP, KEY_WEIGHT, KeySet};
@@ -25,10 +26,17 @@ pub fn add_line(progress: &mut Progress, alloc: Global, line: &[u8]) -> Result<b
     let Ok(_) = str::from_utf8(line) else {
         return Ok(false);
     };
-    match meaning_of(alloc, line)? {
-        Meaning::Skipped => Ok(true),
-        Meaning::Unreadable => Ok(false),
-        Meaning::Pair { name, value } => add_key(progress, alloc, &name, &value),
+    if has_backslash(line) {
+        return match meaning_of(alloc, line)? {
+            Meaning::Skipped => Ok(true),
+            Meaning::Unreadable => Ok(false),
+            Meaning::Pair { name, value } => add_key(progress, alloc, &name, &value),
+        };
+    }
+    match plain_meaning(line) {
+        Plainly::Skipped => Ok(true),
+        Plainly::Unreadable => Ok(false),
+        Plainly::Pair { name, value } => add_key(progress, alloc, name, value),
     }
 }
 

@@ -1,13 +1,14 @@
 //! Writes a map as its text.
 ghost use Rattle.std.specs.Prelude.{◌≡◌, ◌<◌, ◌∷◌, [], ◌++◌, length, OnOk, IfOk, MatchResult, map as over};
 ghost use Rattle.std.specs.Bool.{Decides};
-ghost use Rattle.std.specs.List.{flat_map};
+ghost use Rattle.std.specs.List.{flat_map, list_any};
 ghost use Rattle.model_names.specs.Spelling.{relative_text, spelling};
 ghost use Rattle.model_ini.specs.Signs.{spelled_sign};
 ghost use Rattle.model_ini.specs.Ini.{IsIniKey, IsStorable, BreaksAt};
 ghost use Rattle.model_ini.specs.Text.{value_sign, name_sign, cover_blank, cover_mark, at_last, line_of, text};
 ghost use Rattle.key_set.specs.EntryView.{entry_of};
 ghost use Rattle.storage_api.specs.Formats.{RefusesToWrite};
+ghost use Rattle.ini_storage.specs.Plain.{may_be_covered};
 ghost use Rattle.ini_storage.specs.SideView.{sign_at, signs_at, first_at};
 
 use key_meta::Memory;
@@ -94,6 +95,11 @@ fn behind_first_slash<'a>(name: &KeyName, spelled: &'a str) -> &'a [u8]
 fn push_text(bytes: &mut Vec<u8>, side: Side, text: &[u8]) -> Result<(), Memory>
     ensures { OnOk result (bytes.new.items ≡ bytes.old.items ++ flat_map spelled_sign (signs_at side text.now)) }
 {
+    // most texts stand as they are
+    if !has_covered(text) {
+        bytes.extend_from_slice(text)?;
+        return Ok(());
+    }
     let [first, rest @ ..] = text else {
         return Ok(());
     };
@@ -101,6 +107,23 @@ fn push_text(bytes: &mut Vec<u8>, side: Side, text: &[u8]) -> Result<(), Memory>
         return push_spelled(bytes, first_sign(side, at_end(sign_of(side, *first))));
     }
     push_long(bytes, side, *first, rest)
+}
+
+/// Whether a byte stands in a text that may have to be covered.
+fn has_covered(text: &[u8]) -> bool
+    ensures { result ≡ list_any may_be_covered text.now }
+{
+    text.iter().any(|byte| may_be_covered(*byte))
+}
+
+/// Whether a byte is covered at some place of a line.
+fn may_be_covered(byte: u8) -> bool
+    ensures { result ≡ may_be_covered byte }
+{
+    match byte {
+        b'\\' | b'\n' | b'\r' | b'\t' | b'=' | b' ' | b'#' | b';' | b'[' => true,
+        _ => false,
+    }
 }
 
 /// Appends a text of two bytes or more.
