@@ -249,6 +249,10 @@ def joined(pages):
         for crate, minutes in more.items():
             known = cells.get(crate, [0] * 4)
             cells[crate] = [sum(it) if crate == OTHERS else it[1] or it[0] for it in zip(known, minutes)]
+    # wrong bodies that have gone since cost nothing
+    for crate in cells:
+        if crate != OTHERS and not edits_of(crate):
+            cells[crate][KINDS.index("edits")] = 0
     rows, sums = table(cells)
     heads += ["What each crate cost in the last of these runs that proved it or tried its wrong bodies:", ""]
     return [*heads, *rows, "", f"{told(sums)}: {sum(sums):.1f} together."]

@@ -24,16 +24,18 @@ awk -v count="$count" -v fewer="$fewer" 'BEGIN {
   printf "}\n" >"data.json"
 }'
 
-# filled ENDING NAME FORMAT: mounts a file of the format, and fills it with the data, which have to come out again
-# (the same keys as a dump are over the limit of a file)
+# filled ENDING NAME FORMAT: mounts a file of the format in a store of its own, since each command reads all mounts, and
+# fills it with the data, which have to come out again (the same keys as a dump are over the limit of a file)
 filled() {
+  mkdir "$work/$1"
+  cd "$work/$1"
+  mv "../data.$1" .
   "$kdb" mount "s.$1" "$2" "$3"
   "$kdb" import "$2" "$3" <"data.$1"
   "$kdb" export "$2" "$3" >out
   cmp out "data.$1"
 }
 filled ini user:/s simpleini
-filled json user:/j json
 
 # told FORMAT KEYS FILE: prints a table of `names` and `commands`, which are run in turn
 told() {
@@ -66,15 +68,16 @@ commands=(
   "$kdb export user:/s simpleini"
   "$kdb import user:/s simpleini < data.ini"
   "$kdb set user:/s/key00007 former ;; $kdb import user:/s simpleini < data.ini"
-  'git config --file git.cfg --list'
+  'git config --file ../git.cfg --list'
 )
 if command -v crudini >/dev/null; then
   names+=('`crudini --get` of one key')
-  commands+=("$(command -v crudini) --get git.cfg s key00007")
+  commands+=("$(command -v crudini) --get ../git.cfg s key00007")
 fi
 told simpleini "$count" data.ini
 echo
 
+filled json user:/j json
 # `jq` reads the file and puts it out again, as an export does, or looks up one value of it.
 names=("${ours[@]}")
 commands=(
