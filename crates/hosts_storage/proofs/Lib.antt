@@ -5,3 +5,4 @@ pub mod NulBytes
 pub mod WeighedLemmas
 pub mod HostLemmas
 pub mod HoldingTests
+pub mod CommentOrder

@@ -10,9 +10,9 @@ pub fn metadata(alloc: Global, texts: Vec<Text>) -> Result<Meta, Memory>
     ensures { IfOk result (λ meta. meta ≡ comments texts.items) }
 {
     let mut meta = Meta::new(alloc);
-    let mut left = texts;
-    while let Some(text) = left.pop() {
-        let name = comment_name(alloc, left.len())?;
+    // from the first on, so that each name comes behind those before it and moves none
+    for (index, text) in texts.iter().enumerate() {
+        let name = comment_name(alloc, index)?;
         meta.set(&name, text.as_str())?;
     }
     Ok(meta)
