@@ -2,8 +2,9 @@
 """slow_files.py PROGRAM FOLDER [PART..]: legal files that once made commands slow, and what commands take on them.
 
 Each kind of file is made at a quarter, at half and at the whole of its size, in a folder below FOLDER, and PROGRAM runs
-three commands there: the last key is got, all keys are checked, and the last key is set. A row has the seconds of the
-processor and the MiB of memory of each. With PARTs, as 0.1, other sizes are made. bench/slow.sh calls this.
+three commands there: the last key is got, all keys are checked, and the last key is set. The last rows are of a hosts
+file. A row has the seconds of the processor and the MiB of memory of each. With PARTs, as 0.1, other sizes are made.
+bench/slow.sh calls this.
 """
 import os
 import resource
@@ -109,7 +110,9 @@ KINDS = [
     ("a pattern that is refused, for 100 keys", refused),
     ("an enumeration of 10,000 for 1,000 keys", enumeration),
     ("an enumeration of 10,000 for 30,000 keys", enumeration_of_many),
+    ("one value of 65,000 bytes under a pattern of 5,000 holes", one_long_value),
 ]
+COMMENTS = 340_000
 
 
 def ran(program, words, folder):
@@ -124,6 +127,11 @@ def ran(program, words, folder):
     return f"{use.ru_utime + use.ru_stime:.2f}, {use.ru_maxrss / 1024:.0f}"
 
 
+def one_long_value(size):
+    checks = (("check/validation", "((a?){100}){50}c"),)
+    return [("_", "", checks)], [("k", "a" * int(65000 * size), ())]
+
+
 def row(program, folder, said, kind, size):
     specs, keys = kind(size)
     os.makedirs(f"{folder}/.kdb")
@@ -131,7 +139,20 @@ def row(program, folder, said, kind, size):
         with open(f"{folder}/.kdb/{name}.ecf", "w", encoding="utf-8") as file:
             file.write(text)
     last = f"user:/{keys[-1][0]}"
-    commands = [["get", last], ["validate", "/"], ["set", last, "v0"]]
+    measure(program, folder, said, size, [["get", last], ["validate", "/"], ["set", last, "v0"]])
+
+
+def hosts_row(program, folder, said, comments, size):
+    """The same for a hosts file, whose one host has so many comments of a size before it."""
+    os.makedirs(f"{folder}/.kdb")
+    subprocess.run([program, "mount", "hosts", "user:/hosts", "hosts"], cwd=folder, check=True)
+    with open(f"{folder}/.kdb/hosts", "w", encoding="utf-8") as file:
+        file.write("#\n" * int(comments * size) + "127.0.0.1 here\n")
+    name = "user:/hosts/ipv4/here"
+    measure(program, folder, said, size, [["get", name], ["validate", "/"], ["set", name, "127.0.0.2"]])
+
+
+def measure(program, folder, said, size, commands):
     print("|", " | ".join([said, f"{size:g}", *(ran(program, it, folder) for it in commands)]), "|", flush=True)
 
 
@@ -142,6 +163,8 @@ def main():
     for at, (said, kind) in enumerate(KINDS):
         for size in sizes:
             row(program, f"{folder}/{at}-{size:g}", said, kind, size)
+    for size in sizes:
+        hosts_row(program, f"{folder}/hosts-{size:g}", f"{COMMENTS:,} comments before one host", COMMENTS, size)
 
 
 main()

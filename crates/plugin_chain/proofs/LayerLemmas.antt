@@ -9,7 +9,7 @@ use Rattle.model_maps.specs.Entry.{Meta}
 use Rattle.model_specified.specs.SpecMeta.{laid_over}
 use Rattle.model_specified.proofs.LaidOver.{get-over, laid_over-alone, laid_over-empty, laid_over-next, laid_over-none}
 use Rattle.plugin_chain.specs.declared.layers.Layer.{Layer}
-use Rattle.plugin_chain.specs.Layers.{laid}
+use Rattle.plugin_chain.specs.Layers.{laid, meta_of}
 use Rattle.std.specs.Option.{option_or}
 
 -- over nothing
@@ -30,9 +30,9 @@ below [] lowest = sym (ap (λ m. laid_over (m ∷ lowest ∷ [])) laid_over-none
 below (upper ∷ metas) lowest = below_all upper metas lowest
 
 -- a layer more
-pub one_more : (layers after : List Layer) (layer : Layer) → after ≡ layers ++ layer ∷ [] → laid after ≡ laid_over (laid layers ∷ layer.meta.now ∷ [])
+pub one_more : (layers after : List Layer) (layer : Layer) → after ≡ layers ++ layer ∷ [] → laid after ≡ laid_over (laid layers ∷ meta_of layer ∷ [])
 one_more layers after layer is =
-    ap laid is ∙ ap laid_over (map-append (λ (l : Layer). l.meta.now) layers (layer ∷ [])) ∙ below (map (λ l. l.meta.now) layers) layer.meta.now
+    ap laid is ∙ ap laid_over (map-append meta_of layers (layer ∷ [])) ∙ below (map meta_of layers) (meta_of layer)
 
 -- metadata without a name adds nothing
 pub bare_more : (upper meta : Meta) → length (finite.entries meta) ≡ 0 → upper ≡ laid_over (upper ∷ meta ∷ [])
@@ -44,9 +44,9 @@ pub laid-none : (layers : List Layer) → length layers ≡ 0 → laid layers �
 laid-none layers none = ap laid (nil_from_length layers none) ∙ laid_over-none
 
 -- one layer alone
-pub laid-one : (layers : List Layer) (layer : Layer) → length layers ≡ 1 → layer ≡ get_or layers 0 layer → layer.meta.now ≡ laid layers
+pub laid-one : (layers : List Layer) (layer : Layer) → length layers ≡ 1 → layer ≡ get_or layers 0 layer → meta_of layer ≡ laid layers
 laid-one [] layer one is = absurd cc
-laid-one (l ∷ []) layer one is = ap (λ (m : Layer). m.meta.now) is ∙ sym (laid_over-alone l.meta.now)
+laid-one (l ∷ []) layer one is = ap meta_of is ∙ sym (laid_over-alone (meta_of l))
 laid-one (l ∷ m ∷ layers) layer one is = absurd cc
 
 -- the first below none
@@ -55,16 +55,16 @@ first_more layers before meta none is =
     is ∙ ap (λ ls. laid_over (laid ls ∷ meta ∷ [])) none ∙ ap (λ m. laid_over (m ∷ meta ∷ [])) laid_over-none ∙ laid_over-empty (meta ∷ []) ∙ laid_over-alone meta
 
 -- a step of a walk that lays the others below what was laid so far
-pub lay_next : (layers : List Layer) (i : ℕ) (layer : Layer) (meta after all : Meta) → i < length layers → layer ≡ get_or layers i layer → after ≡ laid_over (meta ∷ layer.meta.now ∷ [])
-    → laid_over (meta ∷ map (λ l. l.meta.now) (drop i layers)) ≡ all → laid_over (after ∷ map (λ l. l.meta.now) (drop (i + 1) layers)) ≡ all
+pub lay_next : (layers : List Layer) (i : ℕ) (layer : Layer) (meta after all : Meta) → i < length layers → layer ≡ get_or layers i layer → after ≡ laid_over (meta ∷ meta_of layer ∷ [])
+    → laid_over (meta ∷ map meta_of (drop i layers)) ≡ all → laid_over (after ∷ map meta_of (drop (i + 1) layers)) ≡ all
 lay_next layers i layer meta after all lt is made so_far =
-    let rest = map (λ (l : Layer). l.meta.now) (drop (i + 1) layers) in
+    let rest = map meta_of (drop (i + 1) layers) in
     ap (λ m. laid_over (m ∷ rest)) made
-    ∙ laid_over-next meta layer.meta.now rest
-    ∙ ap (λ (l : Layer). laid_over (meta ∷ l.meta.now ∷ rest)) is
-    ∙ sym (ap (λ ls. laid_over (meta ∷ map (λ (l : Layer). l.meta.now) ls)) (drop_more layers i layer lt))
+    ∙ laid_over-next meta (meta_of layer) rest
+    ∙ ap (λ (l : Layer). laid_over (meta ∷ meta_of l ∷ rest)) is
+    ∙ sym (ap (λ ls. laid_over (meta ∷ map meta_of ls)) (drop_more layers i layer lt))
     ∙ so_far
 
-pub lay_last : (layers : List Layer) (i : ℕ) (meta all : Meta) → length layers ≤ i → laid_over (meta ∷ map (λ l. l.meta.now) (drop i layers)) ≡ all → meta ≡ all
+pub lay_last : (layers : List Layer) (i : ℕ) (meta all : Meta) → length layers ≤ i → laid_over (meta ∷ map meta_of (drop i layers)) ≡ all → meta ≡ all
 lay_last layers i meta all le so_far =
-    sym (laid_over-alone meta) ∙ sym (ap (λ ls. laid_over (meta ∷ map (λ (l : Layer). l.meta.now) ls)) (drop_all i layers le)) ∙ so_far
+    sym (laid_over-alone meta) ∙ sym (ap (λ ls. laid_over (meta ∷ map meta_of ls)) (drop_all i layers le)) ∙ so_far

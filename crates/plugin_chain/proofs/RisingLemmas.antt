@@ -256,12 +256,13 @@ told_hole : (name : Name) (b told : Bool) → Decides told (HasGlob name.parts) 
 told_hole name b told decides is = one_answer (has_glob name.parts) told (has_glob-Decides name.parts) decides ∙ is
 
 -- a key with a hole is added
-pub added_glob : (globs new : List Glob) (name : Bor Name) (entry : Bor Held) (told : Bool) → Decides told (HasGlob name.now.parts) → told ≡ true → new ≡ globs ++ (record { name = name; entry = entry }) ∷ []
-    → map seen new ≡ map seen globs ++ filter (λ (key : Name × Entry). has_glob key.0.parts) ((name.now, entry_of entry.now) ∷ [])
-added_glob globs new name entry told decides is made =
+pub added_glob : (globs new : List Glob) (glob : Glob) (key : Name × Entry) (told : Bool) → Decides told (HasGlob key.0.parts) → told ≡ true → seen glob ≡ key → new ≡ globs ++ glob ∷ []
+    → map seen new ≡ map seen globs ++ filter (λ (key : Name × Entry). has_glob key.0.parts) (key ∷ [])
+added_glob globs new glob key told decides is same made =
     ap (map seen) made
     ∙ map-append seen globs _
-    ∙ ap (λ b. map seen globs ++ cond b ((name.now, entry_of entry.now) ∷ []) []) (sym (told_hole name.now true told decides is))
+    ∙ ap (λ k. map seen globs ++ k ∷ []) same
+    ∙ ap (λ b. map seen globs ++ cond b (key ∷ []) []) (sym (told_hole key.0 true told decides is))
 
 -- one without a hole is not
 pub no_glob : (globs : List Glob) (name : Bor Name) (entry : Bor Held) (told : Bool) → Decides told (HasGlob name.now.parts) → told ≡ false

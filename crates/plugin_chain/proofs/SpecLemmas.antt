@@ -1,5 +1,5 @@
 -- What the keys of `spec:` say of a path, key by key.
-use Rattle.std.proofs.Common.{◌≡◌, ℕ, ◌+◌, ◌<◌, ◌≤◌, ◌&&◌, nat_eq, not, Bool, true, false, cond, drop, get_or, List, [], ◌∷◌, ◌++◌, length, map, Option, Some, None, Result, Ok, Err, refl, sym, ap, ap₂, subst, ◌∙◌}
+use Rattle.std.proofs.Common.{◌≡◌, ◌&&◌, nat_eq, not, Bool, true, false, cond, List, [], ◌∷◌, ◌++◌, length, map, Option, Some, None, Result, Ok, Err, refl, sym, ap, ap₂, subst, ◌∙◌}
 use Rattle.std.specs.Prelude.{IfOk, if◌then◌else◌}
 use Rattle.std.specs.Bool.{Decides, one_answer}
 use Rattle.std.specs.FinMap as finite
@@ -10,7 +10,7 @@ use Rattle.std.specs.List.{AllByRecursion, filter, starts_with}
 use Rattle.std.specs.Option.{option_map_or, option_to_list}
 use Rattle.std.proofs.lemmas.Bool.{and_parts}
 use Rattle.std.proofs.lemmas.Bool.Decides.{Decides-eqb}
-use Rattle.std.proofs.lemmas.List.{drop_all, drop_more, nil_from_length}
+use Rattle.std.proofs.lemmas.List.{nil_from_length}
 use Rattle.general_words.proofs.Maps.{entries-retain}
 use Rattle.model_names.specs.declared.namespaces.Namespace.TheVariants.{Spec}
 use Rattle.model_names.specs.Below.{is_at_or_below}
@@ -89,17 +89,6 @@ pub said_start : (specs keys : KeyMap) (path : List Part) (own : Name) (meta : M
 said_start specs keys path own meta found same is_own is are =
     ap (λ (ks : List (Name × Entry)). laid_over (meta ∷ map (λ spec. spec.meta) (map (λ key. key.1) ks))) are
     ∙ said_first specs path own meta is_own (is ∙ ap (λ ks. option_map_or (λ (spec : Entry). spec.meta) (finite.get ks own) finite.empty) same)
-
--- one more glob
-pub said_more : (path : List Part) (globs : List Glob) (i : ℕ) (glob : Glob) (meta after said : Meta) (b : Bool) → i < length globs → glob ≡ get_or globs i glob → b ≡ is_pattern_of path glob.name.now
-    → after ≡ (if b then laid_over (meta ∷ glob.entry.now.meta ∷ []) else meta) → laid_over (meta ∷ metas_of path (map seen (drop i globs))) ≡ said → laid_over (after ∷ metas_of path (map seen (drop (i + 1) globs))) ≡ said
-said_more path globs i glob meta after said b lt is tells made so_far =
-    said_next path (seen glob) (map seen (drop i globs)) (map seen (drop (i + 1) globs)) meta after said b
-    (ap (map seen) (drop_more globs i glob lt) ∙ ap (λ g. seen g ∷ map seen (drop (i + 1) globs)) (sym is)) tells made so_far
-
--- no glob is left
-pub said_all : (path : List Part) (globs : List Glob) (i : ℕ) (meta said : Meta) → length globs ≤ i → laid_over (meta ∷ metas_of path (map seen (drop i globs))) ≡ said → meta ≡ said
-said_all path globs i meta said le so_far = said_last path (map seen (drop i globs)) meta said (ap (map seen) (drop_all i globs le)) so_far
 
 -- ---- the keys of `spec:`
 

@@ -1,5 +1,6 @@
 -- Keys of `spec:` whose names have holes, in order, and what is kept where they are narrowed down by one part.
 use Rattle.std.specs.Prelude.{◌≡◌, ◌⊎◌, ℕ, ◌+◌, ◌≤◌, Bool, true, false, ◌==◌, List, [], ◌∷◌, ◌++◌, length, take, drop, map, slice_get, Option, Some, None}
+use Rattle.std.specs.Borrow.{Bor}
 use Rattle.std.specs.Cmp.Lexicographic.{slice_cmp}
 use Rattle.std.specs.FinMap as finite
 use Rattle.std.specs.List.{AllByRecursion, filter}
@@ -20,6 +21,10 @@ use Rattle.plugin_chain.specs.declared.globs.Glob.{Glob}
 -- a glob as a key
 abbrev pub seen : Glob → Name × Entry
 seen glob = (glob.name.now, entry_of glob.entry.now)
+
+-- globs that are lent
+abbrev pub lent : List (Bor Glob) → List Glob
+lent globs = map (λ glob. glob.now) globs
 
 -- all keys are of `spec:`
 abbrev pub AreInSpec : KeyMap → Type 0

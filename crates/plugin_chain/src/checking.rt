@@ -1,20 +1,20 @@
 //! The four checks of a key.
-ghost use Rattle.std.specs.Prelude.{◌≡◌, ◌≤◌, ◌++◌, codes, map, IfOk, IfSome, OnOk};
+ghost use Rattle.std.specs.Prelude.{◌≡◌, ◌≤◌, ◌++◌, map, IfOk, IfSome, OnOk};
 ghost use Rattle.std.specs.Option.{option_to_list};
 ghost use Rattle.kdb_outside.specs.Faults.{HasRisen};
 ghost use Rattle.key_set.specs.EntryView.{entry_of};
-ghost use Rattle.model_maps.specs.Entry.{array_texts};
 ghost use Rattle.model_specified.specs.Specified.{specified_key, specified_value};
 ghost use Rattle.model_specified.specs.Violations.{violation_at};
+ghost use Rattle.plugin_chain.specs.Layers.{meta_of};
 ghost use Rattle.plugin_chain.specs.Steps.{Adds, AddsIf};
+ghost use Rattle.type_check.specs.Listings.{IsListingOf};
 
 use crate::booleans::bit_under;
-use crate::enums::{Enumeration, kept_items};
-use crate::layers::lay_all;
+use crate::layers::{Layer, lay_all};
 use crate::laying::lay_over;
 use crate::spec_index::SpecIndex;
 use crate::specifying::layers_of_key;
-use key_meta::{Memory, Meta, Text};
+use key_meta::{Memory, Meta};
 use key_name::KeyName;
 use key_set::Entry;
 use model_rules::Broken;
@@ -22,15 +22,14 @@ use model_specified::Violation;
 use range_check::check_range;
 use regex_check::{LastPattern, Patterns, check_pattern_again};
 use std::alloc::Global;
-use type_check::{check_among, check_type};
+use type_check::{Listing, check_listed, check_type};
 
 /// Checks a key where it is chosen, and adds what it breaks.
-pub fn check_if<'a, P: Patterns>(
+pub fn check_if<P: Patterns>(
     is_chosen: bool,
     patterns: &mut P,
     last: &mut LastPattern,
-    kept: &mut Option<Enumeration<'a>>,
-    specs: &SpecIndex<'a>,
+    specs: &SpecIndex,
     name: &KeyName,
     entry: &Entry,
     list: &mut Vec<Violation>,
@@ -41,16 +40,15 @@ pub fn check_if<'a, P: Patterns>(
     if !is_chosen {
         return Ok(());
     }
-    check_key(patterns, last, kept, specs, name, entry, list)
+    check_key(patterns, last, specs, name, entry, list)
 }
 
 /// Checks a key as the keys of `spec:` have it, and adds what it breaks. Metadata that is laid over no other is looked
 /// at where it stands.
-fn check_key<'a, P: Patterns>(
+fn check_key<P: Patterns>(
     patterns: &mut P,
     last: &mut LastPattern,
-    kept: &mut Option<Enumeration<'a>>,
-    specs: &SpecIndex<'a>,
+    specs: &SpecIndex,
     name: &KeyName,
     entry: &Entry,
     list: &mut Vec<Violation>,
@@ -65,20 +63,42 @@ fn check_key<'a, P: Patterns>(
         return check_once(alloc, patterns, last, name, value, &entry.meta, list);
     }
     if layers.len() == 1 && entry.meta.is_empty() {
-        return check_again(
-            alloc,
-            patterns,
-            last,
-            kept,
-            name,
-            value,
-            layers[0].meta,
-            list,
-        );
+        return check_layer(alloc, patterns, last, name, value, layers[0], list);
     }
     let mut meta = lay_all(alloc, &layers)?;
     lay_over(&mut meta, &entry.meta)?;
     check_once(alloc, patterns, last, name, value, &meta, list)
+}
+
+/// Checks a value under one layer, and adds what it breaks.
+fn check_layer<P: Patterns>(
+    alloc: Global,
+    patterns: &mut P,
+    last: &mut LastPattern,
+    name: &KeyName,
+    value: &str,
+    layer: Layer,
+    list: &mut Vec<Violation>,
+) -> Result<(), Memory>
+    ensures ok { OnOk result (Adds (HasRisen (P.refusals patterns.old) (P.refusals patterns.new)) (name.now, record { value = specified_value (meta_of layer.entry) value.now; meta = meta_of layer.entry }) list.old.items list.new.items) }
+    ensures later { P.refusals patterns.old ≤ P.refusals patterns.new }
+{
+    match layer {
+        Layer::Own(meta) => check_once(alloc, patterns, last, name, value, meta, list),
+        Layer::Shared(glob) => {
+            let meta = &glob.entry.meta;
+            check_under(
+                alloc,
+                patterns,
+                last,
+                name,
+                value,
+                meta,
+                &glob.listing,
+                list,
+            )
+        }
+    }
 }
 
 /// Checks a value under metadata that stands for one key, and adds what it breaks.
@@ -98,45 +118,11 @@ fn check_once<P: Patterns>(
     if meta.is_empty() {
         return Ok(());
     }
-    let items = meta.array("check/enum")?;
-    check_under(
-        alloc,
-        patterns,
-        last,
-        name,
-        value,
-        meta,
-        items.as_slice(),
-        list,
-    )
+    let listing = Listing::of(alloc, meta)?;
+    check_under(alloc, patterns, last, name, value, meta, &listing, list)
 }
 
-/// Checks a value under metadata that may stand for many keys, and adds what it breaks.
-fn check_again<'a, P: Patterns>(
-    alloc: Global,
-    patterns: &mut P,
-    last: &mut LastPattern,
-    kept: &mut Option<Enumeration<'a>>,
-    name: &KeyName,
-    value: &str,
-    meta: &'a Meta,
-    list: &mut Vec<Violation>,
-) -> Result<(), Memory>
-    ensures ok { OnOk result (Adds (HasRisen (P.refusals patterns.old) (P.refusals patterns.new)) (name.now, record { value = specified_value meta.now value.now; meta = meta.now }) list.old.items list.new.items) }
-    ensures later { P.refusals patterns.old ≤ P.refusals patterns.new }
-{
-    if let Some(items) = kept_items(&*kept, meta) {
-        return check_under(alloc, patterns, last, name, value, meta, items, list);
-    }
-    let new = Enumeration::new(meta)?;
-    let done = check_under(alloc, patterns, last, name, value, meta, new.items(), list);
-    if !new.items().is_empty() {
-        *kept = Some(new);
-    }
-    done
-}
-
-/// Checks a value under metadata with the items of its enumeration, 1 or 0 in place of a boolean's word, and adds what
+/// Checks a value under metadata with the texts of its enumeration, 1 or 0 in place of a boolean's word, and adds what
 /// it breaks.
 fn check_under<P: Patterns>(
     alloc: Global,
@@ -145,16 +131,16 @@ fn check_under<P: Patterns>(
     name: &KeyName,
     value: &str,
     meta: &Meta,
-    items: &[Text],
+    listing: &Listing,
     list: &mut Vec<Violation>,
 ) -> Result<(), Memory>
-    requires { items.now ≡ array_texts meta.now (codes "check/enum") }
+    requires { IsListingOf listing.now meta.now }
     ensures ok { OnOk result (Adds (HasRisen (P.refusals patterns.old) (P.refusals patterns.new)) (name.now, record { value = specified_value meta.now value.now; meta = meta.now }) list.old.items list.new.items) }
     ensures later { P.refusals patterns.old ≤ P.refusals patterns.new }
 {
     match bit_under(meta, value) {
-        Some(bit) => check_value(alloc, patterns, last, name, bit, meta, items, list),
-        None => check_value(alloc, patterns, last, name, value, meta, items, list),
+        Some(bit) => check_value(alloc, patterns, last, name, bit, meta, listing, list),
+        None => check_value(alloc, patterns, last, name, value, meta, listing, list),
     }
 }
 
@@ -166,16 +152,16 @@ fn check_value<P: Patterns>(
     name: &KeyName,
     value: &str,
     meta: &Meta,
-    items: &[Text],
+    listing: &Listing,
     list: &mut Vec<Violation>,
 ) -> Result<(), Memory>
-    requires { items.now ≡ array_texts meta.now (codes "check/enum") }
+    requires { IsListingOf listing.now meta.now }
     ensures ok { OnOk result (Adds (HasRisen (P.refusals patterns.old) (P.refusals patterns.new)) (name.now, record { value = value.now; meta = meta.now }) list.old.items list.new.items) }
     ensures later { P.refusals patterns.old ≤ P.refusals patterns.new }
 {
     add(list, name, check_type(alloc, value, meta)?)?;
     add(list, name, check_range(alloc, value, meta)?)?;
-    add(list, name, check_among(alloc, value, items)?)?;
+    add(list, name, check_listed(alloc, value, listing)?)?;
     let room = room_for_refusal(list, name, meta)?;
     add_at(
         list,

@@ -1,43 +1,33 @@
-//! The keys of `spec:` whose names have holes.
-ghost use Rattle.std.specs.Prelude.{◌≡◌, ◌++◌, [], ◌∷◌, map, IfOk, OnOk};
-ghost use Rattle.std.specs.List.{filter};
-ghost use Rattle.std.specs.FinMap as finite;
-ghost use Rattle.key_set.specs.EntryView.{entry_of};
-ghost use Rattle.model_specified.specs.Globs.{has_glob};
-ghost use Rattle.plugin_chain.specs.Globs.{seen};
+//! A key of `spec:` whose name has holes, with the texts of its enumeration: one such key often stands for many keys.
+ghost use Rattle.std.specs.Prelude.{◌≡◌, ℕ, List, codes, IfOk};
+ghost use Rattle.model_maps.specs.Entry.{array_texts};
+ghost use Rattle.type_check.specs.Listings.{has_text, is_among};
 
-use key_meta::Memory;
+use key_meta::{Memory, Meta};
 use key_name::KeyName;
-use key_set::{Entry, KeySet};
+use key_set::Entry;
+use std::alloc::Global;
+use type_check::Listing;
 
 /// A key of `spec:` that may stand for several paths.
-#[derive(Clone, Copy)]
+#[derive(Drop)]
 pub struct Glob<'a> {
     pub name: &'a KeyName,
     pub entry: &'a Entry,
+    pub listing: Listing,
+    ghost are: { (text : List ℕ) → has_text listing text ≡ is_among (array_texts entry.now.meta (codes "check/enum")) text },
 }
 
-/// The keys whose names have holes, in name order.
-pub fn globs_of<'a>(keys: &'a KeySet) -> Result<Vec<Glob<'a>>, Memory>
-    ensures { IfOk result (λ globs. map seen globs.items ≡ filter (λ key. has_glob key.0.parts) (finite.entries keys.now)) }
-{
-    let mut globs = Vec::new(keys.allocator());
-    for (name, entry) in keys.iter() {
-        add_glob(&mut globs, name, entry)?;
+impl<'a> Glob<'a> {
+    pub fn new(alloc: Global, name: &'a KeyName, entry: &'a Entry) -> Result<Glob<'a>, Memory>
+        ensures name { IfOk result (λ made. made.name.now ≡ name.now) }
+        ensures entry { IfOk result (λ made. made.entry.now ≡ entry.now) }
+    {
+        let listing = Listing::of(alloc, &entry.meta)?;
+        Ok(Glob {
+            name,
+            entry,
+            listing,
+        })
     }
-    Ok(globs)
-}
-
-/// Adds a key, if its name has a hole.
-fn add_glob<'a>(
-    globs: &mut Vec<Glob<'a>>,
-    name: &'a KeyName,
-    entry: &'a Entry,
-) -> Result<(), Memory>
-    ensures ok { OnOk result (map seen globs.new.items ≡ map seen globs.old.items ++ filter (λ key. has_glob key.0.parts) ((name.now, entry_of entry.now) ∷ [])) }
-{
-    if name.has_glob() {
-        globs.push(Glob { name, entry })?;
-    }
-    Ok(())
 }

@@ -1,26 +1,42 @@
 //! Metadata that stands one over the other. To lay it together means to copy it.
 ghost use Rattle.std.specs.Prelude.{◌≡◌, [], ◌∷◌, IfOk, OnOk};
 ghost use Rattle.model_specified.specs.SpecMeta.{laid_over};
-ghost use Rattle.plugin_chain.specs.Layers.{laid};
+ghost use Rattle.plugin_chain.specs.Layers.{laid, meta_of};
 
+use crate::globs::Glob;
 use crate::laying::lay_over;
 use key_meta::{Memory, Meta};
 use std::alloc::Global;
 
-/// Metadata of a key of `spec:`.
+/// Metadata of a key of `spec:`: of a path's own key, or of one that may stand for several paths.
 #[derive(Clone, Copy)]
-pub struct Layer<'a> {
-    pub meta: &'a Meta,
+pub enum Layer<'s, 'a> {
+    Own(&'s Meta),
+    Shared(&'s Glob<'a>),
 }
 
-/// Adds metadata below some. Without a name it is left out.
-pub fn add_layer<'a>(layers: &mut Vec<Layer<'a>>, meta: &'a Meta) -> Result<(), Memory>
-    ensures ok { OnOk result (laid layers.new.items ≡ laid_over (laid layers.old.items ∷ meta.now ∷ [])) }
+impl<'s, 'a> Layer<'s, 'a> {
+    pub fn meta(&self) -> &'s Meta
+        ensures { result.now ≡ meta_of self.now }
+    {
+        match *self {
+            Layer::Own(meta) => meta,
+            Layer::Shared(glob) => &glob.entry.meta,
+        }
+    }
+}
+
+/// Adds a layer below some. Without a name it is left out.
+pub fn add_layer<'s, 'a>(
+    layers: &mut Vec<Layer<'s, 'a>>,
+    layer: Layer<'s, 'a>,
+) -> Result<(), Memory>
+    ensures ok { OnOk result (laid layers.new.items ≡ laid_over (laid layers.old.items ∷ meta_of layer.entry ∷ [])) }
 {
-    if meta.is_empty() {
+    if layer.meta().is_empty() {
         return Ok(());
     }
-    layers.push(Layer { meta })?;
+    layers.push(layer)?;
     Ok(())
 }
 
@@ -31,9 +47,9 @@ pub fn lay_all(alloc: Global, layers: &[Layer]) -> Result<Meta, Memory>
     let Some((first, others)) = layers.split_first() else {
         return Ok(Meta::new(alloc));
     };
-    let mut meta = first.meta.copy()?;
+    let mut meta = first.meta().copy()?;
     for layer in others {
-        lay_over(&mut meta, layer.meta)?;
+        lay_over(&mut meta, layer.meta())?;
     }
     Ok(meta)
 }

@@ -5,7 +5,6 @@ mod booleans;
 mod checking;
 mod choosing;
 mod defaults;
-mod enums;
 mod globs;
 mod layers;
 mod laying;

@@ -36,9 +36,9 @@ pub fn violations<P: Patterns>(
 }
 
 /// The violations of some keys at or below a name, as the keys of `spec:` have them.
-fn all_at<'a, P: Patterns>(
+fn all_at<P: Patterns>(
     patterns: &mut P,
-    specs: &SpecIndex<'a>,
+    specs: &SpecIndex,
     made: &KeySet,
     at: &KeyName,
 ) -> Result<Vec<Violation>, Memory>
@@ -46,12 +46,11 @@ fn all_at<'a, P: Patterns>(
     ensures later { P.refusals patterns.old ≤ P.refusals patterns.new }
 {
     let mut last = LastPattern::none();
-    let mut kept = None;
     let mut list = Vec::new(specs.allocator());
     for (name, entry) in made.iter() {
         let is_chosen = is_listed(at, name)?;
         check_if(
-            is_chosen, patterns, &mut last, &mut kept, specs, name, entry, &mut list,
+            is_chosen, patterns, &mut last, specs, name, entry, &mut list,
         )?;
     }
     Ok(list)
@@ -76,9 +75,9 @@ pub fn first_violation<P: Patterns>(
 }
 
 /// The first violation of some keys that the touched mounts own, as the keys of `spec:` have them.
-fn first_in<'a, P: Patterns>(
+fn first_in<P: Patterns>(
     patterns: &mut P,
-    specs: &SpecIndex<'a>,
+    specs: &SpecIndex,
     made: &KeySet,
     points: &[KeyName],
     touched: &[u32],
@@ -88,13 +87,10 @@ fn first_in<'a, P: Patterns>(
     ensures later { P.refusals patterns.old ≤ P.refusals patterns.new }
 {
     let mut last = LastPattern::none();
-    let mut kept = None;
     for (name, entry) in made.iter() {
         let is_chosen = is_touched(points, touched, name);
         let mut own = Vec::new(specs.allocator());
-        check_if(
-            is_chosen, patterns, &mut last, &mut kept, specs, name, entry, &mut own,
-        )?;
+        check_if(is_chosen, patterns, &mut last, specs, name, entry, &mut own)?;
         if let Some(first) = first_of(own) {
             return Ok(Some(first));
         }

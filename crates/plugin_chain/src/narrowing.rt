@@ -3,7 +3,7 @@
 ghost use Rattle.std.specs.Prelude.{◌≡◌, ◌+◌, ◌++◌, codes, slice_get, Some, OnOk};
 ghost use Rattle.std.specs.Ordering.{is_le, is_lt};
 ghost use Rattle.model_names.specs.Order.{part_cmp};
-ghost use Rattle.plugin_chain.specs.Globs.{AreAscending, HaveWords, IsCut, IsNarrowed, IsRising, SplitsAt, begins_as_item, beside, patterns_in};
+ghost use Rattle.plugin_chain.specs.Globs.{AreAscending, HaveWords, IsCut, IsNarrowed, IsRising, SplitsAt, begins_as_item, beside, lent, patterns_in};
 
 use crate::globs::Glob;
 use key_meta::Memory;
@@ -14,28 +14,38 @@ use std::cmp::Ordering;
 const FEW: usize = 16;
 
 /// Adds keys of some that a path may match, among them all that are its patterns. Before a depth the keys have the same parts.
-pub fn gather<'a>(
-    found: &mut Vec<Glob<'a>>,
-    globs: &[Glob<'a>],
+pub fn gather<'s, 'a>(
+    found: &mut Vec<&'s Glob<'a>>,
+    globs: &'s [Glob<'a>],
     path: &KeyName,
     depth: usize,
 ) -> Result<(), Memory>
     requires { IsRising depth globs.now }
-    ensures ok { OnOk result (patterns_in path.now.parts found.new.items ≡ patterns_in path.now.parts found.old.items ++ patterns_in path.now.parts globs.now) }
+    ensures ok { OnOk result (patterns_in path.now.parts (lent found.new.items) ≡ patterns_in path.now.parts (lent found.old.items) ++ patterns_in path.now.parts globs.now) }
 {
     if globs.len() / FEW <= depth {
-        found.extend_from_slice(globs)?;
+        add_all(found, globs)?;
         return Ok(());
     }
     let Some(part) = path.part(depth) else {
         // the others have more parts
-        found.extend_from_slice(&globs[..1])?;
+        add_all(found, &globs[..1])?;
         return Ok(());
     };
     let narrowed = narrow(globs, depth, part);
     gather(found, narrowed.first, path, depth + 1)?;
     gather(found, narrowed.second, path, depth + 1)?;
     gather(found, narrowed.third, path, depth + 1)
+}
+
+/// Adds keys as they are.
+fn add_all<'s, 'a>(found: &mut Vec<&'s Glob<'a>>, globs: &'s [Glob<'a>]) -> Result<(), Memory>
+    ensures ok { OnOk result (lent found.new.items ≡ lent found.old.items ++ globs.now) }
+{
+    for glob in globs {
+        found.push(glob)?;
+    }
+    Ok(())
 }
 
 /// Keys with the same part at a depth, for each of three parts.

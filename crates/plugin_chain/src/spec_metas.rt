@@ -6,11 +6,12 @@ ghost use Rattle.plugin_chain.specs.Globs.{AreInSpec};
 ghost use Rattle.plugin_chain.specs.Layers.{laid};
 ghost use Rattle.model_specified.specs.SpecMeta.{is_pattern_of, laid_over, said_of, spec_keys, spec_meta, spec_name};
 
+use crate::globs::Glob;
 use crate::layers::{Layer, add_layer, lay_all};
 use crate::spec_index::SpecIndex;
 use key_meta::{Memory, Meta};
 use key_name::{KeyName, Namespace};
-use key_set::{Entry, KeySet};
+use key_set::KeySet;
 
 /// The specification metadata of a path: each metadata name has the text of the first specification key of the path that has it.
 /// The first is the key of `spec:` with that path, and then the others whose parts match it follow in key order.
@@ -32,7 +33,10 @@ pub fn spec_keys(keys: &KeySet) -> Result<KeySet, Memory>
 }
 
 /// What the keys of `spec:` say of a path, the path's own key over the patterns.
-pub fn layers_of<'a>(specs: &SpecIndex<'a>, path: &KeyName) -> Result<Vec<Layer<'a>>, Memory>
+pub fn layers_of<'s, 'a>(
+    specs: &'s SpecIndex<'a>,
+    path: &KeyName,
+) -> Result<Vec<Layer<'s, 'a>>, Memory>
     ensures { IfOk result (λ layers. laid layers.items ≡ said_of specs.now path.now.parts) }
 {
     if specs.keys().len() == 0 {
@@ -41,8 +45,8 @@ pub fn layers_of<'a>(specs: &SpecIndex<'a>, path: &KeyName) -> Result<Vec<Layer<
     let own = path.with_namespace(Namespace::Spec)?;
     let mut layers = own_layer(specs.keys(), &own)?;
     let globs = specs.candidates(path)?;
-    for glob in &globs {
-        if_pattern(&mut layers, is_pattern(path, &own, glob.name), glob.entry)?;
+    for glob in globs {
+        if_pattern(&mut layers, is_pattern(path, &own, glob.name), glob)?;
     }
     Ok(layers)
 }
@@ -56,26 +60,26 @@ fn is_pattern(path: &KeyName, own: &KeyName, name: &KeyName) -> bool
 }
 
 /// Adds the metadata of a key below some, if it is a pattern's.
-fn if_pattern<'a>(
-    layers: &mut Vec<Layer<'a>>,
+fn if_pattern<'s, 'a>(
+    layers: &mut Vec<Layer<'s, 'a>>,
     is_pattern: bool,
-    entry: &'a Entry,
+    glob: &'s Glob<'a>,
 ) -> Result<(), Memory>
-    ensures ok { OnOk result (laid layers.new.items ≡ (if is_pattern then laid_over (laid layers.old.items ∷ entry.now.meta ∷ []) else laid layers.old.items)) }
+    ensures ok { OnOk result (laid layers.new.items ≡ (if is_pattern then laid_over (laid layers.old.items ∷ glob.now.entry.now.meta ∷ []) else laid layers.old.items)) }
 {
     if is_pattern {
-        add_layer(layers, &entry.meta)?;
+        add_layer(layers, Layer::Shared(glob))?;
     }
     Ok(())
 }
 
 /// The metadata of a key, or none where it isn't there.
-fn own_layer<'a>(specs: &'a KeySet, name: &KeyName) -> Result<Vec<Layer<'a>>, Memory>
+fn own_layer<'s, 'a>(specs: &'s KeySet, name: &KeyName) -> Result<Vec<Layer<'s, 'a>>, Memory>
     ensures { IfOk result (λ layers. laid layers.items ≡ option_map_or (λ entry. entry.meta) (finite.get specs.now name.now) finite.empty) }
 {
     let mut layers = Vec::new(specs.allocator());
     if let Some(entry) = specs.lookup(name) {
-        add_layer(&mut layers, &entry.meta)?;
+        add_layer(&mut layers, Layer::Own(&entry.meta))?;
     }
     Ok(layers)
 }

@@ -81,7 +81,10 @@ fn value_under(alloc: Global, meta: &Meta, value: &Text) -> Result<Text, Memory>
 }
 
 /// What the keys of `spec:` say of a key: nothing in `spec:` and cascading.
-pub fn layers_of_key<'a>(specs: &SpecIndex<'a>, name: &KeyName) -> Result<Vec<Layer<'a>>, Memory>
+pub fn layers_of_key<'s, 'a>(
+    specs: &'s SpecIndex<'a>,
+    name: &KeyName,
+) -> Result<Vec<Layer<'s, 'a>>, Memory>
     ensures { IfOk result (λ layers. laid layers.items ≡ (if is_specified name.now.namespace then said_of specs.now name.now.parts else finite.empty)) }
 {
     if is_specified(name.namespace()) {

@@ -1,12 +1,11 @@
--- Where an enumeration is kept: its array is empty, or has the value.
+-- Without metadata each value is kept.
 use Rattle.std.specs.Prelude.{◌≡◌, ℕ, List, [], None, length, codes}
 use Rattle.std.specs.FinMap as map
 use Rattle.std.specs.FinMap.{FinMap, find, get-entries}
-use Rattle.std.specs.List.{Contains}
 use Rattle.std.specs.declared.cmp.Ordering.{Ordering}
-use Rattle.std.proofs.Common.{sym, ap, subst, ◌∙◌}
+use Rattle.std.proofs.Common.{ap, ◌∙◌}
 use Rattle.std.proofs.lemmas.List.{nil_from_length}
-use Rattle.model_maps.specs.Entry.{Meta, array_texts, item_name}
+use Rattle.model_maps.specs.Entry.{Meta, item_name}
 use Rattle.model_maps.proofs.ArrayLemmas.{array_texts-none}
 use Rattle.model_rules.specs.Rules.{BreaksEnum}
 use Rattle.model_rules.specs.declared.breaches.Broken.{Broken}
@@ -16,9 +15,3 @@ get-none {R = R} m q none = get-entries m q ∙ ap (find R q) none
 
 pub keeps_bare : (value : List ℕ) (meta : Meta) (broken : Broken) → length (map.entries meta) ≡ 0 → BreaksEnum value meta broken → ⊥
 keeps_bare value meta broken none p = p.some (array_texts-none meta (codes "check/enum") (get-none meta (item_name (codes "check/enum") 0) (nil_from_length (map.entries meta) none)))
-
-pub keeps_empty : (value : List ℕ) (meta : Meta) (items : List (List ℕ)) (broken : Broken) → items ≡ array_texts meta (codes "check/enum") → length items ≡ 0 → BreaksEnum value meta broken → ⊥
-keeps_empty value meta items broken array e p = p.some (sym array ∙ nil_from_length items e)
-
-pub keeps_among : (value : List ℕ) (meta : Meta) (items : List (List ℕ)) (broken : Broken) → items ≡ array_texts meta (codes "check/enum") → Contains items value → BreaksEnum value meta broken → ⊥
-keeps_among value meta items broken array h p = p.none (subst (λ texts. Contains texts value) array h)

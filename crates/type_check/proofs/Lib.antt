@@ -1,2 +1,3 @@
 pub mod NumberLemmas
 pub mod EnumLemmas
+pub mod ListingLemmas

@@ -1,9 +1,10 @@
 //! The checks of a value under its metadata.
-ghost use Rattle.std.specs.Prelude.{◌≡◌, true, false, codes, IfOk};
-ghost use Rattle.std.specs.List.{Contains};
-ghost use Rattle.model_maps.specs.Entry.{Meta, array_texts};
+ghost use Rattle.std.specs.Prelude.{IfOk};
+ghost use Rattle.model_maps.specs.Entry.{Meta};
 ghost use Rattle.model_rules.specs.Rules.{BreaksEnum, BreaksType, Tells};
+ghost use Rattle.type_check.specs.Listings.{IsListingOf};
 
+use crate::listings::Listing;
 use crate::types::{is_of_kind, kind_of};
 use key_meta::{Memory, Meta, Text};
 use model_rules::Broken;
@@ -39,28 +40,20 @@ pub fn check_enum(alloc: Global, value: &str, meta: &Meta) -> Result<Option<Brok
     if meta.is_empty() {
         return Ok(None);
     }
-    let items = meta.array("check/enum")?;
-    check_among(alloc, value, items.as_slice())
+    let listing = Listing::of(alloc, meta)?;
+    check_listed(alloc, value, &listing)
 }
 
-/// The breach of rule 5 by the items of the array `check/enum`, where they are at hand.
-pub fn check_among(alloc: Global, value: &str, items: &[Text]) -> Result<Option<Broken>, Memory>
-    ensures { (meta : Meta) → items.now ≡ array_texts meta (codes "check/enum") → IfOk result (Tells (BreaksEnum value.now meta)) }
+/// The breach of rule 5 by the texts of the array `check/enum`, where they are at hand.
+pub fn check_listed(alloc: Global, value: &str, listing: &Listing) -> Result<Option<Broken>, Memory>
+    ensures { (meta : Meta) → IsListingOf listing.now meta → IfOk result (Tells (BreaksEnum value.now meta)) }
 {
-    if items.is_empty() {
+    if listing.is_empty() {
         return Ok(None);
     }
-    if is_among(items, value) {
+    if listing.has(value) {
         return Ok(None);
     }
     let given = Text::new(alloc, value)?;
     Ok(Some(Broken { rule: 5, given }))
-}
-
-/// Whether a value is one of some texts.
-fn is_among(items: &[Text], value: &str) -> bool
-    ensures yes { result ≡ true → Contains items.now value.now }
-    ensures no { result ≡ false → Contains items.now value.now → ⊥ }
-{
-    items.iter().any(|item| item.as_str() == value)
 }

@@ -4,7 +4,7 @@ use Rattle.std.specs.Prelude.{OnOk}
 use Rattle.kdb_outside.specs.Faults.{HasRisen}
 use Rattle.key_set.specs.EntryView.{entry_of}
 use Rattle.model_specified.specs.SpecMeta.{laid_over}
-use Rattle.plugin_chain.specs.Layers.{laid}
+use Rattle.plugin_chain.specs.Layers.{laid, meta_of}
 use Rattle.plugin_chain.specs.Steps.{Adds}
 use Rattle.plugin_chain.proofs.LayerLemmas.{laid-none, laid-one}
 use Rattle.plugin_chain.proofs.WalkLemmas.{key_alone, key_said, key_under}
@@ -20,10 +20,10 @@ returns-then-is_empty-clause-ok g c =
 pub returns-then-is_empty-2-clause-ok : goal.returns-then-is_empty-2-clause-ok
 returns-then-is_empty-2-clause-ok g c =
     let layers = c.in_ok-layers.layers in
-    subst (λ key. OnOk c.check_again.result (Adds (HasRisen (g.P.Patterns.refusals c.args.patterns.now) (g.P.Patterns.refusals c.check_again.new.patterns)) key c.args.list.now.items c.check_again.new.list.items))
-    (key_said c.args.specs.now c.args.name.now (entry_of c.args.entry.now) (laid layers.items) c.index.result.now.meta.now c.as_str-value.result.now c.in_ok-layers.ensures
+    subst (λ key. OnOk c.check_layer.result (Adds (HasRisen (g.P.Patterns.refusals c.args.patterns.now) (g.P.Patterns.refusals c.check_layer.new.patterns)) key c.args.list.now.items c.check_layer.new.list.items))
+    (key_said c.args.specs.now c.args.name.now (entry_of c.args.entry.now) (laid layers.items) (meta_of c.index.result.now) c.as_str-value.result.now c.in_ok-layers.ensures
     (laid-one layers.items c.index.result.now (sym layers.ok.0 ∙ sym c.len.ensures ∙ c.if-len-eq1.true) c.index.ensures)
-    (eqb-true _ _ (sym c.is_empty-then-len-eq1.ensures.empty ∙ c.if-is_empty-2.true)) c.as_str-value.ensures.bytes) c.check_again.ensures.ok
+    (eqb-true _ _ (sym c.is_empty-then-len-eq1.ensures.empty ∙ c.if-is_empty-2.true)) c.as_str-value.ensures.bytes) c.check_layer.ensures.ok
 
 pub returns-clause-ok : goal.returns-clause-ok
 returns-clause-ok g c =

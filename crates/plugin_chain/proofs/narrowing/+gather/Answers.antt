@@ -3,7 +3,7 @@ use Rattle.std.proofs.Common.{◌≡◌, ℕ, ◌<◌, ◌++◌, List, length, s
 use Rattle.std.specs.Option.{option_map}
 use Rattle.std.proofs.lemmas.List.Elements.{filter-append}
 use Rattle.std.proofs.lemmas.Option.{slice_get_within}
-use Rattle.plugin_chain.specs.Globs.{patterns_in}
+use Rattle.plugin_chain.specs.Globs.{lent, patterns_in}
 use Rattle.plugin_chain.proofs.NarrowLemmas.{first_alone}
 use Rattle.plugin_chain.proofs.narrowing.+gather.Goals as goal
 
@@ -12,9 +12,9 @@ returns-in_default t c =
     let path = c.args.path.now.parts in
     let none : slice_get path c.args.depth ≡ None = sym c.part.ensures ∙ ap (option_map (λ (t : Bor (List ℕ)). t.now)) c.in_default.is in
     record {
-      ok = ap (patterns_in path) c.in_ok-extend_from_slice-2.ensures.items
-          ∙ filter-append _ c.args.found.now.items _
-          ∙ ap (λ globs. patterns_in path c.args.found.now.items ++ globs) (first_alone path c.args.depth c.args.globs.now c.requires none);
+      ok = ap (patterns_in path) c.in_ok-add_all-2.ensures.ok
+          ∙ filter-append _ (lent c.args.found.now.items) _
+          ∙ ap (λ globs. patterns_in path (lent c.args.found.now.items) ++ globs) (first_alone path c.args.depth c.args.globs.now c.requires none);
     }
 
 pub gather-requires : goal.gather-requires

@@ -8,4 +8,4 @@ returns-then-is_empty c = λ broken h.
     keeps_bare c.args.value.now c.args.meta.now broken (eqb-true _ _ (sym c.is_empty.ensures.empty ∙ c.if-is_empty.true)) h
 
 pub returns : goal.returns
-returns c = c.check_among.ensures c.args.meta.now (c.as_slice.ensures ∙ c.in_ok-items.ensures.texts)
+returns c = c.check_listed.ensures c.args.meta.now c.in_ok-listing.ensures

@@ -4,7 +4,7 @@ use Rattle.std.specs.FinMap as finite
 use Rattle.std.specs.List.{filter}
 use Rattle.model_specified.specs.Globs.{has_glob}
 use Rattle.plugin_chain.specs.Globs.{seen}
-use Rattle.plugin_chain.proofs.globs.globs_of.Given as goal
+use Rattle.plugin_chain.proofs.spec_index.globs_of.Given as goal
 
 abbrev pub invariant-loop-name : goal.invariant-loop-name
 invariant-loop-name l = map seen l.globs.items ++ filter (λ key. has_glob key.0.parts) l.name-iterator ≡ filter (λ key. has_glob key.0.parts) (finite.entries l.keys)
