@@ -21,6 +21,10 @@ pub fn owned(points: &[KeyName], i: usize, keys: &KeySet) -> Result<KeySet, Memo
     let mut owned = keys.below(&points[i])?;
     let behind = &points[i + 1..];
     for other in behind {
+        // the points below this one stand together behind it
+        if !other.is_below_or_same(&points[i]) {
+            return Ok(owned);
+        }
         take_out(&mut owned, other)?;
     }
     Ok(owned)
