@@ -98,6 +98,11 @@ def enumeration_of_many(size):
     return enumerated(int(10000 * size), int(30000 * size))
 
 
+def one_long_value(size):
+    checks = (("check/validation", "((a?){100}){50}c"),)
+    return [("_", "", checks)], [("k", "a" * int(65000 * size), ())]
+
+
 KINDS = [
     ("20,000 globs that begin with a word beside 20,000 keys", globs),
     ("20,000 globs that end with a word beside 20,000 keys", globs_in_front),
@@ -112,7 +117,7 @@ KINDS = [
     ("an enumeration of 10,000 for 30,000 keys", enumeration_of_many),
     ("one value of 65,000 bytes under a pattern of 5,000 holes", one_long_value),
 ]
-COMMENTS = 340_000
+COMMENTS = 520_000
 
 
 def ran(program, words, folder):
@@ -125,11 +130,6 @@ def ran(program, words, folder):
     if made.returncode < 0:
         return f"over {LONGEST} s"
     return f"{use.ru_utime + use.ru_stime:.2f}, {use.ru_maxrss / 1024:.0f}"
-
-
-def one_long_value(size):
-    checks = (("check/validation", "((a?){100}){50}c"),)
-    return [("_", "", checks)], [("k", "a" * int(65000 * size), ())]
 
 
 def row(program, folder, said, kind, size):

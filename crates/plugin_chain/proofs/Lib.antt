@@ -3,6 +3,7 @@ pub mod LayerLemmas
 pub mod LayingLemmas
 pub mod NarrowLemmas
 pub mod OneNameLemmas
+pub mod OwnerTests
 pub mod RisingLemmas
 pub mod SpecLemmas
 pub mod SetLemmas

@@ -1,11 +1,12 @@
 //! What a get gives a handle.
-ghost use Rattle.std.specs.Prelude.{◌≡◌, ◌≤◌, ℕ, IfOk, OnErr, length, map as over};
+ghost use Rattle.std.specs.Prelude.{◌≡◌, ◌≤◌, ℕ, IfOk, List, OnErr, length};
 ghost use Rattle.general_words.specs.Searches.{first_some};
 ghost use Rattle.model_maps.specs.KeyMap.{KeyMap};
 ghost use Rattle.model_store.specs.Events.{first_bad, got, shows_proc};
-ghost use Rattle.model_store.specs.Store.{Store, is_bad, store_of};
-ghost use Rattle.mounted_files.specs.Files.{points_of};
-ghost use Rattle.set_split.specs.Parts.{in_reach};
+ghost use Rattle.model_names.specs.Name.{Name};
+ghost use Rattle.model_store.specs.Store.{Store, is_bad, points_of, store_of};
+ghost use Rattle.set_split.specs.Parts.{in_reach, parts_of};
+ghost use Rattle.set_split.specs.Seen.{numbered};
 ghost use Rattle.store_verdict.specs.BadMounts.{bad_at, is_bad_at};
 ghost use Rattle.store_verdict.specs.Gets.{IsGetting};
 ghost use Rattle.store_verdict.specs.RecordView.{handle_of, places_of, proc_of, record_of};
@@ -14,9 +15,8 @@ use crate::Record;
 use key_meta::Memory;
 use key_name::{KeyName, Namespace};
 use key_set::KeySet;
-use mount_table::MountTable;
 use mounted_files::{FileState, Mounted, MountedFile};
-use set_split::{involved, split, unite};
+use set_split::{Parts, involved, split, unite};
 use std::alloc::Global;
 
 /// What a get gives: keys, or the lowest involved mount that is bad.
@@ -46,8 +46,8 @@ pub fn get(
     if let Some(mount) = first_bad(alloc, mounted, parent)? {
         return Ok(Getting::Bad { mount });
     }
-    let found = got(alloc, mounted.table(), rec, keys, parent)?;
     let parts = split(alloc, mounted.table().points(), parent, keys)?;
+    let found = got(alloc, rec, &parts, parent)?;
     rec.keep(front, parts.parts);
     Ok(Getting::Keys { keys: found })
 }
@@ -96,35 +96,23 @@ fn is_bad_state(state: &FileState) -> bool
     }
 }
 
-/// The keys that a get of a parent gives a handle: those of the involved mounts, and where the parent is cascading or in `proc` the handle's own
-/// too.
-pub fn got(
-    alloc: Global,
-    table: &MountTable,
-    rec: &Record,
-    keys: &KeySet,
-    parent: &KeyName,
-) -> Result<KeySet, Memory>
-    ensures { IfOk result (λ found. (store : Store) → store.mounts ≡ table.now → store.procs (handle_of rec.now) ≡ proc_of rec.now → found ≡ got store keys.now (handle_of rec.now) parent.now) }
+/// The keys that a get of a parent gives a handle, by the parts of the involved mounts: their keys, and where the parent is cascading or in
+/// `proc` the handle's own too.
+fn got(alloc: Global, rec: &Record, parts: &Parts, parent: &KeyName) -> Result<KeySet, Memory>
+    ensures { IfOk result (λ found. (store : Store) (keys : KeyMap) → numbered parts.now.parts ≡ parts_of (points_of store) parent.now keys → store.procs (handle_of rec.now) ≡ proc_of rec.now → found ≡ got store keys (handle_of rec.now) parent.now) }
 {
-    let mut found = reached(alloc, table, keys, parent)?;
+    let mut found = united(alloc, parts)?;
     if shows_proc(parent.namespace()) {
         found.append_all(rec.proc().copy()?)?;
     }
     Ok(found)
 }
 
-/// The keys that some involved mount owns.
-fn reached(
-    alloc: Global,
-    table: &MountTable,
-    keys: &KeySet,
-    parent: &KeyName,
-) -> Result<KeySet, Memory>
-    ensures { IfOk result (λ found. found ≡ in_reach (over (λ mount. mount.at) table.now) parent.now keys.now) }
+/// The keys of some parts, which share them with the parts until one of the two changes.
+fn united(alloc: Global, parts: &Parts) -> Result<KeySet, Memory>
+    ensures { IfOk result (λ found. (points : List Name) (parent : Name) (keys : KeyMap) → numbered parts.now.parts ≡ parts_of points parent keys → found ≡ in_reach points parent keys) }
 {
-    let parts = split(alloc, table.points(), parent, keys)?;
-    unite(alloc, parts)
+    unite(alloc, parts.copy(alloc)?)
 }
 
 /// Whether a get shows the handle's own keys.

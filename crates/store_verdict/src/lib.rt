@@ -27,7 +27,7 @@ mod writing;
 pub use change_sets::ChangeSet;
 pub use counting::any_counts_by_key;
 pub use faults::PrepareFault;
-pub use getting::{Getting, first_bad, get, got};
+pub use getting::{Getting, first_bad, get};
 pub use judging::{Late, judge};
 pub use prepared::{Prepared, Seen};
 pub use preparing::prepare;

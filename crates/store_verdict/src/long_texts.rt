@@ -61,8 +61,12 @@ fn long_text_if_owned(
     requires { IsStrictlySortedBy name_cmp points.now }
     ensures { result ≡ (if list_any (λ i. owns points.now i name.now) mounts.now then long_text (entry_of entry.now) else None) }
 {
+    // the owner is looked for among all points, and few texts are too long
+    let Some(bytes) = long_text(entry) else {
+        return None;
+    };
     if is_owned(points, mounts, name) {
-        long_text(entry)
+        Some(bytes)
     } else {
         None
     }

@@ -1,5 +1,5 @@
 -- Each turn makes one more text, or finds the first file that would be too large.
-use Rattle.std.proofs.Common.{List, ◌+◌, ◌++◌, ◌∷◌, [], take, map as over, ap, ap₂, sym, subst, ◌∙◌}
+use Rattle.std.proofs.Common.{List, ◌++◌, ◌∷◌, [], take, map as over, ap, ap₂, sym, subst, ◌∙◌}
 use Rattle.std.proofs.lemmas.List.{map-append}
 use Rattle.general_words.proofs.Lists.{at_place, take-next}
 use Rattle.general_words.proofs.Searches.{first_some-found, first_some-next}
