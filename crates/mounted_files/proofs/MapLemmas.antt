@@ -3,7 +3,6 @@ use Rattle.std.proofs.Common.{◌≡◌, ℕ, ◌+◌, Bool, true, false, cond, 
 use Rattle.std.specs.FinMap as map
 use Rattle.std.specs.FinMap.Entries.{where_key}
 use Rattle.std.specs.List.{AllByRecursion}
-use Rattle.std.proofs.lemmas.Bool.{cond-false}
 use Rattle.std.proofs.lemmas.List.{nil_from_length}
 use Rattle.model_names.specs.Name.{Name}
 use Rattle.model_names.specs.Order.{name_cmp}
@@ -11,7 +10,6 @@ use Rattle.model_names.proofs.OrderLemmas.{name_cmp_total, name_cmp-IsAntisymmet
 use Rattle.model_maps.specs.Entry.{Entry}
 use Rattle.model_maps.specs.KeyMap.{KeyMap, no_keys}
 use Rattle.key_set.specs.WithAll.{with_keys}
-use Rattle.key_set.proofs.WithAllLemmas.{with_all-none}
 use Rattle.general_words.proofs.Maps.{entries-empty, entries-retain, get-at, each-insert}
 use Rattle.general_words.proofs.Lists.{all_from_places}
 use Rattle.set_split.proofs.SplitLemmas.{both}
@@ -38,20 +36,7 @@ each-none P q x found = absurd (let none = map.get-empty {X = Entry} name_cmp q 
 pub all-entries : (P : Entry → Type 0) (keys : KeyMap) → ((q : Name) (x : Entry) → map.get keys q ≡ Some x → P x) → AllByRecursion (λ (e : Name × Entry). P e.1) (map.entries keys)
 all-entries P keys each = all_from_places (λ (e : Name × Entry). P e.1) (map.entries keys) (λ i e there. each e.0 e.1 (key-at keys i e there))
 
--- ---- the keys that pass a test, key by key
-
-module _ (p : Name → Bool) where
-  -- those of some keys, set among others
-  abbrev pub with_passing : List (Name × Entry) → KeyMap → KeyMap
-  with_passing es keys = with_keys (where_key name_cmp p es) keys
-
-  pub passing-all : (keys : KeyMap) → with_passing (map.entries keys) no_keys ≡ map.retain_keys keys p
-  passing-all keys =
-      ap (λ es. with_keys es no_keys) (sym (entries-retain name_cmp_total name_cmp-IsAntisymmetric keys p))
-      ∙ sym (with_all-none (map.retain_keys keys p) no_keys (ap length (entries-empty name_cmp Entry)))
-
-  pub passing-same : (e : Name × Entry) (rest : List (Name × Entry)) (keys : KeyMap) → p e.0 ≡ false → with_passing rest keys ≡ with_passing (e ∷ rest) keys
-  passing-same e rest keys fails = ap (λ es. with_keys es keys) (sym (cond-false (p e.0) _ _ fails))
+-- ---- the keys that pass a test
 
 -- where as many pass a test as there are, none fails it
 pub none-fails : (keys : KeyMap) (p : Name → Bool) → length (map.entries (map.retain_keys keys p)) ≡ length (map.entries keys) → no_keys ≡ map.retain_keys keys (λ name. not (p name))

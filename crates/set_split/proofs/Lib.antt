@@ -3,3 +3,4 @@ pub mod OwningLemmas
 pub mod SplitLemmas
 pub mod UnionLemmas
 pub mod NowhereLemmas
+pub mod PassingLemmas

@@ -56,7 +56,7 @@ module _ (points : List Name) (rise : IsStrictlySortedBy name_cmp points) (i : �
   longest_if : owns points i name ≡ true → is_longest points name point ≡ true
   longest_if e = ap (is_longest points name) is ∙ (position-Some (is_longest points name) points i point (owner_is points i name e)).1
 
-  beside : is_at_or_below point name ≡ false → owns points i name ≡ false
+  pub beside : is_at_or_below point name ≡ false → owns points i name ≡ false
   beside elsewhere = false_from_ne_true _ (λ e. true≢false (sym (and_parts (is_at_or_below point name) _ (longest_if e)).0 ∙ elsewhere))
 
   -- one behind it is longer

@@ -6,7 +6,8 @@ use Rattle.model_names.specs.Name.{Name}
 use Rattle.model_maps.specs.Entry.{Entry}
 use Rattle.model_maps.specs.KeyMap.{KeyMap}
 use Rattle.set_split.specs.Involved.{owns}
-use Rattle.mounted_files.proofs.MapLemmas.{with_passing, passing-all, passing-same, none-fails}
+use Rattle.set_split.proofs.PassingLemmas.{with_passing, passing-all, passing-same}
+use Rattle.mounted_files.proofs.MapLemmas.{none-fails}
 use Rattle.mounted_files.proofs.owned.not_owned.Goals as goal
 
 pub returns-then-len : goal.returns-then-len

@@ -3,7 +3,7 @@ use Rattle.std.proofs.Common.{◌≡◌, not}
 use Rattle.model_names.specs.Name.{Name}
 use Rattle.set_split.specs.Involved.{owns}
 use Rattle.mounted_files.specs.Owned.{not_owned_by}
-use Rattle.mounted_files.proofs.MapLemmas.{with_passing}
+use Rattle.set_split.proofs.PassingLemmas.{with_passing}
 use Rattle.mounted_files.proofs.owned.not_owned.Given as goal
 
 abbrev pub invariant-loop-name : goal.invariant-loop-name
