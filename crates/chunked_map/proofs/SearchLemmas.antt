@@ -10,11 +10,12 @@ use Rattle.general_words.proofs.Entries.{below_at}
 use Rattle.general_words.proofs.Orders.{is_less}
 use Rattle.general_words.proofs.Tests.{both, first, second}
 use Rattle.general_words.proofs.Lists.{same_default}
-use Rattle.sorted_map.specs.Place.{IsPlace}
+use Rattle.sorted_map.specs.Place.{IsPlace, IsGap}
 use Rattle.chunked_map.specs.Chunks.{joined, AreChunks, IsChunkOf, IsBeforeLast, all_before}
 use Rattle.chunked_map.proofs.OrderLemmas.{below_all-right, sorted_left, all_before-last, below_all-last}
 use Rattle.chunked_map.proofs.JoinLemmas.{sized_at, take_one_more, sorted-take}
 use Rattle.chunked_map.proofs.ChunkLemmas.{before_more, sorted_here}
+use Rattle.chunked_map.proofs.CostLemmas.{greater_from}
 
 module _ {K X : Type 0} (R : K → K → Ordering) (o : IsTotalOrder R) (q : K) where
   smaller_all : (c : List (K × X)) → 0 < length c → T (is_sorted R c) → ((d : K × X) → R (get_or c (length c - 1) d).0 q ≡ Less) → T (all_before R q c)
@@ -78,3 +79,19 @@ module _ {K X : Type 0} (R : K → K → Ordering) (o : IsTotalOrder R) (q : K) 
       place_last ties n end =
           let some = some_here c is in
           subst (λ es. IsPlace R es q n) (is ∙ same_default cs at c [] lt) (record { in_range = omega arith; tied = λ d. ap (λ n. R (get_or c n d).0 q) end ∙ last d ∙ ties })
+
+    -- a key before the first one of a chunk stands before all of it
+    module _ (c : List (K × X)) (is : c ≡ get_or cs at c) (e : K × X) (first : e ≡ get_or c 0 e) (before : R e.0 q ≡ Greater) where
+      behind_all : (k : ℕ) (d : K × X) → k < length (get_or cs at []) → R (get_or (get_or cs at []) k d).0 q ≡ Greater
+      behind_all k d within =
+          let here = is ∙ same_default cs at c [] lt in
+          let first_here = ap (λ es. R (get_or es 0 e).0 q) (sym here) ∙ ap (λ f. R f.0 q) (sym first) ∙ before in
+          greater_from R o q (get_or cs at []) 0 k e d (subst (λ es. T (is_sorted R es)) here (sorted_chunk c is)) within (omega arith) first_here
+
+      pub gap_first : IsGap R (get_or cs at []) q 0
+      gap_first = record { in_range = omega arith; before = λ k d early. absurd (omega (arith, early)); after = λ k d late within. behind_all k d within }
+
+      pub late_first : IsBeforeLast R q (get_or cs at [])
+      late_first =
+          let some = subst (λ (es : List (K × X)). 0 < length es) (is ∙ same_default cs at c [] lt) (some_here c is) in
+          record { late = λ d. behind_all (length (get_or cs at []) - 1) d (omega arith) }

@@ -1,5 +1,5 @@
 //! The search for a key, with its comparisons counted.
-ghost use Rattle.std.specs.Prelude.{◌≡◌, ◌+◌, ◌-◌, ◌*◌, ◌^◌, ◌<◌, ◌≤◌, [], T, length, IfOk, IfErr, slice_index_or};
+ghost use Rattle.std.specs.Prelude.{◌≡◌, ◌+◌, ◌-◌, ◌*◌, ◌^◌, ◌<◌, ◌≤◌, [], T, length, IfOk, IfErr, IfSome, IfNone, slice_index_or};
 ghost use Rattle.std.specs.FinMap.{is_sorted};
 ghost use Rattle.sorted_map.specs.Place.{IsPlace, IsGap};
 ghost use Rattle.chunked_map.specs.Chunks.{joined, AreChunks, IsChunkOf, IsBeforeLast};
@@ -25,14 +25,12 @@ pub fn search_counted<K: Ord, V, L: Ledger>(
     ensures more { steps.old ≤ steps.new }
     ensures cost { 2 ^ (steps.new - steps.old) ≤ 128 * (2 * length (joined chunks.now) + 1) }
 {
-    let len = chunks.len();
-    if len == 0 {
+    if chunks.is_empty() {
         return (0, Err(0));
     }
-    match last_counted(&chunks[len - 1], key, steps) {
-        Ordering::Less => (len, Err(0)),
-        Ordering::Equal => (len - 1, Ok(chunks[len - 1].len() - 1)),
-        Ordering::Greater => search_before(chunks, key, steps),
+    match look_at_last(chunks, key, steps) {
+        Some(spot) => spot,
+        None => search_before(chunks, key, steps),
     }
 }
 
@@ -47,7 +45,8 @@ pub fn search<K: Ord, V>(chunks: &[Chunk<K, V>], key: &K) -> (usize, Result<usiz
     search_from::<K, V, Brand>(chunks, key, Blank::new(1))
 }
 
-/// The search with a count of its own.
+/// The search with a count of its own. A key that is before the last one is compared with the first, since keys may come against their
+/// order. That is a comparison more than what a search takes that is counted.
 fn search_from<K: Ord, V, L: Ledger>(
     chunks: &[Chunk<K, V>],
     key: &K,
@@ -62,8 +61,42 @@ fn search_from<K: Ord, V, L: Ledger>(
     ensures there { IfOk result.1 (λ place. IsPlace K.cmp (slice_index_or chunks.now result.0 []) key.now place) }
     ensures missing { IfErr result.1 (λ place. result.0 < length chunks.now → IsGap K.cmp (slice_index_or chunks.now result.0 []) key.now place) }
 {
+    if chunks.is_empty() {
+        return (0, Err(0));
+    }
     let mut steps = Steps::<L>::none(blank);
-    search_counted(chunks, key, &mut steps)
+    match look_at_last(chunks, key, &mut steps) {
+        Some(spot) => spot,
+        None => {
+            if is_before_all(chunks, key) {
+                return (0, Err(0));
+            }
+            search_before(chunks, key, &mut steps)
+        }
+    }
+}
+
+/// Where a key stands that is the last one, or would stand that is behind it. Nothing for a key that is before it.
+fn look_at_last<K: Ord, V, L: Ledger>(
+    chunks: &[Chunk<K, V>],
+    key: &K,
+    steps: &mut Steps<L>,
+) -> Option<(usize, Result<usize, usize>)>
+    requires chunks { AreChunks K.cmp chunks.now }
+    requires some { 0 < length chunks.now }
+    ensures home { IfSome result (λ spot. IsChunkOf K.cmp chunks.now key.now spot.0) }
+    ensures within { IfSome result (λ spot. IfOk spot.1 (λ place. spot.0 < length chunks.now)) }
+    ensures there { IfSome result (λ spot. IfOk spot.1 (λ place. IsPlace K.cmp (slice_index_or chunks.now spot.0 []) key.now place)) }
+    ensures missing { IfSome result (λ spot. IfErr spot.1 (λ place. spot.0 < length chunks.now → IsGap K.cmp (slice_index_or chunks.now spot.0 []) key.now place)) }
+    ensures late { IfNone result (IsBeforeLast K.cmp key.now (slice_index_or chunks.now (length chunks.now - 1) [])) }
+    ensures step { steps.new ≡ steps.old + 1 }
+{
+    let len = chunks.len();
+    match last_counted(&chunks[len - 1], key, steps) {
+        Ordering::Less => Some((len, Err(0))),
+        Ordering::Equal => Some((len - 1, Ok(chunks[len - 1].len() - 1))),
+        Ordering::Greater => None,
+    }
 }
 
 /// How the last key of a chunk compares with a key.
@@ -78,6 +111,19 @@ fn last_counted<K: Ord, V, L: Ledger>(
 {
     let entries = chunk.entries();
     compare_counted(&entries[entries.len() - 1].0, key, steps)
+}
+
+/// Whether a key is before the first one.
+fn is_before_all<K: Ord, V>(chunks: &[Chunk<K, V>], key: &K) -> bool
+    requires chunks { AreChunks K.cmp chunks.now }
+    requires some { 0 < length chunks.now }
+    ensures home { T result → IsChunkOf K.cmp chunks.now key.now 0 }
+    ensures gap { T result → IsGap K.cmp (slice_index_or chunks.now 0 []) key.now 0 }
+{
+    match chunks[0].entries()[0].0.cmp(key) {
+        Ordering::Greater => true,
+        Ordering::Less | Ordering::Equal => false,
+    }
 }
 
 /// The search for a key that is before the last one.

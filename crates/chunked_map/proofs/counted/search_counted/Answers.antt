@@ -1,30 +1,12 @@
--- A key behind the last is behind all; one that ties with it stands there, and one before it is searched for after one comparison.
-use Rattle.std.proofs.Common.{◌≡◌, ◌<◌, ◌-◌, suc, length, arith}
-use Rattle.chunked_map.proofs.ChunkLemmas.{behind_none}
-use Rattle.chunked_map.proofs.SearchLemmas.{next_before, home_tied}
+-- A key that is before the last is searched for after one comparison.
+use Rattle.std.proofs.Common.{rules, ◌-◌, ◌<◌, length, arith}
 use Rattle.chunked_map.proofs.CostLemmas.{looked_before, no_more_chunks}
 use Rattle.chunked_map.specs.Chunks.{joined}
 use Rattle.chunked_map.proofs.counted.search_counted.Goals as goal
 
-pub returns-in-Less-clause-home : goal.returns-in-Less-clause-home
-returns-in-Less-clause-home g c =
-    let R = g.K.Ord.cmp in
+pub returns-in-None-clause-cost : goal.returns-in-None-clause-cost
+returns-in-None-clause-cost g c =
     let cs = c.args.chunks.now in
-    let some = c.if-len-eq0.false in
-    let lt : length cs - 1 < length cs = omega arith in
-    let next : length cs ≡ suc (length cs - 1) = omega arith in
-    behind_none R c.args.key.now cs (next_before R g.met.K.Ord.total c.args.key.now cs c.requires (length cs - 1) lt c.index-chunks-len.result c.index-chunks-len.is c.last_counted.result c.last_counted.ensures.order c.in-Less.is (length cs) next)
-
-pub returns-in-Equal-clause-home : goal.returns-in-Equal-clause-home
-returns-in-Equal-clause-home g c =
-    let cs = c.args.chunks.now in
-    let some = c.if-len-eq0.false in
-    let lt : length cs - 1 < length cs = omega arith in
-    home_tied g.K.Ord.cmp g.met.K.Ord.total c.args.key.now cs c.requires (length cs - 1) lt c.index-chunks-len.result c.index-chunks-len.is c.last_counted.result c.last_counted.ensures.order c.in-Equal.is
-
-pub returns-in-Greater-clause-cost : goal.returns-in-Greater-clause-cost
-returns-in-Greater-clause-cost g c =
-    let cs = c.args.chunks.now in
-    let some = c.if-len-eq0.false in
-    looked_before (c.search_before.new.steps - c.last_counted.new.steps) (c.search_before.new.steps - c.args.steps.now) (length cs) (length (joined cs))
-    (omega (arith, c.last_counted.ensures.step, c.search_before.ensures.more)) c.search_before.ensures.cost (omega (arith, some)) (no_more_chunks cs c.requires.sizes)
+    let some : 0 < length cs = search rules in
+    looked_before (c.search_before.new.steps - c.look_at_last.new.steps) (c.search_before.new.steps - c.args.steps.now) (length cs) (length (joined cs))
+    (omega (arith, c.look_at_last.ensures.step, c.search_before.ensures.more)) c.search_before.ensures.cost some (no_more_chunks cs c.requires.sizes)

@@ -1,5 +1,5 @@
 -- Each chunk has some entries, and 64 at most.
-use Rattle.std.proofs.Common.{◌≡◌, ◌≤◌, ◌*◌, length, subst, ap, sym}
+use Rattle.std.proofs.Common.{◌≤◌, ◌*◌, length, subst, ap, sym}
 use Rattle.chunked_map.proofs.CostLemmas.{no_more_chunks}
 use Rattle.chunked_map.proofs.JoinLemmas.{length_sized}
 use Rattle.chunked_map.proofs.chunked_maps.ChunkedMap.chunk_count.Goals as goal
