@@ -4,7 +4,7 @@ ghost use Rattle.journal_codec.specs.Entry.{IsEntry};
 ghost use Rattle.journal_codec.specs.Forms.{behind_gate};
 ghost use Rattle.intent_journal.specs.Journal.{IsHeaderBytes};
 
-use crate::entries::{FIRST, SECOND, add, begin, disk_of, entry_of, head, name};
+use crate::entries::{FIRST, SECOND, add, begin, disk_of, entry_of, head, is_added, name};
 use disk_memory::MemDisk;
 use intent_journal::Journal;
 use journal_codec::{FileText, encode};
@@ -22,6 +22,9 @@ struct Held<'a> {
     former: &'a [u8],
     journal: &'a [u8],
 }
+
+/// The first choices of a crash, which leave or tear what was not synced in many ways.
+const CHOICES: u64 = 10;
 
 /// Before the entries: contents of the length of theirs, a longer one and none, and a journal that is too short.
 const ROWS: [Held<'static>; 3] = [
@@ -182,13 +185,15 @@ fn choice_fits(
     Ok(fits(failed, left_on(alloc, held, disk.crash(choice)?)?))
 }
 
+/// Of so many choices. A count is a parameter, since a loop to a number that stands in its function is proved turn by turn.
 fn every_choice_fits(
     alloc: Global,
     held: Held<'_>,
     failed: u64,
     alone: bool,
+    choices: u64,
 ) -> Result<bool, Fail> {
-    for choice in 0..10 {
+    for choice in 0..choices {
         if !choice_fits(alloc, held, failed, alone, choice)? {
             return Ok(false);
         }
@@ -199,8 +204,8 @@ fn every_choice_fits(
 /// Whether each of so many calls may fail, alone or with all behind it.
 fn every_failure_fits(alloc: Global, held: Held<'_>, calls: u64) -> Result<bool, Fail> {
     for failed in 1..=calls {
-        if !every_choice_fits(alloc, held, failed, false)?
-            || !every_choice_fits(alloc, held, failed, true)?
+        if !every_choice_fits(alloc, held, failed, false, CHOICES)?
+            || !every_choice_fits(alloc, held, failed, true, CHOICES)?
         {
             return Ok(false);
         }
@@ -208,21 +213,27 @@ fn every_failure_fits(alloc: Global, held: Held<'_>, calls: u64) -> Result<bool,
     Ok(true)
 }
 
-/// Whether both entries are stored on a disk whose calls all go through, how many calls that takes, and what the files are then.
-fn stored_whole(alloc: Global, held: Held<'_>) -> Result<(bool, u64, Option<u64>), Fail> {
+/// Whether both entries are stored on a disk whose calls all go through, by so many calls.
+fn is_stored_whole(alloc: Global, held: Held<'_>, calls: u64) -> Result<bool, Fail> {
     let disk = disk_with(alloc, held, Vec::new(alloc), None)?;
     let (stored, disk) = stored_on(alloc, disk)?;
-    let calls = disk.calls();
-    Ok((stored, calls, left_on(alloc, held, disk)?))
+    Ok(stored && disk.calls() == calls && left_on(alloc, held, disk)? == Some(2))
+}
+
+/// The first of some disks that doesn't take both entries by so many calls, or has others behind a failure of one of them.
+fn first_unfit<'a>(alloc: Global, rows: &[Held<'a>], calls: u64) -> Result<Option<Held<'a>>, Fail> {
+    for held in rows {
+        if !every_failure_fits(alloc, *held, calls)? || !is_stored_whole(alloc, *held, calls)? {
+            return Ok(Some(*held));
+        }
+    }
+    Ok(None)
 }
 
 #[test]
 fn leaves_no_entry_or_whole_ones_in_their_order(rt: HostRuntime) -> Result<(), Fail> {
-    let alloc = rt.alloc();
-    for held in ROWS {
-        assert!(rt; every_failure_fits(alloc, held, 24)?, "{held:?}");
-        assert_eq!(rt; stored_whole(alloc, held)?, (true, 24, Some(2)), "{held:?}");
-    }
+    let unfit = first_unfit(rt.alloc(), &ROWS, 24)?;
+    assert!(rt; unfit.is_none(), "{unfit:?}");
     Ok(())
 }
 
@@ -239,42 +250,50 @@ fn left_of_first(
 }
 
 /// Whether the entry is lost up to the tenth call, may be there behind the eleventh, and is there from the twelfth on.
-fn every_stop_fits(alloc: Global, held: Held<'_>, choice: u64) -> Result<bool, Fail> {
-    for calls in 0..=20 {
-        let fits = match left_of_first(alloc, held, calls, choice)? {
-            Some(0) => calls <= 11,
-            Some(1) => 11 <= calls,
-            _ => false,
-        };
-        if !fits {
-            return Ok(false);
+fn stop_fits(alloc: Global, held: Held<'_>, calls: u64, choice: u64) -> Result<bool, Fail> {
+    Ok(match left_of_first(alloc, held, calls, choice)? {
+        Some(0) => calls <= 11,
+        Some(1) => 11 <= calls,
+        _ => false,
+    })
+}
+
+/// Whether each stop up to so many calls fits, by so many choices.
+fn every_stop_fits(alloc: Global, held: Held<'_>, calls: u64, choices: u64) -> Result<bool, Fail> {
+    for stop_after in 0..=calls {
+        for choice in 0..choices {
+            if !stop_fits(alloc, held, stop_after, choice)? {
+                return Ok(false);
+            }
         }
     }
     Ok(true)
 }
 
-/// Whether the first entry is stored on a disk whose calls all go through, how many calls that takes, and what is left.
-fn first_stored_whole(alloc: Global, held: Held<'_>) -> Result<(bool, u64, Option<u64>), Fail> {
+/// Whether the first entry is stored on a disk whose calls all go through, by so many calls.
+fn first_is_stored_whole(alloc: Global, held: Held<'_>, calls: u64) -> Result<bool, Fail> {
     let disk = disk_with(alloc, held, Vec::new(alloc), None)?;
     let (stored, disk) = first_stored_on(alloc, disk)?;
-    let calls = disk.calls();
-    Ok((stored, calls, left_on(alloc, held, disk)?))
+    Ok(stored && disk.calls() == calls && left_on(alloc, held, disk)? == Some(1))
+}
+
+/// The first of some disks that doesn't take the first entry by so many calls, or has something else behind a stop.
+fn first_torn<'a>(alloc: Global, rows: &[Held<'a>], calls: u64) -> Result<Option<Held<'a>>, Fail> {
+    for held in rows {
+        if !every_stop_fits(alloc, *held, calls, CHOICES)?
+            || !first_is_stored_whole(alloc, *held, calls)?
+        {
+            return Ok(Some(*held));
+        }
+    }
+    Ok(None)
 }
 
 /// One set of two files.
 #[test]
 fn leaves_an_entry_of_two_files_whole_or_not_at_all(rt: HostRuntime) -> Result<(), Fail> {
-    let alloc = rt.alloc();
-    for held in ROWS {
-        assert_eq!(rt;
-            first_stored_whole(alloc, held)?,
-            (true, 20, Some(1)),
-            "{held:?}"
-        );
-        for choice in 0..10 {
-            assert!(rt; every_stop_fits(alloc, held, choice)?, "{held:?} {choice}");
-        }
-    }
+    let torn = first_torn(rt.alloc(), &ROWS, 20)?;
+    assert!(rt; torn.is_none(), "{torn:?}");
     Ok(())
 }
 
@@ -298,24 +317,35 @@ fn finished_twice<D: Disk>(
     Ok([(first, state), (second, journal.state())])
 }
 
-#[test]
-fn finishes_a_list_whose_file_failed(rt: HostRuntime) -> Result<(), Fail> {
-    let alloc = rt.alloc();
+/// The same on a disk, and the disk then.
+fn finished_on(
+    alloc: Global,
+    disk: MemDisk,
+) -> Result<(Result<[(Result<(), Failed>, State); 2], Failed>, MemDisk), Fail> {
     let files = entry_of(alloc, FIRST)?;
     let encoded = encode(alloc, files.as_slice())?;
     let header = head(alloc)?;
+    match Journal::open(alloc, disk) {
+        Ok(journal) => {
+            let mut journal = journal;
+            let outcomes = finished_twice(&mut journal, &header, &encoded, files);
+            Ok((outcomes, journal.into_disk()))
+        }
+        Err(_) => Err("the disk opens")?,
+    }
+}
+
+#[test]
+fn finishes_a_list_whose_file_failed(rt: HostRuntime) -> Result<(), Fail> {
+    let alloc = rt.alloc();
     // Behind the first gate's opening the thirteenth call writes the first file.
     let disk = disk_with(alloc, ROWS[0], vec![in alloc; 13]?, None)?;
-    let Ok(mut journal) = Journal::open(alloc, disk) else {
-        return Err("the disk opens")?;
-    };
-    let outcomes = finished_twice(&mut journal, &header, &encoded, files);
+    let (outcomes, disk) = finished_on(alloc, disk)?;
     assert_eq!(rt;
         outcomes,
         Ok([(Err(Failed), State::Lag), (Ok(()), State::Clean)])
     );
-    let left = left_on(alloc, ROWS[0], journal.into_disk())?;
-    assert_eq!(rt; left, Some(1));
+    assert_eq!(rt; left_on(alloc, ROWS[0], disk)?, Some(1));
     Ok(())
 }
 
@@ -359,9 +389,39 @@ fn settling_fits(
     }
 }
 
+/// Whether each stop up to so many calls fits, by so many choices.
+fn every_settling_fits(
+    alloc: Global,
+    held: Held<'_>,
+    calls: u64,
+    choices: u64,
+) -> Result<bool, Fail> {
+    for stop_after in 1..=calls {
+        for choice in 0..choices {
+            if !settling_fits(alloc, held, stop_after, choice)? {
+                return Ok(false);
+            }
+        }
+    }
+    Ok(true)
+}
+
+/// The first of some disks whose gate isn't settled so.
+fn first_unsettled<'a>(
+    alloc: Global,
+    rows: &[Held<'a>],
+    calls: u64,
+) -> Result<Option<Held<'a>>, Fail> {
+    for held in rows {
+        if !every_settling_fits(alloc, *held, calls, CHOICES)? {
+            return Ok(Some(*held));
+        }
+    }
+    Ok(None)
+}
+
 #[test]
 fn closes_a_gate_that_is_neither_open_nor_closed(rt: HostRuntime) -> Result<(), Fail> {
-    let alloc = rt.alloc();
     let rows = [
         Held {
             former: ODD_FORMER,
@@ -377,14 +437,8 @@ fn closes_a_gate_that_is_neither_open_nor_closed(rt: HostRuntime) -> Result<(), 
         },
     ];
     // A former journal is read by two calls and retired by five; then a journal is read by one to four, and settled by two.
-    for held in rows {
-        for stop_after in 1..11 {
-            for choice in 0..10 {
-                let fits = settling_fits(alloc, held, stop_after, choice)?;
-                assert!(rt; fits, "{held:?} {stop_after} {choice}");
-            }
-        }
-    }
+    let unsettled = first_unsettled(rt.alloc(), &rows, 10)?;
+    assert!(rt; unsettled.is_none(), "{unsettled:?}");
     Ok(())
 }
 
@@ -397,21 +451,35 @@ fn fits_behind<D: Disk>(
 ) -> Result<bool, Fail> {
     let header = head(alloc)?;
     for _ in 0..entries {
-        let files = entry_of(alloc, SECOND)?;
-        let encoded = encode(alloc, files.as_slice())?;
         let Ok(()) = begin(journal, &header) else {
             return Err("it begins")?;
         };
-        if add(journal, &encoded, files) != Ok(true) {
+        if !is_added(alloc, journal, SECOND)? {
             return Err("it fits")?;
         }
     }
     Ok(journal.fits(body))
 }
 
+/// The first of some rows that isn't so: how many entries were added, how long the next one's body is, and whether it fits.
+fn first_misfit(
+    alloc: Global,
+    rows: &[(usize, usize, bool)],
+) -> Result<Option<(usize, usize)>, Fail> {
+    for (entries, body, fits) in rows {
+        let disk = MemDisk::new(alloc, Vec::new(alloc), Vec::new(alloc), None)?;
+        let Ok(mut journal) = Journal::open(alloc, disk) else {
+            return Err("it opens")?;
+        };
+        if fits_behind(alloc, &mut journal, *entries, *body)? != *fits {
+            return Ok(Some((*entries, *body)));
+        }
+    }
+    Ok(None)
+}
+
 #[test]
 fn has_room_for_so_many_entries_and_bytes(rt: HostRuntime) -> Result<(), Fail> {
-    let alloc = rt.alloc();
     // Each entry has 17 bytes; the next one's gate and length have 5, and it ends 67,200,005 bytes behind the first gate
     // at most.
     let rows = [
@@ -423,13 +491,6 @@ fn has_room_for_so_many_entries_and_bytes(rt: HostRuntime) -> Result<(), Fail> {
         (31, 67_199_474, false),
         (32, 12, false),
     ];
-    for (entries, body, fits) in rows {
-        let disk = MemDisk::new(alloc, Vec::new(alloc), Vec::new(alloc), None)?;
-        let Ok(mut journal) = Journal::open(alloc, disk) else {
-            return Err("it opens")?;
-        };
-        let found = fits_behind(alloc, &mut journal, entries, body)?;
-        assert_eq!(rt; found, fits, "{entries} {body}");
-    }
+    assert_eq!(rt; first_misfit(rt.alloc(), &rows)?, None);
     Ok(())
 }

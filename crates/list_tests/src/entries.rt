@@ -1,5 +1,5 @@
 //! Two entries, the header of their files, and how an entry is added to the list of a journal.
-ghost use Rattle.std.specs.Prelude.{◌≡◌, ◌++◌, ◌∷◌, [], true, false, IfOk, OnOk};
+ghost use Rattle.std.specs.Prelude.{◌≡◌, ◌++◌, ◌∷◌, [], T, true, false, IfOk, OnOk};
 ghost use Rattle.journal_codec.specs.Entry.{IsEntry};
 ghost use Rattle.journal_codec.specs.Forms.{behind_gate};
 ghost use Rattle.intent_journal.specs.Journal.{IsHeaderBytes};
@@ -7,7 +7,7 @@ ghost use Rattle.intent_journal.specs.Journal.{IsHeaderBytes};
 use disk_memory::MemDisk;
 use intent_journal::Journal;
 use journal_codec::{
-    FileText, decode, decode_header, encode_header, headers_read_what_is_spelled,
+    FileText, decode, decode_header, encode, encode_header, headers_read_what_is_spelled,
     spells_what_is_read,
 };
 use journal_steps::State;
@@ -83,6 +83,25 @@ pub(crate) fn add<D: Disk>(
     Ok(true)
 }
 
+/// Adds the entry with this body to the list, and tells whether it was added.
+pub(crate) fn is_added<D: Disk>(
+    alloc: Global,
+    journal: &mut Journal<D>,
+    body: &[u8],
+) -> Result<bool, Fail>
+    requires headed { journal.old.headed ≡ true }
+    requires sure { journal.old.in_doubt ≡ false }
+    ensures headed { IfOk result (λ added. T added → journal.new.headed ≡ true) }
+    ensures sure { IfOk result (λ added. T added → journal.new.in_doubt ≡ false) }
+{
+    let files = entry_of(alloc, body)?;
+    let encoded = encode(alloc, files.as_slice())?;
+    match add(journal, &encoded, files) {
+        Ok(true) => Ok(true),
+        _ => Ok(false),
+    }
+}
+
 /// A disk whose files `a.ecf`, `b.ecf`, `journal` and `journal2` hold this.
 pub(crate) fn disk_of(
     alloc: Global,
@@ -90,21 +109,30 @@ pub(crate) fn disk_of(
     failing: Vec<u64>,
     stop_after: Option<u64>,
 ) -> Result<MemDisk, Fail> {
-    let first = name(alloc, "a.ecf")?;
-    let second = name(alloc, "b.ecf")?;
-    let former = name(alloc, "journal")?;
-    let journal = name(alloc, "journal2")?;
-    if first == second || first == former || first == journal {
+    let first = held[0].to_vec(alloc)?;
+    let second = held[1].to_vec(alloc)?;
+    let former = held[2].to_vec(alloc)?;
+    let journal = held[3].to_vec(alloc)?;
+    named(alloc, first, second, former, journal, failing, stop_after)
+}
+
+/// The same, of contents by themselves: one function that copies them and names the files takes minutes to prove.
+fn named(
+    alloc: Global,
+    first: Vec<u8>,
+    second: Vec<u8>,
+    former: Vec<u8>,
+    journal: Vec<u8>,
+    failing: Vec<u64>,
+    stop_after: Option<u64>,
+) -> Result<MemDisk, Fail> {
+    let a = name(alloc, "a.ecf")?;
+    let b = name(alloc, "b.ecf")?;
+    let c = name(alloc, "journal")?;
+    let d = name(alloc, "journal2")?;
+    if a == b || a == c || a == d || b == c || b == d || c == d {
         return Err("they are four names")?;
     }
-    if second == former || second == journal || former == journal {
-        return Err("they are four names")?;
-    }
-    let files = vec![in alloc;
-        (first, held[0].to_vec(alloc)?),
-        (second, held[1].to_vec(alloc)?),
-        (former, held[2].to_vec(alloc)?),
-        (journal, held[3].to_vec(alloc)?),
-    ]?;
+    let files = vec![in alloc; (a, first), (b, second), (c, former), (d, journal)]?;
     Ok(MemDisk::new(alloc, files, failing, stop_after)?)
 }

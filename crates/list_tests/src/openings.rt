@@ -262,12 +262,20 @@ fn opens_so(alloc: Global, row: Row) -> Result<bool, Fail> {
     )
 }
 
+/// The first of some rows whose opening comes to something else.
+fn first_other(alloc: Global, rows: &[Row]) -> Result<Option<Row>, Fail> {
+    for row in rows {
+        if !opens_so(alloc, *row)? {
+            return Ok(Some(*row));
+        }
+    }
+    Ok(None)
+}
+
 #[test]
 fn brings_the_open_entries_into_their_files(rt: HostRuntime) -> Result<(), Fail> {
-    let alloc = rt.alloc();
-    for row in ROWS {
-        assert!(rt; opens_so(alloc, row)?, "{row:?}");
-    }
+    let other = first_other(rt.alloc(), &ROWS)?;
+    assert!(rt; other.is_none(), "{other:?}");
     Ok(())
 }
 
@@ -286,14 +294,15 @@ fn brings_both(alloc: Global, disk: MemDisk) -> Result<bool, Fail> {
     Ok(bad.is_none() && holds(alloc, &disk, b"1", b"2")?)
 }
 
-/// Whether the next opening brings both entries in, whatever the crash left.
+/// Whether the next opening brings both entries in behind a stop, whatever the crash left by so many choices.
 fn recovers_behind(
     alloc: Global,
     former: &[u8],
     journal: &[u8],
     stop_after: u64,
+    choices: u64,
 ) -> Result<bool, Fail> {
-    for choice in 0..10 {
+    for choice in 0..choices {
         let disk = cut_off(alloc, former, journal, stop_after)?.crash(choice)?;
         if !brings_both(alloc, disk)? {
             return Ok(false);
@@ -302,18 +311,25 @@ fn recovers_behind(
     Ok(true)
 }
 
+/// The first stop up to so many calls from which a journal isn't recovered.
+fn first_lost(
+    alloc: Global,
+    former: &[u8],
+    journal: &[u8],
+    calls: u64,
+) -> Result<Option<u64>, Fail> {
+    for stop_after in 0..=calls {
+        if !recovers_behind(alloc, former, journal, stop_after, 10)? {
+            return Ok(Some(stop_after));
+        }
+    }
+    Ok(None)
+}
+
 #[test]
 fn recovers_again_after_a_crash_in_a_recovery(rt: HostRuntime) -> Result<(), Fail> {
     let alloc = rt.alloc();
-    for stop_after in 0..19 {
-        assert!(rt;
-            recovers_behind(alloc, b"", TWO_HEADED, stop_after)?,
-            "{stop_after}"
-        );
-        assert!(rt;
-            recovers_behind(alloc, TWO, b"", stop_after)?,
-            "{stop_after}"
-        );
-    }
+    assert_eq!(rt; first_lost(alloc, b"", TWO_HEADED, 18)?, None);
+    assert_eq!(rt; first_lost(alloc, TWO, b"", 18)?, None);
     Ok(())
 }

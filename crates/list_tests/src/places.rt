@@ -27,6 +27,20 @@ fn opened_on(alloc: Global, file: &str, bytes: &[u8]) -> Result<(Option<u64>, u6
     bad_on(alloc, MemDisk::new(alloc, files, Vec::new(alloc), None)?)
 }
 
+/// The first of some journals that isn't bad there, or whose opening doesn't make so many calls.
+fn first_other<'a>(
+    alloc: Global,
+    file: &str,
+    rows: &[(&'a [u8], Option<u64>, u64)],
+) -> Result<Option<&'a [u8]>, Fail> {
+    for (bytes, place, calls) in rows {
+        if opened_on(alloc, file, bytes)? != (*place, *calls) {
+            return Ok(Some(*bytes));
+        }
+    }
+    Ok(None)
+}
+
 #[test]
 fn tells_where_a_former_journal_is_bad(rt: HostRuntime) -> Result<(), Fail> {
     let rows: [(&[u8], Option<u64>, u64); 15] = [
@@ -56,10 +70,7 @@ fn tells_where_a_former_journal_is_bad(rt: HostRuntime) -> Result<(), Fail> {
             3,
         ),
     ];
-    for (bytes, place, calls) in rows {
-        let opened = opened_on(rt.alloc(), "journal", bytes)?;
-        assert_eq!(rt; opened, (place, calls), "{bytes:?}");
-    }
+    assert_eq!(rt; first_other(rt.alloc(), "journal", &rows)?, None);
     Ok(())
 }
 
@@ -107,11 +118,16 @@ fn tells_where_a_journal_is_bad(rt: HostRuntime) -> Result<(), Fail> {
             5,
         ),
     ];
-    for (bytes, place, calls) in rows {
-        let opened = opened_on(rt.alloc(), "journal2", bytes)?;
-        assert_eq!(rt; opened, (place, calls), "{bytes:?}");
-    }
+    assert_eq!(rt; first_other(rt.alloc(), "journal2", &rows)?, None);
     Ok(())
+}
+
+/// Why the journal of a disk is refused, if it is, and how many calls its opening made.
+fn fault_on(alloc: Global, disk: MemDisk) -> (Option<JournalFault>, u64) {
+    match Journal::open(alloc, disk) {
+        Ok(journal) => (None, journal.into_disk().calls()),
+        Err(refused) => (Some(refused.fault), refused.disk.calls()),
+    }
 }
 
 #[test]
@@ -119,13 +135,9 @@ fn tells_a_version_that_it_does_not_know(rt: HostRuntime) -> Result<(), Fail> {
     let alloc = rt.alloc();
     let bytes = b"\x01\x03\x00\x00\x00\x00".as_slice();
     let files = vec![in alloc; (name(alloc, "journal2")?, bytes.to_vec(alloc)?)]?;
-    match Journal::open(alloc, MemDisk::new(alloc, files, Vec::new(alloc), None)?) {
-        Ok(_) => Err("it is opened")?,
-        Err(refused) => {
-            assert_eq!(rt; refused.fault, JournalFault::UnknownVersion { version: 3 });
-            assert_eq!(rt; refused.disk.calls(), 3);
-        }
-    }
+    let disk = MemDisk::new(alloc, files, Vec::new(alloc), None)?;
+    let unknown = JournalFault::UnknownVersion { version: 3 };
+    assert_eq!(rt; fault_on(alloc, disk), (Some(unknown), 3));
     Ok(())
 }
 

@@ -1,10 +1,9 @@
 //! Two entries on their way into the list of a journal, and the list on its way into its files.
-ghost use Rattle.std.specs.Prelude.{◌≡◌, true, false, OnOk};
+ghost use Rattle.std.specs.Prelude.{◌≡◌, T, true, false, IfOk, OnOk};
 
-use crate::entries::{FIRST, SECOND, add, begin, entry_of, head, name};
+use crate::entries::{FIRST, SECOND, begin, head, is_added, name};
 use disk_memory::MemDisk;
 use intent_journal::Journal;
-use journal_codec::encode;
 use journal_steps::State;
 use kdb_outside::{Disk, Failed};
 use std::alloc::Global;
@@ -42,42 +41,51 @@ fn holds(
     )
 }
 
-/// Whether the files are listed, but not in their places yet, while the list stands; and whether they are behind it.
-fn goes_through(alloc: Global, by_number: bool) -> Result<bool, Fail> {
-    let first = entry_of(alloc, FIRST)?;
-    let second = entry_of(alloc, SECOND)?;
-    let first_encoded = encode(alloc, first.as_slice())?;
-    let second_encoded = encode(alloc, second.as_slice())?;
+/// Whether a new journal is in doubt at first, has no head then, and is clean with one.
+fn is_begun(alloc: Global, journal: &mut Journal<MemDisk>) -> Result<bool, Fail>
+    ensures headed { IfOk result (λ begun. T begun → journal.new.headed ≡ true) }
+    ensures sure { IfOk result (λ begun. T begun → journal.new.in_doubt ≡ false) }
+{
     let header = head(alloc)?;
-    let disk = MemDisk::new(alloc, Vec::new(alloc), Vec::new(alloc), None)?;
-    let Ok(journal) = Journal::open(alloc, disk) else {
-        return Err("it opens")?;
-    };
-    let mut journal = journal;
     let doubt = journal.state() == State::Doubt;
     let Ok(()) = journal.settle() else {
-        return Err("it settles")?;
+        return Ok(false);
     };
     let bare = journal.state() == State::Bare;
-    let Ok(()) = begin(&mut journal, &header) else {
-        return Err("its head is put")?;
+    let Ok(()) = begin(journal, &header) else {
+        return Ok(false);
     };
-    let clean = journal.state() == State::Clean;
-    let Ok(_) = add(&mut journal, &first_encoded, first) else {
-        return Err("it is added")?;
-    };
-    let Ok(_) = add(&mut journal, &second_encoded, second) else {
-        return Err("it is added")?;
-    };
+    Ok(doubt && bare && journal.state() == State::Clean)
+}
+
+/// Whether the files are listed, but not in their places yet, while the list stands; and whether it is empty behind that.
+fn is_brought_in(journal: &mut Journal<MemDisk>, by_number: bool) -> bool
+    requires headed { journal.old.headed ≡ true }
+    requires sure { journal.old.in_doubt ≡ false }
+{
     let lags = journal.state() == State::Lag && journal.pending() == 2;
     let brought = if by_number {
-        bring_in(&mut journal)
+        bring_in(journal)
     } else {
         journal.finish()
     };
-    let ends = brought.is_ok() && journal.state() == State::Clean && journal.pending() == 0;
-    let disk = journal.into_disk();
-    Ok(doubt && bare && clean && lags && ends && holds(alloc, &disk, b"1", b"2", CLOSED)?)
+    lags && brought.is_ok() && journal.state() == State::Clean && journal.pending() == 0
+}
+
+/// Whether both entries go through the list into their files.
+fn goes_through(alloc: Global, by_number: bool) -> Result<bool, Fail> {
+    let disk = MemDisk::new(alloc, Vec::new(alloc), Vec::new(alloc), None)?;
+    let Ok(mut journal) = Journal::open(alloc, disk) else {
+        return Err("it opens")?;
+    };
+    if !is_begun(alloc, &mut journal)?
+        || !is_added(alloc, &mut journal, FIRST)?
+        || !is_added(alloc, &mut journal, SECOND)?
+    {
+        return Ok(false);
+    }
+    let brought = is_brought_in(&mut journal, by_number);
+    Ok(brought && holds(alloc, &journal.into_disk(), b"1", b"2", CLOSED)?)
 }
 
 #[test]
