@@ -1,5 +1,5 @@
 //! The steps on the table, one function each.
-ghost use Rattle.std.specs.Prelude.{◌≡◌, ◌%◌, ◌^◌, ◌<◌, ℕ, true, [], ◌∷◌, ◌++◌, length, Some, None, MatchBool};
+ghost use Rattle.std.specs.Prelude.{◌≡◌, ◌%◌, ◌^◌, ◌<◌, ◌==◌, ℕ, true, [], ◌∷◌, ◌++◌, length, Some, None, MatchBool};
 ghost use mathlib.Core.List.{IsPrefix};
 ghost use Rattle.seat_lock.specs.Views.{with_ticket, ended_view, compared_view, rest_view, dealt_view, joint_view};
 ghost use Rattle.seat_lock.specs.Boards.{IsBoard, IsOutside, IsWaiting, HasEntered, CanGain};
@@ -21,14 +21,14 @@ pub fn draw<V: Storied>(board: &Board<V>, seat: &mut Sitter<V>) -> u64
     board.shared.fetch_add::<Draw>(seat, 1, 1)
 }
 
-/// Looks whether the ticket's turn has come, and if so takes the value out of the slot.
-fn look<V: Storied>(board: &Board<V>, seat: &mut Sitter<V>, ticket: u64) -> bool
+/// Looks whose turn it is, and if it is the ticket's takes the value out of the slot.
+fn look<V: Storied>(board: &Board<V>, seat: &mut Sitter<V>, ticket: u64) -> u64
     requires board { IsBoard board.now.shared.table_id × (seat.old.table_id ≡ board.now.shared.table_id) }
     requires waits { IsWaiting ticket seat.old.me }
     ensures board { seat.new.table_id ≡ seat.old.table_id }
-    ensures turn { MatchBool result (Enters V.maker V.stands seat.old.me seat.new.me) (seat.new.me ≡ seat.old.me) }
+    ensures turn { MatchBool (result == ticket) (Enters V.maker V.stands seat.old.me seat.new.me) (seat.new.me ≡ seat.old.me) }
 {
-    board.shared.load::<Look<V>>(seat, 0) == ticket
+    board.shared.load::<Look<V>>(seat, 0)
 }
 
 /// The value of the slot that the seat has taken.
@@ -61,11 +61,11 @@ pub fn enter<V: Storied, R: Wait>(
     let ticket = draw(board, seat);
     let mut looks: u32 = 0;
     for _ in rt.forever() {
-        if look(board, seat, ticket) {
+        let turn = look(board, seat, ticket);
+        if turn == ticket {
             return take(board, seat);
         }
-        bells.wait(rt, ticket, looks);
-        looks = looks.saturating_add(1);
+        looks = bells.wait(rt, ticket, ticket.wrapping_sub(turn), looks);
     }
     unreachable!()
 }
