@@ -8,7 +8,9 @@ use key_name::KeyName;
 use key_set::KeySet;
 use regex_check::RegexPatterns;
 use std::alloc::Global;
+use std::sync::Wait;
 use std::test::*;
+use std::thread::Threads;
 use store_core::Done;
 
 /// Whether a merge was stored, and each number of commits that it tells is so high.
@@ -83,21 +85,41 @@ fn found_of(
     Ok((keys.len(), found))
 }
 
+/// How many commits a script came to, and what is found behind them, where each phase was stored behind so many commits.
+fn merged<R: Threads + Wait + Sync>(
+    rt: &R,
+    alloc: Global,
+    text: &str,
+    fronts: &[u64],
+    (sessions, last): (u32, u32),
+) -> Result<Option<(u64, (usize, u32))>, Fail> {
+    let played = play(rt, alloc, &OpenGate, text).ok_or("it is played")?;
+    let told = played.transcripts.as_ref().ok_or("it is told")?;
+    for (phase, front) in fronts.iter().enumerate() {
+        if !is_phase_behind(told, phase, *front) {
+            return Ok(None);
+        }
+    }
+    let found = found_of(alloc, &played, sessions, last)?;
+    Ok(Some((played.closed.history.len(), found)))
+}
+
+/// Two phases of three sessions, and a get behind them.
+fn two_phases(alloc: Global) -> Result<String, Fail> {
+    let mut text = phase_of(alloc, 3, 1, 1)?;
+    text.push_str("phase\n")?;
+    text.push_str(&phase_of(alloc, 3, 2, 2)?)?;
+    text.push_str("phase\nsession 1\nget /\n")?;
+    Ok(text)
+}
+
 #[test]
 fn merges_of_a_later_phase_find_all_commits_of_the_earlier_one(
     rt: HostRuntime,
 ) -> Result<(), Fail> {
-    let mut text = phase_of(rt.alloc(), 3, 1, 1)?;
-    text.push_str("phase\n")?;
-    text.push_str(&phase_of(rt.alloc(), 3, 2, 2)?)?;
-    text.push_str("phase\nsession 1\nget /\n")?;
-    let played = play(&rt, rt.alloc(), &OpenGate, &text).ok_or("it is played")?;
-    let told = played.transcripts.as_ref().ok_or("it is told")?;
-    assert!(rt; is_phase_behind(told, 0, 0));
-    assert!(rt; is_phase_behind(told, 1, 3));
-    assert!(rt; is_phase_behind(told, 2, 6));
-    assert_eq!(rt; played.closed.history.len(), 6);
-    assert_eq!(rt; found_of(rt.alloc(), &played, 3, 2)?, (3, 3));
+    let text = two_phases(rt.alloc())?;
+    let found = merged(&rt, rt.alloc(), &text, &[0, 3, 6], (3, 2))?;
+    assert_eq!(rt; found, Some((6, (3, 3))));
     Ok(())
 }
 
@@ -105,10 +127,7 @@ fn merges_of_a_later_phase_find_all_commits_of_the_earlier_one(
 #[test]
 fn each_merge_of_32_sessions_is_stored(rt: HostRuntime) -> Result<(), Fail> {
     let text = phase_of(rt.alloc(), 32, 1, 10)?;
-    let played = play(&rt, rt.alloc(), &OpenGate, &text).ok_or("it is played")?;
-    let told = played.transcripts.as_ref().ok_or("it is told")?;
-    assert!(rt; is_phase_behind(told, 0, 0));
-    assert_eq!(rt; played.closed.history.len(), 320);
-    assert_eq!(rt; found_of(rt.alloc(), &played, 32, 10)?, (32, 32));
+    let found = merged(&rt, rt.alloc(), &text, &[0], (32, 10))?;
+    assert_eq!(rt; found, Some((320, (32, 32))));
     Ok(())
 }

@@ -73,15 +73,27 @@ fn sessions_of_two_phases_do_not_meet(rt: HostRuntime) -> Result<(), Fail> {
     Ok(())
 }
 
+/// How often a gate was asked, what it was told, and how many calls the disk had, where all steps of a script were taken.
+fn counted<R: Threads + Wait + Sync>(
+    rt: &R,
+    alloc: Global,
+    text: &str,
+) -> Result<(u64, u64, u64), Fail> {
+    let gate = CountingGate::new();
+    let played = play(rt, alloc, &gate, text).ok_or("it is played")?;
+    if played.transcripts.is_none() {
+        return Err("its steps are told")?;
+    }
+    Ok((gate.calls(), gate.told(), played.closed.disk.calls()))
+}
+
 /// The number of a step is its place among all steps of its session. Edits are steps, and so is a set that is refused.
 #[test]
 fn the_gate_is_asked_before_each_step(rt: HostRuntime) -> Result<(), Fail> {
-    let gate = CountingGate::new();
     let text =
         "session 3\nput user:/a 1\nset user:/\nphase\nsession 7\nlook /a\nphase\nsession 3\nget /\n";
-    let played = play(&rt, rt.alloc(), &gate, text).ok_or("it is played")?;
-    assert!(rt; played.transcripts.is_some());
-    assert_eq!(rt; (gate.calls(), gate.told()), (4, 301 + 302 + 701 + 303));
+    let (calls, told, _) = counted(&rt, rt.alloc(), text)?;
+    assert_eq!(rt; (calls, told), (4, 301 + 302 + 701 + 303));
     Ok(())
 }
 
@@ -89,14 +101,9 @@ fn the_gate_is_asked_before_each_step(rt: HostRuntime) -> Result<(), Fail> {
 /// that the file is written. The first time is the flusher's, in the first phase or in the second, and the other one is its own in the last phase or the closing's.
 #[test]
 fn a_flusher_writes_beside_the_sessions(rt: HostRuntime) -> Result<(), Fail> {
-    let gate = CountingGate::new();
     let text =
         "session 1\nget user:/\nput user:/k1 1\nset user:/\nphase\nsession 1\nset user:/\nphase\nsession 1\nput user:/k2 2\nset user:/\n";
-    let played = play(&rt, rt.alloc(), &gate, text).ok_or("it is played")?;
-    assert!(rt; played.transcripts.is_some());
-    assert_eq!(rt;
-        (gate.calls(), played.closed.disk.calls()),
-        (6, 7 + 2 + 4 + 4 + 5 + 4 + 5)
-    );
+    let (calls, _, of_disk) = counted(&rt, rt.alloc(), text)?;
+    assert_eq!(rt; (calls, of_disk), (6, 7 + 2 + 4 + 4 + 5 + 4 + 5));
     Ok(())
 }

@@ -7,7 +7,9 @@ use kdb_outside::OpenGate;
 use key_name::KeyName;
 use key_set::Entry;
 use std::alloc::Global;
+use std::sync::Wait;
 use std::test::*;
+use std::thread::Threads;
 use store_core::Done;
 
 /// How many sessions there are, and how many sets each of them makes.
@@ -153,21 +155,31 @@ fn counts_of(alloc: Global, text: &str, history: &History, told: &Transcripts) -
     Some(counts)
 }
 
+/// How many undos of a random script were made and refused, where all replies are right.
+fn counts_of_run<R: Threads + Wait + Sync>(
+    rt: &R,
+    alloc: Global,
+    seed: u32,
+    between: &str,
+) -> Result<Counts, Fail> {
+    let text = random_script(alloc, seed, between)?;
+    let played = play(rt, alloc, &OpenGate, &text).ok_or("it is played")?;
+    let told = played.transcripts.as_ref().ok_or("it is told")?;
+    let counts = counts_of(alloc, &text, &played.closed.history, told);
+    Ok(counts.ok_or("each reply is right")?)
+}
+
+fn sum(counts: Counts) -> u32 {
+    counts.0.saturating_add(counts.1).saturating_add(counts.2)
+}
+
 /// One session in each phase: how many undos are made and refused is always the same.
 #[test]
 fn sessions_that_follow_each_other_take_back_what_was_there(rt: HostRuntime) -> Result<(), Fail> {
     for seed in [1, 2, 3] {
-        let text = random_script(rt.alloc(), seed, "phase\n")?;
-        let played = play(&rt, rt.alloc(), &OpenGate, &text).ok_or("it is played")?;
-        let told = played.transcripts.as_ref().ok_or("it is told")?;
-        let history = &played.closed.history;
-        let counts = counts_of(rt.alloc(), &text, history, told);
-        let (made, missing, overtaken) = counts.ok_or("each reply is right")?;
-        assert_eq!(rt;
-            made.saturating_add(missing).saturating_add(overtaken),
-            SESSIONS * SETS
-        );
-        assert!(rt; made > 0 && missing > 0 && overtaken > 0);
+        let counts = counts_of_run(&rt, rt.alloc(), seed, "phase\n")?;
+        assert_eq!(rt; sum(counts), SESSIONS * SETS);
+        assert!(rt; counts.0 > 0 && counts.1 > 0 && counts.2 > 0);
     }
     Ok(())
 }
@@ -176,16 +188,8 @@ fn sessions_that_follow_each_other_take_back_what_was_there(rt: HostRuntime) -> 
 #[test]
 fn sessions_beside_each_other_do_so_too(rt: HostRuntime) -> Result<(), Fail> {
     for seed in [4, 5, 6] {
-        let text = random_script(rt.alloc(), seed, "")?;
-        let played = play(&rt, rt.alloc(), &OpenGate, &text).ok_or("it is played")?;
-        let told = played.transcripts.as_ref().ok_or("it is told")?;
-        let history = &played.closed.history;
-        let counts = counts_of(rt.alloc(), &text, history, told);
-        let (made, missing, overtaken) = counts.ok_or("each reply is right")?;
-        assert_eq!(rt;
-            made.saturating_add(missing).saturating_add(overtaken),
-            SESSIONS * SETS
-        );
+        let counts = counts_of_run(&rt, rt.alloc(), seed, "")?;
+        assert_eq!(rt; sum(counts), SESSIONS * SETS);
     }
     Ok(())
 }

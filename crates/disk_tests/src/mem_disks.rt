@@ -133,28 +133,47 @@ fn leaves_both(
     Ok(leaves(alloc, user, stop_after, 0, synced)? && leaves(alloc, user, stop_after, 1, whole)?)
 }
 
+/// A row, and what the first choice of a crash leaves, and the second.
+type Left = (
+    u64,
+    &'static [u8],
+    &'static [u8],
+    usize,
+    usize,
+    &'static [u8],
+    &'static [u8],
+);
+
+/// The first stop behind which a crash leaves something else.
+fn first_other(alloc: Global, rows: &[Left]) -> Result<Option<u64>, Fail> {
+    let user = name(alloc, "user.ecf")?;
+    for (stop_after, front, back, least, most, synced, whole) in rows {
+        let row = Row {
+            stop_after: *stop_after,
+            front,
+            back,
+            least: *least,
+            most: *most,
+        };
+        if !every_choice_holds(alloc, &user, row, 10)?
+            || !leaves_both(alloc, &user, *stop_after, synced, whole)?
+        {
+            return Ok(Some(*stop_after));
+        }
+    }
+    Ok(None)
+}
+
 #[test]
 fn a_crash_leaves_what_may_be_left(rt: HostRuntime) -> Result<(), Fail> {
-    let alloc = rt.alloc();
-    let user = name(alloc, "user.ecf")?;
-    let rows: [(u64, &[u8], &[u8], usize, usize, &[u8], &[u8]); 5] = [
+    let rows: [Left; 5] = [
         (0, b"abcd", b"", 4, 4, b"abcd", b"abcd"),
         (1, b"a", b"d", 4, 4, b"abcd", b"a12d"),
         (2, b"a", b"", 4, 5, b"abcd", b"a12YZ"),
         (3, b"a", b"", 2, 5, b"abcd", b"a1"),
         (4, b"a1", b"", 2, 2, b"a1", b"a1"),
     ];
-    for (stop_after, front, back, least, most, synced, whole) in rows {
-        let row = Row {
-            stop_after,
-            front,
-            back,
-            least,
-            most,
-        };
-        assert!(rt; every_choice_holds(alloc, &user, row, 10)?);
-        assert!(rt; leaves_both(alloc, &user, stop_after, synced, whole)?);
-    }
+    assert_eq!(rt; first_other(rt.alloc(), &rows)?, None);
     Ok(())
 }
 

@@ -3,22 +3,33 @@
 use kdb_outside::{Failed, MemSource, Source, SureSource};
 use std::test::Fail;
 
+/// The first of some calls that doesn't give so many bytes, or leaves others in a buffer of two points.
+fn first_other<S: Source>(
+    source: &mut S,
+    rows: &[(Result<usize, Failed>, [u8; 2])],
+) -> Option<usize> {
+    let mut buf = [b'.'; 2];
+    for (place, (count, now)) in rows.iter().enumerate() {
+        if source.take(&mut buf) != *count || buf != *now {
+            return Some(place);
+        }
+    }
+    None
+}
+
 #[test]
 fn gives_its_bytes_in_pieces_round_a_failing_call(rt: HostRuntime) -> Result<(), Fail> {
     let bytes = b"abcde".to_vec(rt.alloc())?;
     let mut source = MemSource::new(bytes, vec![in rt.alloc(); 2, 4]?);
-    let mut buf = [b'.'; 2];
-    for (count, now) in [
-        (Ok(2), b"ab"),
-        (Err(Failed), b"ab"),
-        (Ok(2), b"cd"),
-        (Err(Failed), b"cd"),
-        (Ok(1), b"ed"),
-        (Ok(0), b"ed"),
-    ] {
-        assert_eq!(rt; source.take(&mut buf), count);
-        assert_eq!(rt; &buf, now);
-    }
+    let rows = [
+        (Ok(2), *b"ab"),
+        (Err(Failed), *b"ab"),
+        (Ok(2), *b"cd"),
+        (Err(Failed), *b"cd"),
+        (Ok(1), *b"ed"),
+        (Ok(0), *b"ed"),
+    ];
+    assert_eq!(rt; first_other(&mut source, &rows), None);
     Ok(())
 }
 

@@ -176,41 +176,88 @@ fn stands(
     Ok(journal.state() == state && bytes_of(alloc, journal, "a.ecf")?.as_slice() == bytes)
 }
 
+/// A call on a journal: none, room for a body of so many bytes, an entry's store or commit, the list brought in, and a flush.
+#[derive(Clone, Copy)]
+enum Act {
+    Look,
+    Room(usize),
+    Store(&'static [u8]),
+    Commit(&'static [u8]),
+    Clean,
+    Flush,
+}
+
+/// How a call ends, and of a flush whether it had something to do.
+fn called(
+    alloc: Global,
+    journal: &mut Journal<MemDisk>,
+    act: Act,
+) -> Result<Result<bool, Failed>, Fail> {
+    let outcome = match act {
+        Act::Flush => return Ok(flush(journal)),
+        Act::Look => Ok(()),
+        Act::Room(body) if body <= 67_200_000 => make_room(journal, body),
+        Act::Room(_) => return Err("no body is that long")?,
+        Act::Store(body) => stored(alloc, journal, body)?,
+        Act::Commit(body) => committed(alloc, journal, body)?,
+        Act::Clean => make_clean(journal),
+    };
+    Ok(match outcome {
+        Ok(()) => Ok(true),
+        Err(fault) => Err(fault),
+    })
+}
+
+/// A call, how it ends, the journal's state behind it, and what `a.ecf` has then.
+type Row = (Act, Result<bool, Failed>, State, &'static [u8]);
+
+/// The place of the first of some calls in a row that doesn't come to that.
+fn first_other(
+    alloc: Global,
+    journal: &mut Journal<MemDisk>,
+    rows: &[Row],
+) -> Result<Option<usize>, Fail> {
+    for (place, (act, outcome, state, bytes)) in rows.iter().enumerate() {
+        if called(alloc, journal, *act)? != *outcome || !stands(alloc, journal, *state, bytes)? {
+            return Ok(Some(place));
+        }
+    }
+    Ok(None)
+}
+
 #[test]
 fn leaves_the_files_until_the_list_is_brought_in(rt: HostRuntime) -> Result<(), Fail> {
+    // The first entry ends 17 bytes behind the first gate, so that a body of so many bytes fits behind it, and one of
+    // another byte doesn't.
+    let rows: [Row; 7] = [
+        (Act::Look, Ok(true), State::Doubt, b""),
+        (Act::Room(67_200_000), Ok(true), State::Bare, b""),
+        (Act::Store(FIRST), Ok(true), State::Lag, b""),
+        (Act::Room(67_199_983), Ok(true), State::Lag, b""),
+        (Act::Room(67_199_984), Ok(true), State::Clean, b"1"),
+        (Act::Commit(SECOND), Ok(true), State::Lag, b"1"),
+        (Act::Clean, Ok(true), State::Clean, b"22"),
+    ];
     let alloc = rt.alloc();
     let mut journal = opened(alloc, empty_disk(alloc, Vec::new(alloc))?)?;
-    assert!(rt; stands(alloc, &mut journal, State::Doubt, b"")?);
-    assert_eq!(rt; make_room(&mut journal, 67_200_000), Ok(()));
-    assert!(rt; stands(alloc, &mut journal, State::Bare, b"")?);
-    assert_eq!(rt; stored(alloc, &mut journal, FIRST)?, Ok(()));
-    assert!(rt; stands(alloc, &mut journal, State::Lag, b"")?);
-    // Its entry ends 17 bytes behind the first gate, so that a body of so many bytes fits behind it, and one of another byte doesn't.
-    assert_eq!(rt; make_room(&mut journal, 67_199_983), Ok(()));
-    assert!(rt; stands(alloc, &mut journal, State::Lag, b"")?);
-    assert_eq!(rt; make_room(&mut journal, 67_199_984), Ok(()));
-    assert!(rt; stands(alloc, &mut journal, State::Clean, b"1")?);
-    assert_eq!(rt; committed(alloc, &mut journal, SECOND)?, Ok(()));
-    assert!(rt; stands(alloc, &mut journal, State::Lag, b"1")?);
-    assert_eq!(rt; make_clean(&mut journal), Ok(()));
-    assert!(rt; stands(alloc, &mut journal, State::Clean, b"22")?);
+    assert_eq!(rt; first_other(alloc, &mut journal, &rows)?, None);
     assert!(rt; !journal.has_recovered());
     Ok(())
 }
 
 #[test]
 fn flushes_what_waits_and_tries_again_behind_a_failure(rt: HostRuntime) -> Result<(), Fail> {
+    // The fifteenth call is the first that brings the entry in: thirteen are the journal's, and two looks ask for a length.
+    let rows: [Row; 5] = [
+        (Act::Flush, Ok(false), State::Doubt, b""),
+        (Act::Commit(FIRST), Ok(true), State::Lag, b""),
+        (Act::Flush, Err(Failed), State::Lag, b""),
+        (Act::Flush, Ok(true), State::Clean, b"1"),
+        (Act::Flush, Ok(false), State::Clean, b"1"),
+    ];
     let alloc = rt.alloc();
-    // The thirteenth call is the first that brings the entry in.
-    let disk = empty_disk(alloc, vec![in alloc; 13]?)?;
-    let mut journal = opened(alloc, disk)?;
-    assert_eq!(rt; flush(&mut journal), Ok(false));
-    assert_eq!(rt; committed(alloc, &mut journal, FIRST)?, Ok(()));
-    assert_eq!(rt; flush(&mut journal), Err(Failed));
-    assert!(rt; stands(alloc, &mut journal, State::Lag, b"")?);
-    assert_eq!(rt; flush(&mut journal), Ok(true));
-    assert!(rt; stands(alloc, &mut journal, State::Clean, b"1")?);
-    assert_eq!(rt; flush(&mut journal), Ok(false));
+    let mut journal = opened(alloc, empty_disk(alloc, vec![in alloc; 15]?)?)?;
+    assert_eq!(rt; first_other(alloc, &mut journal, &rows)?, None);
     Ok(())
 }
 

@@ -49,6 +49,16 @@ fn made_by(history: &History, handle: u32) -> u64 {
     made
 }
 
+/// Whether so many handles made so many commits each.
+fn each_made(history: &History, handles: u32, commits: u64) -> bool {
+    for handle in 1..=handles {
+        if made_by(history, handle) != commits {
+            return false;
+        }
+    }
+    true
+}
+
 /// What two handles of a new store answer, asked in turns: the first one, the second one, and so on; and how many calls of the disk there were by the close.
 fn answers_and_calls<R: Wait>(
     rt: &R,
@@ -346,9 +356,7 @@ fn handles_that_change_their_own_keys_of_a_file_by_key_meet_no_conflict(
     let start = keys_of(rt.alloc(), disk_with_mounts(rt.alloc(), 1, true)?)?;
     let closed = worked_at_one(&rt, rt.alloc(), 32, 640, true, 1)?;
     assert_eq!(rt; closed.history.len(), 640);
-    for handle in 1..=32 {
-        assert_eq!(rt; made_by(&closed.history, handle), 20);
-    }
+    assert!(rt; each_made(&closed.history, 32, 20));
     assert!(rt; has_files_of(rt.alloc(), &start, closed, 32 + 2)?);
     Ok(())
 }

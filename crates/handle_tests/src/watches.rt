@@ -211,44 +211,77 @@ fn random_steps(alloc: Global, seed: u32) -> Result<Vec<Step>, Fail> {
     Ok(steps)
 }
 
+/// How many changes a watch of a parent is to tell or to count, where its polls do so.
+fn told_by<R: Wait>(
+    rt: &R,
+    alloc: Global,
+    parent: &str,
+    room: usize,
+    steps: &[Step],
+) -> Result<Option<usize>, Fail> {
+    let (polls, history) = played(rt, alloc, parent, room, steps)?;
+    let all = all_changes(alloc, &history, parent)?;
+    Ok(if tell_all(&polls, &all, room)? {
+        Some(all.len())
+    } else {
+        None
+    })
+}
+
 #[test]
 fn polls_tell_each_change_once_or_count_it(rt: HostRuntime) -> Result<(), Fail> {
     let steps = random_steps(rt.alloc(), 42)?;
     for parent in ["user:/a", "/a", "/"] {
         for room in [1, 3, 4096] {
-            let (polls, history) = played(&rt, rt.alloc(), parent, room, &steps)?;
-            let all = all_changes(rt.alloc(), &history, parent)?;
-            assert!(rt; tell_all(&polls, &all, room)?);
+            assert!(rt; told_by(&rt, rt.alloc(), parent, room, &steps)?.is_some());
         }
     }
     Ok(())
 }
 
-#[test]
-fn of_ten_thousand_changes_the_last_are_told(rt: HostRuntime) -> Result<(), Fail> {
-    let alloc = rt.alloc();
-    let mut many = KeySet::new(alloc);
-    for number in 0..5000 {
+/// So many keys.
+fn many(alloc: Global, count: u32) -> Result<KeySet, Fail> {
+    let mut keys = KeySet::new(alloc);
+    for number in 0..count {
         let name = format!(in alloc; "user:/key/{number:04}")?;
-        put(alloc, &mut many, &name, "1")?;
+        put(alloc, &mut keys, &name, "1")?;
     }
+    Ok(keys)
+}
+
+/// So many keys are stored and taken away again, which is polled then.
+fn come_and_gone(alloc: Global, count: u32) -> Result<Vec<Step>, Fail> {
     let first = Step::Store {
         place: 0,
-        keys: many,
+        keys: many(alloc, count)?,
     };
     let second = Step::Store {
         place: 0,
         keys: KeySet::new(alloc),
     };
-    let steps = vec![in alloc; first, second, Step::Poll]?;
+    Ok(vec![in alloc; first, second, Step::Poll]?)
+}
+
+/// How many changes the last poll of a watch missed.
+fn missed_by<R: Wait>(
+    rt: &R,
+    alloc: Global,
+    parent: &str,
+    room: usize,
+    steps: &[Step],
+) -> Result<Option<u64>, Fail> {
+    let (polls, _) = played(rt, alloc, parent, room, steps)?;
+    Ok(polls.last().map(|news| news.missed))
+}
+
+#[test]
+fn of_ten_thousand_changes_the_last_are_told(rt: HostRuntime) -> Result<(), Fail> {
+    let steps = come_and_gone(rt.alloc(), 5000)?;
     for (room, missed) in [(1, 9999), (4096, 5904)] {
-        let (polls, history) = played(&rt, alloc, "user:/key", room, &steps)?;
-        let all = all_changes(alloc, &history, "user:/key")?;
-        assert_eq!(rt; all.len(), 10_000);
-        assert!(rt; tell_all(&polls, &all, room)?);
-        for news in polls.as_slice() {
-            assert_eq!(rt; (news.front, news.missed), (2, missed));
-        }
+        let told = told_by(&rt, rt.alloc(), "user:/key", room, &steps)?;
+        assert_eq!(rt; told, Some(10_000));
+        let found = missed_by(&rt, rt.alloc(), "user:/key", room, &steps)?;
+        assert_eq!(rt; found, Some(missed));
     }
     Ok(())
 }
@@ -265,36 +298,66 @@ fn lines_of(alloc: Global, news: &News) -> Result<String, Fail> {
     Ok(lines)
 }
 
-#[test]
-fn a_cascading_parent_stands_for_its_path_in_each_namespace(rt: HostRuntime) -> Result<(), Fail> {
-    let alloc = rt.alloc();
-    let mut keys = KeySet::new(alloc);
-    for name in [
-        "user:/a",
-        "user:/ab",
-        "system:/a/b",
-        "dir:/a/b/c",
-        "dir:/b/a",
-    ] {
-        put(alloc, &mut keys, name, "1")?;
-    }
+/// Keys are stored, and then others by the other handle, each polled, and polled once more.
+fn steps_of_two(alloc: Global, first: KeySet, second: KeySet) -> Result<Vec<Step>, Fail> {
     let first = Step::Store {
         place: 0,
-        keys: keys.copy()?,
+        keys: first,
     };
-    keys.remove(&KeyName::parse(alloc, "user:/a")?)?;
-    put(alloc, &mut keys, "user:/a/d", "2")?;
-    put(alloc, &mut keys, "user:/ab", "2")?;
-    let second = Step::Store { place: 1, keys };
-    let steps = vec![in alloc; first, Step::Poll, second, Step::Poll, Step::Poll]?;
-    let (polls, _) = played(&rt, alloc, "/a", 10, &steps)?;
-    let told = [
-        "1 + dir:/a/b/c\n1 + user:/a\n1 + system:/a/b\n",
-        "2 - user:/a\n2 + user:/a/d\n",
-        "",
-    ];
-    for (news, lines) in polls.iter().zip(told.iter()) {
-        assert!(rt; lines_of(alloc, news)?.as_str() == *lines);
+    let second = Step::Store {
+        place: 1,
+        keys: second,
+    };
+    Ok(vec![in alloc; first, Step::Poll, second, Step::Poll, Step::Poll]?)
+}
+
+/// A set of these names, each with a value.
+fn set_of(alloc: Global, names: &[(&str, &str)]) -> Result<KeySet, Fail> {
+    let mut keys = KeySet::new(alloc);
+    for (name, value) in names {
+        put(alloc, &mut keys, name, value)?;
     }
+    Ok(keys)
+}
+
+/// The lines of all polls, each behind a line of its own.
+fn lines_of_polls<R: Wait>(
+    rt: &R,
+    alloc: Global,
+    parent: &str,
+    steps: &[Step],
+) -> Result<String, Fail> {
+    let (polls, _) = played(rt, alloc, parent, 10, steps)?;
+    let mut lines = String::new(alloc);
+    for news in polls.as_slice() {
+        lines.push_str("polled\n")?;
+        lines.push_str(&lines_of(alloc, news)?)?;
+    }
+    Ok(lines)
+}
+
+#[test]
+fn a_cascading_parent_stands_for_its_path_in_each_namespace(rt: HostRuntime) -> Result<(), Fail> {
+    let first = [
+        ("user:/a", "1"),
+        ("user:/ab", "1"),
+        ("system:/a/b", "1"),
+        ("dir:/a/b/c", "1"),
+        ("dir:/b/a", "1"),
+    ];
+    let second = [
+        ("user:/a/d", "2"),
+        ("user:/ab", "2"),
+        ("system:/a/b", "1"),
+        ("dir:/a/b/c", "1"),
+        ("dir:/b/a", "1"),
+    ];
+    let first = set_of(rt.alloc(), &first)?;
+    let second = set_of(rt.alloc(), &second)?;
+    let steps = steps_of_two(rt.alloc(), first, second)?;
+    let lines = lines_of_polls(&rt, rt.alloc(), "/a", &steps)?;
+    let told =
+        "polled\n1 + dir:/a/b/c\n1 + user:/a\n1 + system:/a/b\npolled\n2 - user:/a\n2 + user:/a/d\npolled\n";
+    assert_eq!(rt; lines.as_str(), told);
     Ok(())
 }

@@ -1,94 +1,57 @@
-//! The calls whose comparisons are counted answer what the others answer.
+//! The calls whose comparisons are counted, with ample memory.
 ghost use Rattle.std.specs.Prelude.{◌≡◌, ◌<◌};
 
 use super::{entry, name};
-use key_meta::Memory;
-use key_name::KeyName;
-use key_set::{Entry, KeySet};
+use key_set::KeySet;
 use std::alloc::Global;
 use std::marker::Brand;
 use std::sync::ledger::{Blank, Ledger};
 use std::test::Fail;
 use step_count::Steps;
 
-/// Two sets: one gets counted calls, the other the others.
-#[derive(Drop)]
-struct Pair {
-    counted: KeySet,
-    set: KeySet,
-}
-
-impl Pair {
-    /// Puts a key into both, and tells whether both found the same before and gave the same back.
-    fn put<L: Ledger>(
-        &mut self,
-        at: &KeyName,
-        number: u32,
-        steps: &mut Steps<L>,
-    ) -> Result<bool, Memory> {
-        Ok(self.looks_alike(at, steps) && self.append(at, number, steps)?)
-    }
-
-    fn looks_alike<L: Ledger>(&self, at: &KeyName, steps: &mut Steps<L>) -> bool {
-        self.counted.lookup_counted(at, steps) == self.set.lookup(at)
-    }
-
-    fn append<L: Ledger>(
-        &mut self,
-        at: &KeyName,
-        number: u32,
-        steps: &mut Steps<L>,
-    ) -> Result<bool, Memory> {
-        let former = self.append_uncounted(at, number)?;
-        let entry = numbered(self.set.allocator(), number)?;
-        Ok(self.counted.append_counted(at.copy()?, entry, steps)? == former)
-    }
-
-    fn append_uncounted(&mut self, at: &KeyName, number: u32) -> Result<Option<Entry>, Memory> {
-        let entry = numbered(self.set.allocator(), number)?;
-        self.set.append(at.copy()?, entry)
-    }
-
-    /// Puts the key of a step.
-    fn step<L: Ledger>(&mut self, number: u32, steps: &mut Steps<L>) -> Result<bool, Fail> {
-        let alloc = self.set.allocator();
-        let text = format!(in alloc; "user:/key/{}", number.wrapping_mul(7) % 300)?;
-        let at = name(alloc, &text)?;
-        Ok(self.put(&at, number, steps)?)
-    }
-}
-
-fn numbered(alloc: Global, number: u32) -> Result<Entry, Memory> {
-    let value = format!(in alloc; "{number}")?;
-    entry(alloc, &value)
-}
-
-/// Whether a set that is made by so many counted calls is the one that is made by others, and finds the same: one of so many keys.
-fn answers_alike<L: Ledger>(
+/// Puts the key of a number, and tells whether it had an entry before, which is then what is found and what is given back.
+fn had_one<L: Ledger>(
     alloc: Global,
-    blank: Blank,
-    calls: u32,
-    keys: usize,
-) -> Result<bool, Fail>
+    set: &mut KeySet,
+    number: u32,
+    steps: &mut Steps<L>,
+) -> Result<Option<bool>, Fail> {
+    let text = format!(in alloc; "user:/key/{}", number.wrapping_mul(7) % 300)?;
+    let at = name(alloc, &text)?;
+    let found = set.lookup_counted(&at, steps).is_some();
+    let former = set.append_counted(at, entry(alloc, &text)?, steps)?;
+    Ok(if former.is_some() == found {
+        Some(found)
+    } else {
+        None
+    })
+}
+
+/// How many of so many calls came to a key that had an entry.
+fn found_again<L: Ledger>(alloc: Global, blank: Blank, calls: u32) -> Result<Option<u32>, Fail>
     requires name { blank.name ≡ L.name }
     requires parts { blank.parts ≡ L.parts }
     requires some { 0 < blank.parts }
 {
     let mut steps = Steps::<L>::none(blank);
-    let mut pair = Pair {
-        counted: KeySet::new(alloc),
-        set: KeySet::new(alloc),
-    };
+    let mut set = KeySet::new(alloc);
+    let mut again = 0u32;
     for number in 0..calls {
-        if !pair.step(number, &mut steps)? {
-            return Ok(false);
+        match had_one(alloc, &mut set, number, &mut steps)? {
+            Some(true) => again = again.saturating_add(1),
+            Some(false) => {}
+            None => return Ok(None),
         }
     }
-    Ok(pair.counted == pair.set && pair.set.len() == keys)
+    Ok(Some(again))
 }
 
+/// Of 500 calls with 300 keys in turn, the last 200 come to a key that is there.
 #[test]
-fn counted_calls_answer_what_the_others_answer(rt: HostRuntime) -> Result<(), Fail> {
-    assert!(rt; answers_alike::<Brand>(rt.alloc(), Blank::new(1), 500, 300)?);
+fn counted_calls_find_what_was_put(rt: HostRuntime) -> Result<(), Fail> {
+    assert_eq!(rt;
+        found_again::<Brand>(rt.alloc(), Blank::new(1), 500)?,
+        Some(200)
+    );
     Ok(())
 }
