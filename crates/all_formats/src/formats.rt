@@ -11,7 +11,7 @@ use std::alloc::Global;
 use storage_api::{Formats, ReadRefusal, WriteRefusal};
 
 /// Every format that a mount can have.
-#[derive(Clone, Copy, Debug)]
+#[derive(Clone, Copy)]
 pub struct AllFormats;
 
 impl Formats for AllFormats {

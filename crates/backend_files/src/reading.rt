@@ -12,14 +12,14 @@ use std::alloc::Global;
 pub const LONGEST_FILE: u64 = 1048576;
 
 /// What a file gives: its bytes, or its length where that is over 1 MiB.
-#[derive(Debug, Drop)]
+#[derive(Drop)]
 pub enum FileRead {
     Bytes(List<u8>),
     TooLong { bytes: u64 },
 }
 
 /// Why a file wasn't read.
-#[derive(Clone, Copy, Debug, PartialEq, Eq)]
+#[derive(Clone, Copy, PartialEq, Eq)]
 pub enum FileFault {
     DiskFault,
     Memory,

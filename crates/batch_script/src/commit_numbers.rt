@@ -8,7 +8,7 @@ use std::marker::Model;
 pub const LARGEST_COMMIT_NUMBER: u32 = 1_000_000_000;
 
 /// The number of a commit: from 1 on, and no more than `LARGEST_COMMIT_NUMBER`. Seen as the number.
-#[derive(Debug, Drop)]
+#[derive(Drop)]
 pub struct CommitNumber {
     number: u32,
 }

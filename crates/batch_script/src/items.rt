@@ -2,7 +2,7 @@
 use crate::{ProcLine, Step};
 
 /// A key that a handle is opened with, whose steps follow, the end of a phase, or a step.
-#[derive(Debug, Drop)]
+#[derive(Drop)]
 pub enum Item {
     Proc(ProcLine),
     Session(u32),

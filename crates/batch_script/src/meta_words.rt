@@ -8,7 +8,7 @@ use key_meta::{LONGEST_META_NAME, Text};
 use std::marker::Model;
 
 /// A text of 1 to `LONGEST_META_NAME` bytes, seen as its bytes.
-#[derive(Debug, Drop)]
+#[derive(Drop)]
 pub struct MetaWord {
     text: Text,
 }

@@ -5,7 +5,7 @@ use key_meta::{List, Text};
 use key_name::KeyName;
 
 /// A session's handle is opened with a key, whose name is in the namespace `proc`.
-#[derive(Debug, Drop)]
+#[derive(Drop)]
 pub struct ProcLine {
     pub session: u32,
     pub key: KeyName,
@@ -13,7 +13,7 @@ pub struct ProcLine {
 }
 
 /// One step of a session.
-#[derive(Debug, Drop)]
+#[derive(Drop)]
 pub enum Step {
     /// Gets the keys of a parent, which become the working set.
     Get {
@@ -67,21 +67,21 @@ pub enum Step {
 }
 
 /// The steps of a session in a phase, at least one.
-#[derive(Debug, Drop)]
+#[derive(Drop)]
 pub struct Steps {
     pub session: u32,
     pub steps: List<Step>,
 }
 
 /// The sessions that have steps in a phase, ascending.
-#[derive(Debug, Drop)]
+#[derive(Drop)]
 pub struct Phase {
     pub sessions: List<Steps>,
 }
 
 /// The keys that handles are opened with, in the order of their lines, of which the last counts for a key of a session; and the
 /// phases, at least one.
-#[derive(Debug, Drop)]
+#[derive(Drop)]
 pub struct Script {
     pub proc: List<ProcLine>,
     pub phases: List<Phase>,

@@ -8,7 +8,7 @@ use std::marker::Model;
 pub const MOST_TRIES: u32 = 100_000;
 
 /// How often a merge is tried: from 1 on, and no more than `MOST_TRIES` times. Seen as the number.
-#[derive(Debug, Drop)]
+#[derive(Drop)]
 pub struct Tries {
     count: u32,
 }

@@ -8,7 +8,7 @@ use std::marker::Model;
 pub const LARGEST_WATCH_ROOM: u32 = 4_096;
 
 /// How many changes a watch has room for: from 1 on, and no more than `LARGEST_WATCH_ROOM`. Seen as the number.
-#[derive(Debug, Drop)]
+#[derive(Drop)]
 pub struct WatchRoom {
     count: u32,
 }

@@ -19,7 +19,7 @@ use std::sync::ledger::Ledger;
 use step_count::Steps;
 
 /// A value for each of some keys, in the order of the keys.
-#[derive(Debug, Drop)]
+#[derive(Drop)]
 pub struct ChunkedMap<K: Ord, V> {
     pub(crate) chunks: Vec<Chunk<K, V>>,
 }

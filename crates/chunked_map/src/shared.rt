@@ -15,7 +15,7 @@ use std::mem;
 use std::sync::Arc;
 
 /// Entries that stand in the order of their keys, each key once. What changes them is told the place.
-#[derive(Debug, Drop)]
+#[derive(Drop)]
 pub(crate) struct Entries<K: Ord, V> {
     sorted: Vec<(K, V)>,
 }
@@ -106,7 +106,7 @@ impl<K: Ord + Drop, V: Drop> Entries<K, V> {
 }
 
 /// Some entries, which stand in the order of their keys.
-#[derive(Debug, Drop)]
+#[derive(Drop)]
 pub struct Chunk<K: Ord, V> {
     shared: Arc<Entries<K, V>>,
 }

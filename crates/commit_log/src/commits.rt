@@ -10,14 +10,14 @@ use key_name::KeyName;
 use key_set::Entry;
 
 /// A name with its new entry, or with none where the key is removed.
-#[derive(Debug, Drop)]
+#[derive(Drop)]
 pub struct Change {
     pub name: KeyName,
     pub entry: Option<Entry>,
 }
 
 /// What a handle stored at once: the mounts that it touched, by their numbers, and what it changed.
-#[derive(Debug, Drop)]
+#[derive(Drop)]
 pub struct Commit {
     pub handle: u32,
     pub touched: List<u32>,

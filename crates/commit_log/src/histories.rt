@@ -20,7 +20,7 @@ use std::marker::Model;
 use std::mem;
 
 /// Commits one after the other, numbered from 1.
-#[derive(Debug, Drop)]
+#[derive(Drop)]
 pub struct History {
     commits: Vec<Commit>,
     last: Vec<u64>,

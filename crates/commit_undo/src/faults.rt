@@ -6,7 +6,7 @@ use key_name::KeyName;
 use std::alloc::AllocError;
 
 /// Why a commit can't be taken back. The front is the number of commits.
-#[derive(Debug, Drop)]
+#[derive(Drop)]
 pub enum InverseFault {
     /// No commit has the number.
     NoCommit { number: u64, front: u64 },

@@ -6,7 +6,7 @@ use std::alloc::Global;
 use std::marker::Model;
 
 /// The bytes of a write.
-#[derive(Debug, Drop)]
+#[derive(Drop)]
 pub(crate) struct Piece {
     bytes: Vec<u8>,
 }
@@ -36,7 +36,7 @@ impl Piece {
 }
 
 /// A call on a file that went through.
-#[derive(Debug, Drop)]
+#[derive(Drop)]
 pub(crate) enum Step {
     Wrote { at: u64, bytes: Piece },
     Cut { new_length: u64 },
@@ -56,7 +56,7 @@ impl Step {
 }
 
 /// A step, and the file on which it was made.
-#[derive(Debug, Drop)]
+#[derive(Drop)]
 pub(crate) struct Change {
     pub(crate) file: FileName,
     pub(crate) step: Step,

@@ -22,7 +22,7 @@ use std::marker::Model;
 /// A disk whose files lie in memory. Its calls are counted from 1. Those that its maker listed fail, and so does each one
 /// after the first `stop_after` calls. A call that fails changes no file. It keeps what its calls changed, and so tells what
 /// a crash may leave, now and at each moment so far.
-#[derive(Debug, Drop)]
+#[derive(Drop)]
 pub struct MemDisk {
     alloc: Global,
     files: Vec<MemFile>,

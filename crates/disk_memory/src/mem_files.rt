@@ -12,7 +12,7 @@ use std::alloc::Global;
 use std::marker::Model;
 
 /// A file, seen as its name and its bytes.
-#[derive(Debug, Drop)]
+#[derive(Drop)]
 pub(crate) struct MemFile {
     name: FileName,
     bytes: Vec<u8>,

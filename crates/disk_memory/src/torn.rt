@@ -8,7 +8,7 @@ use kdb_outside::Memory;
 use std::alloc::Global;
 
 /// How a crash leaves a step.
-#[derive(Clone, Copy, Debug)]
+#[derive(Clone, Copy)]
 pub(crate) enum Way {
     Out,
     Whole,
@@ -16,7 +16,7 @@ pub(crate) enum Way {
 }
 
 /// Chooses what is left of a step: 0 leaves it out, 1 leaves it whole, any other number leaves it in one of all ways.
-#[derive(Clone, Copy, Debug)]
+#[derive(Clone, Copy)]
 pub(crate) struct Choice {
     pub(crate) number: u64,
     pub(crate) step: u64,

@@ -13,7 +13,7 @@ use key_meta::Memory;
 use key_name::KeyName;
 
 /// What a record is for.
-#[derive(Clone, Copy, Debug)]
+#[derive(Clone, Copy)]
 pub enum Kind {
     /// A key's name and its value.
     Key,

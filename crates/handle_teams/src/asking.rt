@@ -15,7 +15,7 @@ use store_core::{CommitFault, Done};
 use store_verdict::PrepareFault;
 
 /// What a handle is asked. A set is one of a single key.
-#[derive(Clone, Copy, Debug)]
+#[derive(Clone, Copy)]
 pub enum Ask {
     Get {
         parent: &'static str,

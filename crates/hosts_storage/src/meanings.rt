@@ -9,7 +9,7 @@ use crate::words::{data_and_comment, first_word};
 use file_lines::without_return;
 
 /// A line is skipped, is a comment that waits for an entry, is an entry, or can't be read.
-#[derive(Clone, Copy, Debug)]
+#[derive(Clone, Copy)]
 pub enum Meaning<'a> {
     Skipped,
     Comment(&'a [u8]),
@@ -18,7 +18,7 @@ pub enum Meaning<'a> {
 }
 
 /// The words of an entry, of which those of the aliases still stand together, and its own comment.
-#[derive(Clone, Copy, Debug)]
+#[derive(Clone, Copy)]
 pub struct HostLine<'a> {
     pub address: &'a [u8],
     pub host: &'a [u8],

@@ -12,7 +12,7 @@ use model_ini::Sign;
 use std::alloc::Global;
 
 /// A line is skipped, is an entry, or can't be read.
-#[derive(Debug, Drop)]
+#[derive(Drop)]
 pub enum Meaning {
     Skipped,
     Pair { name: Vec<u8>, value: Vec<u8> },

@@ -19,7 +19,7 @@ use std::alloc::Global;
 use storage_api::WriteRefusal;
 
 /// The side of a line that a text stands on.
-#[derive(Clone, Copy, Debug)]
+#[derive(Clone, Copy)]
 enum Side {
     Name,
     Value,

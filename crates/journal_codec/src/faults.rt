@@ -15,7 +15,7 @@ pub enum DecodeFault {
 }
 
 /// Why reading stopped.
-#[derive(Clone, Copy, Debug)]
+#[derive(Clone, Copy)]
 pub(crate) enum Stop {
     /// The first field that has no reading begins so many bytes before the end.
     Before { left: usize },

@@ -3,7 +3,7 @@ use kdb_outside::FileName;
 use key_meta::List;
 
 /// A file's name and its whole content.
-#[derive(Debug, Drop)]
+#[derive(Drop)]
 pub struct FileText {
     pub file: FileName,
     pub bytes: List<u8>,

@@ -33,7 +33,7 @@ impl From<AllocError> for JournalFault {
 }
 
 /// A journal that wasn't opened: why, and the disk that was handed in.
-#[derive(Debug, Drop)]
+#[derive(Drop)]
 pub struct JournalRefused<D> {
     pub fault: JournalFault,
     pub disk: D,

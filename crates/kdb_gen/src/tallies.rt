@@ -12,7 +12,7 @@ use key_meta::Memory;
 use std::alloc::Global;
 
 /// How many commits a run made, how many keys its sessions have at the end, and what their values sum up to.
-#[derive(Debug, Drop)]
+#[derive(Drop)]
 pub struct Tally {
     pub commits: u64,
     pub keys: u64,

@@ -26,7 +26,7 @@ pub struct FreeSeats {
 }
 
 /// Why a handle isn't opened.
-#[derive(Clone, Copy, Debug, PartialEq, Eq)]
+#[derive(Clone, Copy, PartialEq, Eq)]
 pub enum NoHandle {
     /// As many were opened as there are seats.
     NoSeat,

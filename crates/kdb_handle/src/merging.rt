@@ -34,7 +34,7 @@ use store_verdict::Record;
 
 /// A try that met a conflict, with the get behind it: the mount, the number of the commit that blocks it, and how many commits the set and the get
 /// found.
-#[derive(Debug, Drop)]
+#[derive(Drop)]
 pub struct Tried {
     pub mount: KeyName,
     pub by: u64,
@@ -43,14 +43,14 @@ pub struct Tried {
 }
 
 /// A merged set that is stored.
-#[derive(Debug, Drop)]
+#[derive(Drop)]
 pub struct Merging {
     pub tried: List<Tried>,
     pub done: Done,
 }
 
 /// Why a merged set isn't stored.
-#[derive(Debug, Drop)]
+#[derive(Drop)]
 pub enum MergeEnd {
     /// Behind the last get both sides had changed these keys, and not alike.
     MergeConflicts { names: List<KeyName> },
@@ -62,7 +62,7 @@ pub enum MergeEnd {
 }
 
 /// Why a merged set isn't stored, and which tries there were before that.
-#[derive(Debug, Drop)]
+#[derive(Drop)]
 pub struct MergeFault {
     pub tried: List<Tried>,
     pub end: MergeEnd,

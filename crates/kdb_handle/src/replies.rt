@@ -8,7 +8,7 @@ use store_core::Done;
 use watch_feed::News;
 
 /// What one step of a session answers.
-#[derive(Debug, Drop)]
+#[derive(Drop)]
 pub enum Reply {
     /// A get: how many commits it found, and how many keys it gave.
     Got { front: u64, count: u64 },
@@ -34,7 +34,7 @@ pub enum Reply {
 }
 
 /// The replies of a batch: for each phase, and in it for each session with steps, one for each step.
-#[derive(Debug, Drop)]
+#[derive(Drop)]
 pub struct Transcripts {
     pub phases: List<List<List<Reply>>>,
 }

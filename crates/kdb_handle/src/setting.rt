@@ -23,7 +23,7 @@ use store_core::{CommitFault, Done};
 use store_verdict::{PrepareFault, Prepared};
 
 /// Why a set isn't stored.
-#[derive(Debug, Drop)]
+#[derive(Drop)]
 pub enum SetFault {
     Prepare(PrepareFault),
     Commit(CommitFault),

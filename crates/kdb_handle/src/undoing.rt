@@ -20,7 +20,7 @@ use storage_api::Formats;
 use store_core::Done;
 
 /// Why a commit isn't taken back. The front is the number of commits that the turn found.
-#[derive(Debug, Drop)]
+#[derive(Drop)]
 pub enum UndoFault {
     /// No commit has the number.
     NoCommit { number: u64, front: u64 },

@@ -8,7 +8,7 @@ use crate::counts::FaultCount;
 use std::marker::Model;
 
 /// What was called so far, and which calls fail. The count of calls stands still at its type's end.
-#[derive(Debug, Drop)]
+#[derive(Drop)]
 pub(crate) struct CountedCalls {
     failing: Vec<u64>,
     made: u64,

@@ -7,7 +7,7 @@ use crate::Failed;
 use std::marker::Model;
 
 /// A count of faults, seen as a number. At its type's end it stands still.
-#[derive(Debug, Drop)]
+#[derive(Drop)]
 pub(crate) struct FaultCount {
     count: u64,
 }

@@ -4,7 +4,7 @@ ghost use Rattle.kdb_outside.specs.declared.kinds.Kind.{Kind};
 ghost use Rattle.kdb_outside.specs.Kind.{kind_word, kind_of};
 
 /// How a file holds its keys.
-#[derive(Clone, Copy, Debug, PartialEq, Eq)]
+#[derive(Clone, Copy, PartialEq, Eq)]
 pub enum Kind {
     /// Each key with its value and its metadata.
     Dump,

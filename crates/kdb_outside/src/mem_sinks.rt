@@ -11,7 +11,7 @@ use std::alloc::Global;
 use std::marker::Model;
 
 /// A sink that holds its bytes in memory. The listed calls fail, counted from 1, and so does one that finds no memory.
-#[derive(Debug, Drop)]
+#[derive(Drop)]
 pub struct MemSink {
     bytes: Vec<u8>,
     calls: CountedCalls,

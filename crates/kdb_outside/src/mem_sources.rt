@@ -10,7 +10,7 @@ use crate::{Failed, Source};
 use std::marker::Model;
 
 /// A source over bytes in memory that never fails. Seen as the bytes that are left.
-#[derive(Debug, Drop)]
+#[derive(Drop)]
 pub struct SureSource {
     bytes: Vec<u8>,
     taken: usize,
@@ -54,7 +54,7 @@ impl Source for SureSource {
 }
 
 /// A source over bytes in memory of which the listed calls fail. Calls are counted from 1.
-#[derive(Debug, Drop)]
+#[derive(Drop)]
 pub struct MemSource {
     source: SureSource,
     calls: CountedCalls,

@@ -14,7 +14,7 @@ use std::marker::Model;
 const LONGEST: usize = 100;
 
 /// A file's name: 1 to 100 ASCII letters, digits, `.`, `_` and `-`, and no `.` first. Seen as its bytes.
-#[derive(Debug, Drop)]
+#[derive(Drop)]
 pub struct FileName {
     text: String,
 }

@@ -10,7 +10,7 @@ use std::io::{ErrorKind, Read};
 use std::marker::Model;
 
 /// A source over any reader. A call that a signal interrupts is made again, and every other error is a fault.
-#[derive(Debug, Drop)]
+#[derive(Drop)]
 pub struct ReaderSource<R> {
     reader: R,
     faults: FaultCount,

@@ -12,7 +12,7 @@ use std::marker::Model;
 
 /// A sink over any writer, which is flushed after each piece. A write that a signal interrupts is made again, and every
 /// other error is a fault, as is a write that takes nothing.
-#[derive(Debug, Drop)]
+#[derive(Drop)]
 pub struct WriterSink<W> {
     writer: W,
     faults: FaultCount,

@@ -13,7 +13,7 @@ use tool_commands::{Report, warn_of_words};
 use tool_words::{Refusal, lend_words};
 
 /// What is wanted: to play so many rounds, or what is told in their place.
-#[derive(Debug, Drop)]
+#[derive(Drop)]
 pub enum Wanted {
     Play(u32),
     Refuse(Report),

@@ -21,7 +21,7 @@ use tool_words::{Refusal, are_none, lend_words};
 const MOST_TAKEN: usize = 4_194_305;
 
 /// Why there is no script to play.
-#[derive(Clone, Copy, Debug)]
+#[derive(Clone, Copy)]
 pub enum NoScript {
     OptionsRefused,
     TooLong,
@@ -30,7 +30,7 @@ pub enum NoScript {
 }
 
 /// What a batch is asked for: to play a script, or to refuse what there is in its place.
-#[derive(Debug, Drop)]
+#[derive(Drop)]
 pub enum Task {
     Play(Script),
     Refuse(NoScript),

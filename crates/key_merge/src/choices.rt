@@ -8,7 +8,7 @@ use crate::Strategy;
 use key_set::Entry;
 
 /// Where the entry of a name comes from, or that both sides changed it, and not alike.
-#[derive(Debug, Clone, Copy, PartialEq, Eq, Drop)]
+#[derive(Clone, Copy, PartialEq, Eq, Drop)]
 pub enum Choice {
     Our,
     Their,

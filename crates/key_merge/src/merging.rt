@@ -16,7 +16,7 @@ use key_set::{Entry, KeySet};
 use std::alloc::AllocError;
 
 /// Why there is no merged set.
-#[derive(Debug, Drop)]
+#[derive(Drop)]
 pub enum Merge3Fault {
     /// Both sides changed these keys, and not alike.
     Conflicts { names: List<KeyName> },

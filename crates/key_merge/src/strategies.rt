@@ -3,7 +3,7 @@ ghost use Rattle.std.specs.Prelude.{◌≡◌};
 ghost use Rattle.key_merge.specs.Strategies.{strategy_of};
 
 /// Which side wins where both changed a key, and not alike. Under `Abort` none does: the conflicts are told instead.
-#[derive(Debug, Clone, Copy, PartialEq, Eq, Drop)]
+#[derive(Clone, Copy, PartialEq, Eq, Drop)]
 pub enum Strategy {
     Abort,
     Our,

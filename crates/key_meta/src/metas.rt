@@ -20,7 +20,7 @@ use std::cmp::Ordering;
 use std::marker::Model;
 
 /// A text for each of some names, in the order of the names' bytes.
-#[derive(Debug, Drop)]
+#[derive(Drop)]
 pub struct Meta {
     items: SortedMap<Text, Text>,
 }

@@ -12,7 +12,7 @@ use std::cmp::Ordering;
 use std::marker::Model;
 
 /// A text, seen as its bytes and ordered by them.
-#[derive(Debug, Drop)]
+#[derive(Drop)]
 pub struct Text {
     text: String,
 }

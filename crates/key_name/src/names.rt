@@ -40,7 +40,7 @@ use std::marker::Model;
 const LONGEST_PATH: usize = 4096;
 
 /// A namespace and a list of parts, such as some text spells.
-#[derive(Debug, Drop)]
+#[derive(Drop)]
 pub struct KeyName {
     namespace: Namespace,
     // the length of its path

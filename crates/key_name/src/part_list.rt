@@ -16,7 +16,7 @@ use std::cmp::Ordering;
 use std::marker::Model;
 
 /// A list of parts, each of them a text without NUL.
-#[derive(Debug, Drop)]
+#[derive(Drop)]
 pub struct PartList {
     text: String,
 }

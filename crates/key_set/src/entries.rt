@@ -11,7 +11,7 @@ use key_meta::{Memory, Meta, Text};
 use key_name::KeyName;
 
 /// A value, and metadata by name.
-#[derive(Debug, Drop)]
+#[derive(Drop)]
 pub struct Entry {
     pub value: Text,
     pub meta: Meta,

@@ -22,7 +22,7 @@ use std::alloc::Global;
 use std::marker::Model;
 
 /// An entry for each of some names.
-#[derive(Debug, Drop)]
+#[derive(Drop)]
 pub struct KeySet {
     pub(crate) keys: ChunkedMap<KeyName, Entry>,
 }

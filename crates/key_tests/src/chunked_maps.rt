@@ -5,7 +5,7 @@ use std::alloc::{AllocError, Global};
 use std::test::Fail;
 
 /// A number that is copied with its key.
-#[derive(Debug, Drop)]
+#[derive(Drop)]
 struct Count {
     number: u64,
 }

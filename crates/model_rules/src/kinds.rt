@@ -1,7 +1,7 @@
 //! What the texts of a type are.
 
 /// Which texts a type takes.
-#[derive(Clone, Copy, Debug, PartialEq, Eq)]
+#[derive(Clone, Copy, PartialEq, Eq)]
 pub enum Kind {
     /// Any text.
     AnyText,

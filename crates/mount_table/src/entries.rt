@@ -17,7 +17,7 @@ use sorted_map::SortedMap;
 use std::alloc::{AllocError, Global};
 
 /// What an entry says: the values of its children `path`, `plugin` and `conflicts`.
-#[derive(Debug, Drop)]
+#[derive(Drop)]
 pub struct MountEntry {
     pub path: Option<Text>,
     pub plugin: Option<Text>,

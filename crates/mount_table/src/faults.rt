@@ -6,7 +6,7 @@ use key_meta::Text;
 use std::alloc::AllocError;
 
 /// What is wrong. `entry` is the text of the entry, which is meant to be its mountpoint.
-#[derive(Debug, Drop)]
+#[derive(Drop)]
 pub enum TableFault {
     /// The text isn't the canonical spelling, of at most 1,024 bytes, of a name in spec, dir, user or system, or it is
     /// `system:/elektra` or below it.

@@ -6,7 +6,7 @@ use key_meta::Memory;
 use key_name::KeyName;
 
 /// A mountpoint, and the file that holds the keys from there on, in its format.
-#[derive(Debug, Drop)]
+#[derive(Drop)]
 pub struct Mount {
     pub at: KeyName,
     pub file: FileName,

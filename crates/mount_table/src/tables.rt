@@ -22,7 +22,7 @@ use std::marker::Model;
 const MOST_MOUNTS: usize = 64;
 
 /// 1 to 64 mounts, numbered from 0 in the order of their mountpoints. Seen as the list of them.
-#[derive(Debug, Drop)]
+#[derive(Drop)]
 pub struct MountTable {
     points: Vec<KeyName>,
     mounts: Vec<Mount>,

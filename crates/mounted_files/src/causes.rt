@@ -1,7 +1,7 @@
 //! Why a mount is bad.
 
 /// What is wrong with the file of a mount.
-#[derive(Clone, Copy, Debug, PartialEq, Eq)]
+#[derive(Clone, Copy, PartialEq, Eq)]
 pub enum Cause {
     /// It has more than 1,048,576 bytes: so many.
     TooLong { bytes: u64 },

@@ -5,7 +5,7 @@ use key_set::KeySet;
 use mount_table::Mount;
 
 /// What the file of a mount means. All keys have whole names.
-#[derive(Debug, Drop)]
+#[derive(Drop)]
 pub enum FileState {
     /// The keys that the mount owns, and those of its file that other mounts own. These are kept, and written back with the file.
     Good { visible: KeySet, shadow: KeySet },
@@ -14,7 +14,7 @@ pub enum FileState {
 }
 
 /// A mount, and the state of its file.
-#[derive(Debug, Drop)]
+#[derive(Drop)]
 pub struct MountedFile {
     pub mount: Mount,
     pub state: FileState,

@@ -17,7 +17,7 @@ use std::alloc::{AllocError, Global};
 use storage_api::{Formats, ReadRefusal};
 
 /// Keys under whole names, or why there are none, which is never what other files weigh.
-#[derive(Debug, Drop)]
+#[derive(Drop)]
 pub enum Holding {
     Keys { keys: KeySet },
     Bad { cause: Cause },

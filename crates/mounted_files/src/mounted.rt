@@ -11,7 +11,7 @@ use mount_table::MountTable;
 use std::marker::Model;
 
 /// A mount table, and the state of each mount's file. Seen as the list of mounts with their states.
-#[derive(Debug, Drop)]
+#[derive(Drop)]
 pub struct Mounted {
     table: MountTable,
     files: Vec<MountedFile>,

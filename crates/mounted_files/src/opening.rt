@@ -35,7 +35,7 @@ use std::marker::Model;
 use storage_api::Formats;
 
 /// A mount table with the state of its own file, and the states of the files of its first other mounts. All are weighed.
-#[derive(Debug, Drop)]
+#[derive(Drop)]
 pub struct Opening {
     table: MountTable,
     place: usize,

@@ -11,7 +11,7 @@ use mount_table::TableFault;
 use std::alloc::AllocError;
 
 /// What is wrong with `elektra.ecf`, the file of the table's own keys.
-#[derive(Debug, Drop)]
+#[derive(Drop)]
 pub enum OpenRefusal {
     /// It has more than 1,048,576 bytes: so many.
     TooLong { bytes: u64 },
@@ -32,7 +32,7 @@ impl From<AllocError> for OpenRefusal {
 }
 
 /// The first mount, of those that a get involves, that is bad, and why.
-#[derive(Debug, Drop)]
+#[derive(Drop)]
 pub enum GetFault {
     /// Its file doesn't read as keys: the line, from 1. Line 0 says that the whole name of a key would be too long.
     BadFile { mount: KeyName, line: u64 },

@@ -23,7 +23,7 @@ use std::alloc::{AllocError, Global};
 use storage_api::Formats;
 
 /// The keys that the table's own file holds, under whole names, and the table that they make.
-#[derive(Debug, Drop)]
+#[derive(Drop)]
 pub struct TableFile {
     pub table: MountTable,
     pub keys: KeySet,

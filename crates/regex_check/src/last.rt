@@ -12,7 +12,7 @@ use std::marker::Model;
 
 /// The last pattern that was compiled, and the last text that was refused. It stays where a walk over keys holds it:
 /// what is compiled may not go to another thread, and a store may.
-#[derive(Debug, Drop)]
+#[derive(Drop)]
 pub struct LastPattern {
     compiled: Option<Regex>,
     refused: Option<String>,

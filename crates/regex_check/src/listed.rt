@@ -12,7 +12,7 @@ use std::alloc::Global;
 use std::marker::Model;
 
 /// Patterns of the crate `regex` of which the listed calls, counted from 1, are refused.
-#[derive(Debug, Drop)]
+#[derive(Drop)]
 pub struct ListedPatterns {
     patterns: RegexPatterns,
     refusing: Vec<u64>,

@@ -8,7 +8,7 @@ use key_meta::Memory;
 use std::alloc::Global;
 
 /// What a search for a pattern gives.
-#[derive(Clone, Copy, Debug, PartialEq, Eq)]
+#[derive(Clone, Copy, PartialEq, Eq)]
 pub enum Search {
     /// It matches somewhere in the value.
     Found,

@@ -10,7 +10,7 @@ use std::alloc::Global;
 use std::marker::Model;
 
 /// The patterns of the crate `regex`. The count of refusals stands still at its type's end.
-#[derive(Debug, Drop)]
+#[derive(Drop)]
 pub struct RegexPatterns {
     refusals: u64,
 }

@@ -12,7 +12,7 @@ use key_name::{KeyName, Namespace, owner};
 use std::alloc::Global;
 
 /// A name that a parent stands for, and the mount that owns it.
-#[derive(Debug, Drop)]
+#[derive(Drop)]
 struct Root {
     name: KeyName,
     owner: Option<usize>,

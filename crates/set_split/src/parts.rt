@@ -6,14 +6,14 @@ use key_set::KeySet;
 use std::alloc::Global;
 
 /// The keys that a mount owns, with the number of the mount.
-#[derive(Debug, Drop)]
+#[derive(Drop)]
 pub struct Part {
     pub mount: usize,
     pub keys: KeySet,
 }
 
 /// The parts of a key set, and how many of its keys are in none of them.
-#[derive(Debug, Drop)]
+#[derive(Drop)]
 pub struct Parts {
     /// One part for each mount that is involved, by their numbers. A part may be empty.
     pub parts: List<Part>,

@@ -16,7 +16,7 @@ use std::marker::Model;
 use std::mem;
 
 /// A value for each of some keys, in the order of the keys.
-#[derive(Debug, Drop)]
+#[derive(Drop)]
 pub struct SortedMap<K: Ord, V> {
     sorted: Vec<(K, V)>,
 }

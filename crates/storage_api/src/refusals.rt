@@ -24,7 +24,7 @@ impl From<AllocError> for ReadRefusal {
 }
 
 /// Why a map is written as no bytes.
-#[derive(Debug, Drop)]
+#[derive(Drop)]
 pub enum WriteRefusal {
     /// The format can't hold this key.
     NotStorable { key: KeyName },

@@ -29,7 +29,7 @@ use storage_api::Formats;
 use store_verdict::{Late, Prepared, Record, any_counts_by_key, judge};
 
 /// What a commit that wasn't refused did.
-#[derive(Clone, Copy, Debug, PartialEq, Eq)]
+#[derive(Clone, Copy, PartialEq, Eq)]
 pub enum Done {
     /// The set is the commit of this number.
     Committed { number: u64, left_aside: u64 },
@@ -38,7 +38,7 @@ pub enum Done {
 }
 
 /// Why a set isn't committed. `front` is how many commits were found.
-#[derive(Debug, Drop)]
+#[derive(Drop)]
 pub enum CommitFault {
     /// A later commit touches a mount, or where the mount counts by key another handle's later commit changes a key
     /// that the set changes there: the lowest such mount, and the number of its first such commit.

@@ -10,7 +10,7 @@ use mounted_files::OpenRefusal;
 use std::alloc::AllocError;
 
 /// Why a store isn't opened: the first refusal met.
-#[derive(Debug, Drop)]
+#[derive(Drop)]
 pub enum OpenFault {
     DiskFault,
     /// The head of the journal, or an open entry of it or of the former one, isn't whole.
@@ -72,7 +72,7 @@ impl From<OpenRefusal> for OpenFault {
 }
 
 /// A store that wasn't opened: why, and the disk and the matcher that were handed in.
-#[derive(Debug, Drop)]
+#[derive(Drop)]
 pub struct OpenRefused<D, P> {
     pub fault: OpenFault,
     pub disk: D,

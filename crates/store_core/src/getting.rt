@@ -19,7 +19,7 @@ use storage_api::Formats;
 use store_verdict::{Getting, Record, get};
 
 /// What a get gives: how many commits there were, and the keys.
-#[derive(Debug, Drop)]
+#[derive(Drop)]
 pub struct Got {
     pub front: u64,
     pub keys: KeySet,

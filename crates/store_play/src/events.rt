@@ -7,7 +7,7 @@ use store_core::{CommitFault, Done, Got};
 use store_verdict::PrepareFault;
 
 /// What a handle asks. A set is prepared under a number, and committed by it.
-#[derive(Debug, Drop)]
+#[derive(Drop)]
 pub enum Event {
     Get {
         handle: usize,
@@ -26,7 +26,7 @@ pub enum Event {
 }
 
 /// Why an event made no call.
-#[derive(Clone, Copy, Debug, PartialEq, Eq)]
+#[derive(Clone, Copy, PartialEq, Eq)]
 pub enum Skip {
     /// There is no such handle.
     NoHandle,
@@ -40,7 +40,7 @@ pub enum Skip {
 }
 
 /// What became of an event.
-#[derive(Debug, Drop)]
+#[derive(Drop)]
 pub enum Answer {
     Got(Result<Got, GetFault>),
     Prepared(Result<(), PrepareFault>),
@@ -49,7 +49,7 @@ pub enum Answer {
 }
 
 /// How flushes between events went: how many wrote what waited, found nothing that waits, and failed.
-#[derive(Clone, Copy, Debug, PartialEq, Eq)]
+#[derive(Clone, Copy, PartialEq, Eq)]
 pub struct Flushes {
     pub wrote: u64,
     pub idle: u64,

@@ -13,7 +13,7 @@ use store_verdict::{Prepared, Record};
 
 /// The record of each handle, and the sets that were prepared and not committed yet. A handle's number is the place of its record, and a
 /// set's that of the set.
-#[derive(Debug, Drop)]
+#[derive(Drop)]
 pub struct Handles {
     pub(crate) records: Vec<Record>,
     pub(crate) places: Vec<Option<Prepared>>,

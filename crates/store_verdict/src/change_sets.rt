@@ -15,7 +15,7 @@ use std::alloc::Global;
 use std::marker::Model;
 
 /// A new entry for each of some names, or none where the key is removed.
-#[derive(Debug, Drop)]
+#[derive(Drop)]
 pub struct ChangeSet {
     changes: SortedMap<KeyName, Option<Entry>>,
 }

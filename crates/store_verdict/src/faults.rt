@@ -7,7 +7,7 @@ use mount_table::TableFault;
 use std::alloc::AllocError;
 
 /// What is refused of a set before the history is asked. Numbers of bytes and weights are at most `u64::MAX`.
-#[derive(Debug, Drop)]
+#[derive(Drop)]
 pub enum PrepareFault {
     /// The handle has not fetched a mount that the parent involves.
     NotFetched { mount: KeyName },

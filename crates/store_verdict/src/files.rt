@@ -15,7 +15,7 @@ use set_split::Part;
 use std::alloc::Global;
 
 /// The keys that the file of a mount is to hold, under relative names.
-#[derive(Debug, Drop)]
+#[derive(Drop)]
 pub struct FileToWrite {
     pub mount: usize,
     pub contents: KeySet,

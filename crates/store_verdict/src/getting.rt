@@ -20,7 +20,7 @@ use set_split::{Parts, involved, split, unite};
 use std::alloc::Global;
 
 /// What a get gives: keys, or the lowest involved mount that is bad.
-#[derive(Debug, Drop)]
+#[derive(Drop)]
 pub enum Getting {
     Keys { keys: KeySet },
     Bad { mount: usize },

@@ -32,7 +32,7 @@ use std::alloc::Global;
 use storage_api::Formats;
 
 /// What becomes of a prepared set. Weights are at most `u64::MAX`.
-#[derive(Debug, Drop)]
+#[derive(Drop)]
 pub enum Late {
     /// No mount is touched. So many keys were left aside, since no involved mount owns them.
     Same {
@@ -71,7 +71,7 @@ pub enum Late {
 }
 
 /// A mount of a set, and the commit that blocks it.
-#[derive(Clone, Copy, Debug)]
+#[derive(Clone, Copy)]
 pub struct Block {
     pub mount: usize,
     pub by: u64,

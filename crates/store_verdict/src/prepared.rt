@@ -9,14 +9,14 @@ use key_set::KeySet;
 use set_split::Part;
 
 /// A mount that the parent of a set involves, and how many commits there were when it was fetched.
-#[derive(Debug, Drop)]
+#[derive(Drop)]
 pub struct Seen {
     pub mount: usize,
     pub front: u64,
 }
 
 /// What a set of keys at a parent wants, against what its handle kept: it has passed each test that needs no history.
-#[derive(Debug, Drop)]
+#[derive(Drop)]
 pub struct Prepared {
     pub handle: u32,
     /// How many commits of this handle its record had seen.

@@ -18,7 +18,7 @@ use set_split::Part;
 use std::alloc::Global;
 
 /// The keys of a mount as they were after the first commits of the history, and how many commits these are.
-#[derive(Debug, Drop)]
+#[derive(Drop)]
 pub struct Fetched {
     pub front: u64,
     pub kept: KeySet,
@@ -26,7 +26,7 @@ pub struct Fetched {
 
 /// What a handle keeps: of each mount by its number what it fetched last, how many commits it made, and its own keys in
 /// `proc`.
-#[derive(Debug, Drop)]
+#[derive(Drop)]
 pub struct Record {
     handle: u32,
     fetched: Vec<Option<Fetched>>,

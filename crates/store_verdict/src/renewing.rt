@@ -28,21 +28,21 @@ use storage_api::Formats;
 
 /// What came of it: the texts in the order of the files' names, or none where no touched mount counts by key; or the lowest
 /// mount that counts by key and whose file would be too large, with the weight of its keys or the length of its text.
-#[derive(Debug, Drop)]
+#[derive(Drop)]
 pub enum Renewal {
     Texts { renewed: Option<List<FileText>> },
     TooLarge { mount: usize, bytes: u64 },
 }
 
 /// The texts of some files; or the first mount that counts by key and whose file would be too large.
-#[derive(Debug, Drop)]
+#[derive(Drop)]
 pub enum Written {
     All { all: Vec<WrittenFile> },
     TooLarge { mount: usize, bytes: u64 },
 }
 
 /// The text of a file; or how much too large it would be, where its mount counts by key.
-#[derive(Debug, Drop)]
+#[derive(Drop)]
 pub enum Anew {
     Text { written: WrittenFile },
     TooLarge { bytes: u64 },

@@ -9,7 +9,7 @@ use key_meta::{List, Memory};
 use std::alloc::Global;
 
 /// The fronts of some mounts, or the first of them that was not fetched.
-#[derive(Debug, Drop)]
+#[derive(Drop)]
 pub enum Seeing {
     All { seen: List<Seen> },
     Missing { mount: usize },

@@ -13,7 +13,7 @@ use set_split::{Part, split};
 use std::alloc::Global;
 
 /// What a set of keys touches and changes.
-#[derive(Debug, Drop)]
+#[derive(Drop)]
 pub struct Wanted {
     /// The touched mounts, ascending.
     pub touched: List<u32>,

@@ -20,7 +20,7 @@ use std::alloc::{AllocError, Global};
 use storage_api::{Formats, WriteRefusal};
 
 /// The text of the file of a mount.
-#[derive(Debug, Drop)]
+#[derive(Drop)]
 pub struct WrittenFile {
     pub mount: usize,
     pub bytes: List<u8>,

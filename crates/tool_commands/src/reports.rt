@@ -11,7 +11,7 @@ use key_name::KeyName;
 use std::alloc::Global;
 
 /// A status, the bytes that are put on out, and the text on err.
-#[derive(Debug, Drop)]
+#[derive(Drop)]
 pub struct Report {
     pub status: Status,
     pub out: Vec<u8>,

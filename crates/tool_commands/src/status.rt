@@ -25,7 +25,7 @@ pub const OUT_OF_MEMORY: u8 = 70;
 pub const FAULT: u8 = 74;
 
 /// The status that a run ends with, seen as its number.
-#[derive(Clone, Copy, Debug, PartialEq, Eq)]
+#[derive(Clone, Copy, PartialEq, Eq)]
 pub struct Status {
     code: u8,
 }

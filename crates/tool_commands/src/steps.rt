@@ -16,7 +16,7 @@ use std::alloc::Global;
 use store_lines::bad_table;
 
 /// It tells something, or it sets keys in the place of those that it got and then puts something on out.
-#[derive(Debug, Drop)]
+#[derive(Drop)]
 pub enum Step {
     Tells(Report),
     Sets { keys: KeySet, out: String },

@@ -6,7 +6,7 @@ use std::alloc::AllocError;
 use tool_commands::Report;
 
 /// Why there is no answer.
-#[derive(Clone, Copy, Debug, PartialEq, Eq)]
+#[derive(Clone, Copy, PartialEq, Eq)]
 pub enum Stop {
     Memory,
     DiskFault,

@@ -71,7 +71,7 @@ pub fn three<'a>(
 }
 
 /// The words behind `mount`, and whether `-k` is among them.
-#[derive(Clone, Copy, Debug)]
+#[derive(Clone, Copy)]
 pub struct MountWords<'a> {
     pub by_key: bool,
     pub file: &'a str,
@@ -134,7 +134,7 @@ pub fn two_and_extent<'a>(
 }
 
 /// The words behind `merge`.
-#[derive(Clone, Copy, Debug)]
+#[derive(Clone, Copy)]
 pub struct MergeWords<'a> {
     pub our: &'a str,
     pub their: &'a str,

@@ -1,7 +1,7 @@
 //! Which keys a command is for.
 
 /// The named key alone, or all at or below the name.
-#[derive(Clone, Copy, Debug, PartialEq, Eq)]
+#[derive(Clone, Copy, PartialEq, Eq)]
 pub enum Extent {
     Alone,
     WithBelow,

@@ -7,7 +7,7 @@ use key_meta::LONGEST_META_NAME;
 use std::marker::Model;
 
 /// A text of 1 to `LONGEST_META_NAME` bytes.
-#[derive(Debug, Drop)]
+#[derive(Drop)]
 pub struct MetaName<'a> {
     text: &'a str,
 }

@@ -8,7 +8,7 @@ use key_name::{KeyName, NameFault};
 use key_set::KeySet;
 
 /// Why words ask for nothing.
-#[derive(Clone, Copy, Debug)]
+#[derive(Clone, Copy)]
 pub enum Refusal<'a> {
     NoCommand,
     UnknownCommand(&'a str),
@@ -20,7 +20,7 @@ pub enum Refusal<'a> {
 }
 
 /// What is done with a key.
-#[derive(Debug, Drop)]
+#[derive(Drop)]
 pub enum Action<'a> {
     Get,
     Set(&'a str),
@@ -52,7 +52,7 @@ pub enum Action<'a> {
 }
 
 /// What is asked of a store.
-#[derive(Debug, Drop)]
+#[derive(Drop)]
 pub enum Question<'a> {
     /// Its mounts.
     Mounts,
@@ -68,7 +68,7 @@ pub enum Question<'a> {
 
 /// What words ask for, which may be that keys of the input replace those at or below a name, a name that no file holds, or why
 /// there is neither.
-#[derive(Debug, Drop)]
+#[derive(Drop)]
 pub enum Request<'a> {
     Refuses(Refusal<'a>),
     Bars(KeyName),
@@ -77,7 +77,7 @@ pub enum Request<'a> {
 }
 
 /// A word that was to be a name: the name, or the request that the word makes in its place.
-#[derive(Debug, Drop)]
+#[derive(Drop)]
 pub enum Named<'a> {
     Is(KeyName),
     IsNone(Request<'a>),

@@ -5,7 +5,7 @@ ghost use Rattle.tool_words.specs.Uses.{bars};
 use key_name::Namespace;
 
 /// It looks the name up, or it writes what the name stands for or names a file or a mount by it.
-#[derive(Clone, Copy, Debug, PartialEq, Eq)]
+#[derive(Clone, Copy, PartialEq, Eq)]
 pub enum Use {
     Looks,
     Writes,

@@ -4,7 +4,7 @@ use key_meta::List;
 use key_name::KeyName;
 
 /// A change: in the commit of this number, the name got a new entry, or its key was removed.
-#[derive(Debug, Drop)]
+#[derive(Drop)]
 pub struct Changed {
     pub number: u64,
     pub name: KeyName,
@@ -12,7 +12,7 @@ pub struct Changed {
 }
 
 /// What a watch has to tell: how many commits it has looked at, how many changes it had no room for, and those that came last.
-#[derive(Debug, Drop)]
+#[derive(Drop)]
 pub struct News {
     pub front: u64,
     pub missed: u64,
