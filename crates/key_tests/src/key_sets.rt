@@ -1,17 +1,14 @@
 //! Sets by examples.
 
+use crate::names::name;
 use key_meta::{Memory, Meta, Text};
 use key_name::KeyName;
-use key_set::{Entry, KeySet, the_keys_set_last_are_found};
+use key_set::{Entry, KeySet};
 use std::alloc::Global;
 use std::test::Fail;
 
 mod counted;
 mod slow;
-
-fn name(alloc: Global, text: &str) -> Result<KeyName, Fail> {
-    Ok(KeyName::parse(alloc, text)?)
-}
 
 fn entry(alloc: Global, value: &str) -> Result<Entry, Memory> {
     Ok(Entry {
@@ -20,145 +17,107 @@ fn entry(alloc: Global, value: &str) -> Result<Entry, Memory> {
     })
 }
 
-/// Puts a key, and gives back whether its name had an entry.
-fn put(alloc: Global, set: &mut KeySet, text: &str, value: &str) -> Result<bool, Fail> {
+/// Gives a name itself for its value, and gives back the entry that it had.
+fn put(alloc: Global, set: &mut KeySet, text: &str) -> Result<Option<Entry>, Memory> {
     let name = name(alloc, text)?;
-    let former = set.append(name, entry(alloc, value)?)?;
-    Ok(former.is_some())
+    set.append(name, entry(alloc, text)?)
 }
 
-fn set_of(alloc: Global, texts: &[&str]) -> Result<KeySet, Fail> {
+fn set_of(alloc: Global, texts: &[&str]) -> Result<KeySet, Memory> {
     let mut set = KeySet::new(alloc);
     for text in texts {
-        let _ = put(alloc, &mut set, text, text)?;
+        put(alloc, &mut set, text)?;
     }
     Ok(set)
 }
 
-/// The names with their values and how many metadata they have.
-fn told(alloc: Global, set: &KeySet) -> Result<String, Memory> {
-    let mut all = String::new(alloc);
-    for (name, entry) in set.iter() {
-        let (name, value, count) = (name.text()?, entry.value.as_str(), entry.meta.len());
-        all.push_str(&format!(in alloc; "{name}={value} {count} ")?)?;
+/// A new set that got the keys of two others, and of an empty one.
+fn united(alloc: Global, texts: &[&str], others: &[&str]) -> Result<KeySet, Memory> {
+    let mut set = KeySet::new(alloc);
+    set.append_all(set_of(alloc, texts)?)?;
+    set.append_all(set_of(alloc, others)?)?;
+    set.append_all(KeySet::new(alloc))?;
+    Ok(set)
+}
+
+/// Tells the names of a set.
+fn tell(set: &KeySet, all: &mut String) -> Result<(), Memory> {
+    for (name, _) in set.iter() {
+        all.push_str(&name.text()?)?;
+        all.push(' ')?;
     }
+    all.push_str("| ")
+}
+
+/// Tells what is copied of a name.
+fn tell_below(set: &KeySet, at: &KeyName, all: &mut String) -> Result<(), Memory> {
+    let copied = set.below(at)?;
+    tell(&copied, all)
+}
+
+/// Tells the ways that lead from a name to the keys at or below it.
+fn tell_relative(
+    alloc: Global,
+    set: &KeySet,
+    at: &KeyName,
+    all: &mut String,
+) -> Result<(), Memory> {
+    let ways = set.relative_to(alloc, at)?;
+    tell(&ways, all)
+}
+
+/// Tells what is cut at a name.
+fn tell_cut(set: &mut KeySet, at: &KeyName, all: &mut String) -> Result<(), Memory> {
+    let taken = set.cut(at)?;
+    tell(&taken, all)
+}
+
+/// Tells a set, what of it is at or below a name, that by its ways from there, what is cut, what is cut again, and what is left.
+fn tell_cuts(
+    alloc: Global,
+    set: &mut KeySet,
+    at: &KeyName,
+    all: &mut String,
+) -> Result<(), Memory> {
+    tell(set, all)?;
+    tell_below(set, at, all)?;
+    tell_relative(alloc, set, at, all)?;
+    tell_cut(set, at, all)?;
+    tell_cut(set, at, all)?;
+    tell(set, all)
+}
+
+fn cuts_told(alloc: Global, set: &mut KeySet, at: &KeyName) -> Result<String, Memory> {
+    let mut all = String::new(alloc);
+    tell_cuts(alloc, set, at, &mut all)?;
     Ok(all)
 }
 
-fn told_of(alloc: Global, texts: &[&str]) -> Result<String, Fail> {
-    let set = set_of(alloc, texts)?;
-    Ok(told(alloc, &set)?)
-}
-
-#[test]
-fn stands_in_name_order_whatever_order_the_keys_come_in(rt: HostRuntime) -> Result<(), Fail> {
-    let rows = [
-        ["user:/a-b", "user:/a/b", "user:/a", "spec:/z"],
-        ["spec:/z", "user:/a", "user:/a/b", "user:/a-b"],
-        ["user:/a/b", "spec:/z", "user:/a-b", "user:/a"],
-    ];
-    let want = "spec:/z=spec:/z 0 user:/a=user:/a 0 user:/a/b=user:/a/b 0 user:/a-b=user:/a-b 0 ";
-    for row in rows {
-        assert_eq!(rt; told_of(rt.alloc(), &row)?.as_str(), want);
-    }
-    Ok(())
-}
-
-/// What is copied of a name.
-fn told_below(alloc: Global, set: &KeySet, at: &KeyName) -> Result<String, Memory> {
-    let copied = set.below(at)?;
-    told(alloc, &copied)
-}
-
-/// What is cut at a name.
-fn told_cut(alloc: Global, set: &mut KeySet, at: &KeyName) -> Result<String, Memory> {
-    let taken = set.cut(at)?;
-    told(alloc, &taken)
-}
-
-/// What is copied of a name, what is cut, what is cut again, and what is left.
-fn cuts(alloc: Global, set: &mut KeySet, at: &KeyName) -> Result<String, Memory> {
-    let copied = told_below(alloc, set, at)?;
-    let taken = told_cut(alloc, set, at)?;
-    let again = told_cut(alloc, set, at)?;
-    let left = told(alloc, set)?;
-    format!(in alloc; "{copied}| {taken}| {again}| {left}")
-}
-
-fn cut_of(alloc: Global) -> Result<String, Fail> {
-    let mut set = set_of(alloc, &["user:/a-b", "user:/a/b", "user:/a", "spec:/z"])?;
+fn cuts_of(alloc: Global) -> Result<String, Memory> {
     let at = name(alloc, "user:/a")?;
-    Ok(cuts(alloc, &mut set, &at)?)
+    let mut set = united(
+        alloc,
+        &["user:/a-b", "user:/a/b"],
+        &["user:/a", "spec:/z", "user:/a/b"],
+    )?;
+    cuts_told(alloc, &mut set, &at)
 }
 
 #[test]
-fn cuts_a_name_and_what_is_below_it(rt: HostRuntime) -> Result<(), Fail> {
+fn stands_in_name_order_and_cuts_a_name_with_what_is_below_it(rt: HostRuntime) -> Result<(), Fail> {
     let want =
-        "user:/a=user:/a 0 user:/a/b=user:/a/b 0 | user:/a=user:/a 0 user:/a/b=user:/a/b 0 | | spec:/z=spec:/z 0 user:/a-b=user:/a-b 0 ";
-    assert_eq!(rt; cut_of(rt.alloc())?.as_str(), want);
+        "spec:/z user:/a user:/a/b user:/a-b | user:/a user:/a/b | / /b | user:/a user:/a/b | | spec:/z user:/a-b | ";
+    assert_eq!(rt; cuts_of(rt.alloc())?.as_str(), want);
     Ok(())
 }
 
-/// A new set that got those of a set that got another one's keys, and an empty one's.
-fn unite(alloc: Global, set: KeySet, other: KeySet) -> Result<KeySet, Memory> {
-    let mut set = set;
-    set.append_all(other)?;
-    set.append_all(KeySet::new(alloc))?;
-    let mut copied = KeySet::new(alloc);
-    copied.append_all(set)?;
-    Ok(copied)
-}
-
-fn united(alloc: Global) -> Result<KeySet, Fail> {
-    let set = set_of(alloc, &["user:/a", "user:/b", "user:/d"])?;
-    let mut other = set_of(alloc, &["user:/c"])?;
-    let _ = put(alloc, &mut other, "user:/b", "again")?;
-    Ok(unite(alloc, set, other)?)
-}
-
+/// Each of the two keys weighs 64, and the bytes of its name and its value: 14 and 18.
 #[test]
-fn takes_the_keys_of_another_set(rt: HostRuntime) -> Result<(), Fail> {
-    the_keys_set_last_are_found();
-    let set = united(rt.alloc())?;
-    let want = "user:/a=user:/a 0 user:/b=again 0 user:/c=user:/c 0 user:/d=user:/d 0 ";
-    assert_eq!(rt; told(rt.alloc(), &set)?.as_str(), want);
-    Ok(())
-}
-
-/// An entry with one metadata.
-fn ordered(alloc: Global, value: &str, order: &str) -> Result<Entry, Memory> {
-    let mut entry = entry(alloc, value)?;
-    let _ = entry.meta.set("order", order)?;
-    Ok(entry)
-}
-
-/// A set of one key, made of copies.
-fn set_of_copies(alloc: Global, at: &KeyName, entry: &Entry) -> Result<KeySet, Memory> {
-    let mut set = KeySet::new(alloc);
-    let _ = set.append(at.copy()?, entry.copy()?)?;
-    Ok(set)
-}
-
-/// Whether a key is removed, and once more.
-fn removed_twice(set: &mut KeySet, at: &KeyName) -> Result<(bool, bool), Memory> {
-    let removed = set.remove(at)?.is_some();
-    let again = set.remove(at)?.is_some();
-    Ok((removed, again))
-}
-
-/// A copy of a set with one key, whose key then is removed from the set itself.
-fn copied(alloc: Global) -> Result<(KeySet, (bool, bool)), Fail> {
-    let at = name(alloc, "user:/a")?;
-    let mut set = set_of_copies(alloc, &at, &ordered(alloc, "value", "7")?)?;
-    let copied = set.copy()?;
-    Ok((copied, removed_twice(&mut set, &at)?))
-}
-
-#[test]
-fn copies_values_and_metadata(rt: HostRuntime) -> Result<(), Fail> {
-    let (set, removed) = copied(rt.alloc())?;
-    assert_eq!(rt; removed, (true, false));
-    assert_eq!(rt; told(rt.alloc(), &set)?.as_str(), "user:/a=value 1 ");
+fn weighs_its_keys(rt: HostRuntime) -> Result<(), Fail> {
+    assert_eq!(rt;
+        set_of(rt.alloc(), &["user:/a", "spec:/z/b"])?.weight(),
+        160
+    );
     Ok(())
 }
 
@@ -171,107 +130,69 @@ fn number_at(step: u32, count: u32, order: u32) -> u32 {
     }
 }
 
+fn put_number(alloc: Global, set: &mut KeySet, number: u32) -> Result<Option<Entry>, Memory> {
+    let text = format!(in alloc; "user:/key/{number}")?;
+    put(alloc, set, &text)
+}
+
 /// So many keys, in an order.
-fn many(alloc: Global, count: u32, order: u32) -> Result<KeySet, Fail> {
+fn many(alloc: Global, count: u32, order: u32) -> Result<KeySet, Memory> {
     let mut set = KeySet::new(alloc);
     for step in 0..count {
-        let number = number_at(step, count, order);
-        let text = format!(in alloc; "user:/key/{number}")?;
-        let _ = put(alloc, &mut set, &text, &text)?;
+        put_number(alloc, &mut set, number_at(step, count, order))?;
     }
     Ok(set)
 }
 
 /// Whether a name has itself for its value.
-fn has_own_value(alloc: Global, set: &KeySet, text: &str) -> Result<bool, Fail> {
-    let at = name(alloc, text)?;
-    match set.lookup(&at) {
-        Some(entry) => Ok(entry.value.as_str() == text),
-        None => Ok(false),
+fn has_own_value(set: &KeySet, at: &KeyName, text: &str) -> bool {
+    match set.lookup(at) {
+        Some(entry) => entry.value.as_str() == text,
+        None => false,
     }
 }
 
+/// Whether the key of a number is found by its name.
+fn has_number(alloc: Global, set: &KeySet, number: u32) -> Result<bool, Memory> {
+    let text = format!(in alloc; "user:/key/{number}")?;
+    let at = name(alloc, &text)?;
+    Ok(has_own_value(set, &at, &text))
+}
+
 /// How many of the keys are found by their names, each with its own value.
-fn found(alloc: Global, set: &KeySet, count: u32) -> Result<u32, Fail> {
+fn found(alloc: Global, set: &KeySet, count: u32) -> Result<u32, Memory> {
     let mut found = 0u32;
     for number in 0..count {
-        let text = format!(in alloc; "user:/key/{number}")?;
-        if has_own_value(alloc, set, &text)? {
+        if has_number(alloc, set, number)? {
             found = found.saturating_add(1);
         }
     }
     Ok(found)
 }
 
-/// How many keys are cut at a name, and how many are left.
-fn counts_of_cut(alloc: Global, set: &mut KeySet, text: &str) -> Result<(usize, usize), Fail> {
-    let at = name(alloc, text)?;
-    let taken = set.cut(&at)?;
+/// Cuts the name that all of many keys are below.
+fn cut_all(alloc: Global, set: &mut KeySet) -> Result<KeySet, Memory> {
+    let at = name(alloc, "user:/key")?;
+    set.cut(&at)
+}
+
+/// How many keys are cut, and how many are left.
+fn counts_of_cut(alloc: Global, set: &mut KeySet) -> Result<(usize, usize), Memory> {
+    let taken = cut_all(alloc, set)?;
     Ok((taken.len(), set.len()))
 }
 
-/// How many of so many keys there are, are found, and are cut, and how many are left.
-fn counts(alloc: Global, count: u32, order: u32) -> Result<(usize, u32, (usize, usize)), Fail> {
+/// How many of so many keys are found, and are cut, and how many are left.
+fn counts(alloc: Global, count: u32, order: u32) -> Result<(u32, (usize, usize)), Memory> {
     let mut set = many(alloc, count, order)?;
-    let (len, found) = (set.len(), found(alloc, &set, count)?);
-    Ok((len, found, counts_of_cut(alloc, &mut set, "user:/key")?))
+    let found = found(alloc, &set, count)?;
+    Ok((found, counts_of_cut(alloc, &mut set)?))
 }
 
 #[test]
 fn finds_each_of_ten_thousand_keys(rt: HostRuntime) -> Result<(), Fail> {
     for order in [0, 1, 2] {
-        let counts = counts(rt.alloc(), 10_000, order)?;
-        assert_eq!(rt; counts, (10_000, 10_000, (10_000, 0)));
-    }
-    Ok(())
-}
-
-#[test]
-fn weighs_nothing_while_it_is_empty(rt: HostRuntime) -> Result<(), Fail> {
-    model_maps::a_new_key_adds_its_weight();
-    let set = KeySet::new(rt.alloc());
-    assert_eq!(rt; set.weight(), 0);
-    Ok(())
-}
-
-/// An entry with a value, and with metadata, if so asked.
-fn entry_with(alloc: Global, value: &str, has_meta: bool) -> Result<Entry, Memory> {
-    if has_meta {
-        ordered(alloc, value, "1")
-    } else {
-        entry(alloc, value)
-    }
-}
-
-/// A set with these names, of which one, where it is among them, has another entry.
-fn other_set(alloc: Global, names: &[&str], text: &str, entry: Entry) -> Result<KeySet, Fail> {
-    let mut set = set_of(alloc, names)?;
-    let at = name(alloc, text)?;
-    if set.lookup(&at).is_some() {
-        let _ = set.append(at, entry)?;
-    }
-    Ok(set)
-}
-
-/// Whether a set of two keys equals one with these names, of which the last has another value, or metadata, if so asked.
-fn equals(alloc: Global, names: &[&str], value: &str, has_meta: bool) -> Result<bool, Fail> {
-    let set = set_of(alloc, &["user:/a", "spec:/z"])?;
-    let entry = entry_with(alloc, value, has_meta)?;
-    Ok(set == other_set(alloc, names, "spec:/z", entry)?)
-}
-
-#[test]
-fn sets_are_equal_by_their_names_values_and_metadata(rt: HostRuntime) -> Result<(), Fail> {
-    let both: &[&str] = &["spec:/z", "user:/a"];
-    let rows: [(&[&str], &str, bool, bool); 5] = [
-        (both, "spec:/z", false, true),
-        (&["user:/a"], "spec:/z", false, false),
-        (&["user:/a", "user:/z"], "spec:/z", false, false),
-        (both, "another value", false, false),
-        (both, "spec:/z", true, false),
-    ];
-    for (names, value, has_meta, same) in rows {
-        assert_eq!(rt; equals(rt.alloc(), names, value, has_meta)?, same);
+        assert_eq!(rt; counts(rt.alloc(), 10_000, order)?, (10_000, (10_000, 0)));
     }
     Ok(())
 }

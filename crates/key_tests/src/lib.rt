@@ -1,4 +1,4 @@
-//! Tests of the public calls of names, texts, metadata and key sets, and of want of memory as a format's refusal: of what no contract
+//! Tests of the public calls of names, metadata, maps and key sets, and of want of memory as a format's refusal: of what no contract
 //! says, each call with ample memory.
 //! Tables of names and shown texts are cases of `kdb_cases`.
 #![tactic(auto)]
@@ -8,8 +8,6 @@ mod chunked_maps;
 #[cfg(test)]
 mod key_sets;
 #[cfg(test)]
-mod lists;
-#[cfg(test)]
 mod metadata;
 #[cfg(test)]
 mod names;
@@ -17,5 +15,3 @@ mod names;
 mod refusals;
 #[cfg(test)]
 mod sorted_maps;
-#[cfg(test)]
-mod texts;

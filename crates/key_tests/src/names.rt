@@ -1,27 +1,24 @@
-//! Names by their calls without a text. Spellings, refusals and orders are cases of `kdb_cases`.
+//! Names by their calls without a text. Spellings, refusals, orders and joined names are cases of `kdb_cases`.
 
-use key_name::{KeyName, NameFault, Namespace};
-use std::alloc::Global;
+use key_meta::Memory;
+use key_name::KeyName;
+use std::alloc::{AllocError, Global};
 use std::test::Fail;
 
-/// The text of a name in another namespace.
-fn moved(alloc: Global, text: &str, namespace: Namespace) -> Result<String, NameFault> {
-    let name = KeyName::parse(alloc, text)?.with_namespace(namespace)?;
-    Ok(name.text()?)
-}
-
-#[test]
-fn keeps_the_parts_in_another_namespace(rt: HostRuntime) -> Result<(), Fail> {
-    let text = moved(rt.alloc(), "/sw/a", Namespace::System)?;
-    assert_eq!(rt; text.as_str(), "system:/sw/a");
-    let root = KeyName::root(rt.alloc(), Namespace::Spec);
-    assert_eq!(rt; root.text()?.as_str(), "spec:/");
-    Ok(())
+/// The name that a text spells. A text that spells none counts as want of memory, which no test expects.
+pub fn name(alloc: Global, text: &str) -> Result<KeyName, Memory> {
+    match KeyName::parse(alloc, text) {
+        Ok(name) => Ok(name),
+        Err(_) => Err(AllocError),
+    }
 }
 
 /// The text of the name that a relative text is.
-fn spelled(alloc: Global, text: &str) -> Result<String, NameFault> {
-    Ok(KeyName::parse_relative(alloc, text)?.text()?)
+fn spelled(alloc: Global, text: &str) -> Result<String, Memory> {
+    match KeyName::parse_relative(alloc, text) {
+        Ok(name) => name.text(),
+        Err(_) => Err(AllocError),
+    }
 }
 
 #[test]
@@ -39,85 +36,33 @@ fn reads_relative_texts(rt: HostRuntime) -> Result<(), Fail> {
     Ok(())
 }
 
-#[test]
-fn refuses_relative_texts(rt: HostRuntime) -> Result<(), Fail> {
-    let refused = [
-        ("a/b\\", NameFault::BadEscape { at: 4 }),
-        ("#00", NameFault::BadArray { at: 1 }),
-        ("a\0", NameFault::Nul { at: 2 }),
-    ];
-    for (text, fault) in refused {
-        assert_eq!(rt; spelled(rt.alloc(), text).err(), Some(fault), "of {text:?}");
-    }
-    Ok(())
-}
-
-/// The text of a relative name behind a point.
-fn joined(alloc: Global, point: &str, relative: &str) -> Result<String, NameFault> {
-    let point = KeyName::parse(alloc, point)?;
-    let way = KeyName::parse_relative(alloc, relative)?;
-    put_behind(&point, way)
-}
-
-fn put_behind(point: &KeyName, way: KeyName) -> Result<String, NameFault> {
-    let way = way.with_namespace(Namespace::Cascading)?;
-    Ok(way.joined_onto(point)?.text()?)
-}
-
-#[test]
-fn puts_a_relative_name_onto_a_point(rt: HostRuntime) -> Result<(), Fail> {
-    let rows = [
-        ("user:/sw/app", "a/b", "user:/sw/app/a/b"),
-        ("user:/", "a", "user:/a"),
-        ("dir:/a", "", "dir:/a"),
-    ];
-    for (point, relative, whole) in rows {
-        assert_eq!(rt;
-            joined(rt.alloc(), point, relative)?.as_str(),
-            whole,
-            "of {relative}"
-        );
-    }
-    Ok(())
-}
-
-fn matches(alloc: Global, text: &str, pattern: &str) -> Result<bool, NameFault> {
-    let name = KeyName::parse(alloc, text)?;
-    let pattern = KeyName::parse(alloc, pattern)?;
-    Ok(name.matches_glob(&pattern))
+/// Whether a name matches a pattern, and whether the pattern has a hole.
+fn matches(alloc: Global, text: &str, pattern: &str) -> Result<(bool, bool), Memory> {
+    let one = name(alloc, text)?;
+    let pattern = name(alloc, pattern)?;
+    Ok((one.matches_glob(&pattern), pattern.has_glob()))
 }
 
 #[test]
 fn matches_patterns_part_by_part(rt: HostRuntime) -> Result<(), Fail> {
     let rows = [
-        ("user:/a/#_10/x", "/a/#/_", true),
-        ("user:/a/b", "user:/a/b", true),
-        ("user:/a/b", "user:/a/_", true),
-        ("user:/a/b", "user:/a", false),
-        ("user:/a", "user:/a/_", false),
-        ("user:/a/x", "user:/a/#", false),
-        ("user:/_", "user:/a", false),
+        ("user:/a/#_10/x", "/a/#/_", (true, true)),
+        ("user:/a/b", "user:/a/b", (true, false)),
+        ("user:/a/b", "user:/a/_", (true, true)),
+        ("user:/a/b", "user:/a", (false, false)),
+        ("user:/a", "user:/a/_", (false, true)),
+        ("user:/a/x", "user:/a/#", (false, true)),
+        ("user:/_", "user:/a", (false, false)),
+        ("user:/#0", "/#", (true, true)),
+        ("user:/#0/x", "/#0/_b", (false, false)),
+        ("user:/", "user:/", (true, false)),
     ];
-    for (text, other, wanted) in rows {
+    for (text, pattern, wanted) in rows {
         assert_eq!(rt;
-            matches(rt.alloc(), text, other)?,
+            matches(rt.alloc(), text, pattern)?,
             wanted,
-            "{text} and {other}"
+            "{text} and {pattern}"
         );
-    }
-    Ok(())
-}
-
-#[test]
-fn tells_a_pattern_by_its_holes(rt: HostRuntime) -> Result<(), Fail> {
-    let holes = [
-        ("user:/a/_", true),
-        ("/#", true),
-        ("/#0/_b", false),
-        ("user:/", false),
-    ];
-    for (text, has) in holes {
-        assert_eq!(rt; KeyName::parse(rt.alloc(), text)?.has_glob(), has, "{text}");
     }
     Ok(())
 }
