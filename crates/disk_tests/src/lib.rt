@@ -1,15 +1,11 @@
 //! Tests of the public calls of the outside, of disks and files, and of the runs of a journal: of what no contract says, each call with ample memory.
-//! Calls of a disk in memory, names of files and bodies of entries are cases of `kdb_cases`.
+//! Sources and sinks in memory, calls of a disk in memory, names of files and bodies of entries are cases of `kdb_cases`.
 #![tactic(auto)]
 
 #[cfg(test)]
 mod file_names;
 #[cfg(test)]
 mod mem_disks;
-#[cfg(test)]
-mod mem_sinks;
-#[cfg(test)]
-mod mem_sources;
 #[cfg(test)]
 mod readers;
 #[cfg(test)]

@@ -1,30 +1,35 @@
-//! What the disk gives at concrete files and calls.
+//! What a crash leaves of a disk in memory, by examples.
+
+use crate::file_names::name;
 use disk_memory::MemDisk;
-use kdb_outside::{Disk, FileName};
+use kdb_outside::{Disk, Failed, FileName};
 use std::alloc::Global;
 use std::test::Fail;
 
-#[derive(Clone, Copy)]
-enum Change {
-    Write(u64, &'static [u8]),
-    Cut(u64),
-    Sync,
-}
-
-fn name(alloc: Global, text: &str) -> Result<FileName, Fail> {
-    Ok(FileName::new(alloc, text)?.ok_or("it is a name")?)
-}
-
-/// Makes a change that begins within the file, and tells whether it went through.
-fn make(disk: &mut MemDisk, file: &FileName, change: Change) -> Result<bool, Fail> {
+/// Writes at a place that isn't behind the file's end.
+fn write(disk: &mut MemDisk, file: &FileName, at: u64, bytes: &[u8]) -> Result<(), Failed> {
     let length = disk.bytes(file).len() as u64;
-    let outcome = match change {
-        Change::Write(at, bytes) if at <= length => disk.write_at(file, at, bytes),
-        Change::Cut(to) if to <= length => disk.cut(file, to),
-        Change::Sync => disk.sync(file),
-        _ => return Err("it begins within the file")?,
-    };
-    Ok(outcome == Ok(()))
+    if at <= length {
+        return disk.write_at(file, at, bytes);
+    }
+    Err(Failed)
+}
+
+/// Cuts a file that isn't shorter than that.
+fn cut(disk: &mut MemDisk, file: &FileName, to: u64) -> Result<(), Failed> {
+    let length = disk.bytes(file).len() as u64;
+    if to <= length {
+        return disk.cut(file, to);
+    }
+    Err(Failed)
+}
+
+/// Four calls, up to the first that doesn't go through.
+fn change(disk: &mut MemDisk, file: &FileName) -> Result<(), Failed> {
+    write(disk, file, 1, b"12")?;
+    write(disk, file, 2, b"2YZ")?;
+    cut(disk, file, 2)?;
+    disk.sync(file)
 }
 
 /// A disk with a file of `abcd` that stops after so many calls.
@@ -33,155 +38,63 @@ fn disk_of(alloc: Global, user: &FileName, stop_after: u64) -> Result<MemDisk, F
     Ok(MemDisk::new(alloc, files, Vec::new(alloc), Some(stop_after))?)
 }
 
-/// Makes the changes, up to the first that doesn't go through.
-fn make_all(disk: &mut MemDisk, file: &FileName, changes: &[Change]) -> Result<(), Fail> {
-    for change in changes {
-        if !make(disk, file, *change)? {
-            break;
-        }
-    }
-    Ok(())
-}
-
-/// The disk that a crash with this choice leaves of a file of `abcd` after so many of four calls.
-fn left_after(
-    alloc: Global,
-    user: &FileName,
-    stop_after: u64,
-    choice: u64,
-) -> Result<MemDisk, Fail> {
-    let changes = [
-        Change::Write(1, b"12"),
-        Change::Write(2, b"2YZ"),
-        Change::Cut(2),
-        Change::Sync,
-    ];
+/// The disk that a crash with this choice leaves of it once it was changed.
+fn crashed(alloc: Global, user: &FileName, stop_after: u64, choice: u64) -> Result<MemDisk, Fail> {
     let mut disk = disk_of(alloc, user, stop_after)?;
-    make_all(&mut disk, user, &changes)?;
+    let _ = change(&mut disk, user);
     Ok(disk.crash(choice)?)
 }
 
-/// What every crash after so many calls leaves: these bytes first and last, and a length between.
-#[derive(Clone, Copy)]
-struct Row {
-    stop_after: u64,
-    front: &'static [u8],
-    back: &'static [u8],
-    least: usize,
-    most: usize,
+/// After how many calls a disk stops, the choice of its crash, and the bytes that this leaves.
+type Row = (u64, u64, &'static [u8]);
+
+/// Whether a crash leaves these bytes, on a disk that counts its calls anew and on which they go through.
+fn leaves(alloc: Global, user: &FileName, row: &Row) -> Result<bool, Fail> {
+    let (stop_after, choice, bytes) = row;
+    let mut disk = crashed(alloc, user, *stop_after, *choice)?;
+    let goes = disk.length(user).is_ok() && disk.calls() == 1;
+    Ok(goes && disk.bytes(user) == *bytes)
 }
 
-impl Row {
-    fn holds(&self, left: &[u8]) -> bool {
-        let fits = self.least <= left.len() && left.len() <= self.most;
-        fits && left.starts_with(self.front) && left.ends_with(self.back)
-    }
-}
-
-fn every_choice_holds(
-    alloc: Global,
-    user: &FileName,
-    row: Row,
-    choices: u64,
-) -> Result<bool, Fail> {
-    for choice in 0..choices {
-        let disk = left_after(alloc, user, row.stop_after, choice)?;
-        if !row.holds(disk.bytes(user)) {
-            return Ok(false);
-        }
-    }
-    Ok(true)
-}
-
-/// Whether two choices leave different bytes.
-fn choices_differ(
-    alloc: Global,
-    user: &FileName,
-    stop_after: u64,
-    choices: u64,
-) -> Result<bool, Fail> {
-    let first = left_after(alloc, user, stop_after, 2)?;
-    for choice in 2..choices {
-        let disk = left_after(alloc, user, stop_after, choice)?;
-        if disk.bytes(user) != first.bytes(user) {
-            return Ok(true);
-        }
-    }
-    Ok(false)
-}
-
-/// Whether a choice leaves these bytes, on a disk that counts its calls anew.
-fn leaves(
-    alloc: Global,
-    user: &FileName,
-    stop_after: u64,
-    choice: u64,
-    bytes: &[u8],
-) -> Result<bool, Fail> {
-    let disk = left_after(alloc, user, stop_after, choice)?;
-    Ok(disk.bytes(user) == bytes && disk.calls() == 0)
-}
-
-/// Whether a crash of the first choice leaves what was synced, and one of the second all.
-fn leaves_both(
-    alloc: Global,
-    user: &FileName,
-    stop_after: u64,
-    synced: &[u8],
-    whole: &[u8],
-) -> Result<bool, Fail> {
-    Ok(leaves(alloc, user, stop_after, 0, synced)? && leaves(alloc, user, stop_after, 1, whole)?)
-}
-
-/// A row, and what the first choice of a crash leaves, and the second.
-type Left = (
-    u64,
-    &'static [u8],
-    &'static [u8],
-    usize,
-    usize,
-    &'static [u8],
-    &'static [u8],
-);
-
-/// The first stop behind which a crash leaves something else.
-fn first_other(alloc: Global, rows: &[Left]) -> Result<Option<u64>, Fail> {
-    let user = name(alloc, "user.ecf")?;
-    for (stop_after, front, back, least, most, synced, whole) in rows {
-        let row = Row {
-            stop_after: *stop_after,
-            front,
-            back,
-            least: *least,
-            most: *most,
-        };
-        if !every_choice_holds(alloc, &user, row, 10)?
-            || !leaves_both(alloc, &user, *stop_after, synced, whole)?
-        {
-            return Ok(Some(*stop_after));
+/// The place of the first row whose crash leaves something else.
+fn first_other(alloc: Global, user: &FileName, rows: &[Row]) -> Result<Option<usize>, Fail> {
+    for (place, row) in rows.iter().enumerate() {
+        if !leaves(alloc, user, row)? {
+            return Ok(Some(place));
         }
     }
     Ok(None)
 }
 
-#[test]
-fn a_crash_leaves_what_may_be_left(rt: HostRuntime) -> Result<(), Fail> {
-    let rows: [Left; 5] = [
-        (0, b"abcd", b"", 4, 4, b"abcd", b"abcd"),
-        (1, b"a", b"d", 4, 4, b"abcd", b"a12d"),
-        (2, b"a", b"", 4, 5, b"abcd", b"a12YZ"),
-        (3, b"a", b"", 2, 5, b"abcd", b"a1"),
-        (4, b"a1", b"", 2, 2, b"a1", b"a1"),
-    ];
-    assert_eq!(rt; first_other(rt.alloc(), &rows)?, None);
-    Ok(())
-}
+/// The first choice leaves what was synced, the second all, and any other something between: bytes, lengths and cuts
+/// that are torn each in its own way.
+const ROWS: [Row; 21] = [
+    (0, 0, b"abcd"),
+    (0, 1, b"abcd"),
+    (1, 0, b"abcd"),
+    (1, 1, b"a12d"),
+    (2, 0, b"abcd"),
+    (2, 1, b"a12YZ"),
+    (2, 2, b"a\xe02YZ"),
+    (2, 3, b"ab2YZ"),
+    (2, 4, b"ab2YZ"),
+    (2, 5, b"a12YZ"),
+    (2, 6, b"ab2\xfe"),
+    (2, 7, b"a12d"),
+    (2, 8, b"a\x8f4d\x00"),
+    (2, 9, b"a12d"),
+    (3, 0, b"abcd"),
+    (3, 1, b"a1"),
+    (3, 3, b"ab"),
+    (3, 4, b"abl\x00"),
+    (3, 6, b"ab\xaa\x1c"),
+    (4, 0, b"a1"),
+    (4, 1, b"a1"),
+];
 
 #[test]
-fn choices_leave_different_bytes(rt: HostRuntime) -> Result<(), Fail> {
+fn a_crash_leaves_what_its_number_chooses(rt: HostRuntime) -> Result<(), Fail> {
     let user = name(rt.alloc(), "user.ecf")?;
-    for (stop_after, differ) in [(1, true), (2, true), (3, true), (4, false)] {
-        assert_eq!(rt; choices_differ(rt.alloc(), &user, stop_after, 10)?, differ);
-    }
+    assert_eq!(rt; first_other(rt.alloc(), &user, &ROWS)?, None);
     Ok(())
 }

@@ -28,17 +28,6 @@ impl Read for Hiccups {
 }
 
 #[test]
-fn gives_what_the_reader_gives(rt: HostRuntime) -> Result<(), Fail> {
-    let mut source = ReaderSource::new(b"abc".as_slice());
-    let mut buf = [b'.'; 2];
-    for (count, now) in [(2, b"ab"), (1, b"cb"), (0, b"cb")] {
-        assert_eq!(rt; source.take(&mut buf), Ok(count));
-        assert_eq!(rt; &buf, now);
-    }
-    Ok(())
-}
-
-#[test]
 fn hides_interruptions_and_no_other_error(rt: HostRuntime) {
     let mut source = ReaderSource::new(Hiccups { calls: 0 });
     let mut buf = [b'.'; 2];

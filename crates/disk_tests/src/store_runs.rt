@@ -1,9 +1,10 @@
-//! A run of commits over the journal of a disk in memory: two commits, each device call failing alone, and a crash behind the run; and its flushes.
+//! Runs of commits over the journal of a disk in memory: how each call ends, the state behind it, what the files hold and how many calls of the disk it took;
+//! and two commits and a flush with each call of the disk failing alone, and a crash behind them.
 ghost use Rattle.std.specs.Prelude.{IfOk};
 ghost use Rattle.journal_codec.specs.Entry.{IsEntry};
 ghost use Rattle.intent_journal.specs.Journal.{IsHeaderBytes};
 
-use backend_files::FileRead;
+use crate::file_names::name;
 use disk_memory::MemDisk;
 use intent_journal::Journal;
 use journal_codec::{
@@ -11,21 +12,16 @@ use journal_codec::{
     spells_what_is_read,
 };
 use journal_steps::State;
-use kdb_outside::{Failed, FileName};
 use key_meta::List;
 use std::alloc::Global;
 use std::test::Fail;
-use store_phases::{close, commit, flush, make_clean, make_room, open, read, store};
+use store_phases::{commit, flush, make_room, open};
 
 /// The body of an entry that writes `1` into `a.ecf`.
 const FIRST: &[u8] = b"\x01\x05a.ecf\x01\x00\x00\x001";
 
 /// The body of an entry that writes `22` into `a.ecf` and nothing into `b.ecf`.
 const SECOND: &[u8] = b"\x02\x05a.ecf\x02\x00\x00\x0022\x05b.ecf\x00\x00\x00\x00";
-
-fn name(alloc: Global, text: &str) -> Result<FileName, Fail> {
-    Ok(FileName::new(alloc, text)?.ok_or("it is a name")?)
-}
 
 fn entry(alloc: Global, body: &[u8]) -> Result<List<FileText>, Fail>
     ensures { IfOk result IsEntry }
@@ -51,221 +47,148 @@ fn head(alloc: Global) -> Result<Vec<u8>, Fail>
     }
 }
 
-fn empty_disk(alloc: Global, failing: Vec<u64>) -> Result<MemDisk, Fail> {
-    Ok(MemDisk::new(alloc, Vec::new(alloc), failing, None)?)
-}
-
-/// Which of both entries were acknowledged, and the disk behind them.
-#[derive(Drop)]
-struct Ended {
-    one: bool,
-    two: bool,
-    disk: MemDisk,
-}
-
-/// Commits both entries on an empty disk whose call with this number fails.
-fn commit_both(alloc: Global, failed: u64) -> Result<Ended, Fail> {
-    let disk = empty_disk(alloc, vec![in alloc; failed]?)?;
-    match open(alloc, disk) {
-        Ok(journal) => {
-            let mut journal = journal;
-            let one = committed(alloc, &mut journal, FIRST)?.is_ok();
-            let two = committed(alloc, &mut journal, SECOND)?.is_ok();
-            let disk = close(journal);
-            Ok(Ended { one, two, disk })
-        }
-        Err(refused) => Ok(Ended {
-            one: false,
-            two: false,
-            disk: refused.disk,
-        }),
-    }
-}
-
-/// Whether what is told of both entries fits the call that failed. The first two calls are the opening's. The next two
-/// settle the header gate, four put the head, and four each put a body and open its gate: those of the second entry end
-/// with the sixteenth. What comes behind them is the closing's.
-fn is_told(failed: u64, one: bool, two: bool) -> bool {
-    one == (failed > 12) && two == (failed > 2 && !(13..17).contains(&failed))
-}
-
-/// A file of a disk, once the disk was opened and closed again.
-fn bytes_again(alloc: Global, disk: MemDisk, text: &str) -> Result<Vec<u8>, Fail> {
-    let Ok(journal) = open(alloc, disk) else {
-        return Err("a crashed disk opens")?;
-    };
-    bytes_behind(alloc, journal, text)
-}
-
-/// A file of a journal's disk, once the journal was closed.
-fn bytes_behind(alloc: Global, journal: Journal<MemDisk>, text: &str) -> Result<Vec<u8>, Fail> {
-    let file = name(alloc, text)?;
-    let disk = close(journal);
-    Ok(disk.bytes(&file).to_vec(alloc)?)
-}
-
-/// Whether what is told fits the call that failed, and what was told stored is there after a crash.
-fn fits(alloc: Global, failed: u64, choice: u64) -> Result<bool, Fail> {
-    let Ended { one, two, disk } = commit_both(alloc, failed)?;
-    let left = bytes_again(alloc, disk.crash(choice)?, "a.ecf")?;
-    Ok(is_told(failed, one, two) && (!two || left.as_slice() == b"22".as_slice()))
-}
-
-fn every_failure_fits(alloc: Global, calls: u64, choices: u64) -> Result<bool, Fail> {
-    for failed in 1..calls {
-        for choice in 0..choices {
-            if !fits(alloc, failed, choice)? {
-                return Ok(false);
-            }
-        }
-    }
-    Ok(true)
-}
-
-#[test]
-fn stores_what_it_acknowledges_whichever_call_fails(rt: HostRuntime) -> Result<(), Fail> {
-    assert!(rt; every_failure_fits(rt.alloc(), 26, 3)?);
-    Ok(())
-}
-
-fn opened(alloc: Global, disk: MemDisk) -> Result<Journal<MemDisk>, Fail> {
-    match open(alloc, disk) {
-        Ok(journal) => Ok(journal),
-        Err(_) => Err("the disk opens")?,
-    }
-}
-
-/// How an entry is stored.
-fn stored(
-    alloc: Global,
-    journal: &mut Journal<MemDisk>,
-    body: &[u8],
-) -> Result<Result<(), Failed>, Fail> {
+/// Whether an entry is committed.
+fn is_committed(alloc: Global, journal: &mut Journal<MemDisk>, body: &[u8]) -> Result<bool, Fail> {
     let files = entry(alloc, body)?;
     let encoded = encode(alloc, files.as_slice())?;
-    Ok(store(journal, &head(alloc)?, &encoded, files))
+    Ok(commit(journal, &head(alloc)?, &encoded, files).is_ok())
 }
 
-/// How an entry is committed.
-fn committed(
-    alloc: Global,
-    journal: &mut Journal<MemDisk>,
-    body: &[u8],
-) -> Result<Result<(), Failed>, Fail> {
-    let files = entry(alloc, body)?;
-    let encoded = encode(alloc, files.as_slice())?;
-    Ok(commit(journal, &head(alloc)?, &encoded, files))
-}
-
-/// The bytes of a file, read by its journal.
-fn bytes_of(alloc: Global, journal: &mut Journal<MemDisk>, text: &str) -> Result<Vec<u8>, Fail> {
-    let file = name(alloc, text)?;
-    match read(journal, alloc, &file) {
-        Ok(FileRead::Bytes(bytes)) => Ok(bytes.into_vec()),
-        _ => Err("the file is read")?,
+/// Makes the call of a letter, and tells whether it goes through: `1` and `2` commit an entry, `r` makes room for the
+/// longest body, `s` for the longest that fits behind the first entry, and `t` for one of a byte more. Any other letter
+/// flushes, and that goes through where it wrote.
+fn is_done(alloc: Global, journal: &mut Journal<MemDisk>, letter: u8) -> Result<bool, Fail> {
+    match letter {
+        b'1' => is_committed(alloc, journal, FIRST),
+        b'2' => is_committed(alloc, journal, SECOND),
+        b'r' => Ok(make_room(journal, 67_200_000).is_ok()),
+        b's' => Ok(make_room(journal, 67_199_983).is_ok()),
+        b't' => Ok(make_room(journal, 67_199_984).is_ok()),
+        _ => Ok(flush(journal) == Ok(true)),
     }
 }
 
-/// Whether a journal has this state, and a file these bytes.
-fn stands(
-    alloc: Global,
-    journal: &mut Journal<MemDisk>,
-    state: State,
-    bytes: &[u8],
-) -> Result<bool, Fail> {
-    Ok(journal.state() == state && bytes_of(alloc, journal, "a.ecf")?.as_slice() == bytes)
+/// How some calls end, in turn: a digit for each, which is 1 where it goes through, and else 0.
+fn outcomes(alloc: Global, journal: &mut Journal<MemDisk>, letters: &[u8]) -> Result<u64, Fail> {
+    let mut told = 0u64;
+    for letter in letters {
+        let done = is_done(alloc, journal, *letter)?;
+        told = told.saturating_mul(10).saturating_add(u64::from(done));
+    }
+    Ok(told)
 }
 
-/// A call on a journal: none, room for a body of so many bytes, an entry's store or commit, the list brought in, and a flush.
-#[derive(Clone, Copy)]
-enum Act {
-    Look,
-    Room(usize),
-    Store(&'static [u8]),
-    Commit(&'static [u8]),
-    Clean,
-    Flush,
-}
-
-/// How a call ends, and of a flush whether it had something to do.
+/// How some calls on a journal end, its state behind them, and its disk.
 fn called(
     alloc: Global,
-    journal: &mut Journal<MemDisk>,
-    act: Act,
-) -> Result<Result<bool, Failed>, Fail> {
-    let outcome = match act {
-        Act::Flush => return Ok(flush(journal)),
-        Act::Look => Ok(()),
-        Act::Room(body) if body <= 67_200_000 => make_room(journal, body),
-        Act::Room(_) => return Err("no body is that long")?,
-        Act::Store(body) => stored(alloc, journal, body)?,
-        Act::Commit(body) => committed(alloc, journal, body)?,
-        Act::Clean => make_clean(journal),
-    };
-    Ok(match outcome {
-        Ok(()) => Ok(true),
-        Err(fault) => Err(fault),
-    })
+    journal: Journal<MemDisk>,
+    letters: &[u8],
+) -> Result<(u64, State, MemDisk), Fail> {
+    let mut journal = journal;
+    let told = outcomes(alloc, &mut journal, letters)?;
+    Ok((told, journal.state(), journal.into_disk()))
 }
 
-/// A call, how it ends, the journal's state behind it, and what `a.ecf` has then.
-type Row = (Act, Result<bool, Failed>, State, &'static [u8]);
+/// The same on an empty disk of which the call of this number fails, none where it is 0. Where it isn't opened, no call ends.
+fn run_on(alloc: Global, failing: u64, letters: &[u8]) -> Result<(u64, State, MemDisk), Fail> {
+    let disk = MemDisk::new(alloc, Vec::new(alloc), vec![in alloc; failing]?, None)?;
+    match open(alloc, disk) {
+        Ok(journal) => called(alloc, journal, letters),
+        Err(refused) => Ok((0, State::Doubt, refused.disk)),
+    }
+}
 
-/// The place of the first of some calls in a row that doesn't come to that.
-fn first_other(
-    alloc: Global,
-    journal: &mut Journal<MemDisk>,
-    rows: &[Row],
-) -> Result<Option<usize>, Fail> {
-    for (place, (act, outcome, state, bytes)) in rows.iter().enumerate() {
-        if called(alloc, journal, *act)? != *outcome || !stands(alloc, journal, *state, bytes)? {
+/// Whether `a.ecf` has these bytes.
+fn has(alloc: Global, disk: &MemDisk, bytes: &[u8]) -> Result<bool, Fail> {
+    Ok(disk.bytes(&name(alloc, "a.ecf")?) == bytes)
+}
+
+/// Some calls, the call of the disk that fails, how the calls end, the state behind them, what `a.ecf` has then, and the
+/// calls of the disk.
+type Row = (&'static [u8], u64, u64, State, &'static [u8], u64);
+
+fn comes_to(alloc: Global, row: &Row) -> Result<bool, Fail> {
+    let (letters, failing, outcomes, state, bytes, calls) = row;
+    let (told, now, disk) = run_on(alloc, *failing, letters)?;
+    let ends = told == *outcomes && now == *state && disk.calls() == *calls;
+    Ok(ends && has(alloc, &disk, bytes)?)
+}
+
+/// The place of the first row that comes to something else.
+fn first_other(alloc: Global, rows: &[Row]) -> Result<Option<usize>, Fail> {
+    for (place, row) in rows.iter().enumerate() {
+        if !comes_to(alloc, row)? {
             return Ok(Some(place));
         }
     }
     Ok(None)
 }
 
+/// Two calls open, two settle the header gate, four put the head, and four each put a body and open its gate. A file that
+/// is brought in takes three, and the gate that is closed behind them two.
+const ROWS: [Row; 12] = [
+    (b"", 0, 0, State::Doubt, b"", 2),
+    // Nothing waits.
+    (b"f", 0, 0, State::Doubt, b"", 2),
+    (b"r", 0, 1, State::Bare, b"", 4),
+    (b"1", 0, 1, State::Lag, b"", 12),
+    // The first entry ends 17 bytes behind the first gate.
+    (b"1s", 0, 11, State::Lag, b"", 12),
+    (b"1t", 0, 11, State::Clean, b"1", 17),
+    (b"12", 0, 11, State::Lag, b"", 16),
+    (b"1t2", 0, 111, State::Lag, b"1", 21),
+    (b"12f", 0, 111, State::Clean, b"22", 24),
+    (b"1ff", 0, 110, State::Clean, b"1", 17),
+    // A file fails, and is written by the next flush.
+    (b"1f", 13, 10, State::Lag, b"", 13),
+    (b"1ff", 13, 101, State::Clean, b"1", 18),
+];
+
 #[test]
-fn leaves_the_files_until_the_list_is_brought_in(rt: HostRuntime) -> Result<(), Fail> {
-    // The first entry ends 17 bytes behind the first gate, so that a body of so many bytes fits behind it, and one of
-    // another byte doesn't.
-    let rows: [Row; 7] = [
-        (Act::Look, Ok(true), State::Doubt, b""),
-        (Act::Room(67_200_000), Ok(true), State::Bare, b""),
-        (Act::Store(FIRST), Ok(true), State::Lag, b""),
-        (Act::Room(67_199_983), Ok(true), State::Lag, b""),
-        (Act::Room(67_199_984), Ok(true), State::Clean, b"1"),
-        (Act::Commit(SECOND), Ok(true), State::Lag, b"1"),
-        (Act::Clean, Ok(true), State::Clean, b"22"),
-    ];
-    let alloc = rt.alloc();
-    let mut journal = opened(alloc, empty_disk(alloc, Vec::new(alloc))?)?;
-    assert_eq!(rt; first_other(alloc, &mut journal, &rows)?, None);
-    assert!(rt; !journal.has_recovered());
+fn writes_the_files_when_the_list_is_brought_in(rt: HostRuntime) -> Result<(), Fail> {
+    assert_eq!(rt; first_other(rt.alloc(), &ROWS)?, None);
     Ok(())
 }
 
-#[test]
-fn flushes_what_waits_and_tries_again_behind_a_failure(rt: HostRuntime) -> Result<(), Fail> {
-    // The fifteenth call is the first that brings the entry in: thirteen are the journal's, and two looks ask for a length.
-    let rows: [Row; 5] = [
-        (Act::Flush, Ok(false), State::Doubt, b""),
-        (Act::Commit(FIRST), Ok(true), State::Lag, b""),
-        (Act::Flush, Err(Failed), State::Lag, b""),
-        (Act::Flush, Ok(true), State::Clean, b"1"),
-        (Act::Flush, Ok(false), State::Clean, b"1"),
-    ];
-    let alloc = rt.alloc();
-    let mut journal = opened(alloc, empty_disk(alloc, vec![in alloc; 15]?)?)?;
-    assert_eq!(rt; first_other(alloc, &mut journal, &rows)?, None);
-    Ok(())
+/// How two commits and a flush end where this call of the disk fails, and what `a.ecf` has behind a crash and an opening.
+fn wanted(failed: u64) -> (u64, &'static [u8]) {
+    match failed {
+        1..=2 => (0, b""),
+        3..=12 => (11, b"22"),
+        13..=16 => (101, b"1"),
+        17..=24 => (110, b"22"),
+        _ => (111, b"22"),
+    }
+}
+
+/// Whether `a.ecf` has these bytes once a disk was opened again.
+fn has_again(alloc: Global, disk: MemDisk, bytes: &[u8]) -> Result<bool, Fail> {
+    match open(alloc, disk) {
+        Ok(journal) => has(alloc, &journal.into_disk(), bytes),
+        Err(_) => Err("a crashed disk opens")?,
+    }
+}
+
+fn fits(alloc: Global, failed: u64, choice: u64) -> Result<bool, Fail> {
+    let (outcomes, bytes) = wanted(failed);
+    let (told, _, disk) = run_on(alloc, failed, b"12f")?;
+    Ok(told == outcomes && has_again(alloc, disk.crash(choice)?, bytes)?)
+}
+
+/// The first of so many calls behind whose failure something else is told, or left by one of so many crashes.
+fn first_unfit(alloc: Global, calls: u64, choices: u64) -> Result<Option<u64>, Fail> {
+    for failed in 1..=calls {
+        for choice in 0..choices {
+            if !fits(alloc, failed, choice)? {
+                return Ok(Some(failed));
+            }
+        }
+    }
+    Ok(None)
 }
 
 #[test]
-fn acknowledges_nothing_on_a_disk_that_is_gone(rt: HostRuntime) -> Result<(), Fail> {
-    let alloc = rt.alloc();
-    let disk = MemDisk::new(alloc, Vec::new(alloc), Vec::new(alloc), Some(3))?;
-    let mut journal = opened(alloc, disk)?;
-    assert_eq!(rt; committed(alloc, &mut journal, FIRST)?, Err(Failed));
+fn stores_what_it_acknowledges_whichever_call_fails(rt: HostRuntime) -> Result<(), Fail> {
+    assert_eq!(rt; first_unfit(rt.alloc(), 25, 10)?, None);
     Ok(())
 }

@@ -50,26 +50,17 @@ fn counts<S: Sink>(sink: &mut S, pieces: &[&[u8]]) -> (u32, u32) {
 }
 
 #[test]
-fn writes_each_piece_whole(rt: HostRuntime) -> Result<(), Fail> {
-    let mut out = Vec::new(rt.alloc());
-    let mut sink = WriterSink::new(&mut out);
-    assert_eq!(rt; counts(&mut sink, &[b"ab", b"", b"c"]), (3, 0));
-    drop(sink);
-    assert_eq!(rt; out.as_slice(), b"abc".as_slice());
-    Ok(())
-}
-
-#[test]
 fn flushes_each_piece_and_fails_at_a_full_writer(rt: HostRuntime) -> Result<(), Fail> {
     let mut taken = Vec::new(rt.alloc());
     let mut sink = WriterSink::new(Narrow {
         taken: &mut taken,
-        room: 6,
+        room: 8,
         is_interrupted: false,
     });
-    assert_eq!(rt; counts(&mut sink, &[b"abc"]), (1, 0));
-    assert_eq!(rt; counts(&mut sink, &[b"def", b""]), (0, 2));
+    // There is room for two of the last piece's three bytes, and then for no flush.
+    let told = counts(&mut sink, &[b"ab", b"", b"c", b"def", b""]);
     drop(sink);
-    assert_eq!(rt; taken.as_slice(), b"abc|de".as_slice());
+    assert_eq!(rt; told, (3, 2));
+    assert_eq!(rt; taken.as_slice(), b"ab||c|de".as_slice());
     Ok(())
 }

@@ -1,4 +1,4 @@
-//! Two entries, the header of their files, and how an entry is added to the list of a journal.
+//! Two entries, the header of their files, and how an entry is added to the list of a journal; and a disk of four files.
 ghost use Rattle.std.specs.Prelude.{◌≡◌, ◌++◌, ◌∷◌, [], T, true, false, IfOk, OnOk};
 ghost use Rattle.journal_codec.specs.Entry.{IsEntry};
 ghost use Rattle.journal_codec.specs.Forms.{behind_gate};
@@ -21,11 +21,11 @@ pub(crate) const FIRST: &[u8] = b"\x02\x05a.ecf\x01\x00\x00\x001\x05b.ecf\x01\x0
 
 pub(crate) const SECOND: &[u8] = b"\x01\x05b.ecf\x01\x00\x00\x002";
 
-pub(crate) fn name(alloc: Global, text: &str) -> Result<FileName, Fail> {
+fn name(alloc: Global, text: &str) -> Result<FileName, Fail> {
     Ok(FileName::new(alloc, text)?.ok_or("it is a name")?)
 }
 
-pub(crate) fn entry_of(alloc: Global, body: &[u8]) -> Result<List<FileText>, Fail>
+fn entry_of(alloc: Global, body: &[u8]) -> Result<List<FileText>, Fail>
     ensures { IfOk result IsEntry }
 {
     spells_what_is_read();
@@ -39,7 +39,7 @@ pub(crate) fn entry_of(alloc: Global, body: &[u8]) -> Result<List<FileText>, Fai
 const BOTH: &[u8] = b"\x02\x05a.ecf\x05b.ecf";
 
 /// The head of a journal for both files, as it stands behind the header gate, with a closed gate behind it.
-pub(crate) fn head(alloc: Global) -> Result<Vec<u8>, Fail>
+fn head(alloc: Global) -> Result<Vec<u8>, Fail>
     ensures { IfOk result (λ header. IsHeaderBytes header.items) }
 {
     headers_read_what_is_spelled();
@@ -50,7 +50,7 @@ pub(crate) fn head(alloc: Global) -> Result<Vec<u8>, Fail>
 }
 
 /// Closes the gate in doubt, and puts a head where there is none.
-pub(crate) fn begin<D: Disk>(journal: &mut Journal<D>, header: &[u8]) -> Result<(), Failed>
+fn begin<D: Disk>(journal: &mut Journal<D>, header: &[u8]) -> Result<(), Failed>
     requires { IsHeaderBytes header.now }
     ensures headed { OnOk result (journal.new.headed ≡ true) }
     ensures sure { OnOk result (journal.new.in_doubt ≡ false) }
@@ -62,8 +62,20 @@ pub(crate) fn begin<D: Disk>(journal: &mut Journal<D>, header: &[u8]) -> Result<
     Ok(())
 }
 
+/// Begins a journal with the head of both files, and tells whether that went through.
+pub(crate) fn is_begun<D: Disk>(alloc: Global, journal: &mut Journal<D>) -> Result<bool, Fail>
+    ensures headed { IfOk result (λ begun. T begun → journal.new.headed ≡ true) }
+    ensures sure { IfOk result (λ begun. T begun → journal.new.in_doubt ≡ false) }
+{
+    let header = head(alloc)?;
+    match begin(journal, &header) {
+        Ok(()) => Ok(true),
+        Err(_) => Ok(false),
+    }
+}
+
 /// Adds an entry to the list, if it fits.
-pub(crate) fn add<D: Disk>(
+fn add<D: Disk>(
     journal: &mut Journal<D>,
     encoded: &[u8],
     files: List<FileText>,
@@ -102,37 +114,45 @@ pub(crate) fn is_added<D: Disk>(
     }
 }
 
-/// A disk whose files `a.ecf`, `b.ecf`, `journal` and `journal2` hold this.
-pub(crate) fn disk_of(
-    alloc: Global,
-    held: [&[u8]; 4],
-    failing: Vec<u64>,
-    stop_after: Option<u64>,
-) -> Result<MemDisk, Fail> {
-    let first = held[0].to_vec(alloc)?;
-    let second = held[1].to_vec(alloc)?;
-    let former = held[2].to_vec(alloc)?;
-    let journal = held[3].to_vec(alloc)?;
-    named(alloc, first, second, former, journal, failing, stop_after)
+/// What the files `a.ecf` and `b.ecf`, the former journal and the journal hold.
+pub(crate) type Held<'a> = (&'a [u8], &'a [u8], &'a [u8], &'a [u8]);
+
+/// The calls that make a disk: a write and a sync of each file.
+pub(crate) const MADE: u64 = 8;
+
+/// A disk that holds this, and stops after so many calls behind those that made it. They are calls too, since a disk that is
+/// handed its files wants them proved to have four names, and that took minutes.
+pub(crate) fn disk_of(alloc: Global, held: &Held<'_>, stop_after: u64) -> Result<MemDisk, Fail> {
+    let (first, second, former, journal) = held;
+    let last = stop_after.saturating_add(MADE);
+    let mut disk = MemDisk::new(alloc, Vec::new(alloc), Vec::new(alloc), Some(last))?;
+    put(alloc, &mut disk, "a.ecf", first)?;
+    put(alloc, &mut disk, "b.ecf", second)?;
+    put(alloc, &mut disk, "journal", former)?;
+    put(alloc, &mut disk, "journal2", journal)?;
+    Ok(disk)
 }
 
-/// The same, of contents by themselves: one function that copies them and names the files takes minutes to prove.
-fn named(
-    alloc: Global,
-    first: Vec<u8>,
-    second: Vec<u8>,
-    former: Vec<u8>,
-    journal: Vec<u8>,
-    failing: Vec<u64>,
-    stop_after: Option<u64>,
-) -> Result<MemDisk, Fail> {
-    let a = name(alloc, "a.ecf")?;
-    let b = name(alloc, "b.ecf")?;
-    let c = name(alloc, "journal")?;
-    let d = name(alloc, "journal2")?;
-    if a == b || a == c || a == d || b == c || b == d || c == d {
-        return Err("they are four names")?;
+/// Has a new file kept with these bytes.
+fn put(alloc: Global, disk: &mut MemDisk, text: &str, bytes: &[u8]) -> Result<(), Fail> {
+    let file = name(alloc, text)?;
+    if disk.write_at(&file, 0, bytes).is_ok() && disk.sync(&file).is_ok() {
+        return Ok(());
     }
-    let files = vec![in alloc; (a, first), (b, second), (c, former), (d, journal)]?;
-    Ok(MemDisk::new(alloc, files, failing, stop_after)?)
+    Err("it is kept")?
+}
+
+/// Whether a file of a disk has these bytes.
+pub(crate) fn has(alloc: Global, disk: &MemDisk, text: &str, bytes: &[u8]) -> Result<bool, Fail> {
+    Ok(disk.bytes(&name(alloc, text)?) == bytes)
+}
+
+/// Whether `a.ecf` and `b.ecf` have these bytes.
+pub(crate) fn have(
+    alloc: Global,
+    disk: &MemDisk,
+    first: &[u8],
+    second: &[u8],
+) -> Result<bool, Fail> {
+    Ok(has(alloc, disk, "a.ecf", first)? && has(alloc, disk, "b.ecf", second)?)
 }

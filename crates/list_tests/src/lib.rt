@@ -8,6 +8,4 @@ mod entries;
 #[cfg(test)]
 mod openings;
 #[cfg(test)]
-mod places;
-#[cfg(test)]
 mod steps;
