@@ -10,13 +10,13 @@ cd "$(dirname "$0")/.."
 put handles "$@"
 commits=${1:-2000}
 mkdir -p build
-(cd crates/handle_bench && rt run -- 0 1 1 >../../build/rt.log 2>&1) || true
-program=${HANDLE_BENCH:-$PWD/crates/handle_bench/out/handle_bench}
+(cd crates/benches && rt run -- all >../../build/rt.log 2>&1) || true
+program=${BENCHES:-$PWD/crates/benches/out/benches}
 [ -x "$program" ] || { tail -n 20 build/rt.log >&2; exit 1; }
 
 # rate KIND HANDLES COUNT TIMES: how many a second
 rate() {
-  { timed 3 "$program $1 $2 0"; timed 3 "$program $1 $2 $3"; } | awk -v count="$(($3 * $4))" "$numbers"'
+  { timed 3 "$program handles $1 $2 0"; timed 3 "$program handles $1 $2 $3"; } | awk -v count="$(($3 * $4))" "$numbers"'
     { least[NR] = $3 }
     END {
       more = least[2] - least[1]
@@ -25,7 +25,7 @@ rate() {
 }
 
 # refused KIND HANDLES: how many sets were
-refused() { "$program" "$1" "$2" "$commits" | awk "$numbers"'{ printf "%s", thousands($1) }'; }
+refused() { "$program" handles "$1" "$2" "$commits" | awk "$numbers"'{ printf "%s", thousands($1) }'; }
 
 cat <<TEXT
 A commit is a get, one key more and a set, over a disk in memory; between them the handles make $(shown "$commits"). At one mount

@@ -1,8 +1,5 @@
-//! Commits of handles on threads over a disk in memory, and turns at a bare lock, to be timed from outside by bench/handles.sh. The words are what is done (0
-//! commits of handles, each at a mount of its own, 1 commits at one mount, 2 turns of seats, 3 commits at one mount that counts conflicts by key), how many
-//! handles or seats there are, and how many commits they make between them, or turns each seat takes. Of commits it prints how many sets were refused.
-#![tactic(auto)]
-
+//! Commits of handles on threads over a disk in memory, and turns at a bare lock.
+use crate::Outcome;
 use all_formats::AllFormats;
 use disk_memory::MemDisk;
 use handle_teams::{Team, count_by, disk_with_mounts, points_of};
@@ -10,53 +7,39 @@ use key_name::KeyName;
 use key_set::KeySet;
 use regex_check::RegexPatterns;
 use std::alloc::Global;
-use std::env;
-use std::process::ExitCode;
 use std::sync::Wait;
 use std::thread::Threads;
 
 /// How often a commit is tried.
 const TRIES: u32 = 1_000_000;
 
-/// A word as a number; 0 where it is none.
-fn number(words: &[String], at: usize) -> u32 {
-    match words.get(at) {
-        Some(word) => word.as_str().parse().unwrap_or(0),
-        None => 0,
+/// Commits or turns. The numbers are what is done (0 commits of handles, each at a mount of its own, 1 commits at one mount, 2 turns of seats, 3 commits at one
+/// mount that counts conflicts by key), how many handles or seats there are, and how many commits they make between them, or turns each seat takes.
+pub fn measured<R: Threads + Wait + Sync>(
+    rt: &R,
+    alloc: Global,
+    what: u32,
+    handles: u32,
+    count: u32,
+) -> Outcome {
+    let refused = match what {
+        0 => apart(rt, alloc, handles, count),
+        1 => at_one(rt, alloc, handles, count, false),
+        3 => at_one(rt, alloc, handles, count, true),
+        _ => return counted(rt, alloc, handles, count),
+    };
+    match refused {
+        Some(refused) => Outcome::Refused(refused),
+        None => Outcome::Failed,
     }
 }
 
-fn main(rt: HostRuntime) -> ExitCode {
-    let mut words = Vec::new(rt.alloc());
-    let Ok(args) = env::args(&rt) else {
-        return ExitCode::from(1);
-    };
-    for word in args.skip(1) {
-        if words.push(word).is_err() {
-            return ExitCode::from(1);
-        }
+/// Whether all turns of seats are counted.
+fn counted<R: Threads + Wait + Sync>(rt: &R, alloc: Global, seats: u32, count: u32) -> Outcome {
+    match turns(rt, alloc, seats, count) {
+        Some(true) => Outcome::Done,
+        _ => Outcome::Failed,
     }
-    let handles = number(&words, 1);
-    let count = number(&words, 2);
-    let refused = match number(&words, 0) {
-        0 => apart(&rt, rt.alloc(), handles, count),
-        1 => at_one(&rt, rt.alloc(), handles, count, false),
-        3 => at_one(&rt, rt.alloc(), handles, count, true),
-        _ => {
-            return if turns(&rt, rt.alloc(), handles, count) == Some(true) {
-                ExitCode::from(0)
-            } else {
-                ExitCode::from(1)
-            };
-        }
-    };
-    let Some(refused) = refused else {
-        return ExitCode::from(1);
-    };
-    if println!(rt; "{refused} sets refused").is_err() {
-        return ExitCode::from(1);
-    }
-    ExitCode::from(0)
 }
 
 /// Handles commit each at a mount of its own; how many sets were refused, where all commits were made.

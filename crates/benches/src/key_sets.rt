@@ -1,14 +1,9 @@
-//! Appends names to a key set, looks them up and copies the set, to be timed from outside by bench/key_set.sh. The words are how many
-//! names there are, whether they are appended (1 or 0), how many rounds each of them is looked up, in which order they come (0 mixed, 1
-//! rising, 2 falling), and how many copies are made. Up to a hundred thousand names are in the order of their numbers.
-#![tactic(auto)]
-
+//! Appends names to a key set, looks them up and copies the set. Up to a hundred thousand names are in the order of their numbers.
+use crate::Outcome;
 use key_meta::{Memory, Meta, Text};
 use key_name::{KeyName, NameFault};
 use key_set::{Entry, KeySet};
 use std::alloc::{AllocError, Global};
-use std::env;
-use std::process::ExitCode;
 
 /// A prime, so that its multiples meet all numbers below a count that it doesn't divide, in mixed order.
 const STRIDE: u64 = 7919;
@@ -81,41 +76,38 @@ fn copied(keys: &KeySet, copies: u64) -> Result<u64, Memory> {
     Ok(copied)
 }
 
-/// A word as a number; 0 where it is none.
-fn number(words: &[String], at: usize) -> u64 {
-    match words.get(at) {
-        Some(word) => word.as_str().parse().unwrap_or(0),
-        None => 0,
-    }
-}
-
-fn main(rt: HostRuntime) -> ExitCode {
-    let mut words = Vec::new(rt.alloc());
-    let Ok(args) = env::args(&rt) else {
-        return ExitCode::from(1);
-    };
-    for word in args.skip(1) {
-        if words.push(word).is_err() {
-            return ExitCode::from(1);
+/// A key set. The numbers are how many names there are, whether they are appended (1 or 0), how many rounds each of them is looked up, in which order they come
+/// (0 mixed, 1 rising, 2 falling), and how many copies are made.
+pub fn measured(
+    alloc: Global,
+    count: u32,
+    append: u32,
+    rounds: u32,
+    order: u32,
+    copies: u32,
+) -> Outcome {
+    match names(alloc, count as u64, order as u64) {
+        Ok(names) => {
+            let is_right = append == 0 || is_set_right(alloc, &names, rounds as u64, copies as u64);
+            if is_right && names.len() as u64 == count as u64 {
+                Outcome::Done
+            } else {
+                Outcome::Failed
+            }
         }
-    }
-    match work(rt.alloc(), &words) {
-        Ok(true) => ExitCode::from(0),
-        _ => ExitCode::from(1),
+        Err(_) => Outcome::Failed,
     }
 }
 
 /// Whether as many names were found as were looked up, and as many copied.
-fn work(alloc: Global, words: &[String]) -> Result<bool, Memory> {
-    let count = number(words, 0);
-    let rounds = number(words, 2);
-    let copies = number(words, 4);
-    let names = names(alloc, count, number(words, 3))?;
-    if number(words, 1) == 0 {
-        return Ok(names.len() as u64 == count);
+fn is_set_right(alloc: Global, names: &[KeyName], rounds: u64, copies: u64) -> bool {
+    match appended(alloc, names) {
+        Ok(keys) => {
+            let len = keys.len() as u64;
+            let copied = copied(&keys, copies).unwrap_or(0);
+            found(&keys, names, rounds) == rounds.saturating_mul(len)
+                && copied == copies.saturating_mul(len)
+        }
+        Err(_) => false,
     }
-    let keys = appended(alloc, &names)?;
-    let len = keys.len() as u64;
-    let found = found(&keys, &names, rounds);
-    Ok(found == rounds.saturating_mul(len) && copied(&keys, copies)? == copies.saturating_mul(len))
 }
