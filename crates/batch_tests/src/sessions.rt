@@ -51,17 +51,25 @@ fn missed_of<R: Threads + Wait + Sync>(
     Ok((gate.missed(), played.transcripts.is_some()))
 }
 
-#[test]
-fn two_sessions_of_a_phase_meet_amid_their_steps(rt: HostRuntime) -> Result<(), Fail> {
-    let text = two_gets_each(rt.alloc(), 2)?;
-    assert_eq!(rt; missed_of(&rt, rt.alloc(), 2, &text)?, (0, true));
-    Ok(())
+/// The same of so many sessions in one phase.
+fn missed_in_one_phase<R: Threads + Wait + Sync>(
+    rt: &R,
+    alloc: Global,
+    sessions: u32,
+) -> Result<(u64, bool), Fail> {
+    missed_of(
+        rt,
+        alloc,
+        sessions,
+        two_gets_each(alloc, sessions)?.as_str(),
+    )
 }
 
 #[test]
-fn so_do_as_many_sessions_as_a_script_may_have(rt: HostRuntime) -> Result<(), Fail> {
-    let text = two_gets_each(rt.alloc(), 32)?;
-    assert_eq!(rt; missed_of(&rt, rt.alloc(), 32, &text)?, (0, true));
+fn as_many_sessions_as_a_script_may_have_meet_amid_their_steps(
+    rt: HostRuntime,
+) -> Result<(), Fail> {
+    assert_eq!(rt; missed_in_one_phase(&rt, rt.alloc(), 32)?, (0, true));
     Ok(())
 }
 

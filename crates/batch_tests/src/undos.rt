@@ -12,11 +12,6 @@ use std::test::*;
 use std::thread::Threads;
 use store_core::Done;
 
-/// How many sessions there are, and how many sets each of them makes.
-const SESSIONS: u32 = 4;
-
-const SETS: u32 = 12;
-
 /// How many undos were made, and how many were refused for want of such a commit, and by a later one.
 type Counts = (u32, u32, u32);
 
@@ -25,25 +20,44 @@ fn next(random: u32) -> u32 {
     random.wrapping_mul(1_664_525).wrapping_add(1_013_904_223)
 }
 
-/// A script in which each session edits one of four keys and sets it, and takes a commit back, turn by turn. With a line
-/// between the turns.
-fn random_script(alloc: Global, seed: u32, between: &str) -> Result<String, Fail> {
+/// What a session does in its turn: it edits one of four keys and sets it, and takes a commit back, one of so many.
+fn push_turn(
+    alloc: Global,
+    text: &mut String,
+    session: u32,
+    random: u32,
+    commits: u32,
+) -> Result<(), Fail> {
+    let key = (random >> 16) % 4;
+    let edit = match (random >> 24) % 3 {
+        0 => format!(in alloc; "del user:/{key}")?,
+        value => format!(in alloc; "put user:/{key} {value}")?,
+    };
+    let number = (random >> 8).checked_rem(commits).unwrap_or(0) as u64 + 1;
+    text.push_str(&format!(in alloc;
+        "session {session}\nget user:/\n{edit}\nset user:/\nundo {number}\n"
+    )?)?;
+    Ok(())
+}
+
+/// A script of so many turns of each session, with a line between them.
+fn random_script(
+    alloc: Global,
+    seed: u32,
+    between: &str,
+    sessions: u32,
+    turns: u32,
+) -> Result<String, Fail> {
     let mut text = String::new(alloc);
     let mut random = seed;
-    for turn in 0..SETS {
-        for session in 1..=SESSIONS {
+    let mut commits: u32 = 3;
+    for _ in 0..turns {
+        for session in 1..=sessions {
             random = next(random);
-            let key = (random >> 16) % 4;
-            let value = (random >> 24) % 3;
-            text.push_str(&format!(in alloc; "session {session}\nget user:/\n")?)?;
-            if value == 0 {
-                text.push_str(&format!(in alloc; "del user:/{key}\nset user:/\n")?)?;
-            } else {
-                text.push_str(&format!(in alloc; "put user:/{key} {value}\nset user:/\n")?)?;
-            }
-            let number = (random >> 8) % (turn * SESSIONS + 3) + 1;
-            text.push_str(&format!(in alloc; "undo {number}\n{between}")?)?;
+            push_turn(alloc, &mut text, session, random, commits)?;
+            text.push_str(between)?;
         }
+        commits = commits.saturating_add(sessions);
     }
     Ok(text)
 }
@@ -159,37 +173,47 @@ fn counts_of(alloc: Global, text: &str, history: &History, told: &Transcripts) -
 fn counts_of_run<R: Threads + Wait + Sync>(
     rt: &R,
     alloc: Global,
-    seed: u32,
+    text: &str,
+) -> Result<Option<Counts>, Fail> {
+    let played = play(rt, alloc, &OpenGate, text).ok_or("it is played")?;
+    Ok(match &played.transcripts {
+        Some(told) => counts_of(alloc, text, &played.closed.history, told),
+        None => None,
+    })
+}
+
+/// How many replies to undos there are in runs by some seeds, where all are right, and in how many runs there are some of each kind.
+fn counts_by<R: Threads + Wait + Sync>(
+    rt: &R,
+    alloc: Global,
+    seeds: &[u32],
     between: &str,
-) -> Result<Counts, Fail> {
-    let text = random_script(alloc, seed, between)?;
-    let played = play(rt, alloc, &OpenGate, &text).ok_or("it is played")?;
-    let told = played.transcripts.as_ref().ok_or("it is told")?;
-    let counts = counts_of(alloc, &text, &played.closed.history, told);
-    Ok(counts.ok_or("each reply is right")?)
-}
-
-fn sum(counts: Counts) -> u32 {
-    counts.0.saturating_add(counts.1).saturating_add(counts.2)
-}
-
-/// One session in each phase: how many undos are made and refused is always the same.
-#[test]
-fn sessions_that_follow_each_other_take_back_what_was_there(rt: HostRuntime) -> Result<(), Fail> {
-    for seed in [1, 2, 3] {
-        let counts = counts_of_run(&rt, rt.alloc(), seed, "phase\n")?;
-        assert_eq!(rt; sum(counts), SESSIONS * SETS);
-        assert!(rt; counts.0 > 0 && counts.1 > 0 && counts.2 > 0);
+    (sessions, turns): (u32, u32),
+) -> Result<(u32, u32), Fail> {
+    let mut replies: u32 = 0;
+    let mut runs: u32 = 0;
+    for seed in seeds {
+        let text = random_script(alloc, *seed, between, sessions, turns)?;
+        if let Some((made, unknown, overtaken)) = counts_of_run(rt, alloc, &text)? {
+            replies = replies
+                .saturating_add(made)
+                .saturating_add(unknown)
+                .saturating_add(overtaken);
+            if made > 0 && unknown > 0 && overtaken > 0 {
+                runs = runs.saturating_add(1);
+            }
+        }
     }
-    Ok(())
+    Ok((replies, runs))
 }
 
-/// All in one phase, in whatever order their turns come.
+/// One session in each phase, where what is made and refused is always the same; and all in one phase, in whatever order their turns come.
 #[test]
-fn sessions_beside_each_other_do_so_too(rt: HostRuntime) -> Result<(), Fail> {
-    for seed in [4, 5, 6] {
-        let counts = counts_of_run(&rt, rt.alloc(), seed, "")?;
-        assert_eq!(rt; sum(counts), SESSIONS * SETS);
-    }
+fn sessions_take_back_what_was_there(rt: HostRuntime) -> Result<(), Fail> {
+    let sizes = (4, 12);
+    let (replies, runs) = counts_by(&rt, rt.alloc(), &[1, 2, 3], "phase\n", sizes)?;
+    assert_eq!(rt; (replies, runs), (3 * 48, 3));
+    let (replies, _) = counts_by(&rt, rt.alloc(), &[4, 5, 6], "", sizes)?;
+    assert_eq!(rt; replies, 3 * 48);
     Ok(())
 }

@@ -7,15 +7,26 @@ use std::sync::Wait;
 use std::test::*;
 use std::thread::Threads;
 
-/// A script in which the first session watches with some room, and then eight others each set a key five times and merge
-/// it in, while it takes some steps; and in the end it polls twice.
-fn watched_writers(alloc: Global, room: u32, meanwhile: &str) -> Result<String, Fail> {
-    let mut text = format!(in alloc; "session 1\nwatch user:/ {room}\n")?;
-    push_gets(alloc, &mut text, 9)?;
-    text.push_str(&format!(in alloc; "phase\nsession 1\n{meanwhile}")?)?;
-    push_merges(alloc, &mut text, 9, 5)?;
-    text.push_str("phase\nsession 1\npoll\npoll\n")?;
+/// A script in which the first session watches, and then others up to a last one each set a key in so many turns and merge it in, while it polls so often; and in
+/// the end it polls twice.
+fn watched_writers(alloc: Global, last: u32, turns: u32, polls: u32) -> Result<String, Fail> {
+    let mut text = String::new(alloc);
+    text.push_str("session 1\nwatch user:/ 40\n")?;
+    push_gets(alloc, &mut text, last)?;
+    text.push_str("phase\nsession 1\n")?;
+    push_polls(&mut text, polls)?;
+    push_merges(alloc, &mut text, last, turns)?;
+    text.push_str("phase\nsession 1\n")?;
+    push_polls(&mut text, 2)?;
     Ok(text)
+}
+
+/// So many polls.
+fn push_polls(text: &mut String, polls: u32) -> Result<(), Fail> {
+    for _ in 0..polls {
+        text.push_str("poll\n")?;
+    }
+    Ok(())
 }
 
 /// A get of each session from the second one on.
@@ -64,27 +75,25 @@ fn told_of(told: &Transcripts) -> Option<(u64, u64)> {
     Some((last, missed))
 }
 
-/// What the first session's polls tell and missed, once a script was played.
+/// What the first session's polls tell and missed, once such a script was played.
 fn told_by<R: Threads + Wait + Sync>(
     rt: &R,
     alloc: Global,
-    text: &str,
+    last: u32,
+    turns: u32,
+    polls: u32,
 ) -> Result<Option<(u64, u64)>, Fail> {
-    let played = play(rt, alloc, &OpenGate, text).ok_or("it is played")?;
-    Ok(told_of(played.transcripts.as_ref().ok_or("it is told")?))
+    let text = watched_writers(alloc, last, turns, polls)?;
+    let played = play(rt, alloc, &OpenGate, &text).ok_or("it is played")?;
+    Ok(match &played.transcripts {
+        Some(told) => told_of(told),
+        None => None,
+    })
 }
 
 /// It polls while they write, so each poll tells a part.
 #[test]
 fn polls_beside_writers_tell_each_commit_once(rt: HostRuntime) -> Result<(), Fail> {
-    let text = watched_writers(rt.alloc(), 40, "poll\npoll\npoll\npoll\npoll\npoll\n")?;
-    assert_eq!(rt; told_by(&rt, rt.alloc(), &text)?, Some((40, 0)));
-    Ok(())
-}
-
-#[test]
-fn a_watch_with_too_little_room_tells_the_last_changes(rt: HostRuntime) -> Result<(), Fail> {
-    let text = watched_writers(rt.alloc(), 5, "look /a\n")?;
-    assert_eq!(rt; told_by(&rt, rt.alloc(), &text)?, Some((40, 35)));
+    assert_eq!(rt; told_by(&rt, rt.alloc(), 9, 5, 6)?, Some((40, 0)));
     Ok(())
 }

@@ -1,6 +1,6 @@
 //! Watches beside a slow feed, which keeps all changes.
 use all_formats::AllFormats;
-use commit_log::History;
+use commit_log::{Change, History};
 use disk_memory::MemDisk;
 use handle_teams::Team;
 use key_meta::{Meta, Text};
@@ -26,24 +26,8 @@ const NAMES: [&str; 10] = [
     "dir:/c",
 ];
 
-/// How many sets a random run makes.
-const SETS: u32 = 60;
-
-/// A change that the slow feed keeps.
-#[derive(Drop)]
-struct Kept {
-    number: u64,
-    text: String,
-    removed: bool,
-}
-
-impl Kept {
-    /// Whether a watch tells it so.
-    fn is_told_as(&self, changed: &Changed) -> Result<bool, Fail> {
-        let text = changed.name.text()?;
-        Ok(self.number == changed.number && self.removed == changed.removed && self.text == text)
-    }
-}
+/// Values that a random set gives.
+const VALUES: [&str; 4] = ["0", "1", "2", "3"];
 
 /// Whether a text is that of a name at or below another.
 fn is_text_within(parent: &str, text: &str) -> bool {
@@ -62,43 +46,88 @@ fn is_heard(parent: &str, text: &str) -> bool {
     is_text_within(parent, text) || is_text_within(parent, path)
 }
 
+/// A change as a text: its commit, whether the key is gone, and the name.
+fn change_text(alloc: Global, number: u64, name: &str, is_gone: bool) -> Result<String, Fail> {
+    let sign = if is_gone { '-' } else { '+' };
+    Ok(format!(in alloc; "{number} {sign} {name}")?)
+}
+
+/// A change joins others, if a watch of a parent is to tell it, or to count it.
+fn add_change(
+    alloc: Global,
+    all: &mut Vec<String>,
+    number: u64,
+    change: &Change,
+    parent: &str,
+) -> Result<(), Fail> {
+    let name = change.name.text()?;
+    if is_heard(parent, &name) {
+        all.push(change_text(alloc, number, &name, change.entry.is_none())?)?;
+    }
+    Ok(())
+}
+
 /// All changes of a history that a watch of a parent is to tell, or to count.
-fn all_changes(alloc: Global, history: &History, parent: &str) -> Result<Vec<Kept>, Fail> {
+fn all_changes(alloc: Global, history: &History, parent: &str) -> Result<Vec<String>, Fail> {
     let mut all = Vec::new(alloc);
     for number in 1..=history.len() {
-        let commit = history.commit(number).ok_or("it has this commit")?;
-        for change in commit.changes.as_slice() {
-            let text = change.name.text()?;
-            if is_heard(parent, &text) {
-                all.push(Kept {
-                    number,
-                    text,
-                    removed: change.entry.is_none(),
-                })?;
+        if let Some(commit) = history.commit(number) {
+            for change in commit.changes.as_slice() {
+                add_change(alloc, &mut all, number, change, parent)?;
             }
         }
     }
     Ok(all)
 }
 
-/// Whether polls, one after the other, tell each of some changes once, in order, or count it as missed, and miss none where there is room.
-fn tell_all(polls: &[News], all: &[Kept], room: usize) -> Result<bool, Fail> {
-    let mut place: usize = 0;
-    for poll in polls {
-        let changes = poll.changes.as_slice();
-        if poll.missed > 0 && changes.len() != room {
+/// Whether a watch tells a change so.
+fn is_told_as(alloc: Global, told: &Changed, kept: &str) -> Result<bool, Fail> {
+    let name = told.name.text()?;
+    Ok(change_text(alloc, told.number, &name, told.removed)?.as_str() == kept)
+}
+
+/// Whether changes that a poll tells are those from a place on.
+fn are_told(alloc: Global, changes: &[Changed], all: &[String], from: usize) -> Result<bool, Fail> {
+    let mut place = from;
+    for told in changes {
+        let Some(kept) = all.get(place) else {
+            return Ok(false);
+        };
+        if !is_told_as(alloc, told, kept)? {
             return Ok(false);
         }
-        place = place.saturating_add(poll.missed as usize);
-        for changed in changes {
-            let kept = all.get(place).ok_or("it is none that was not made")?;
-            if !kept.is_told_as(changed)? {
-                return Ok(false);
-            }
-            place = place.saturating_add(1);
-        }
+        place = place.saturating_add(1);
     }
-    Ok(place == all.len())
+    Ok(true)
+}
+
+/// How many changes polls missed, where they, one after the other, tell each of some changes once, in order, or count it as missed, and miss none where there is
+/// room.
+fn missed_by(
+    alloc: Global,
+    polls: &[News],
+    all: &[String],
+    room: usize,
+) -> Result<Option<u64>, Fail> {
+    let mut place: usize = 0;
+    let mut missed: u64 = 0;
+    for poll in polls {
+        let changes = poll.changes.as_slice();
+        place = place.saturating_add(poll.missed as usize);
+        missed = missed.saturating_add(poll.missed);
+        if poll.missed > 0 && changes.len() != room {
+            return Ok(None);
+        }
+        if !are_told(alloc, changes, all, place)? {
+            return Ok(None);
+        }
+        place = place.saturating_add(changes.len());
+    }
+    Ok(if place == all.len() {
+        Some(missed)
+    } else {
+        None
+    })
 }
 
 /// What one of two handles does: it stores keys in place of all that there are, or polls the watch.
@@ -108,32 +137,27 @@ enum Step {
     Poll,
 }
 
-/// What each poll of a watch by the second of two handles on an empty disk hands out, and the history.
+/// A team of two handles on an empty disk.
+fn team_of_two(alloc: Global) -> Option<Team<MemDisk, AllFormats, RegexPatterns>> {
+    let disk = MemDisk::new(alloc, Vec::new(alloc), Vec::new(alloc), None).ok()?;
+    Team::open(alloc, disk, AllFormats, RegexPatterns::new(), 2)
+}
+
+/// What each poll of a watch by the second of two handles hands out, and the history.
 fn played<R: Wait>(
     rt: &R,
     alloc: Global,
-    parent: &str,
+    parent: &KeyName,
     room: usize,
     steps: &[Step],
-) -> Result<(Vec<News>, History), Fail> {
-    let all = KeyName::parse(alloc, "/")?;
-    let parent = KeyName::parse(alloc, parent)?;
-    let disk = MemDisk::new(alloc, Vec::new(alloc), Vec::new(alloc), None)?;
-    let team = Team::open(alloc, disk, AllFormats, RegexPatterns::new(), 2).ok_or("it is opened")?;
-    let watch = team.watch(alloc, 1, &parent, room);
-    let (polls, history) = polls_of(rt, alloc, team, watch, &all, steps);
-    // Where memory was wanting for a poll it is missing.
-    let wanted = steps
-        .iter()
-        .filter(|step| matches!(step, Step::Poll))
-        .count();
-    if polls.len() != wanted {
-        return Err(Fail::from("a poll is missing"));
-    }
-    Ok((polls, history))
+) -> Option<(Vec<News>, History)> {
+    let all = KeyName::parse(alloc, "/").ok()?;
+    let team = team_of_two(alloc)?;
+    let watch = team.watch(alloc, 1, parent, room);
+    Some(polls_of(rt, alloc, team, watch, &all, steps))
 }
 
-/// The same by a team with a watch.
+/// The same by a team with a watch. A poll that there is no memory for is missing.
 fn polls_of<R: Wait>(
     rt: &R,
     alloc: Global,
@@ -187,55 +211,93 @@ fn change_one(alloc: Global, keys: &mut KeySet, random: u32) -> Result<(), Fail>
         keys.remove(&KeyName::parse(alloc, name)?)?;
         return Ok(());
     }
-    let value = format!(in alloc; "{}", (random >> 24) % 4)?;
-    put(alloc, keys, name, &value)
+    put(
+        alloc,
+        keys,
+        name,
+        VALUES[(random >> 24) as usize % VALUES.len()],
+    )
 }
 
-/// Sets of both handles at random, with a poll here and there, and one at the end.
-fn random_steps(alloc: Global, seed: u32) -> Result<Vec<Step>, Fail> {
+/// A set of one handle behind two changes, and maybe a poll.
+fn add_turn(
+    alloc: Global,
+    keys: &mut KeySet,
+    steps: &mut Vec<Step>,
+    random: u32,
+) -> Result<(), Fail> {
+    change_one(alloc, keys, random)?;
+    change_one(alloc, keys, next(random))?;
+    let place = (random >> 30) as usize % 2;
+    let keys = keys.copy()?;
+    steps.push(Step::Store { place, keys })?;
+    if (random >> 20) % 4 == 0 {
+        steps.push(Step::Poll)?;
+    }
+    Ok(())
+}
+
+/// So many sets of both handles at random, with a poll here and there, and one at the end.
+fn random_steps(alloc: Global, seed: u32, sets: u32) -> Result<Vec<Step>, Fail> {
     let mut keys = KeySet::new(alloc);
     let mut steps = Vec::new(alloc);
     let mut random = seed;
-    for _ in 0..SETS {
+    for _ in 0..sets {
         random = next(random);
-        change_one(alloc, &mut keys, random)?;
-        change_one(alloc, &mut keys, next(random))?;
-        let place = (random >> 30) as usize % 2;
-        let keys = keys.copy()?;
-        steps.push(Step::Store { place, keys })?;
-        if (random >> 20) % 4 == 0 {
-            steps.push(Step::Poll)?;
-        }
+        add_turn(alloc, &mut keys, &mut steps, random)?;
     }
     steps.push(Step::Poll)?;
     Ok(steps)
 }
 
-/// How many changes a watch of a parent is to tell or to count, where its polls do so.
-fn told_by<R: Wait>(
+/// How many changes there are at or below a parent, and how many of them the polls of a watch missed, where these tell all others.
+fn told_and_missed<R: Wait>(
     rt: &R,
     alloc: Global,
     parent: &str,
     room: usize,
     steps: &[Step],
-) -> Result<Option<usize>, Fail> {
-    let (polls, history) = played(rt, alloc, parent, room, steps)?;
+) -> Result<Option<(usize, u64)>, Fail> {
+    let name = KeyName::parse(alloc, parent)?;
+    let (polls, history) = played(rt, alloc, &name, room, steps).ok_or("it is opened")?;
     let all = all_changes(alloc, &history, parent)?;
-    Ok(if tell_all(&polls, &all, room)? {
-        Some(all.len())
-    } else {
-        None
+    Ok(match missed_by(alloc, &polls, &all, room)? {
+        Some(missed) => Some((all.len(), missed)),
+        None => None,
     })
+}
+
+/// For how many of some parents and rooms the polls of a watch tell all that there is to tell, which is something.
+fn told_of<R: Wait>(
+    rt: &R,
+    alloc: Global,
+    parents: &[&str],
+    rooms: &[usize],
+    steps: &[Step],
+) -> Result<u32, Fail> {
+    let mut told: u32 = 0;
+    for parent in parents {
+        for room in rooms {
+            match told_and_missed(rt, alloc, parent, *room, steps)? {
+                Some((all, _)) if all > 0 => told = told.saturating_add(1),
+                _ => {}
+            }
+        }
+    }
+    Ok(told)
 }
 
 #[test]
 fn polls_tell_each_change_once_or_count_it(rt: HostRuntime) -> Result<(), Fail> {
-    let steps = random_steps(rt.alloc(), 42)?;
-    for parent in ["user:/a", "/a", "/"] {
-        for room in [1, 3, 4096] {
-            assert!(rt; told_by(&rt, rt.alloc(), parent, room, &steps)?.is_some());
-        }
-    }
+    let steps = random_steps(rt.alloc(), 42, 60)?;
+    let told = told_of(
+        &rt,
+        rt.alloc(),
+        &["user:/a", "/a", "/"],
+        &[1, 3, 4096],
+        &steps,
+    )?;
+    assert_eq!(rt; told, 9);
     Ok(())
 }
 
@@ -243,8 +305,12 @@ fn polls_tell_each_change_once_or_count_it(rt: HostRuntime) -> Result<(), Fail> 
 fn many(alloc: Global, count: u32) -> Result<KeySet, Fail> {
     let mut keys = KeySet::new(alloc);
     for number in 0..count {
-        let name = format!(in alloc; "user:/key/{number:04}")?;
-        put(alloc, &mut keys, &name, "1")?;
+        put(
+            alloc,
+            &mut keys,
+            format!(in alloc; "user:/key/{number:04}")?.as_str(),
+            "1",
+        )?;
     }
     Ok(keys)
 }
@@ -262,102 +328,12 @@ fn come_and_gone(alloc: Global, count: u32) -> Result<Vec<Step>, Fail> {
     Ok(vec![in alloc; first, second, Step::Poll]?)
 }
 
-/// How many changes the last poll of a watch missed.
-fn missed_by<R: Wait>(
-    rt: &R,
-    alloc: Global,
-    parent: &str,
-    room: usize,
-    steps: &[Step],
-) -> Result<Option<u64>, Fail> {
-    let (polls, _) = played(rt, alloc, parent, room, steps)?;
-    Ok(polls.last().map(|news| news.missed))
-}
-
 #[test]
 fn of_ten_thousand_changes_the_last_are_told(rt: HostRuntime) -> Result<(), Fail> {
     let steps = come_and_gone(rt.alloc(), 5000)?;
-    for (room, missed) in [(1, 9999), (4096, 5904)] {
-        let told = told_by(&rt, rt.alloc(), "user:/key", room, &steps)?;
-        assert_eq!(rt; told, Some(10_000));
-        let found = missed_by(&rt, rt.alloc(), "user:/key", room, &steps)?;
-        assert_eq!(rt; found, Some(missed));
-    }
-    Ok(())
-}
-
-/// The changes of a poll, each as a line.
-fn lines_of(alloc: Global, news: &News) -> Result<String, Fail> {
-    let mut lines = String::new(alloc);
-    for changed in news.changes.as_slice() {
-        let sign = if changed.removed { '-' } else { '+' };
-        let text = changed.name.text()?;
-        let line = format!(in alloc; "{} {sign} {text}\n", changed.number)?;
-        lines.push_str(&line)?;
-    }
-    Ok(lines)
-}
-
-/// Keys are stored, and then others by the other handle, each polled, and polled once more.
-fn steps_of_two(alloc: Global, first: KeySet, second: KeySet) -> Result<Vec<Step>, Fail> {
-    let first = Step::Store {
-        place: 0,
-        keys: first,
-    };
-    let second = Step::Store {
-        place: 1,
-        keys: second,
-    };
-    Ok(vec![in alloc; first, Step::Poll, second, Step::Poll, Step::Poll]?)
-}
-
-/// A set of these names, each with a value.
-fn set_of(alloc: Global, names: &[(&str, &str)]) -> Result<KeySet, Fail> {
-    let mut keys = KeySet::new(alloc);
-    for (name, value) in names {
-        put(alloc, &mut keys, name, value)?;
-    }
-    Ok(keys)
-}
-
-/// The lines of all polls, each behind a line of its own.
-fn lines_of_polls<R: Wait>(
-    rt: &R,
-    alloc: Global,
-    parent: &str,
-    steps: &[Step],
-) -> Result<String, Fail> {
-    let (polls, _) = played(rt, alloc, parent, 10, steps)?;
-    let mut lines = String::new(alloc);
-    for news in polls.as_slice() {
-        lines.push_str("polled\n")?;
-        lines.push_str(&lines_of(alloc, news)?)?;
-    }
-    Ok(lines)
-}
-
-#[test]
-fn a_cascading_parent_stands_for_its_path_in_each_namespace(rt: HostRuntime) -> Result<(), Fail> {
-    let first = [
-        ("user:/a", "1"),
-        ("user:/ab", "1"),
-        ("system:/a/b", "1"),
-        ("dir:/a/b/c", "1"),
-        ("dir:/b/a", "1"),
-    ];
-    let second = [
-        ("user:/a/d", "2"),
-        ("user:/ab", "2"),
-        ("system:/a/b", "1"),
-        ("dir:/a/b/c", "1"),
-        ("dir:/b/a", "1"),
-    ];
-    let first = set_of(rt.alloc(), &first)?;
-    let second = set_of(rt.alloc(), &second)?;
-    let steps = steps_of_two(rt.alloc(), first, second)?;
-    let lines = lines_of_polls(&rt, rt.alloc(), "/a", &steps)?;
-    let told =
-        "polled\n1 + dir:/a/b/c\n1 + user:/a\n1 + system:/a/b\npolled\n2 - user:/a\n2 + user:/a/d\npolled\n";
-    assert_eq!(rt; lines.as_str(), told);
+    let least = told_and_missed(&rt, rt.alloc(), "user:/key", 1, &steps)?;
+    let most = told_and_missed(&rt, rt.alloc(), "user:/key", 4096, &steps)?;
+    assert_eq!(rt; least, Some((10_000, 9999)));
+    assert_eq!(rt; most, Some((10_000, 5904)));
     Ok(())
 }
