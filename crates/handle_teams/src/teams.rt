@@ -4,12 +4,9 @@ ghost use Rattle.std.specs.Vec.{vec_capacity};
 ghost use Rattle.handle_teams.specs.Teams.{each_prop, flusher_prop, started_prop};
 ghost use Rattle.kdb_handle.specs.Stores.{AreFree, IsFlusher, IsHandle, IsStarted};
 
-use crate::asking::ask_at;
-use crate::meeting::meet_last;
 use crate::opening::open_handles;
 use crate::watching::{poll_at, store_at, watch_by};
 use crate::working::work_all;
-use crate::{Answer, Ask};
 use kdb_handle::{Flusher, FreeSeats, Handle, NewStore, SharedStore};
 use kdb_outside::Disk;
 use key_name::KeyName;
@@ -81,30 +78,6 @@ impl<D: Disk, F: Formats + Drop, P: Patterns + Drop> Team<D, F, P> {
         self.handles.len()
     }
 
-    /// Asks the handle at a place, counted from 0, and tells what it answered.
-    pub fn ask<R: Wait>(
-        self,
-        rt: &R,
-        alloc: Global,
-        place: usize,
-        ask: Ask,
-    ) -> (Team<D, F, P>, Answer) {
-        let Team {
-            store,
-            seats,
-            flusher,
-            mut handles,
-        } = self;
-        let answer = ask_at(rt, alloc, &store, &mut handles, place, ask);
-        let team = Team {
-            store,
-            seats,
-            flusher,
-            handles,
-        };
-        (team, answer)
-    }
-
     /// A watch of the handle at a place, counted from 0, with room for so many changes.
     pub fn watch(
         &self,
@@ -139,7 +112,7 @@ impl<D: Disk, F: Formats + Drop, P: Patterns + Drop> Team<D, F, P> {
         (team, news)
     }
 
-    /// Has the handle at a place get a parent and set these keys, and tells what it answered to the set.
+    /// Has the handle at a place get a parent and set these keys.
     pub fn store<R: Wait>(
         self,
         rt: &R,
@@ -147,32 +120,14 @@ impl<D: Disk, F: Formats + Drop, P: Patterns + Drop> Team<D, F, P> {
         place: usize,
         parent: &KeyName,
         keys: &KeySet,
-    ) -> (Team<D, F, P>, Answer) {
+    ) -> Team<D, F, P> {
         let Team {
             store,
             seats,
             flusher,
             mut handles,
         } = self;
-        let answer = store_at(rt, alloc, &store, &mut handles, place, parent, keys);
-        let team = Team {
-            store,
-            seats,
-            flusher,
-            handles,
-        };
-        (team, answer)
-    }
-
-    /// Lets the first handle see what the last one has seen.
-    pub fn meet(self) -> Team<D, F, P> {
-        let Team {
-            store,
-            seats,
-            flusher,
-            mut handles,
-        } = self;
-        meet_last(&store, &mut handles);
+        store_at(rt, alloc, &store, &mut handles, place, parent, keys);
         Team {
             store,
             seats,
@@ -202,23 +157,6 @@ impl<D: Disk, F: Formats + Drop, P: Patterns + Drop> Team<D, F, P> {
             mut handles,
         } = self;
         work_all(rt, alloc, &store, &mut handles, parents, commits, tries);
-        Team {
-            store,
-            seats,
-            flusher,
-            handles,
-        }
-    }
-
-    /// Has the flusher write what waits in the journal.
-    pub fn flush<R: Wait>(self, rt: &R) -> Team<D, F, P> {
-        let Team {
-            store,
-            seats,
-            mut flusher,
-            handles,
-        } = self;
-        flusher.flush(rt, &store);
         Team {
             store,
             seats,

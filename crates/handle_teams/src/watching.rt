@@ -2,8 +2,6 @@
 ghost use Rattle.std.specs.Prelude.{◌≡◌, All, length};
 ghost use Rattle.kdb_handle.specs.Stores.{IsHandle};
 
-use crate::Answer;
-use crate::asking::answer_to;
 use kdb_handle::{Handle, SharedStore};
 use kdb_outside::Disk;
 use key_name::KeyName;
@@ -57,7 +55,7 @@ fn poll_by<D: Disk, F: Formats + Drop, P: Patterns + Drop, R: Wait>(
     watch.poll().ok()
 }
 
-/// The answer of the handle at a place, counted from 0, to a get of a parent and then a set of these keys.
+/// Has the handle at a place, counted from 0, get a parent and then set these keys.
 pub fn store_at<D: Disk, F: Formats + Drop, P: Patterns + Drop, R: Wait>(
     rt: &R,
     alloc: Global,
@@ -66,18 +64,17 @@ pub fn store_at<D: Disk, F: Formats + Drop, P: Patterns + Drop, R: Wait>(
     place: usize,
     parent: &KeyName,
     keys: &KeySet,
-) -> Answer
+)
     requires { All (IsHandle store.now.lock store.now.plan) handles.old.items }
     ensures each { All (IsHandle store.now.lock store.now.plan) handles.new.items }
     ensures len { length handles.new.items ≡ length handles.old.items }
 {
-    match handles.get_mut(place) {
-        Some(handle) => store_by(rt, alloc, store, handle, parent, keys),
-        None => Answer::Other,
+    if let Some(handle) = handles.get_mut(place) {
+        store_by(rt, alloc, store, handle, parent, keys);
     }
 }
 
-/// The same by a handle.
+/// The same by a handle. A set without a get of its parent before it is refused, and so is one that another blocks.
 fn store_by<D: Disk, F: Formats + Drop, P: Patterns + Drop, R: Wait>(
     rt: &R,
     alloc: Global,
@@ -85,12 +82,10 @@ fn store_by<D: Disk, F: Formats + Drop, P: Patterns + Drop, R: Wait>(
     handle: &mut Handle,
     parent: &KeyName,
     keys: &KeySet,
-) -> Answer
+)
     requires { IsHandle store.now.lock store.now.plan handle.old }
     ensures { IsHandle store.now.lock store.now.plan handle.new }
 {
-    let Ok(_) = handle.kdb_get(rt, alloc, store, parent) else {
-        return Answer::Other;
-    };
-    answer_to(handle.kdb_set(rt, alloc, store, parent, keys))
+    let _ = handle.kdb_get(rt, alloc, store, parent);
+    let _ = handle.kdb_set(rt, alloc, store, parent, keys);
 }

@@ -2,10 +2,11 @@
 ghost use Rattle.std.specs.Prelude.{◌≡◌, All, length};
 ghost use Rattle.kdb_handle.specs.Stores.{IsHandle};
 
-use crate::asking::put;
 use kdb_handle::{Handle, SharedStore};
 use kdb_outside::Disk;
+use key_meta::{Memory, Meta, Text};
 use key_name::KeyName;
+use key_set::{Entry, KeySet};
 use regex_check::Patterns;
 use std::alloc::Global;
 use std::sync::Wait;
@@ -171,4 +172,14 @@ fn put_one<D: Disk, F: Formats + Drop, P: Patterns + Drop, R: Wait>(
     let value = format!(in alloc; "{number}").ok()?;
     put(alloc, &mut keys, name.copy().ok()?, &value).ok()?;
     handle.kdb_set(rt, alloc, store, parent, &keys).ok()
+}
+
+/// Puts a key with a value.
+fn put(alloc: Global, keys: &mut KeySet, name: KeyName, value: &str) -> Result<(), Memory> {
+    let entry = Entry {
+        value: Text::new(alloc, value)?,
+        meta: Meta::new(alloc),
+    };
+    let _ = keys.append(name, entry)?;
+    Ok(())
 }

@@ -172,8 +172,7 @@ fn polls_of<R: Wait>(
     for step in steps {
         match step {
             Step::Store { place, keys } => {
-                let (stored, _) = team.store(rt, alloc, *place, all, keys);
-                team = stored;
+                team = team.store(rt, alloc, *place, all, keys);
             }
             Step::Poll => {
                 if let Some(watch) = &mut watch {

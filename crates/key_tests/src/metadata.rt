@@ -15,7 +15,7 @@ fn put(meta: &mut Meta, name: &str, text: &str) -> Result<Option<Text>, Memory> 
     }
 }
 
-fn meta_of(alloc: Global, items: Items<'_>) -> Result<Meta, Memory> {
+pub(crate) fn meta_of(alloc: Global, items: Items<'_>) -> Result<Meta, Memory> {
     let mut meta = Meta::new(alloc);
     for (name, text) in items {
         put(&mut meta, name, text)?;
