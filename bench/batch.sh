@@ -1,9 +1,9 @@
 #!/usr/bin/env bash
 # Steps a second of a batch of 1, 2, 4, 8, 16 and 32 sessions, on the disk of the temporary folder and in memory, each
-# session at a mount of its own and all at one mount, beside as many runs of the single command; commits a second where
-# all of them merge at one mount; polls a second of one that watches beside 31 that set; and the greatest generated run:
-# the best of three runs. A word stands for the count of
-# sets, 512 without one. Wants build/kdb (first-use.sh makes it). Not part of the gate.
+# session at a mount of its own, all at one mount and all at one that counts conflicts by key, beside as many runs of
+# the single command; commits a second where all of them merge at one mount; polls a second of one that watches beside
+# 31 that set; and the greatest generated run: the best of three runs. A word stands for the count of sets, 512 without
+# one. Wants build/kdb (first-use.sh makes it). Not part of the gate.
 set -eu
 cd "$(dirname "$0")/.."
 . bench/words.sh
@@ -15,21 +15,23 @@ memory=$(mktemp -d -p /dev/shm)
 trap 'rm -rf "$work" "$memory"' EXIT
 [ "$(stat -f -c %T "$memory")" = tmpfs ] || { echo "/dev/shm is not in memory" >&2; exit 1; }
 
-# begin FOLDER: a store with 32 mounts; and a script that brings it back to that
+# begin FOLDER: a store with 32 mounts, and one that counts by key; and a script that brings it back to that
 begin() {
   for number in $(seq 32); do
     KDB_DIR=$1 "$kdb" mount "s$number.ecf" "user:/s$number"
   done
+  KDB_DIR=$1 "$kdb" mount -k by_key.ecf user:/by_key
   mv "$1/.kdb" "$1/begun"
   printf 'rm -rf %s/.kdb\ncp -r %s/begun %s/.kdb\n' "$1" "$1" "$1" >"$1/back.sh"
 }
 
-# script SESSIONS KIND: so many sets, each behind a get and a put, each session at its own mount or all at the first one
+# script SESSIONS KIND: so many sets, each behind a get and a put, each session at its own mount, all at the first one
+# or all at the one by key
 script() {
   awk -v sessions="$1" -v kind="$2" -v sets="$sets" 'BEGIN {
     for (session = 1; session <= sessions; session++) {
       print "session " session
-      mount = "user:/s" (kind == "own" ? session : 1)
+      mount = kind == "by_key" ? "user:/by_key" : "user:/s" (kind == "own" ? session : 1)
       for (turn = session; turn <= sets; turn += sessions)
         printf "get %s\nput %s/key%d %d\nset %s\n", mount, mount, session, turn, mount
     }
@@ -99,21 +101,24 @@ singles() {
 begin "$work"
 begin "$memory"
 cat <<TEXT
-Each step is one of a get, a put and a set, of which there are $(shown "$sets") between all sessions. In memory means in a tmpfs. A
-set at a mount of its own is a commit; at one mount it is refused where another came since its get, and not tried
-again. \`kdb set\`, which is three such steps in a run of its own, makes $(singles "$work") steps a second on the disk and
+Each step is one of a get, a put and a set, of which there are $(shown "$sets") between all sessions. In memory means in a tmpfs,
+and all at one mount is in memory. A set at a mount of its own is a commit; at one mount it is refused where another
+came since its get, and not tried again; where the mount counts conflicts by key none is refused. \`kdb set\`, which is three such steps in a run of its own, makes $(singles "$work") steps a second on the disk and
 $(singles "$memory") in memory.
 TEXT
 echo
-echo "| sessions | steps a second on the disk, mounts of their own | in memory | in memory, all at one mount | conflicts there |"
-echo "|---|---|---|---|---|"
+echo "| sessions | steps a second on the disk, mounts of their own | in memory | all at one mount | conflicts | by key | conflicts |"
+echo "|---|---|---|---|---|---|---|"
 for sessions in 1 2 4 8 16 32; do
   script $sessions own >"$work/own"
   script $sessions one >"$work/one"
+  script $sessions by_key >"$work/by_key"
   on_disk=$(rate "$work" $((sets * 3)) "$kdb batch < $work/own")
   in_memory=$(rate "$memory" $((sets * 3)) "$kdb batch < $work/own")
   at_one=$(rate "$memory" $((sets * 3)) "$kdb batch < $work/one")
-  echo "| $sessions | $on_disk | $in_memory | $at_one | $(told "$memory" "$work/one" conflict) |"
+  by_key=$(rate "$memory" $((sets * 3)) "$kdb batch < $work/by_key")
+  blocked="$(told "$memory" "$work/one" conflict) | $by_key | $(told "$memory" "$work/by_key" conflict)"
+  echo "| $sessions | $on_disk | $in_memory | $at_one | $blocked |"
 done
 cat <<TEXT
 

@@ -11,10 +11,9 @@ cd "$(dirname "$0")/.."
 put key_set "$@"
 wants rustc
 mkdir -p build
-(cd crates/benches && rt run -- all >../../build/rt.log 2>&1) || true
-program=${BENCHES:-$PWD/crates/benches/out/benches}
-ours="$program keys"
-[ -x "$program" ] || { tail -n 20 build/rt.log >&2; exit 1; }
+(cd crates/key_set_bench && rt run -- 5 1 2 0 1 >../../build/rt.log 2>&1) || true
+ours=${KEY_SET_BENCH:-$PWD/crates/key_set_bench/out/key_set_bench}
+[ -x "$ours" ] || { tail -n 20 build/rt.log >&2; exit 1; }
 work=$(mktemp -d)
 trap 'rm -rf "$work"' EXIT
 cat >"$work/theirs.rs" <<'RUST'
@@ -58,9 +57,9 @@ taken() {
 # counted PROGRAM COUNT ORDER: instructions of an append, and of a lookup
 counted() {
   local made appended looked_up
-  made=$(instructions $1 "$2" 0 0 "$3" 0)
-  appended=$(instructions $1 "$2" 1 0 "$3" 0)
-  looked_up=$(instructions $1 "$2" 1 1 "$3" 0)
+  made=$(instructions "$1" "$2" 0 0 "$3" 0)
+  appended=$(instructions "$1" "$2" 1 0 "$3" 0)
+  looked_up=$(instructions "$1" "$2" 1 1 "$3" 0)
   echo "$(((appended - made) / $2)) $(((looked_up - appended) / $2))"
 }
 
@@ -96,8 +95,8 @@ for order in 1 0 2; do
 done
 made=$((last / 5))
 timed 11 "$ours $made 1 0 1 0" "$ours $made 1 0 1 200" >"$work/copies"
-none=$(instructions $ours "$made" 1 0 1 0)
-some=$(instructions $ours "$made" 1 0 1 100)
+none=$(instructions "$ours" "$made" 1 0 1 0)
+some=$(instructions "$ours" "$made" 1 0 1 100)
 echo
 awk -v made="$made" -v none="$none" -v some="$some" "$numbers"'
   { least[NR] = $3 }

@@ -117,7 +117,7 @@ def wrong_bodies():
 
 def readmes():
     told = text_of("docs/PROMISES.md").partition("\n## ")[0]
-    silent = told[told.index("\n`handle_teams`") :]
+    silent = told[told.index("\nPrograms and tests promise nothing") :]
     for crate in sorted(os.listdir(f"{TOP}/crates")):
         if not os.path.exists(f"{TOP}/crates/{crate}/README.md"):
             yield f"crates/{crate} has no README"

@@ -1,13 +1,13 @@
-//! Tests of the sessions of a script on threads over a disk in memory.
+//! Tests of the sessions of a script on threads over a disk in memory, and of calls of the check rules and of looking up.
 #![tactic(auto)]
 
 #[cfg(test)]
+mod disks;
+#[cfg(test)]
 mod gates;
 #[cfg(test)]
-mod merges;
+mod one_file;
+#[cfg(test)]
+mod rules;
 #[cfg(test)]
 mod sessions;
-#[cfg(test)]
-mod undos;
-#[cfg(test)]
-mod watches;

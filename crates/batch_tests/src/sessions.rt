@@ -1,4 +1,5 @@
 //! Sessions at a gate, over a disk in memory.
+use crate::disks::empty_disk;
 use crate::gates::{CountingGate, MeetingGate};
 use all_formats::AllFormats;
 use batch_run::{Played, play_on, what_bytes_read_as_can_be_played};
@@ -12,10 +13,11 @@ use std::test::*;
 use std::thread::Threads;
 use store_core::{Opened, open_store};
 
-/// Plays a script on an empty disk.
+/// Plays a script on a disk.
 pub fn play<G: Gate + Sync, R: Threads + Wait + Sync>(
     rt: &R,
     alloc: Global,
+    disk: MemDisk,
     gate: &G,
     text: &str,
 ) -> Option<Played<MemDisk, RegexPatterns>> {
@@ -23,7 +25,6 @@ pub fn play<G: Gate + Sync, R: Threads + Wait + Sync>(
     let Ok(script) = parse_script(alloc, text.as_bytes()) else {
         return None;
     };
-    let disk = MemDisk::new(alloc, Vec::new(alloc), Vec::new(alloc), None).ok()?;
     let Ok(Opened { plan, core }) = open_store(alloc, disk, AllFormats, RegexPatterns::new()) else {
         return None;
     };
@@ -47,7 +48,7 @@ fn missed_of<R: Threads + Wait + Sync>(
     text: &str,
 ) -> Result<(u64, bool), Fail> {
     let gate = MeetingGate::new(sessions as u64);
-    let played = play(rt, alloc, &gate, text).ok_or("it is played")?;
+    let played = play(rt, alloc, empty_disk(alloc)?, &gate, text).ok_or("it is played")?;
     Ok((gate.missed(), played.transcripts.is_some()))
 }
 
@@ -88,7 +89,7 @@ fn counted<R: Threads + Wait + Sync>(
     text: &str,
 ) -> Result<(u64, u64, u64), Fail> {
     let gate = CountingGate::new();
-    let played = play(rt, alloc, &gate, text).ok_or("it is played")?;
+    let played = play(rt, alloc, empty_disk(alloc)?, &gate, text).ok_or("it is played")?;
     if played.transcripts.is_none() {
         return Err("its steps are told")?;
     }

@@ -8,7 +8,6 @@ use std::alloc::Global;
 use std::test::Fail;
 
 mod counted;
-mod slow;
 
 fn entry(alloc: Global, value: &str) -> Result<Entry, Memory> {
     Ok(Entry {

@@ -1,5 +1,5 @@
-//! Tests of the public calls of names, metadata, maps, key sets and check rules, and of want of memory as a format's
-//! refusal: of what no contract says, each call with ample memory.
+//! Tests of the public calls of names, metadata, maps and key sets, and of want of memory as a format's refusal: of what no
+//! contract says, each call with ample memory.
 //! Tables of names and shown texts are cases of `kdb_cases`.
 #![tactic(auto)]
 
@@ -13,7 +13,5 @@ mod metadata;
 mod names;
 #[cfg(test)]
 mod refusals;
-#[cfg(test)]
-mod rules;
 #[cfg(test)]
 mod sorted_maps;
