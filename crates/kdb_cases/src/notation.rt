@@ -108,9 +108,10 @@ fn push_digits(bytes: &mut Vec<u8>, text: &str) -> Result<(), Memory> {
 
 /// What a digit of sixteen counts, and another letter nothing.
 fn digit(letter: u8) -> u8 {
-    match char::from(letter).to_digit(16) {
-        Some(digit) => digit as u8,
-        None => 0,
+    match letter {
+        b'0'..=b'9' => letter.wrapping_sub(b'0'),
+        b'a'..=b'f' => letter.wrapping_sub(b'a').wrapping_add(10),
+        _ => 0,
     }
 }
 

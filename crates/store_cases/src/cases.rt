@@ -8,7 +8,6 @@ use crate::showing::push_bytes;
 use crate::spelling::spelled_out;
 use crate::starts::Start;
 use crate::steps::{Past, Steps};
-use crate::stops::{faults_of, recovered, stops_of};
 use crate::stores::{Played, play_behind};
 use disk_memory::MemDisk;
 use kdb_outside::FileName;
@@ -73,7 +72,6 @@ impl Cases {
             "show" => self.show(rest),
             "calls" => self.calls(),
             "fronts" => self.fronts(rest.parse().unwrap_or(0)),
-            "stops" | "faults" | "recover" => self.tried(word, rest.parse().unwrap_or(0)),
             "stopped" | "failed" => self.tried_commits(word, rest),
             _ => String::from_str(self.alloc, "  no such case\n"),
         }
@@ -177,20 +175,6 @@ impl Cases {
         let events = mem::replace(&mut self.events, Vec::new(self.alloc));
         let flushes = mem::replace(&mut self.flushes, Vec::new(self.alloc));
         (events, flushes)
-    }
-
-    /// The events, tried over and over: stopped after each call, with each call failing alone, or with each crash behind them.
-    fn tried(&mut self, word: &str, count: u64) -> Result<String, Memory> {
-        let (events, flushes) = self.take_steps();
-        let steps = Steps {
-            events: &events,
-            flushes: &flushes,
-        };
-        match word {
-            "stops" => stops_of(self.alloc, &mut self.start, steps, count),
-            "faults" => faults_of(self.alloc, &mut self.start, steps, count),
-            _ => recovered(self.alloc, &self.start, steps, count),
-        }
     }
 
     /// The events, tried over and over: stopped after each of these numbers of calls, or with each of these calls failing alone.

@@ -1,13 +1,16 @@
 //! A run of several commits that is stopped after so many calls of the disk, or of which one call fails: how many of the commits were told, and how many the
 //! files have once the store was opened again.
 
+use crate::left::files_behind;
 use crate::starts::Start;
 use crate::steps::Steps;
-use crate::stops::{CHOICES, files_behind};
-use crate::stores::{Played, first_disk, play};
-use key_meta::Memory;
+use crate::stores::{first_disk, play};
+use key_meta::{List, Memory};
 use std::alloc::Global;
 use store_play::{Answer, Event};
+
+/// How many crashes are tried behind each run.
+const CHOICES: u64 = 10;
 
 /// What came of the crashes behind one run: how many of the commits were answered as stored, and behind how many of them
 /// the files are as they are then, at least and at most. No number where a crash isn't allowed to leave them so.
@@ -93,27 +96,42 @@ fn found_of(
 
 /// Which commits were answered as stored, unless the store wasn't opened.
 fn told_in(alloc: Global, start: &Start, steps: Steps<'_>) -> Result<Option<Told>, Memory> {
+    Ok(match answers_of(alloc, start, steps)? {
+        Some(answers) => Some(told_of(answers.as_slice())),
+        None => None,
+    })
+}
+
+/// What each event is answered, unless the store isn't opened.
+fn answers_of(
+    alloc: Global,
+    start: &Start,
+    steps: Steps<'_>,
+) -> Result<Option<List<Answer>>, Memory> {
     let Some(disk) = first_disk(alloc, start, start.stop_after)? else {
         return Ok(None);
     };
-    let Played { answers, .. } = play(alloc, disk, steps, start.refusing.clone()?)?;
-    let Ok(answers) = answers else {
-        return Ok(None);
-    };
+    Ok(
+        play(alloc, disk, steps, start.refusing.clone()?)?
+            .answers
+            .ok(),
+    )
+}
+
+/// Which commits are answered as stored.
+fn told_of(answers: &[Answer]) -> Told {
     let mut told = Told { count: 0, last: 0 };
     let mut number = 0usize;
-    for answer in answers.as_slice() {
+    for answer in answers {
         if let Answer::Committed(outcome) = answer {
             number = number.saturating_add(1);
             if outcome.is_ok() {
-                told = Told {
-                    count: told.count.saturating_add(1),
-                    last: number,
-                };
+                told.count = told.count.saturating_add(1);
+                told.last = number;
             }
         }
     }
-    Ok(Some(told))
+    told
 }
 
 /// Behind how many commits the files are as these, where a crash is allowed to leave them so: they have all up to the last

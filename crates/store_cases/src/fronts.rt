@@ -111,16 +111,29 @@ fn push_changed(
     before: &[Vec<u8>],
     now: &[Vec<u8>],
 ) -> Result<(), Memory> {
-    for (file, (before, now)) in FILES.iter().zip(before.iter().zip(now.iter())) {
-        if before.as_slice() != now.as_slice() {
-            lines.push_str(beginning)?;
-            lines.push_str(*file)?;
-            lines.push_str(" ")?;
-            push_bytes(alloc, lines, now)?;
-            lines.push_str("\n")?;
+    for (place, file) in FILES.iter().enumerate() {
+        if let (Some(before), Some(now)) = (before.get(place), now.get(place)) {
+            if before.as_slice() != now.as_slice() {
+                push_file(alloc, lines, beginning, *file, now)?;
+            }
         }
     }
     Ok(())
+}
+
+/// A line for a file, behind this beginning.
+fn push_file(
+    alloc: Global,
+    lines: &mut String,
+    beginning: &str,
+    file: &str,
+    bytes: &[u8],
+) -> Result<(), Memory> {
+    lines.push_str(beginning)?;
+    lines.push_str(file)?;
+    lines.push_str(" ")?;
+    push_bytes(alloc, lines, bytes)?;
+    lines.push_str("\n")
 }
 
 fn texts_at_first(alloc: Global, start: &Start) -> Result<Vec<Vec<u8>>, Memory> {

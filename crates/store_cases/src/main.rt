@@ -6,11 +6,11 @@ mod asking;
 mod cases;
 mod commits;
 mod fronts;
+mod left;
 mod showing;
 mod spelling;
 mod starts;
 mod steps;
-mod stops;
 mod stores;
 
 use cases::Cases;

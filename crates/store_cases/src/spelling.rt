@@ -29,5 +29,6 @@ pub fn spelled_out(alloc: Global, line: &str) -> Result<String, Memory> {
 fn run_of(piece: &str) -> Option<(&str, u32, &str)> {
     let (run, rest) = piece.split_once('}')?;
     let (letters, count) = run.split_once('*')?;
-    Some((letters, count.parse().ok()?, rest))
+    let count = count.parse().unwrap_or(0);
+    Some((letters, count, rest))
 }
