@@ -103,8 +103,8 @@ begin "$memory"
 cat <<TEXT
 Each step is one of a get, a put and a set, of which there are $(shown "$sets") between all sessions. In memory means in a tmpfs,
 and all at one mount is in memory. A set at a mount of its own is a commit; at one mount it is refused where another
-came since its get, and not tried again; where the mount counts conflicts by key none is refused. \`kdb set\`, which is three such steps in a run of its own, makes $(singles "$work") steps a second on the disk and
-$(singles "$memory") in memory.
+came since its get, and not tried again; where the mount counts conflicts by key none is refused. \`kdb set\`, which is
+three such steps in a run of its own, makes $(singles "$work") steps a second on the disk and $(singles "$memory") in memory.
 TEXT
 echo
 echo "| sessions | steps a second on the disk, mounts of their own | in memory | all at one mount | conflicts | by key | conflicts |"

@@ -228,7 +228,7 @@ def cells_of(spent):
 
 
 def read_page(page):
-    """What a run wrote into a page: its first lines, and the minutes of each crate."""
+    """What a run wrote into a page: its first lines, the minutes of each crate, and those of `rt` itself."""
     begin, end = marks(COSTS)
     said = text_of(page).split(begin)[1].split(end)[0].strip().split("\n")
     cells = {}
@@ -237,15 +237,17 @@ def read_page(page):
         found = re.match(r"\| (?:`(\w+)`|\d+ (others)[^|]*)" + figures, line)
         if found:
             cells[found[1] or OTHERS] = [float(it or 0) for it in found.groups()[2:]]
-    return said[: said.index("")], cells
+    own = re.search("`rt` itself ([\\d.]+)", " ".join(said))
+    return said[: said.index("")], cells, float(own[1]) if own else 0
 
 
 def joined(pages):
     """The lines of a table that several runs made."""
-    heads, cells = [], {}
+    heads, cells, own = [], {}, 0
     for page in pages:
-        head, more = read_page(page)
+        head, more, itself = read_page(page)
         heads += [*head, ""]
+        own += itself
         for crate, minutes in more.items():
             known = cells.get(crate, [0] * 4)
             cells[crate] = [sum(it) if crate == OTHERS else it[1] or it[0] for it in zip(known, minutes)]
@@ -255,7 +257,8 @@ def joined(pages):
             cells[crate][KINDS.index("edits")] = 0
     rows, sums = table(cells)
     heads += ["What each crate cost in the last of these runs that proved it or tried its wrong bodies:", ""]
-    return [*heads, *rows, "", f"{told(sums)}: {sum(sums):.1f} together."]
+    last = f"{told(sums)}, and `rt` itself in all of these runs {own:.1f}:"
+    return [*heads, *rows, "", last, f"{sum(sums) + own:.1f} together."]
 
 
 def told(sums):
