@@ -75,6 +75,7 @@ count_told_each (suc n) rows log each =
     let last = each n (omega arith) in
     omega arith
 
--- so what a handle has seen covers all that is told, if of each handle it has as many commits as that one's replies tell
+-- so what a handle has seen covers all that is told, if of each handle it has as many commits as that one's replies
+-- tell
 pub covered : (n : ℕ) (rows : List (List (List Reply))) (log : List Commit) → ((i : ℕ) → i < n → length (commits_told i rows) ≤ length (numbers_by (i + 1) log)) → count_told n rows ≤ length log
 covered n rows log each = let told = count_told_each n rows log each in let all = count_all n log in omega arith

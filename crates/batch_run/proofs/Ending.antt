@@ -47,8 +47,8 @@ use Rattle.store_phases.specs.Stores.{IsStore}
 
 -- ---- the sessions before the close
 
--- The sessions of a script told what the history of their store says, whatever it comes to, and so much as their handles made; or there was no memory for it, and no
--- handle made anything
+-- The sessions of a script told what the history of their store says, whatever it comes to, and so much as their
+-- handles made; or there was no memory for it, and no handle made anything
 pub record AreDone (formats : Formats) {F : Type 0} (lock : Place Told) (plan : Plan F) (script : Script) (handles : List HandleValue) (transcripts : Option Transcripts) : Type 0 where
   pub back : AreBack lock plan (length handles) handles
   pub many : IfSome transcripts (λ told. length handles ≡ length (sessions_of script))

@@ -92,7 +92,8 @@ module _ (formats : Formats) {F : Type 0} (lock : Place Told) (plan : Plan F) wh
         ap (λ (h : HandleValue). h.number) (get_or-map handle_in workers i some.0 d lt) ∙ (stand.each i some.0 lt).number_is;
   }
 
-  -- the end of a run: all stand where the phases of the script brought them, what is shown is shown of their rooms, and the handles are theirs
+  -- the end of a run: all stand where the phases of the script brought them, what is shown is shown of their rooms, and
+  -- the handles are theirs
   pub record Ended (script : Script) (rows : List (List (List Reply))) (workers : List Worker) (handles : List HandleValue) (transcripts : Transcripts) : Type 0 where
     pub ordered : IsOrdered script
     pub stand : Stand formats lock plan (procs_of script) (rows_of (sessions_of script) script.phases) rows workers

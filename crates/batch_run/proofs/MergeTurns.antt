@@ -1,4 +1,5 @@
--- A merged set: each try of the handle is one of its session, and so is the end. The working set stays on the way, and the keys that are tried go beside it.
+-- A merged set: each try of the handle is one of its session, and so is the end. The working set stays on the way, and
+-- the keys that are tried go beside it.
 use Rattle.std.proofs.Common.{◌≡◌, inl, inr, ℕ, ◌≤◌, List, [], ◌∷◌, length, Option, None, Result, Ok, Err, refl, sym, ap, subst, ◌∙◌, append-nil, arith}
 use mathlib.Core.List.{IsPrefix}
 use Rattle.batch_script.specs.declared.steps.Step.TheVariants.{Merge}

@@ -132,7 +132,8 @@ new-numbers formats store risen number found keys set (Err (DiskFault front)) ow
 
 -- ---- a set that took its turn
 
--- a handle made, since it was another, what an answer tells: its own commits, its sets that failed, and its refused patterns
+-- a handle made, since it was another, what an answer tells: its own commits, its sets that failed, and its refused
+-- patterns
 pub record Makes (old new : HandleValue) (answer : Reply) : Type 0 where
   pub numbers : numbers_by old.number (commits_of new.seen) ≡ numbers_by old.number (commits_of old.seen) ++ numbers_told answer
   pub failures : failures_in new.own ≡ failures_in old.own + failures_told answer

@@ -1,4 +1,5 @@
--- How a watch stands for what a session watches: while more is seen, when it looks at all of that, and when it tells what it has to tell.
+-- How a watch stands for what a session watches: while more is seen, when it looks at all of that, and when it tells
+-- what it has to tell.
 use Rattle.std.proofs.Common.{◌≡◌, ℕ, ◌+◌, ◌-◌, List, [], length, Option, Some, None, sym, ap, ap₂, ◌∙◌, arith}
 use Rattle.std.proofs.lemmas.List.{drop_all}
 use Rattle.circular_buffer.specs.Buffer.{keep_last}

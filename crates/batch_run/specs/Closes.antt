@@ -35,14 +35,15 @@ pub record AreBack {F : Type 0} (lock : Place Told) (plan : Plan F) (count : ℕ
   pub each : All (IsHandle lock plan) handles
   pub numbers : (i : ℕ) (d : HandleValue) → i < count → (get_or handles i d).number ≡ i + 1
 
--- A history ends the story of so many handles: it begins with all that each has seen, its commits of a handle's number are those that the handle has seen, and it has
--- no others
+-- A history ends the story of so many handles: it begins with all that each has seen, its commits of a handle's number
+-- are those that the handle has seen, and it has no others
 pub record Closes (count : ℕ) (history : List Commit) (handles : List HandleValue) : Type 0 where
   pub seen : (i : ℕ) (d : HandleValue) → i < count → IsPrefix (commits_of (get_or handles i d).seen) history
   pub own : (i : ℕ) (d : HandleValue) → i < count → numbers_by (i + 1) history ≡ numbers_by (i + 1) (commits_of (get_or handles i d).seen)
   pub only : (number : ℕ) → (number ≡ 0) ⊎ (count < number) → numbers_by number history ≡ []
 
--- what a handle made has as many sets that failed, and as many refused patterns, as the replies of the session at its place tell
+-- what a handle made has as many sets that failed, and as many refused patterns, as the replies of the session at its
+-- place tell
 pub record TellsOwn (script : Script) (transcripts : Transcripts) (place : ℕ) (handle : HandleValue) : Type 0 where
   pub failures : failures_in handle.own ≡ sum_by failures_told (of_session place (reply_rows script transcripts))
   pub refusals : refusals_in handle.own ≡ sum_by refusals_told (of_session place (reply_rows script transcripts))

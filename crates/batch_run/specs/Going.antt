@@ -57,8 +57,8 @@ AllWork formats lock plan phase old new =
     (i : ℕ) (d : Worker) → i < length old
     → Works formats lock plan (steps_in phase (slice_index_or old i d).session.number) (slice_index_or old i d) (slice_index_or new i d)
 
--- A phase of some sessions: each took the steps of its place and got the replies there. Then they met: each has seen of the commits of each other as many as that one
--- has
+-- A phase of some sessions: each took the steps of its place and got the replies there. Then they met: each has seen of
+-- the commits of each other as many as that one has
 pub record IsThrough (formats : Formats) {F : Type 0} (lock : Place Told) (plan : Plan F) (steps : List (List Step)) (replies : List (List Reply)) (old new : List Worker) : Type 0 where
   pub many : length new ≡ length old
   pub told : length replies ≡ length old

@@ -6,7 +6,8 @@ use Rattle.batch_run.specs.declared.running.Room.{Room}
 use Rattle.batch_script.specs.declared.steps.Script.{Script}
 use Rattle.model_batch.specs.Scripts.{sessions_of}
 
--- the numbers of the sessions, room for all replies, and empty places for so many sessions and for their handles on the way back
+-- the numbers of the sessions, room for all replies, and empty places for so many sessions and for their handles on the
+-- way back
 pub record HasRoom (script : Script) (handles : ℕ) (room : Room) : Type 0 where
   pub numbers : room.numbers.items ≡ sessions_of script
   pub rooms : ArePhaseRooms (sessions_of script) script.phases room.rooms.items

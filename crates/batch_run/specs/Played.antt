@@ -22,16 +22,18 @@ use Rattle.mounted_files.specs.declared.files.MountedFile.{MountedFile}
 use Rattle.store_core.specs.declared.cores.Core.{Core}
 use Rattle.store_phases.specs.Stores.{IsStore}
 
--- a script that can be played: in each phase the sessions that it names ascend, and the keys that handles are opened with are in `proc`
+-- a script that can be played: in each phase the sessions that it names ascend, and the keys that handles are opened
+-- with are in `proc`
 pub record IsPlayable (script : Script) : Type 0 where
   pub ordered : IsOrdered script
   pub procs : All (λ (line : ProcLine). line.key.namespace ≡ Proc) script.proc
 
--- The sessions of a script took their steps on an open store, and it was closed. There is one story of what they did, whose commits are the history that comes back.
--- It is legal, and the replies are fair by it. Each set that failed and each refused pattern is one of the story, and the counts of the disk and of the matcher rose by
--- at least so many. Without memory for the replies the story is empty. A store that nothing was written to since its opening began, and whose sessions begin no set,
--- makes no call on the disk. For whatever run the journal stood, under a head that names the files of the store, the disk that comes back is handed on from it by the
--- story
+-- The sessions of a script took their steps on an open store, and it was closed. There is one story of what they did,
+-- whose commits are the history that comes back. It is legal, and the replies are fair by it. Each set that failed and
+-- each refused pattern is one of the story, and the counts of the disk and of the matcher rose by at least so many.
+-- Without memory for the replies the story is empty. A store that nothing was written to since its opening began, and
+-- whose sessions begin no set, makes no call on the disk. For whatever run the journal stood, under a head that names
+-- the files of the store, the disk that comes back is handed on from it by the story
 pub record IsPlayed (formats : Formats) {D P : Type 0} (g : Ghosts D) (refused : P → ℕ) (files : List MountedFile) (script : Script) (core : Core D P) (played : Played D P) : Type 0 where
   pub story : List Told
   pub history : played.closed.history.commits ≡ commits_of story

@@ -1,4 +1,5 @@
--- How the rooms of all sessions are shown as the transcripts of a script, which names the sessions of a phase that have steps there. (This project's own.)
+-- How the rooms of all sessions are shown as the transcripts of a script, which names the sessions of a phase that have
+-- steps there. (This project's own.)
 use Rattle.std.specs.Prelude.{◌≢◌, ℕ, ◌<◌, nat_eq, if◌then◌else◌, List, [], ◌∷◌, length, get_or, map as over, All}
 use Rattle.batch_script.specs.Rising.{AreAscending}
 use Rattle.batch_script.specs.declared.steps.Phase.{Phase}

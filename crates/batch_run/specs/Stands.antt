@@ -23,7 +23,8 @@ use Rattle.batch_run.specs.Watching.{StandsFor}
 use Rattle.store_core.specs.declared.cores.Plan.{Plan}
 use Rattle.store_verdict.specs.RecordView.{proc_of}
 
--- By the history that a handle has seen the replies of a session's phases are what its steps mean, from its beginning on
+-- By the history that a handle has seen the replies of a session's phases are what its steps mean, from its beginning
+-- on
 pub record LeadsThrough (formats : Formats) (files : List MountedFile) (procs : KeyMap) (sessions i : ℕ) (steps : List (List (List Step))) (replies : List (List (List Reply))) (handle : HandleValue) (workspace : Workspace) : Type 0 where
   pub told : ℕ
   pub within : told ≤ length (commits_of handle.seen)
@@ -31,8 +32,9 @@ pub record LeadsThrough (formats : Formats) (files : List MountedFile) (procs : 
   pub watches : StandsFor (commits_of handle.seen) workspace.watch watching
   pub tells : TellsPhases formats files procs (i + 1) (commits_of handle.seen) sessions i first_session [] steps replies (session_of handle (held workspace watching) told)
 
--- The session of a place has taken the steps of some phases, with these replies: by the history that it has seen they are what the steps mean, and its own commits there
--- are those that it was told of, as are the sets that failed and the refused patterns among what it made
+-- The session of a place has taken the steps of some phases, with these replies: by the history that it has seen they
+-- are what the steps mean, and its own commits there are those that it was told of, as are the sets that failed and the
+-- refused patterns among what it made
 pub record HasTaken (formats : Formats) {F : Type 0} (lock : Place Told) (plan : Plan F) (procs : KeyMap) (sessions i : ℕ) (steps : List (List (List Step))) (replies : List (List (List Reply))) (worker : Worker) : Type 0 where
   pub handle : IsHandle lock plan worker.session.handle
   pub number_is : worker.session.handle.number ≡ i + 1
@@ -48,8 +50,9 @@ pub record IsFull (count : ℕ) (steps : List (List Step)) (replies : List (List
   pub wide : length replies ≡ count
   pub even : (i : ℕ) → i < count → length (in_row i replies) ≡ length (in_row i steps)
 
--- All sessions went through some phases, whose steps and replies stand in rows. What each has seen has at least as many commits as all replies tell, and in each
--- phase each front was at least the count of those that the replies of earlier phases tell
+-- All sessions went through some phases, whose steps and replies stand in rows. What each has seen has at least as many
+-- commits as all replies tell, and in each phase each front was at least the count of those that the replies of earlier
+-- phases tell
 pub record Stand (formats : Formats) {F : Type 0} (lock : Place Told) (plan : Plan F) (procs : ℕ → KeyMap) (steps : List (List (List Step))) (replies : List (List (List Reply))) (workers : List Worker) : Type 0 where
   pub long : length replies ≡ length steps
   pub full : (p : ℕ) (made : List (List Step)) (row : List (List Reply)) → slice_get steps p ≡ Some made → slice_get replies p ≡ Some row → IsFull (length workers) made row

@@ -46,7 +46,8 @@ IsEdit edited before after answer = ((answer ≡ reply.Quiet) × (after ≡ edit
 abbrev pub IsLook : Option Found → Reply → Type 0
 IsLook found answer = (answer ≡ look_reply found) ⊎ (answer ≡ reply.Memory)
 
--- By the history that a handle has seen replies are what some steps mean from a session on, which has the handle and a workspace behind them
+-- By the history that a handle has seen replies are what some steps mean from a session on, which has the handle and a
+-- workspace behind them
 pub record Leads (formats : Formats) (files : List MountedFile) (procs : KeyMap) (number : ℕ) (start : Session) (steps : List Step) (answers : List Reply) (handle : HandleValue) (workspace : Workspace) : Type 0 where
   pub told : ℕ
   pub within : told ≤ length (commits_of handle.seen)
@@ -54,9 +55,10 @@ pub record Leads (formats : Formats) (files : List MountedFile) (procs : KeyMap)
   pub watches : StandsFor (commits_of handle.seen) workspace.watch watching
   pub tells : Tells formats files procs number (commits_of handle.seen) start steps answers (session_of handle (held workspace watching) told)
 
--- A handle of a store goes on over some steps, from one workspace to another. It has seen more of the story, by whose history the replies are what the steps mean,
--- from however many commits the session was told of, of those that were seen, and from whatever it watches that the watch stands for. Its commits gain
--- just those that the replies tell, and the entries of the story that are its own gain as many sets that failed and refused patterns as they tell
+-- A handle of a store goes on over some steps, from one workspace to another. It has seen more of the story, by whose
+-- history the replies are what the steps mean, from however many commits the session was told of, of those that were
+-- seen, and from whatever it watches that the watch stands for. Its commits gain just those that the replies tell, and
+-- the entries of the story that are its own gain as many sets that failed and refused patterns as they tell
 pub record GoesOn (formats : Formats) {F : Type 0} (lock : Place Told) (plan : Plan F) (steps : List Step) (answers : List Reply) (old : HandleValue) (before : Workspace) (new : HandleValue) (after : Workspace) : Type 0 where
   pub ready : IsReady lock plan new after
   pub number : new.number ≡ old.number

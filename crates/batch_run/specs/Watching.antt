@@ -1,4 +1,5 @@
--- How the watch of a session stands for what the session watches, and what the steps of a watch do. (This project's own.)
+-- How the watch of a session stands for what the session watches, and what the steps of a watch do. (This project's
+-- own.)
 use Rattle.std.specs.Prelude.{◌≡◌, ◌⊎◌, ℕ, ◌≤◌, List, length, Option, Some, None, IfSome}
 use mathlib.Core.List.{IsPrefix}
 use Rattle.batch_run.specs.declared.workspaces.Workspace.{Workspace}
@@ -14,8 +15,8 @@ use Rattle.seat_lock.specs.Known.{Place}
 use Rattle.store_core.specs.declared.cores.Plan.{Plan}
 use Rattle.watch_feed.specs.Watches.{WatchValue, collected, news_of, polled, watching as fresh_watch}
 
--- A watch has looked at the first so many commits since the session was last told of some of them. Where a poll found no memory it has more to tell
--- than a fresh one
+-- A watch has looked at the first so many commits since the session was last told of some of them. Where a poll found
+-- no memory it has more to tell than a fresh one
 pub record HasLooked (history : List Commit) (watch : WatchValue) (watched : Watching) : Type 0 where
   pub past : List Commit
   pub begins : IsPrefix past history
@@ -42,7 +43,8 @@ IsWatch parent room front before after answer =
 abbrev pub IsTelling : WatchValue → WatchValue → Reply → Type 0
 IsTelling before after answer = ((answer ≡ reply.News (news_of before)) × (after ≡ polled before)) ⊎ ((answer ≡ reply.Memory) × (after ≡ before))
 
--- A watch has looked at a history, and tells what it has to tell then; or there was no memory to look or to tell, and it may have looked
+-- A watch has looked at a history, and tells what it has to tell then; or there was no memory to look or to tell, and
+-- it may have looked
 abbrev pub IsAsked : List Commit → WatchValue → WatchValue → Reply → Type 0
 IsAsked history before after answer =
     IsTelling (collected before history) after answer ⊎ ((answer ≡ reply.Memory) × (after ≡ before))

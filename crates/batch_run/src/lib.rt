@@ -1,5 +1,5 @@
-//! The sessions of a batch, each with a handle of its own: phase by phase they take their steps on threads, and between phases all handles meet. A script is played so
-//! on a store that was just opened, from there to its close.
+//! The sessions of a batch, each with a handle of its own: phase by phase they take their steps on threads, and between
+//! phases all handles meet. A script is played so on a store that was just opened, from there to its close.
 #![tactic(auto)]
 
 mod editing;

@@ -1,4 +1,5 @@
-//! The phases of a batch: in each the sessions take their steps on threads, with a flusher beside them, and then all handles meet.
+//! The phases of a batch: in each the sessions take their steps on threads, with a flusher beside them, and then all
+//! handles meet.
 ghost use Rattle.std.specs.Prelude.{ℕ, ◌<◌, [], length, slice_index_or, map as over};
 ghost use denote.Param.Send.{IsSend, IsSync};
 ghost use Rattle.batch_run.specs.Going.{AllWork, AreReady, HaveOwnRoom, IsThrough, Works};
@@ -97,7 +98,8 @@ fn one_phase<
     meet_all(store, workers);
 }
 
-/// Each session takes its steps of a phase, and the flusher makes its flushes. Where one session alone has steps no thread is made.
+/// Each session takes its steps of a phase, and the flusher makes its flushes. Where one session alone has steps no
+/// thread is made.
 fn take_all<
     G: Gate + Sync,
     D: Disk + Send,

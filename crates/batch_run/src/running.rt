@@ -24,7 +24,8 @@ use std::sync::Wait;
 use std::thread::Threads;
 use storage_api::Formats;
 
-/// What came of the sessions of a script: their handles, the flusher, and what they replied, unless there was no memory for it.
+/// What came of the sessions of a script: their handles, the flusher, and what they replied, unless there was no memory
+/// for it.
 #[derive(Drop)]
 pub struct Sessions {
     pub handles: List<Handle>,
@@ -32,9 +33,10 @@ pub struct Sessions {
     pub transcripts: Option<Transcripts>,
 }
 
-/// Has the sessions of a script take their steps, phase by phase, each in a thread of its own with the handle of its place. Between phases all handles meet. In
-/// each phase the flusher makes a flush for eight steps that may make a commit, rounded up; no reply tells of it. Room for
-/// each reply is taken before the first step: without it no step is taken, and the handles come back as they were given.
+/// Has the sessions of a script take their steps, phase by phase, each in a thread of its own with the handle of its
+/// place. Between phases all handles meet. In each phase the flusher makes a flush for eight steps that may make a
+/// commit, rounded up; no reply tells of it. Room for each reply is taken before the first step: without it no step is
+/// taken, and the handles come back as they were given.
 pub fn run_sessions<
     G: Gate + Sync,
     D: Disk + Send,

@@ -25,7 +25,8 @@ pub fn places_of(alloc: Global, script: &Script) -> Result<Places, Memory>
     Ok(Places { numbers, handles })
 }
 
-/// How many seats a store has for some sessions. A store has one at least, which no handle takes where there is no session.
+/// How many seats a store has for some sessions. A store has one at least, which no handle takes where there is no
+/// session.
 pub fn seats_for(numbers: &[u32]) -> u32
     requires { length numbers.now ≤ most_sessions }
     ensures { result ≡ max 1 (length numbers.now) }

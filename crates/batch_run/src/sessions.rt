@@ -27,7 +27,8 @@ pub struct Session {
 }
 
 impl Session {
-    /// Takes some steps, each behind the gate, with one reply for each. A step that finds no memory does nothing, and the session goes on.
+    /// Takes some steps, each behind the gate, with one reply for each. A step that finds no memory does nothing, and
+    /// the session goes on.
     pub fn take_steps<G: Gate, D: Disk, F: Formats + Drop, P: Patterns + Drop, R: Wait>(
         &mut self,
         gate: &G,

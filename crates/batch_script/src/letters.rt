@@ -3,8 +3,8 @@ ghost use Rattle.std.specs.Prelude.{◌≡◌, ◌<◌, IfSome};
 ghost use Rattle.std.specs.Option.{option_map};
 ghost use Rattle.batch_script.specs.Letters.{byte_of_digits, escaped_at, hex_value, hexadecimal_at, is_plain, short_escape, written_at};
 
-/// The first byte that bytes in quotes write, and what stands behind it. There is none at a quote, at a control byte and at
-/// a backslash that escapes nothing.
+/// The first byte that bytes in quotes write, and what stands behind it. There is none at a quote, at a control byte
+/// and at a backslash that escapes nothing.
 pub fn first_written(bytes: &[u8]) -> Option<(u8, &[u8])>
     ensures { option_map (λ found. (found.0, found.1.now)) result ≡ written_at bytes.now }
 {

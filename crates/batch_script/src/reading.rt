@@ -33,8 +33,8 @@ pub fn parse_script(alloc: Global, bytes: &[u8]) -> Result<Script, ScriptFault>
     Ok(script_of(progress, alloc)?)
 }
 
-/// Whether bytes are too long for a script: more than 4,194,304 bytes, or more than 100,000 lines. It is asked before lines are
-/// read.
+/// Whether bytes are too long for a script: more than 4,194,304 bytes, or more than 100,000 lines. It is asked before
+/// lines are read.
 pub fn is_too_long(bytes: &[u8]) -> bool
     ensures { result ≡ is_too_long bytes.now }
 {

@@ -1,4 +1,5 @@
-//! What a script says: the keys that handles are opened with, and phase by phase the steps of the sessions that have some.
+//! What a script says: the keys that handles are opened with, and phase by phase the steps of the sessions that have
+//! some.
 use crate::{CommitNumber, MetaWord, Tries, WatchRoom};
 use key_merge::Strategy;
 use key_meta::{List, Text};
@@ -79,8 +80,8 @@ pub struct Phase {
     pub sessions: List<Steps>,
 }
 
-/// The keys that handles are opened with, in the order of their lines, of which the last counts for a key of a session; and the
-/// phases, at least one.
+/// The keys that handles are opened with, in the order of their lines, of which the last counts for a key of a session;
+/// and the phases, at least one.
 #[derive(Drop)]
 pub struct Script {
     pub proc: List<ProcLine>,

@@ -31,7 +31,8 @@ pub fn is_nothing(rest: &[u8]) -> bool
     }
 }
 
-/// The words of a line. A quoted word that isn't closed, or that goes on behind its last quote, leaves it without words.
+/// The words of a line. A quoted word that isn't closed, or that goes on behind its last quote, leaves it without
+/// words.
 pub fn words_of(alloc: Global, line: &[u8]) -> Result<Option<Vec<Text>>, Memory>
     ensures { IfOk result (λ found. MatchOption found
         ((words : List (List ℕ)) → HasWords line.now words → ⊥)

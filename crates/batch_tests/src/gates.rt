@@ -6,7 +6,8 @@ use std::thread;
 /// How often a session looks whether the others are there.
 const MOST_LOOKS: u32 = 1_000_000;
 
-/// Holds each session before its second step until so many are there. One that looked too often goes on without them, and that is counted.
+/// Holds each session before its second step until so many are there. One that looked too often goes on without them,
+/// and that is counted.
 #[derive(Drop)]
 pub struct MeetingGate {
     sessions: u64,

@@ -1,4 +1,5 @@
-//! Tests of the sessions of a script on threads over a disk in memory, and of calls of the check rules and of looking up.
+//! Tests of the sessions of a script on threads over a disk in memory, and of calls of the check rules and of looking
+//! up.
 #![tactic(auto)]
 
 #[cfg(test)]

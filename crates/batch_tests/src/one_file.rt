@@ -12,7 +12,8 @@ use std::test::*;
 use std::thread::Threads;
 use store_core::Closed;
 
-/// A session gets once, and then in each of so many turns gives a key of its own the turn's number and stores it by a step.
+/// A session gets once, and then in each of so many turns gives a key of its own the turn's number and stores it by a
+/// step.
 fn push_session(
     alloc: Global,
     text: &mut String,
@@ -36,7 +37,8 @@ fn phase_of(alloc: Global, turns: u32, step: &str) -> Result<String, Fail> {
     Ok(text)
 }
 
-/// How many commits 32 such sessions come to, and how many keys all files have behind them, where these are the history's.
+/// How many commits 32 such sessions come to, and how many keys all files have behind them, where these are the
+/// history's.
 fn stored<R: Threads + Wait + Sync>(
     rt: &R,
     alloc: Global,
@@ -51,7 +53,8 @@ fn stored<R: Threads + Wait + Sync>(
     told_of(alloc, &start, closed)
 }
 
-/// How many commits a store has that was closed, and how many keys all its files, where these are the history's from some keys on.
+/// How many commits a store has that was closed, and how many keys all its files, where these are the history's from
+/// some keys on.
 fn told_of(
     alloc: Global,
     start: &KeySet,

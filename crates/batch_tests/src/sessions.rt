@@ -82,7 +82,8 @@ fn sessions_of_two_phases_do_not_meet(rt: HostRuntime) -> Result<(), Fail> {
     Ok(())
 }
 
-/// How often a gate was asked, what it was told, and how many calls the disk had, where all steps of a script were taken.
+/// How often a gate was asked, what it was told, and how many calls the disk had, where all steps of a script were
+/// taken.
 fn counted<R: Threads + Wait + Sync>(
     rt: &R,
     alloc: Global,
@@ -106,8 +107,9 @@ fn the_gate_is_asked_before_each_step(rt: HostRuntime) -> Result<(), Fail> {
     Ok(())
 }
 
-/// The calls of the disk: seven of the opening, two for the gate that it left in doubt, four for the head, four of each commit, and five of each time
-/// that the file is written. The first time is the flusher's, in the first phase or in the second, and the other one is its own in the last phase or the closing's.
+/// The calls of the disk: seven of the opening, two for the gate that it left in doubt, four for the head, four of each
+/// commit, and five of each time that the file is written. The first time is the flusher's, in the first phase or in
+/// the second, and the other one is its own in the last phase or the closing's.
 #[test]
 fn a_flusher_writes_beside_the_sessions(rt: HostRuntime) -> Result<(), Fail> {
     let text =

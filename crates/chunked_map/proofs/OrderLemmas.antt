@@ -1,4 +1,5 @@
--- Entries in order, of which a key is behind a front and before a rest: what is found, put and taken out stands between these.
+-- Entries in order, of which a key is behind a front and before a rest: what is found, put and taken out stands between
+-- these.
 use Rattle.std.proofs.Common.{◌≡◌, ℕ, zero, suc, ◌<◌, ◌≤◌, Bool, true, false, cond, not, T, List, [], ◌∷◌, ◌++◌, length, get_or, Some, refl, sym, ap, ◌∙◌, arith}
 use Rattle.std.specs.Cmp.{IsTotalOrder}
 use Rattle.std.specs.FinMap.{find, is_sorted}

@@ -30,7 +30,8 @@ all_before R q = list_all (λ e. is_lt (R e.0 q))
 abbrev pub none_before : {K X : Type 0} → (K → K → Ordering) → K → List (K × X) → Bool
 none_before R q = list_all (λ e. not (is_lt (R e.0 q)))
 
--- a key belongs into this chunk, or into one to be put there: those before it hold smaller keys, and those behind it larger ones
+-- a key belongs into this chunk, or into one to be put there: those before it hold smaller keys, and those behind it
+-- larger ones
 pub record IsChunkOf {K X : Type 0} (R : K → K → Ordering) (chunks : List (List (K × X))) (q : K) (at : ℕ) : Type 0 where
   pub within : at ≤ length chunks
   pub before : T (all_before R q (joined (take at chunks)))

@@ -153,7 +153,8 @@ impl<K: Ord, V> ChunkedMap<K, V> {
 }
 
 impl<K: Ord + Drop, V: Copied<K> + Drop> ChunkedMap<K, V> {
-    /// Gives a key a value, and answers the value that it had. A key that is there stays, and the one passed in is dropped.
+    /// Gives a key a value, and answers the value that it had. A key that is there stays, and the one passed in is
+    /// dropped.
     pub fn insert(&mut self, key: K, value: V) -> Result<Option<V>, AllocError>
         ensures former { IfOk result (λ former. former ≡ find K.cmp key self.old) }
         ensures ok { OnOk result (self.new ≡ put K.cmp key value self.old) }

@@ -45,7 +45,8 @@ pub fn chunk_of<K: Ord, V>(chunks: &[Chunk<K, V>], key: &K) -> usize
     low
 }
 
-/// Puts a key that is behind all chunks into a chunk of its own. One behind others gets its room at once: they were filled, so it may be, too.
+/// Puts a key that is behind all chunks into a chunk of its own. One behind others gets its room at once: they were
+/// filled, so it may be, too.
 fn open_chunk<K: Ord + Drop, V: Copied<K> + Drop>(
     chunks: &mut Vec<Chunk<K, V>>,
     key: K,
@@ -133,7 +134,8 @@ pub fn put_at<K: Ord + Drop, V: Copied<K> + Drop>(
     }
 }
 
-/// Makes room in a chunk for a key that is to stand at a place in it, and answers in which chunk and at which place it is to stand then.
+/// Makes room in a chunk for a key that is to stand at a place in it, and answers in which chunk and at which place it
+/// is to stand then.
 fn room_in<K: Ord + Drop, V: Copied<K> + Drop>(
     chunks: &mut Vec<Chunk<K, V>>,
     at: usize,

@@ -23,8 +23,8 @@ impl<K: Ord + Drop, V: Copied<K> + Drop> ChunkedMap<K, V> {
         Ok(ChunkedMap { chunks })
     }
 
-    /// Gives each key of another map the value that it has there. A key that is there stays. Entries that the other map alone has are
-    /// moved, and those that it shares are copied.
+    /// Gives each key of another map the value that it has there. A key that is there stays. Entries that the other map
+    /// alone has are moved, and those that it shares are copied.
     pub fn insert_all(&mut self, other: ChunkedMap<K, V>) -> Result<(), AllocError>
         ensures ok { OnOk result (self.new ≡ put_all K.cmp other self.old) }
         ensures err { OnErr result (self.new ≡ self.old) }

@@ -10,8 +10,9 @@ use std::marker::Brand;
 use std::sync::ledger::{Blank, Ledger};
 use step_count::{Steps, compare_counted};
 
-/// In which chunk a key stands, and where in it, or would stand. A key behind all chunks would stand in none. The last key is looked at
-/// first, since keys mostly come in their order. For n entries it takes s comparisons with 2^s ≤ 128 (2n + 1).
+/// In which chunk a key stands, and where in it, or would stand. A key behind all chunks would stand in none. The last
+/// key is looked at first, since keys mostly come in their order. For n entries it takes s comparisons with 2^s ≤ 128
+/// (2n + 1).
 pub fn search_counted<K: Ord, V, L: Ledger>(
     chunks: &[Chunk<K, V>],
     key: &K,
@@ -45,8 +46,8 @@ pub fn search<K: Ord, V>(chunks: &[Chunk<K, V>], key: &K) -> (usize, Result<usiz
     search_from::<K, V, Brand>(chunks, key, Blank::new(1))
 }
 
-/// The search with a count of its own. A key that is before the last one is compared with the first, since keys may come against their
-/// order. That is a comparison more than what a search takes that is counted.
+/// The search with a count of its own. A key that is before the last one is compared with the first, since keys may
+/// come against their order. That is a comparison more than what a search takes that is counted.
 fn search_from<K: Ord, V, L: Ledger>(
     chunks: &[Chunk<K, V>],
     key: &K,

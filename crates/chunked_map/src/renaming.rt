@@ -31,8 +31,8 @@ pub trait Renames<K: Ord> {
 }
 
 impl<K: Ord + Drop, V: Copied<K> + Drop> ChunkedMap<K, V> {
-    /// The same values under other keys. There are none where a key has no other. Keys that this map alone has are turned in their place;
-    /// the entries that it shares are copied.
+    /// The same values under other keys. There are none where a key has no other. Keys that this map alone has are
+    /// turned in their place; the entries that it shares are copied.
     pub fn renamed<M: Renames<K>>(self, names: &M) -> Result<Option<ChunkedMap<K, V>>, AllocError>
         requires { AllByRecursion (λ entry. M.takes names.now entry.0) self }
         ensures renamed { IfOk result (λ found. found ≡ (if list_all (λ entry. M.has_other names.now entry.0) self then Some (map (λ entry. (M.other names.now entry.0, entry.1)) self) else None)) }

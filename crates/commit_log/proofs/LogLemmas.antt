@@ -1,4 +1,5 @@
--- A history with one more commit: what it makes of keys, what it weighs, which commit is the first behind a front, and its index.
+-- A history with one more commit: what it makes of keys, what it weighs, which commit is the first behind a front, and
+-- its index.
 use Rattle.std.proofs.Common.{◌≡◌, ℕ, zero, suc, ◌+◌, ◌-◌, ◌<◌, ◌≤◌, Bool, true, false, cond, ◌||◌, List, [], ◌∷◌, ◌++◌, length, drop, take, get_or, map, slice_get, Option, Some, None, refl, sym, ap, subst, ◌∙◌, arith, nat_lt, ◌^◌, min, All}
 use Rattle.std.proofs.lemmas.List.{drop-map, length-drop, take_all, take-append-le, map_push, length-map}
 use Rattle.std.proofs.lemmas.Bool.{ltb-true, ltb-false}

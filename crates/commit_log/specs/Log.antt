@@ -1,4 +1,5 @@
--- What a history is to its callers: its commits, how many mounts its index has a place for, and how many commits it takes without memory.
+-- What a history is to its callers: its commits, how many mounts its index has a place for, and how many commits it
+-- takes without memory.
 use Rattle.std.specs.Prelude.{ℕ, List, refl}
 use Rattle.std.specs.Coded.{Coded, code_by, coded×, coded_list, coded_option, coded_ℕ}
 use Rattle.model_names.specs.Name.{coded_name}

@@ -1,5 +1,5 @@
--- An index of commits by the names that they change: of each name the numbers and handles of the commits that change it,
--- in their order. (This project's own.)
+-- An index of commits by the names that they change: of each name the numbers and handles of the commits that change
+-- it, in their order. (This project's own.)
 use Rattle.std.specs.Prelude.{◌≡◌, ℕ, ◌+◌, ◌≤◌, nat_eq, nat_lt, Bool, not, ◌&&◌, if◌then◌else◌, List, [], ◌∷◌, ◌++◌, length, take, Option, Some, None}
 use Rattle.std.specs.BTreeMap.{BTreeMap, get}
 use Rattle.std.specs.List.{AllByRecursion}

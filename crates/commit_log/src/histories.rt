@@ -1,6 +1,6 @@
-//! The history of an opening. Its index says of each mount behind which commit none touches it, so that most questions are
-//! answered without a look at the commits. An index by names is made where a caller wants it: it tells of each name the
-//! commits that change it.
+//! The history of an opening. Its index says of each mount behind which commit none touches it, so that most questions
+//! are answered without a look at the commits. An index by names is made where a caller wants it: it tells of each name
+//! the commits that change it.
 ghost use Rattle.std.specs.Prelude.{◌≡◌, ◌+◌, ◌-◌, ◌<◌, ◌≤◌, ◌++◌, [], ◌∷◌, All, IfOk, OnOk, None, if◌then◌else◌, ◌==◌, nat_lt, length, take, drop, slice_get, map};
 ghost use Rattle.std.specs.Option.{option_map};
 ghost use Rattle.model_history.specs.History.{first_after, first_change_after, replay, history_weight, heaviest_history};

@@ -18,7 +18,8 @@ pub fn make_commits(keys: &mut KeySet, commits: &[Commit]) -> Result<(), Memory>
     Ok(())
 }
 
-/// Makes some changes, one after the other. Where memory is wanting, those before the one that wanted it have been made.
+/// Makes some changes, one after the other. Where memory is wanting, those before the one that wanted it have been
+/// made.
 pub fn make_changes(keys: &mut KeySet, changes: &[Change]) -> Result<(), Memory>
     ensures ok { OnOk result (keys.new ≡ changed_by (map change_of changes.now) keys.old) }
     ensures err { OnErr result ((made : ℕ) × (made < length changes.now) × (keys.new ≡ changed_by (map change_of (take made changes.now)) keys.old)) }

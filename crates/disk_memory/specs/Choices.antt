@@ -76,8 +76,8 @@ left_of_step choice (Wrote at bytes) seen former = left_of_write choice at bytes
 left_of_step choice (Cut new_length) seen former = cut_by_way (way choice) choice new_length former
 left_of_step choice Synced seen former = seen
 
--- what is left of a file behind these changes. The changes of all files are numbered together, so that files which were changed
--- alike are torn each in its own way
+-- what is left of a file behind these changes. The changes of all files are numbered together, so that files which were
+-- changed alike are torn each in its own way
 abbrev pub left_along : ℕ → List ℕ → ℕ → List ℕ → List ℕ → List Change → List ℕ
 left_along number file count seen left [] = left
 left_along number file count seen left (change ∷ rest) =

@@ -28,8 +28,8 @@ abbrev pub bytes_of : List File → List ℕ → List ℕ
 bytes_of [] name = []
 bytes_of (file ∷ files) name = if bytes_eq file.name name then file.bytes else bytes_of files name
 
--- the files as they were at first, what calls have changed since, the numbers of the calls that fail, after how many calls each
--- one fails, how many calls there were, and how many failed
+-- the files as they were at first, what calls have changed since, the numbers of the calls that fail, after how many
+-- calls each one fails, how many calls there were, and how many failed
 pub record DiskState : Type 0 where
   pub initial : List File
   pub past : List Change

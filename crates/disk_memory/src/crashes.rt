@@ -27,8 +27,8 @@ fn left_after(
     }
 }
 
-/// What a crash leaves of these files behind these changes: 0 chooses what was synced, 1 what a read gives. The changes of
-/// all files are numbered together, so that files which were changed alike are torn each in its own way.
+/// What a crash leaves of these files behind these changes: 0 chooses what was synced, 1 what a read gives. The changes
+/// of all files are numbered together, so that files which were changed alike are torn each in its own way.
 pub(crate) fn left_by(
     alloc: Global,
     number: u64,

@@ -19,9 +19,9 @@ use kdb_outside::{Disk, Failed, FileName, Memory};
 use std::alloc::Global;
 use std::marker::Model;
 
-/// A disk whose files lie in memory. Its calls are counted from 1. Those that its maker listed fail, and so does each one
-/// after the first `stop_after` calls. A call that fails changes no file. It keeps what its calls changed, and so tells what
-/// a crash may leave, now and at each moment so far.
+/// A disk whose files lie in memory. Its calls are counted from 1. Those that its maker listed fail, and so does each
+/// one after the first `stop_after` calls. A call that fails changes no file. It keeps what its calls changed, and so
+/// tells what a crash may leave, now and at each moment so far.
 #[derive(Drop)]
 pub struct MemDisk {
     alloc: Global,
@@ -85,8 +85,8 @@ impl MemDisk {
         })
     }
 
-    /// The disk that a crash leaves, where no call fails: one image, which the number chooses. 0 leaves of each file what
-    /// its last sync kept, or what it was at first, 1 what a read gives, and any other number something between.
+    /// The disk that a crash leaves, where no call fails: one image, which the number chooses. 0 leaves of each file
+    /// what its last sync kept, or what it was at first, 1 what a read gives, and any other number something between.
     pub fn crash(self, choice: u64) -> Result<MemDisk, Memory>
         ensures chosen { IfOk result (λ disk. (file : List ℕ) → seen_of disk file ≡ left_by choice self file) }
         ensures fresh { IfOk result (λ disk. disk ≡ begun disk.initial [] None) }

@@ -29,8 +29,8 @@ pub(crate) enum Asked {
     NoLock,
 }
 
-/// Locks a folder. Where its lock is held, it is tried so often, and then the call fails. Each try opens the file that stands there then: a file
-/// that was taken away may be locked for good by one who doesn't know.
+/// Locks a folder. Where its lock is held, it is tried so often, and then the call fails. Each try opens the file that
+/// stands there then: a file that was taken away may be locked for good by one who doesn't know.
 pub(crate) fn lock(rt: HostRuntime, folder: &str, tries: u64) -> io::Result<Asked> {
     let path = path_of_lock(rt, folder)?;
     for _ in 0..tries {
@@ -55,8 +55,8 @@ fn is_named(rt: HostRuntime, path: &str, file: &File) -> io::Result<bool> {
     Ok(found_at(rt, path)?.is_some_and(|found| is_same(&found, &opened)))
 }
 
-/// Whether the file that a folder was locked by still is the one that locks it. It isn't once someone took it away, and then others may have
-/// locked the folder too.
+/// Whether the file that a folder was locked by still is the one that locks it. It isn't once someone took it away, and
+/// then others may have locked the folder too.
 pub(crate) fn still_locks(rt: HostRuntime, folder: &str, file: &File) -> io::Result<bool> {
     is_named(rt, path_of_lock(rt, folder)?.as_str(), file)
 }
@@ -114,8 +114,8 @@ fn open_or_make(rt: HostRuntime, folder: &str, path: &str) -> io::Result<Asked> 
     Err(io::Error::from(ErrorKind::AlreadyExists))
 }
 
-/// Opens the file where it is there: also to write, since some systems lock no other, and for reading alone by who may not
-/// write it.
+/// Opens the file where it is there: also to write, since some systems lock no other, and for reading alone by who may
+/// not write it.
 fn open_made(rt: HostRuntime, path: &str) -> io::Result<Option<File>> {
     let mut how = OpenOptions::new();
     how.read(true).write(true);

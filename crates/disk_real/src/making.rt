@@ -39,7 +39,8 @@ fn of_writers(folder: &Metadata) -> u32 {
     group | others
 }
 
-/// Gives what was made the owner and the group of the folder that it stands in, as far as the running user may, and these rights.
+/// Gives what was made the owner and the group of the folder that it stands in, as far as the running user may, and
+/// these rights.
 pub(crate) fn give(file: &File, folder: &Metadata, mode: u32) -> io::Result<()> {
     let made = metadata_of(file)?;
     if made.gid() != folder.gid() {
@@ -86,8 +87,8 @@ pub(crate) fn folder_at(rt: HostRuntime, path: &str) -> io::Result<Metadata> {
     }
 }
 
-/// Makes a folder, unless something has its name. Who may write the folder that it stands in may write it too. A call that a signal
-/// interrupts is made again.
+/// Makes a folder, unless something has its name. Who may write the folder that it stands in may write it too. A call
+/// that a signal interrupts is made again.
 pub(crate) fn make_folder(rt: HostRuntime, path: &str) -> io::Result<()> {
     for _ in 0..u64::MAX {
         match fs::create_dir(&rt, path) {
@@ -100,7 +101,8 @@ pub(crate) fn make_folder(rt: HostRuntime, path: &str) -> io::Result<()> {
     Err(io::Error::from(ErrorKind::Interrupted))
 }
 
-/// Gives a folder that was just made to those who may write the one that it stands in. What is opened has to be what stands at the path.
+/// Gives a folder that was just made to those who may write the one that it stands in. What is opened has to be what
+/// stands at the path.
 fn give_folder(rt: HostRuntime, path: &str) -> io::Result<()> {
     let above = folder_at(rt, folder_above(path))?;
     let made = File::open(&rt, path)?;
@@ -111,8 +113,8 @@ fn give_folder(rt: HostRuntime, path: &str) -> io::Result<()> {
     give(&made, &above, found.mode() & 0o777 | of_writers(&above))
 }
 
-/// Makes a file that isn't there. Who may write the folder may write it, and nobody may read it who may not read the folder. A link that
-/// leads nowhere is no place for one.
+/// Makes a file that isn't there. Who may write the folder may write it, and nobody may read it who may not read the
+/// folder. A link that leads nowhere is no place for one.
 pub(crate) fn make_file(rt: HostRuntime, folder: &str, path: &str) -> io::Result<File> {
     let mut how = OpenOptions::new();
     how.read(true).write(true).create_new(true);

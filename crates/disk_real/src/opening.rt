@@ -54,9 +54,10 @@ fn is_of_user(rt: HostRuntime, found: &Metadata) -> io::Result<bool> {
     Ok(found_at(rt, RUNNING)?.is_some_and(|running| running.uid() == found.uid()))
 }
 
-/// Whether what was opened may be changed by way of a path. It may where it stands there itself, and by a link only where the link is the
-/// running user's, or of the owner of what it leads to: else whoever may make links in a folder would have the files of others changed.
-/// What was opened is asked for, so that a path which is changed in between gains nothing.
+/// Whether what was opened may be changed by way of a path. It may where it stands there itself, and by a link only
+/// where the link is the running user's, or of the owner of what it leads to: else whoever may make links in a folder
+/// would have the files of others changed. What was opened is asked for, so that a path which is changed in between
+/// gains nothing.
 pub(crate) fn may_change(rt: HostRuntime, path: &str, opened: &Metadata) -> io::Result<bool> {
     let standing = standing_at(rt, path)?;
     if standing.is_symlink() {
@@ -76,8 +77,8 @@ pub(crate) fn metadata_of(file: &File) -> io::Result<Metadata> {
     Err(io::Error::from(ErrorKind::Interrupted))
 }
 
-/// Opens a regular file. None where nothing is at the path, and nothing is to be made there. Whatever else is there isn't
-/// opened: a fifo could keep the caller waiting, and a device could do anything.
+/// Opens a regular file. None where nothing is at the path, and nothing is to be made there. Whatever else is there
+/// isn't opened: a fifo could keep the caller waiting, and a device could do anything.
 pub(crate) fn open_regular(
     rt: HostRuntime,
     path: &str,

@@ -27,13 +27,14 @@ enum Unlocked {
     NoLock,
 }
 
-/// The files of a folder by their names, seen as the folder's path and how often a call has failed. A file that isn't there
-/// is an empty one, and what is there has to be a regular file, or a link to one.
+/// The files of a folder by their names, seen as the folder's path and how often a call has failed. A file that isn't
+/// there is an empty one, and what is there has to be a regular file, or a link to one.
 ///
-/// A disk that finds its folder at the first call holds the folder's lock from then on, as long as it lives. While another
-/// one holds it, the call waits, for ten seconds at most, and then fails. Who may not make a lock in a folder that has none
-/// reads without one, changes nothing, and fails once the folder has a lock. Where there is no folder all files stay empty
-/// until the first write, which makes it and takes its lock; it fails where another one has made files in it.
+/// A disk that finds its folder at the first call holds the folder's lock from then on, as long as it lives. While
+/// another one holds it, the call waits, for ten seconds at most, and then fails. Who may not make a lock in a folder
+/// that has none reads without one, changes nothing, and fails once the folder has a lock. Where there is no folder all
+/// files stay empty until the first write, which makes it and takes its lock; it fails where another one has made files
+/// in it.
 #[derive(Drop)]
 pub struct RealDisk {
     rt: HostRuntime,
@@ -76,8 +77,8 @@ impl RealDisk {
         RealDisk::trying(rt, folder, MOST_TRIES)
     }
 
-    /// A disk over a folder that tries so often to take a lock that is held, a try each 5 milliseconds. `new` tries for ten
-    /// seconds.
+    /// A disk over a folder that tries so often to take a lock that is held, a try each 5 milliseconds. `new` tries for
+    /// ten seconds.
     pub fn trying(rt: HostRuntime, folder: &str, tries: u64) -> Result<RealDisk, Memory>
         ensures { IfOk result (λ disk. disk ≡ record { inner = folder.now; faults = 0 }) }
     {
@@ -162,8 +163,8 @@ impl RealDisk {
         }
     }
 
-    /// Opens a file that is there, once the folder is locked. None where it isn't, or where the folder wasn't at the first
-    /// call.
+    /// Opens a file that is there, once the folder is locked. None where it isn't, or where the folder wasn't at the
+    /// first call.
     fn open_locked(&mut self, file: &FileName, how: &OpenOptions) -> io::Result<Option<File>>
         ensures { self.new ≡ self.old }
     {
@@ -194,8 +195,8 @@ impl RealDisk {
         Ok(Some(opened))
     }
 
-    /// A change of a file needs a folder that stands there itself, or one that a link of the running user or of the folder's owner leads to; and
-    /// a lock that still is the folder's.
+    /// A change of a file needs a folder that stands there itself, or one that a link of the running user or of the
+    /// folder's owner leads to; and a lock that still is the folder's.
     fn look_at_folder(&self) -> io::Result<()> {
         let folder = self.folder.as_str();
         if standing_at(self.rt, folder)?.is_symlink() {
@@ -243,8 +244,8 @@ impl RealDisk {
         Ok(held?)
     }
 
-    /// Whether changes are kept in memory from now on: the first one is denied, and it may be an opening's, which brings
-    /// the open entries of a journal in.
+    /// Whether changes are kept in memory from now on: the first one is denied, and it may be an opening's, which
+    /// brings the open entries of a journal in.
     fn holds_from(&self, error: &io::Error) -> bool {
         self.found == Found::Journal && is_denied(error)
     }
@@ -287,7 +288,8 @@ impl RealDisk {
         Ok(count)
     }
 
-    /// Keeps in mind that a former journal was read, which an opening retires, or the header gate of the journal as open.
+    /// Keeps in mind that a former journal was read, which an opening retires, or the header gate of the journal as
+    /// open.
     fn note_journal(&mut self, file: &FileName, at: u64, bytes: &[u8])
         ensures { self.new ≡ self.old }
     {
@@ -380,8 +382,8 @@ impl RealDisk {
         Ok(())
     }
 
-    /// Syncs the folder, unless it was synced since a file was made in it: as long as it is locked no other program makes
-    /// one.
+    /// Syncs the folder, unless it was synced since a file was made in it: as long as it is locked no other program
+    /// makes one.
     fn keep_names(&mut self) -> io::Result<()>
         ensures { self.new ≡ self.old }
     {

@@ -1,4 +1,5 @@
-//! Two entries on their way through a journal, stopped behind each call and crashed; and how many entries and bytes have room.
+//! Two entries on their way through a journal, stopped behind each call and crashed; and how many entries and bytes
+//! have room.
 
 use crate::entries::{Held, MADE, SECOND, disk_of, have, is_added, is_begun};
 use crate::steps::is_stored;
@@ -68,8 +69,8 @@ fn stop_fits(alloc: Global, held: &Held<'_>, stop_after: u64, choice: u64) -> Re
     Ok(fits(stop_after, left_on(alloc, held, &disk)?))
 }
 
-/// Whether each stop up to so many calls fits, by so many choices. A count is a parameter, since a loop to a number that
-/// stands in its function is proved turn by turn.
+/// Whether each stop up to so many calls fits, by so many choices. A count is a parameter, since a loop to a number
+/// that stands in its function is proved turn by turn.
 fn every_stop_fits(alloc: Global, held: &Held<'_>, calls: u64, choices: u64) -> Result<bool, Fail> {
     for stop_after in 0..=calls {
         for choice in 0..choices {
@@ -129,7 +130,8 @@ fn fits_on(alloc: Global, entries: usize, body: usize) -> Result<bool, Fail> {
     fits_behind(alloc, &mut journal, entries, body)
 }
 
-/// The first of some rows that isn't so: how many entries were added, how long the next one's body is, and whether it fits.
+/// The first of some rows that isn't so: how many entries were added, how long the next one's body is, and whether it
+/// fits.
 fn first_misfit(
     alloc: Global,
     rows: &[(usize, usize, bool)],
@@ -142,8 +144,8 @@ fn first_misfit(
     Ok(None)
 }
 
-/// Each entry has 17 bytes; the next one's gate and length have 5, and it ends 67,200,005 bytes behind the first gate at
-/// most.
+/// Each entry has 17 bytes; the next one's gate and length have 5, and it ends 67,200,005 bytes behind the first gate
+/// at most.
 const ROOMS: [(usize, usize, bool); 7] = [
     (0, 67_200_000, true),
     (0, 67_200_001, false),

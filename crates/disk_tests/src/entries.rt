@@ -1,4 +1,5 @@
-//! Two entries, the header of their files, and how an entry is added to the list of a journal; and a disk of four files.
+//! Two entries, the header of their files, and how an entry is added to the list of a journal; and a disk of four
+//! files.
 ghost use Rattle.std.specs.Prelude.{◌≡◌, ◌++◌, ◌∷◌, [], T, true, false, IfOk, OnOk};
 ghost use Rattle.journal_codec.specs.Entry.{IsEntry};
 ghost use Rattle.journal_codec.specs.Forms.{behind_gate};
@@ -120,8 +121,8 @@ pub(crate) type Held<'a> = (&'a [u8], &'a [u8], &'a [u8], &'a [u8]);
 /// The calls that make a disk: a write and a sync of each file.
 pub(crate) const MADE: u64 = 8;
 
-/// A disk that holds this, and stops after so many calls behind those that made it. They are calls too, since a disk that is
-/// handed its files wants them proved to have four names, and that took minutes.
+/// A disk that holds this, and stops after so many calls behind those that made it. They are calls too, since a disk
+/// that is handed its files wants them proved to have four names, and that took minutes.
 pub(crate) fn disk_of(alloc: Global, held: &Held<'_>, stop_after: u64) -> Result<MemDisk, Fail> {
     let (first, second, former, journal) = held;
     let last = stop_after.saturating_add(MADE);

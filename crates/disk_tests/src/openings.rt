@@ -7,8 +7,8 @@ use journal_steps::JournalFault;
 use std::alloc::Global;
 use std::test::Fail;
 
-/// A former journal and a journal, the place that is told of what isn't whole in them, and the calls of their opening; what
-/// is left of the former journal, and what `a.ecf` and `b.ecf` have then, both of which had `0`.
+/// A former journal and a journal, the place that is told of what isn't whole in them, and the calls of their opening;
+/// what is left of the former journal, and what `a.ecf` and `b.ecf` have then, both of which had `0`.
 type Row = (
     &'static [u8],
     &'static [u8],
@@ -287,7 +287,8 @@ const HEADED: [Row; 17] = [
         b"0",
         b"2",
     ),
-    // An entry of a file that the header doesn't name, behind a former journal that is brought in and retired all the same.
+    // An entry of a file that the header doesn't name, behind a former journal that is brought in and retired all the
+    // same.
     (
         b"\x01\x0c\x00\x00\x00\x81\x05b.ecf\x01\x00\x00\x002\x00",
         b"\x01\x02\x0d\x00\x00\x00\x02\x05a.ecf\x05b.ecf\x01\x0c\x00\x00\x00\x81\x05c.ecf\x01\x00\x00\x003\x00",
@@ -377,8 +378,8 @@ fn told_of(alloc: Global, headed: bool, count: usize) -> Result<(Option<u64>, u6
 #[test]
 fn takes_the_most_entries_and_not_one_more(rt: HostRuntime) -> Result<(), Fail> {
     let alloc = rt.alloc();
-    // Two lengths, the first bytes and the header, 32 heads and bodies, and the head behind them; the sync of the journal;
-    // write, cut and sync of the file; and two calls for the gate.
+    // Two lengths, the first bytes and the header, 32 heads and bodies, and the head behind them; the sync of the
+    // journal; write, cut and sync of the file; and two calls for the gate.
     assert_eq!(rt; told_of(alloc, true, 32)?, (None, 75));
     assert_eq!(rt; told_of(alloc, true, 33)?, (Some(394), 69));
     // Of a former journal there is no head, and two calls more cut it.

@@ -1,5 +1,6 @@
-//! Runs of commits over the journal of a disk in memory: how each call ends, the state behind it, what the files hold and how many calls of the disk it took;
-//! and two commits and a flush with each call of the disk failing alone, and a crash behind them.
+//! Runs of commits over the journal of a disk in memory: how each call ends, the state behind it, what the files hold
+//! and how many calls of the disk it took; and two commits and a flush with each call of the disk failing alone, and a
+//! crash behind them.
 ghost use Rattle.std.specs.Prelude.{IfOk};
 ghost use Rattle.journal_codec.specs.Entry.{IsEntry};
 ghost use Rattle.intent_journal.specs.Journal.{IsHeaderBytes};
@@ -89,7 +90,8 @@ fn called(
     Ok((told, journal.state(), journal.into_disk()))
 }
 
-/// The same on an empty disk of which the call of this number fails, none where it is 0. Where it isn't opened, no call ends.
+/// The same on an empty disk of which the call of this number fails, none where it is 0. Where it isn't opened, no call
+/// ends.
 fn run_on(alloc: Global, failing: u64, letters: &[u8]) -> Result<(u64, State, MemDisk), Fail> {
     let disk = MemDisk::new(alloc, Vec::new(alloc), vec![in alloc; failing]?, None)?;
     match open(alloc, disk) {
@@ -103,8 +105,8 @@ fn has(alloc: Global, disk: &MemDisk, bytes: &[u8]) -> Result<bool, Fail> {
     Ok(disk.bytes(&name(alloc, "a.ecf")?) == bytes)
 }
 
-/// Some calls, the call of the disk that fails, how the calls end, the state behind them, what `a.ecf` has then, and the
-/// calls of the disk.
+/// Some calls, the call of the disk that fails, how the calls end, the state behind them, what `a.ecf` has then, and
+/// the calls of the disk.
 type Row = (&'static [u8], u64, u64, State, &'static [u8], u64);
 
 fn comes_to(alloc: Global, row: &Row) -> Result<bool, Fail> {
@@ -124,8 +126,8 @@ fn first_other(alloc: Global, rows: &[Row]) -> Result<Option<usize>, Fail> {
     Ok(None)
 }
 
-/// Two calls open, two settle the header gate, four put the head, and four each put a body and open its gate. A file that
-/// is brought in takes three, and the gate that is closed behind them two.
+/// Two calls open, two settle the header gate, four put the head, and four each put a body and open its gate. A file
+/// that is brought in takes three, and the gate that is closed behind them two.
 const ROWS: [Row; 12] = [
     (b"", 0, 0, State::Doubt, b"", 2),
     // Nothing waits.
@@ -150,7 +152,8 @@ fn writes_the_files_when_the_list_is_brought_in(rt: HostRuntime) -> Result<(), F
     Ok(())
 }
 
-/// How two commits and a flush end where this call of the disk fails, and what `a.ecf` has behind a crash and an opening.
+/// How two commits and a flush end where this call of the disk fails, and what `a.ecf` has behind a crash and an
+/// opening.
 fn wanted(failed: u64) -> (u64, &'static [u8]) {
     match failed {
         1..=2 => (0, b""),

@@ -1,5 +1,5 @@
-//! The entry of the present key, whose metadata are still read. No order of a file makes the work quadratic: a tree takes the
-//! metadata as they come, and gives them up in order, so that each joins the others at their end.
+//! The entry of the present key, whose metadata are still read. No order of a file makes the work quadratic: a tree
+//! takes the metadata as they come, and gives them up in order, so that each joins the others at their end.
 ghost use Rattle.std.specs.Prelude.{◌≡◌, ◌<◌, ◌≤◌, length, IfOk};
 ghost use Rattle.model_maps.specs.Entry.{longest_meta_name, plain_entry};
 ghost use Rattle.key_set.specs.EntryView.{entry_of};
@@ -45,7 +45,8 @@ impl EntrySoFar {
         }
     }
 
-    /// Gives a name a text, and answers whether the name is new. Else nothing changes. A name has 1 to `LONGEST_META_NAME` bytes.
+    /// Gives a name a text, and answers whether the name is new. Else nothing changes. A name has 1 to
+    /// `LONGEST_META_NAME` bytes.
     pub fn put_new(&mut self, name: &str, text: &str) -> Result<bool, Memory>
         requires some { 0 < length name.now }
         requires limit { length name.now ≤ longest_meta_name }

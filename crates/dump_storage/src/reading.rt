@@ -1,5 +1,5 @@
-//! Reads a dump: its keys, or the line from which on there is no reading. The bytes are gone over once, and those before
-//! a fault once more to count their lines.
+//! Reads a dump: its keys, or the line from which on there is no reading. The bytes are gone over once, and those
+//! before a fault once more to count their lines.
 ghost use Rattle.std.specs.Prelude.{◌≡◌, ◌≤◌, ◌-◌, ◌++◌, length, IfOk, OnOk, MatchOption, MatchResult};
 ghost use Rattle.model_dump.specs.Record.{header};
 ghost use Rattle.model_dump.specs.Adds.{Adds};

@@ -1,4 +1,5 @@
--- A map's entries one by one: the first n of them are a map, which the next one joins, and all of them are the whole map.
+-- A map's entries one by one: the first n of them are a map, which the next one joins, and all of them are the whole
+-- map.
 use Rattle.std.proofs.Common.{◌≡◌, ℕ, ◌+◌, ◌≤◌, T, cond, List, [], ◌∷◌, ◌++◌, length, take, slice_get, Some, None, sym, ap, subst, ◌∙◌, arith, append_assoc, append-nil}
 use Rattle.std.specs.Prelude.{sum_by}
 use Rattle.std.specs.Cmp.{IsTotalOrder}

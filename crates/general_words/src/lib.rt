@@ -1,5 +1,5 @@
-//! General words and lemmas, of which everything above makes use: texts, searches, finite maps entry by entry, saturated
-//! numbers, and answers for want of memory. Definitions and laws for the crates above; nothing here runs.
+//! General words and lemmas, of which everything above makes use: texts, searches, finite maps entry by entry,
+//! saturated numbers, and answers for want of memory. Definitions and laws for the crates above; nothing here runs.
 #![tactic(auto)]
 
 mod laws;

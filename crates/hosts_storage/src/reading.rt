@@ -10,7 +10,8 @@ use key_set::KeySet;
 use std::alloc::Global;
 use storage_api::ReadRefusal;
 
-/// The keys of a file; comments behind its last entry are dropped. A bad file's line is the first that has no reading, from 1.
+/// The keys of a file; comments behind its last entry are dropped. A bad file's line is the first that has no reading,
+/// from 1.
 pub fn read(alloc: Global, bytes: &[u8]) -> Result<KeySet, ReadRefusal>
     ensures { MatchResult result (λ keys. Reads bytes.now keys) (RefusesToRead (IsBadAt bytes.now)) }
 {

@@ -49,7 +49,8 @@ fn text_of(alloc: Global, keys: &KeySet) -> Result<Vec<u8>, Memory>
     Ok(bytes)
 }
 
-/// Appends the lines of all keys in name order, and answers whether the last one is open: aliases and a line feed may follow.
+/// Appends the lines of all keys in name order, and answers whether the last one is open: aliases and a line feed may
+/// follow.
 fn push_keys(bytes: &mut Vec<u8>, keys: &KeySet) -> Result<bool, Memory>
     ensures { IfOk result (λ is_open. bytes.new.items ++ tail_of is_open ([], []) ≡ bytes.old.items ++ text keys.now) }
 {
@@ -60,7 +61,8 @@ fn push_keys(bytes: &mut Vec<u8>, keys: &KeySet) -> Result<bool, Memory>
     Ok(is_open)
 }
 
-/// Appends a host's comments and the front of its line, or an alias to an open line, and answers whether a line is open then.
+/// Appends a host's comments and the front of its line, or an alias to an open line, and answers whether a line is open
+/// then.
 fn push_key(
     bytes: &mut Vec<u8>,
     is_open: bool,

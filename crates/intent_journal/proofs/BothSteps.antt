@@ -1,4 +1,5 @@
--- What the opening of both files of a journal finds and leaves: that of `journal2`, behind the retiring of the former one.
+-- What the opening of both files of a journal finds and leaves: that of `journal2`, behind the retiring of the former
+-- one.
 use Rattle.std.proofs.Common.{◌≡◌, ◌≢◌, ◌⊎◌, inl, inr, ℕ, ◌≤◌, List, [], ◌∷◌, ◌++◌, Bool, true, false, ◌||◌, not, length, Option, None, Result, Ok, Err, refl, sym, ap, ap₂, ◌∙◌, subst, arith}
 use Rattle.std.specs.Global.{Vec}
 use Rattle.std.specs.Prelude.{◌==◌}

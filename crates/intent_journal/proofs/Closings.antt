@@ -1,4 +1,5 @@
--- What the closing of the list's first gate in `journal2` makes of what is read there: the head before it stays, and behind it no list begins.
+-- What the closing of the list's first gate in `journal2` makes of what is read there: the head before it stays, and
+-- behind it no list begins.
 use Rattle.std.proofs.Common.{◌≡◌, ◌≢◌, ◌⊎◌, inl, inr, ℕ, ◌+◌, ◌≤◌, List, [], ◌∷◌, ◌++◌, length, take, drop, refl, sym, ap, ◌∙◌, subst, arith, length-drop, length-take, take-append-drop, take-take}
 use Rattle.std.specs.Prelude.{get_or}
 use Rattle.std.proofs.lemmas.List.{drop-take, drop_at, get_or-take}

@@ -1,4 +1,5 @@
--- Which disks are calm: one with one image, one whose list is there for good, and one whose header gate is closed for good.
+-- Which disks are calm: one with one image, one whose list is there for good, and one whose header gate is closed for
+-- good.
 use Rattle.std.proofs.Common.{◌≡◌, inl, inr, ℕ, ◌+◌, ◌≤◌, List, [], ◌∷◌, ◌++◌, length, take, drop, Option, refl, sym, ap, ◌∙◌, subst, arith, append_assoc, length-append}
 use Rattle.std.specs.List.{AllByRecursion}
 use Rattle.std.proofs.Math.Seq.{take-append_seam, drop-append_seam}

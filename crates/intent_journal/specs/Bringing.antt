@@ -1,4 +1,5 @@
--- What is left of the files while some texts go into them: those that later texts name too are left to them. This project's own.
+-- What is left of the files while some texts go into them: those that later texts name too are left to them. This
+-- project's own.
 use Rattle.std.specs.Prelude.{◌≡◌, ◌≢◌, ◌⊎◌, List, ℕ, Some, None, Result, OnOk}
 use Rattle.kdb_outside.specs.declared.disks.Disk.{Ghosts}
 use Rattle.kdb_outside.specs.declared.faults.Failed.{Failed}

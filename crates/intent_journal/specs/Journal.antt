@@ -11,9 +11,9 @@ use Rattle.journal_lists.specs.Grammar.{most_entries, last_place, head_size}
 use Rattle.journal_lists.specs.Heads.{head_start}
 use Rattle.journal_lists.specs.Lists.{list_bytes}
 
--- a journal over a disk: whether its header gate is open for good, and then how many bytes stand before its list; the entries whose
--- gates are open for good; whether a gate is in doubt, the one behind the list, or the header gate where that isn't open; and whether
--- the opening recovered entries
+-- a journal over a disk: whether its header gate is open for good, and then how many bytes stand before its list; the
+-- entries whose gates are open for good; whether a gate is in doubt, the one behind the list, or the header gate where
+-- that isn't open; and whether the opening recovered entries
 pub record JournalValue (D : Type 0) : Type 0 where
   pub disk : D
   pub headed : Bool
@@ -41,7 +41,8 @@ abbrev pub IsBehind : Bool → List ℕ → Type 0
 IsBehind false rest = IsClosed rest
 IsBehind true rest = Unit {0}
 
--- a journal begins with so many bytes, none where it has no header, and with the bytes of a list, and what stands behind them is so
+-- a journal begins with so many bytes, none where it has no header, and with the bytes of a list, and what stands
+-- behind them is so
 pub record StandsBehind (start : ℕ) (list : List (List FileText)) (Behind : List ℕ → Type 0) (c : List ℕ) : Type 0 where
   pub head : List ℕ
   pub rest : List ℕ
@@ -59,8 +60,8 @@ pub record IsList (entries : List (List FileText)) : Type 0 where
   pub within : length (list_bytes entries) ≤ last_place
   pub each : AllByRecursion IsEntry entries
 
--- the journal has its name and its place, there is room for the most entries, and each journal that a crash may leave holds the list, and behind it
--- the next gate that is to be written
+-- the journal has its name and its place, there is room for the most entries, and each journal that a crash may leave
+-- holds the list, and behind it the next gate that is to be written
 pub record IsSound (tells : Bool) (leaves : List ℕ → List ℕ → Type 0) (name : List ℕ) (place : ℕ) (headed : Bool) (start : ℕ) (list : List (List FileText)) (in_doubt : Bool) (room : ℕ) : Type 0 where
   pub named : name ≡ journal2_name
   pub placed : place ≡ start + length (list_bytes list)

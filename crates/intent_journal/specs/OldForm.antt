@@ -1,4 +1,5 @@
--- A journal that holds one entry of the form without a gate behind it, as an earlier program wrote it, or none. This project's own.
+-- A journal that holds one entry of the form without a gate behind it, as an earlier program wrote it, or none. This
+-- project's own.
 use Rattle.std.specs.Prelude.{◌≡◌, false, ℕ, List, drop}
 use Rattle.journal_codec.specs.Forms.{followed}
 use Rattle.journal_lists.specs.Grammar.{body_of}

@@ -1,4 +1,5 @@
--- What a crash may leave of a journal before and behind each of its steps, for any names that its header has. This project's own.
+-- What a crash may leave of a journal before and behind each of its steps, for any names that its header has. This
+-- project's own.
 use Rattle.std.specs.Prelude.{◌≡◌, ℕ, ◌++◌, ◌∷◌, [], true, false, List, Option, Some, None, Result}
 use Rattle.kdb_outside.specs.declared.disks.Disk.{Ghosts}
 use Rattle.kdb_outside.specs.declared.faults.Failed.{Failed}

@@ -1,4 +1,5 @@
--- The files that a list names, each once and by name, with the content of the last entry that names it. This project's own.
+-- The files that a list names, each once and by name, with the content of the last entry that names it. This project's
+-- own.
 use Rattle.std.specs.Prelude.{◌≡◌, ℕ, ◌<◌, Bool, true, ◌&&◌, List, [], ◌∷◌, slice_get, Option, Some, None, if◌then◌else◌}
 use Rattle.std.specs.FinMap as map
 use Rattle.std.specs.FinMap.{FinMap}

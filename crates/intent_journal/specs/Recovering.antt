@@ -1,4 +1,5 @@
--- What the recovery of open entries of one of the journal's own files makes of a disk, and what a crash may leave meanwhile. This project's own.
+-- What the recovery of open entries of one of the journal's own files makes of a disk, and what a crash may leave
+-- meanwhile. This project's own.
 use Rattle.std.specs.Prelude.{◌≡◌, ◌≢◌, ◌⊎◌, ℕ, List, [], ◌∷◌, Some, None, Result, OnOk}
 use Rattle.kdb_outside.specs.declared.disks.Disk.{Ghosts}
 use Rattle.kdb_outside.specs.declared.faults.Failed.{Failed}
@@ -16,7 +17,8 @@ use Rattle.intent_journal.specs.States.{HasBrought}
 abbrev pub IsElse : List ℕ → List (List FileText) → List ℕ → Type 0
 IsElse file list other = (other ≢ file) × (content_in (as_one list) other ≡ None)
 
--- the entries are on their way into their files: the file that they stand in is as it was read, and others are as a crash might have left them
+-- the entries are on their way into their files: the file that they stand in is as it was read, and others are as a
+-- crash might have left them
 pub record IsBringing (seen : Image) (leaves : List ℕ → List ℕ → Type 0) (file : List ℕ) (list : List (List FileText)) (image : Image) : Type 0 where
   pub this : image file ≡ seen file
   pub others : (other : List ℕ) → IsElse file list other → leaves other (image other)

@@ -1,4 +1,5 @@
--- What a crash may leave of the files, of the former journal, and of a head and a list in the journal, state by state. This project's own.
+-- What a crash may leave of the files, of the former journal, and of a head and a list in the journal, state by state.
+-- This project's own.
 use Rattle.std.specs.Prelude.{◌≡◌, ◌⊎◌, ℕ, ◌+◌, ◌<◌, ◌≤◌, Bool, true, false, List, [], ◌∷◌, ◌++◌, length, take, drop, Option, Some, None}
 use Rattle.kdb_outside.specs.Images.{Image, IsImage, Only}
 use Rattle.journal_codec.specs.declared.files.FileText.{FileText}
@@ -28,8 +29,8 @@ IsRetired leaves = ((c : List ℕ) → leaves journal_name c → length c < head
 abbrev pub BeginsWith : List (List ℕ) → List (List FileText) → (List ℕ → Type 0) → List ℕ → Type 0
 BeginsWith names entries Behind c = (rest : List ℕ) × (c ≡ front names ++ (list_bytes entries ++ rest)) × Behind rest
 
--- what stands from the gate behind a list on isn't broken, and with the entries that it reads as the files are these still, or these with
--- the entry in doubt
+-- what stands from the gate behind a list on isn't broken, and with the entries that it reads as the files are these
+-- still, or these with the entry in doubt
 pub record RestGives (names : List (List ℕ)) (number place : ℕ) (files : Image) (doubt : Option (List FileText)) (rest : List ℕ) : Type 0 where
   pub not_broken : ¬ BreaksFrom (listed names) number place rest
   pub outcomes : (more : List (List FileText)) → ReadsFrom (listed names) number place rest more → IsEither files doubt (with_entries files more)
@@ -41,8 +42,8 @@ pub record JournalGives (files : Image) (doubt : Option (List FileText)) (c : Li
 
 -- ---- where the header gate is open for good
 
--- the gates of the list are open for good, and the one behind it is closed for good; the files are these, and those that the list names
--- may have its contents
+-- the gates of the list are open for good, and the one behind it is closed for good; the files are these, and those
+-- that the list names may have its contents
 pub record IsListed (leaves : List ℕ → List ℕ → Type 0) (names : List (List ℕ)) (before : Image) (entries : List (List FileText)) : Type 0 where
   pub same : KeepsUnlisted leaves before entries
   pub former : IsRetired leaves
@@ -102,7 +103,8 @@ HasBodyBehind leaves start entries entry = (c : List ℕ) → leaves journal2_na
 abbrev pub HasBrought : (List ℕ → List ℕ → Type 0) → List FileText → Type 0
 HasBrought leaves texts = (file bytes : List ℕ) → content_in texts file ≡ Some bytes → Only bytes (leaves file)
 
--- a list that isn't in all its files has its gates open still, and one that is in them is closed, and its first gate in doubt
+-- a list that isn't in all its files has its gates open still, and one that is in them is closed, and its first gate in
+-- doubt
 abbrev pub IsUnfinished : Bool → List (List ℕ) → Image → List (List FileText) → (List ℕ → List ℕ → Type 0) → Type 0
 IsUnfinished false names before entries leaves = IsListed leaves names before entries
 IsUnfinished true names before entries leaves = IsInDoubt leaves names (with_entries before entries) [] None
@@ -136,8 +138,8 @@ pub record EndsAt (at : ℕ) (journal c : List ℕ) : Type 0 where
   pub front : take at c ≡ take at journal
   pub closed : gate (drop at c) ≡ 0
 
--- the journals that a crash may leave differ in the byte of one gate alone, or only behind a gate that is closed in all of them, or all are
--- too short to be open
+-- the journals that a crash may leave differ in the byte of one gate alone, or only behind a gate that is closed in all
+-- of them, or all are too short to be open
 abbrev pub IsOneGate : (ℕ → Type 0) → ℕ → List ℕ → (List ℕ → Type 0) → Type 0
 IsOneGate Gate least journal leaves = ((at : ℕ) × Gate at × ((c : List ℕ) → leaves c → DiffersAt at journal c))
     ⊎ ((at : ℕ) × Gate at × ((c : List ℕ) → leaves c → EndsAt at journal c))
@@ -154,8 +156,8 @@ pub record IsCalm (seen : Image) (leaves : List ℕ → List ℕ → Type 0) (fi
 
 -- ---- a journal at rest
 
--- what a crash may leave, by whether the header gate is open for good and whether a gate is in doubt: the files from before the list,
--- and what is in doubt
+-- what a crash may leave, by whether the header gate is open for good and whether a gate is in doubt: the files from
+-- before the list, and what is in doubt
 abbrev pub RestsAs : (headed in_doubt : Bool) → (List ℕ → List ℕ → Type 0) → List (List ℕ) → Image → List (List FileText) → Option (List FileText) → Type 0
 RestsAs true false leaves names before list doubt = IsListed leaves names before list
 RestsAs true true leaves names before list doubt = IsInDoubt leaves names before list doubt

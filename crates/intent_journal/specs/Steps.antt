@@ -10,8 +10,8 @@ use Rattle.journal_steps.specs.Moments.{LeavesOnly}
 use Rattle.intent_journal.specs.Journal.{JournalValue}
 use Rattle.intent_journal.specs.Outcomes.{HasOnly}
 
--- what a crash may leave behind a step that went well, and behind one that failed; and each image that one left since the step began has
--- only outcomes with this property
+-- what a crash may leave behind a step that went well, and behind one that failed; and each image that one left since
+-- the step began has only outcomes with this property
 pub record Passes {D : Type 0} (g : Ghosts D) (old new : D) (result : Result Unit Failed) (Done Undone : (List ℕ → List ℕ → Type 0) → Type 0) (Property : Image → Type 0) : Type 0 where
   pub ok : OnOk result (Done (g.may_leave new))
   pub err : OnErr result (Undone (g.may_leave new))

@@ -16,8 +16,8 @@ use journal_steps::put_file;
 use kdb_outside::{Disk, Failed, FileName};
 use key_meta::List;
 
-/// Gives each file of a list of entries its last content, in whatever state they are. After Err some have theirs; no other file
-/// changes. The journal is left alone.
+/// Gives each file of a list of entries its last content, in whatever state they are. After Err some have theirs; no
+/// other file changes. The journal is left alone.
 pub fn bring_in<D: Disk>(disk: &mut D, list: &[List<FileText>]) -> Result<(), Failed>
     requires { AllByRecursion IsEntry list.now }
     ensures brought { D.tells disk.old ≡ true → OnOk result (HasBrought (D.may_leave disk.new) (as_one list.now)) }

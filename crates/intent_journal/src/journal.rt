@@ -58,7 +58,8 @@ impl<D: Disk> Model for Journal<D> {
 }
 
 impl<D: Disk> Journal<D> {
-    /// What is known of the gates: the header gate is closed, or it is open and the list empty or not, or a gate is in doubt.
+    /// What is known of the gates: the header gate is closed, or it is open and the list empty or not, or a gate is in
+    /// doubt.
     pub fn state(&self) -> State
         ensures { result ≡ state_of self.now }
     {
@@ -124,7 +125,8 @@ impl<D: Disk> Journal<D> {
         is_room(self.list.len(), self.place - self.start, body)
     }
 
-    /// Closes the gate in doubt: the header gate, where that isn't open for good. A journal without a doubt is left as it is.
+    /// Closes the gate in doubt: the header gate, where that isn't open for good. A journal without a doubt is left as
+    /// it is.
     pub fn settle(&mut self) -> Result<(), Failed>
         ensures sure { self.old.in_doubt ≡ false → self.new ≡ self.old }
         ensures ok { OnOk result (self.new.in_doubt ≡ false) }
@@ -142,8 +144,8 @@ impl<D: Disk> Journal<D> {
         Ok(())
     }
 
-    /// Puts the head of the journal, as `journal_codec::encode_header` gives it: it is written behind the closed header gate, and
-    /// then the gate is opened. After `Err` the header gate is in doubt.
+    /// Puts the head of the journal, as `journal_codec::encode_header` gives it: it is written behind the closed header
+    /// gate, and then the gate is opened. After `Err` the header gate is in doubt.
     pub fn put_header(&mut self, header: &[u8]) -> Result<(), Failed>
         requires bare { self.old.headed ≡ false }
         requires sure { self.old.in_doubt ≡ false }
@@ -163,7 +165,8 @@ impl<D: Disk> Journal<D> {
         Ok(())
     }
 
-    /// Writes the length and the body of an entry and a closed gate, as `journal_codec::encode` gives them, behind the closed gate.
+    /// Writes the length and the body of an entry and a closed gate, as `journal_codec::encode` gives them, behind the
+    /// closed gate.
     pub fn put_body(&mut self, encoded: &[u8]) -> Result<(), Failed>
         requires headed { self.old.headed ≡ true }
         requires sure { self.old.in_doubt ≡ false }
@@ -218,7 +221,8 @@ impl<D: Disk> Journal<D> {
         put_pending(&mut self.disk, self.list.as_slice(), i)
     }
 
-    /// Closes the gate before a list whose files all have their last contents. The list is empty then, also after `Err`.
+    /// Closes the gate before a list whose files all have their last contents. The list is empty then, also after
+    /// `Err`.
     pub fn close_gate(&mut self) -> Result<(), Failed>
         requires headed { self.old.headed ≡ true }
         requires sure { self.old.in_doubt ≡ false }
@@ -233,8 +237,8 @@ impl<D: Disk> Journal<D> {
         self.shut()
     }
 
-    /// Gives each file of the list its last content, and closes the list. After a failure in a file the journal lags still; after one of
-    /// the closing it is empty and in doubt.
+    /// Gives each file of the list its last content, and closes the list. After a failure in a file the journal lags
+    /// still; after one of the closing it is empty and in doubt.
     pub fn finish(&mut self) -> Result<(), Failed>
         requires headed { self.old.headed ≡ true }
         requires sure { self.old.in_doubt ≡ false }

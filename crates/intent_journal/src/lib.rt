@@ -1,6 +1,6 @@
-//! A journal of many entries: a head that names the files of the table, behind a gate, and a list of entries with new contents of these
-//! files, each behind a gate. An entry goes to the disk behind a closed gate, the gate opens, and the files take their contents later, those
-//! of the whole list at once.
+//! A journal of many entries: a head that names the files of the table, behind a gate, and a list of entries with new
+//! contents of these files, each behind a gate. An entry goes to the disk behind a closed gate, the gate opens, and the
+//! files take their contents later, those of the whole list at once.
 #![tactic(auto)]
 
 mod bringing;

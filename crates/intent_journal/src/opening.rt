@@ -18,10 +18,11 @@ use kdb_outside::{Disk, Failed, FileName};
 use key_meta::List;
 use std::alloc::Global;
 
-/// Opens the journal of a disk: retires the former one, and then reads the open entries of `journal2` and brings them into their files.
-/// Where the former one is too short for an entry and there is no open one, the disk is only read. The answer has the entries that were found
-/// in each, the latter in room for as many as a list can have. BadJournal where an open entry or the head of `journal2` isn't whole, with its
-/// place; UnknownVersion where `journal2` has another version; DiskFault where the disk failed; Memory where memory is out.
+/// Opens the journal of a disk: retires the former one, and then reads the open entries of `journal2` and brings them
+/// into their files. Where the former one is too short for an entry and there is no open one, the disk is only read.
+/// The answer has the entries that were found in each, the latter in room for as many as a list can have. BadJournal
+/// where an open entry or the head of `journal2` isn't whole, with its place; UnknownVersion where `journal2` has
+/// another version; DiskFault where the disk failed; Memory where memory is out.
 pub(crate) fn open<D: Disk>(
     alloc: Global,
     disk: &mut D,

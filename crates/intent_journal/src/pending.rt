@@ -1,5 +1,5 @@
-//! The files that a list names, each once and by name, with the content of the last entry that names it: found by a search for the least name
-//! above another one, so without memory.
+//! The files that a list names, each once and by name, with the content of the last entry that names it: found by a
+//! search for the least name above another one, so without memory.
 ghost use Rattle.std.specs.Prelude.{◌≡◌, ◌<◌, ◌≤◌, ℕ, ◌+◌, length, slice_get, List, Some, None, true};
 ghost use Rattle.kdb_outside.specs.Faults.{HasCause};
 ghost use Rattle.kdb_outside.specs.Frames.{GoesOn};

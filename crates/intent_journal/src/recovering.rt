@@ -14,7 +14,8 @@ use journal_steps::write_through;
 use kdb_outside::{Disk, Failed, FileName};
 use key_meta::List;
 
-/// Brings the open entries of a file of the journal into their files, and closes the gate at this place, which stands before them.
+/// Brings the open entries of a file of the journal into their files, and closes the gate at this place, which stands
+/// before them.
 pub(crate) fn recover<D: Disk>(
     disk: &mut D,
     name: &FileName,

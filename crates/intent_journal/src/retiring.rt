@@ -15,8 +15,9 @@ use kdb_outside::{Disk, Failed, FileName};
 use key_meta::List;
 use std::alloc::Global;
 
-/// Retires the former journal of a disk, if there is one: its open entries, which are answered, come into their files, and it is cut to
-/// its closed gate. BadJournal where an open entry isn't whole, with the place in its body, and then nothing is written.
+/// Retires the former journal of a disk, if there is one: its open entries, which are answered, come into their files,
+/// and it is cut to its closed gate. BadJournal where an open entry isn't whole, with the place in its body, and then
+/// nothing is written.
 pub(crate) fn retire<D: Disk>(
     alloc: Global,
     disk: &mut D,

@@ -35,7 +35,8 @@ pub(crate) fn put_header<D: Disk>(
     write_through(disk, name, 0, &[OPEN])
 }
 
-/// Writes the length and the body of an entry, and a closed gate, behind the closed gate at this place, which ends a list.
+/// Writes the length and the body of an entry, and a closed gate, behind the closed gate at this place, which ends a
+/// list.
 pub(crate) fn put_body<D: Disk>(
     disk: &mut D,
     name: &FileName,

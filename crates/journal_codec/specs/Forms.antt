@@ -1,5 +1,5 @@
--- The two forms of a body: its first byte is the number of files, or 128 more than it, and then another gate stands behind the body. This
--- project's own.
+-- The two forms of a body: its first byte is the number of files, or 128 more than it, and then another gate stands
+-- behind the body. This project's own.
 use Rattle.std.specs.Prelude.{ℕ, ◌+◌, ◌-◌, Bool, false, List, [], ◌∷◌, ◌++◌, length, if◌then◌else◌, nat_lt}
 use Rattle.std.specs.List.{flat_map}
 use Rattle.journal_codec.specs.declared.files.FileText.{FileText}

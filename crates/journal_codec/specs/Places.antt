@@ -1,5 +1,5 @@
--- Where a body goes wrong that is no entry's: behind the longest beginning that the body of an entry can have. (This project's own. After
--- the longest viable prefix, at which a parser tells an error.)
+-- Where a body goes wrong that is no entry's: behind the longest beginning that the body of an entry can have. (This
+-- project's own. After the longest viable prefix, at which a parser tells an error.)
 use Rattle.std.specs.Prelude.{◌≡◌, ◌≢◌, ℕ, ◌+◌, ◌≤◌, List, [], ◌∷◌, ◌++◌, length, Option, Some, None, All, if◌then◌else◌, nat_le, ◌==◌}
 use Rattle.std.specs.List.{flat_map}
 use Rattle.std.specs.List.Sorted.{IsStrictlySortedBy}
@@ -41,8 +41,8 @@ abbrev pub bytes_of : Beginning → List ℕ
 bytes_of Nothing = []
 bytes_of (Begun count files next) = count ∷ (flat_map spelled_file files ++ spelled_name next)
 
--- how many bytes the length has that comes next: one before a name, four before a content, and none before how many files there are or where
--- all of them are there
+-- how many bytes the length has that comes next: one before a name, four before a content, and none before how many
+-- files there are or where all of them are there
 abbrev pub length_due : Beginning → ℕ
 length_due Nothing = 0
 length_due (Begun count files None) = if length files == count then 0 else 1
@@ -56,7 +56,8 @@ passed due rest = if nat_le due (length rest) then due else 0
 abbrev pub IsFront : List ℕ → List ℕ → Type 0
 IsFront front bytes = (rest : List ℕ) × (bytes ≡ front ++ rest)
 
--- the place is behind the longest beginning that an entry's body can have, and behind the length that comes next: a length has no rule of its own
+-- the place is behind the longest beginning that an entry's body can have, and behind the length that comes next: a
+-- length has no rule of its own
 pub record IsPlace (body : List ℕ) (at : ℕ) : Type 0 where
   pub no_entry : (files : List FileText) → IsEntry files → spelled files ≢ body
   pub begun : Beginning

@@ -12,7 +12,8 @@ pub data Reading : Type 0 where
   Reads : List FileText → Reading
   Fails : ℕ → Reading
 
--- a field gives its value and the bytes behind it; where it has no reading, it gives how many bytes stand from it to the end
+-- a field gives its value and the bytes behind it; where it has no reading, it gives how many bytes stand from it to
+-- the end
 abbrev pub Field : Type 0 → Type 0
 Field A = Result (A × List ℕ) ℕ
 

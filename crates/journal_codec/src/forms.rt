@@ -1,4 +1,5 @@
-//! The two forms of a body: its count is the number of files, or so much over it where another gate stands behind the body.
+//! The two forms of a body: its count is the number of files, or so much over it where another gate stands behind the
+//! body.
 ghost use Rattle.std.specs.Prelude.{◌≡◌};
 ghost use Rattle.journal_codec.specs.Forms.{followed as is_followed, number_in};
 

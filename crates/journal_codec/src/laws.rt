@@ -10,7 +10,8 @@ ghost use Rattle.journal_codec.specs.Listed.{is_listed, are_listed, read_listed}
 ghost use Rattle.journal_codec.specs.Reading.{Reads, Fails, read_body};
 ghost use Rattle.journal_codec.specs.Places.{IsPlace};
 
-/// What is spelled is read again, in both forms, so an entry has one spelling of each form, and no two entries share it.
+/// What is spelled is read again, in both forms, so an entry has one spelling of each form, and no two entries share
+/// it.
 pub fn reads_what_is_spelled()
     ensures again { (files : List FileText) → IsEntry files → read_body (uncounted (spelled files)) ≡ Reads files }
     ensures again_on { (files : List FileText) → IsEntry files → read_body (uncounted (spelled_on files)) ≡ Reads files }
@@ -27,7 +28,8 @@ pub fn spells_what_is_read()
     ensures spelling_on { (body : List ℕ) (files : List FileText) → All (λ b. b < 256) body → is_followed body ≡ true → read_body (uncounted body) ≡ Reads files → spelled_on files ≡ body }
 {}
 
-/// A body with its plain count is refused at the place behind the longest beginning that an entry's body can have, and at no other.
+/// A body with its plain count is refused at the place behind the longest beginning that an entry's body can have, and
+/// at no other.
 pub fn a_body_fails_behind_its_longest_beginning()
     ensures place { (body : List ℕ) (at : ℕ) → All (λ b. b < 256) body → read_body body ≡ Fails at → IsPlace body at }
     ensures alone { (body : List ℕ) (at : ℕ) → All (λ b. b < 256) body → IsPlace body at → read_body body ≡ Fails at }

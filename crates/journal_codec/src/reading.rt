@@ -19,8 +19,9 @@ use std::alloc::Global;
 /// The most files of an entry, and of a header.
 const MOST_FILES: u8 = 64;
 
-/// The files of the entry that this body spells, with either form of the count, or the place of the first field that has no reading: it is behind the longest beginning that the
-/// body of an entry can have, and behind the length that comes next, if that is whole.
+/// The files of the entry that this body spells, with either form of the count, or the place of the first field that
+/// has no reading: it is behind the longest beginning that the body of an entry can have, and behind the length that
+/// comes next, if that is whole.
 pub fn decode(alloc: Global, body: &[u8]) -> Result<List<FileText>, DecodeFault>
     ensures found { IfOk result (λ files. IsEntry files × (spelled files ≡ uncounted body.now)) }
     ensures reads { IfOk result (λ files. read_body (uncounted body.now) ≡ Reads files) }

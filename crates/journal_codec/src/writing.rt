@@ -12,7 +12,8 @@ use std::alloc::Global;
 /// A closed gate.
 pub(crate) const CLOSED: u8 = 0;
 
-/// The length of the entry's body in four bytes, the low one first, the body, whose count says that another gate follows, and that gate, closed.
+/// The length of the entry's body in four bytes, the low one first, the body, whose count says that another gate
+/// follows, and that gate, closed.
 pub fn encode(alloc: Global, files: &[FileText]) -> Result<Vec<u8>, Memory>
     requires { IsEntry files.now }
     ensures { IfOk result (λ bytes. bytes.items ≡ behind_gate files.now ++ 0 ∷ []) }

@@ -1,10 +1,12 @@
--- The bytes behind a gate, a length in four bytes and the body of an entry, and how a journal reads that holds one entry. This project's own.
+-- The bytes behind a gate, a length in four bytes and the body of an entry, and how a journal reads that holds one
+-- entry. This project's own.
 use Rattle.std.specs.Prelude.{◌≡◌, ◌≢◌, ◌⊎◌, ℕ, ◌<◌, ◌≤◌, List, [], ◌∷◌, length, take, drop, slice_index, Bool, true, false, Option, Some, None, Result, Ok, Err, if◌then◌else◌, ◌&&◌, ◌==◌, nat_le, nat_lt}
 use Rattle.journal_codec.specs.declared.files.FileText.{FileText}
 use Rattle.journal_codec.specs.Entry.{number_of, journal_name, journal2_name}
 use Rattle.journal_codec.specs.Reading.{Reading, Reads, Fails, read_body}
 
--- a file that the journal keeps for itself, and no entry names: the one that the former program wrote, and this program's
+-- a file that the journal keeps for itself, and no entry names: the one that the former program wrote, and this
+-- program's
 abbrev pub IsOwnFile : List ℕ → Type 0
 IsOwnFile file = (file ≡ journal_name) ⊎ (file ≡ journal2_name)
 
@@ -16,7 +18,8 @@ gate journal = slice_index journal 0
 abbrev pub longest_body : ℕ
 longest_body = 67200000
 
--- the files of a body that is as long as it says, or the place of the field that has no reading, or the number of bytes where they have one, but are too few
+-- the files of a body that is as long as it says, or the place of the field that has no reading, or the number of bytes
+-- where they have one, but are too few
 abbrev pub body_or_place : Reading → ℕ → ℕ → Result (List FileText) ℕ
 body_or_place (Fails at) size there = Err at
 body_or_place (Reads files) size there = if there == size then Ok files else Err there
@@ -39,7 +42,8 @@ abbrev pub entries_of : Option ℕ → List ℕ → Result (List (List FileText)
 entries_of None tail = Ok []
 entries_of (Some size) tail = one_entry (entry_or_place size (take size (drop 4 tail)))
 
--- what stands behind a gate: nothing, where it is too short for a length; an entry; or a body that isn't whole, from this place on
+-- what stands behind a gate: nothing, where it is too short for a length; an entry; or a body that isn't whole, from
+-- this place on
 unfoldable pub entries_behind : List ℕ → Result (List (List FileText)) ℕ
 entries_behind tail = entries_of (length_at tail) tail
 

@@ -1,5 +1,5 @@
--- How an image read to a program whose journal held one entry: with its gate taken as open or as shut, as open entries or not at all. This
--- project's own.
+-- How an image read to a program whose journal held one entry: with its gate taken as open or as shut, as open entries
+-- or not at all. This project's own.
 use Rattle.std.specs.Prelude.{◌≡◌, ℕ, List, Bool, Result, Ok, Err}
 use Rattle.kdb_outside.specs.Images.{Image}
 use Rattle.journal_codec.specs.declared.files.FileText.{FileText}

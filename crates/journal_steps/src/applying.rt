@@ -9,8 +9,8 @@ ghost use Rattle.journal_steps.specs.Moments.{AddsOnly, KeepsElse};
 use journal_codec::FileText;
 use kdb_outside::{Disk, Failed};
 
-/// Gives a file its content: a write at its start, a cut behind it, and a sync. Err where the disk failed: the file may then be
-/// whole or torn, and no other file changed.
+/// Gives a file its content: a write at its start, a cut behind it, and a sync. Err where the disk failed: the file may
+/// then be whole or torn, and no other file changed.
 pub fn put_file<D: Disk>(disk: &mut D, text: &FileText) -> Result<(), Failed>
     ensures durable { D.tells disk.old ≡ true → OnOk result (Only text.now.bytes (D.may_leave disk.new text.now.file)) }
     ensures others { D.tells disk.old ≡ true → KeepsOtherImages text.now.file (D.may_leave disk.old) (D.may_leave disk.new) }

@@ -1,5 +1,5 @@
-//! What the journal of a store is made of: the content of a file on its way into it, bytes that are written and synced at once, what a gate
-//! tells, and why a journal isn't opened.
+//! What the journal of a store is made of: the content of a file on its way into it, bytes that are written and synced
+//! at once, what a gate tells, and why a journal isn't opened.
 #![tactic(auto)]
 
 mod applying;

@@ -8,8 +8,8 @@ const HEAD: usize = 5;
 /// An open gate.
 const OPEN: u8 = 1;
 
-/// The length in bytes of the body that the first five bytes of a journal tell of. None where there are fewer of them, or the
-/// gate isn't open.
+/// The length in bytes of the body that the first five bytes of a journal tell of. None where there are fewer of them,
+/// or the gate isn't open.
 pub fn length_in(head: &[u8]) -> Option<u32>
     requires { length head.now ≤ 5 }
     ensures { result ≡ open_length head.now }

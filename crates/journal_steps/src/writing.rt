@@ -7,8 +7,8 @@ ghost use Rattle.journal_steps.specs.Steps.{WritesThrough};
 
 use kdb_outside::{Disk, Failed, FileName};
 
-/// Writes the bytes at this place, at the file's end or before it, and syncs the file. Err where the disk failed: the bytes may
-/// then be there whole or in part.
+/// Writes the bytes at this place, at the file's end or before it, and syncs the file. Err where the disk failed: the
+/// bytes may then be there whole or in part.
 pub fn write_through<D: Disk>(
     disk: &mut D,
     file: &FileName,

@@ -1,4 +1,5 @@
--- A key of few parts fits into the object of a map where it fits into that of leaves that are cut off below the deepest key.
+-- A key of few parts fits into the object of a map where it fits into that of leaves that are cut off below the deepest
+-- key.
 use Rattle.std.specs.Prelude.{◌≡◌, ◌⊎◌, ℕ, zero, suc, ◌+◌, ◌≤◌, Bool, true, false, List, [], ◌∷◌, length, map, take}
 use Rattle.std.proofs.Common.{refl, sym, ap, ◌∙◌, cond, arith}
 use Rattle.general_words.specs.Texts.{is_text}

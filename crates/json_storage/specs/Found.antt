@@ -32,7 +32,8 @@ pub record Joined (Adds : List Leaf → Type 0) (before after : Found) : Type 0 
   pub joined : leaves_in after.keys ≡ leaves_in before.keys ++ added
   pub sound : IsSound after
 
--- what a part of a file adds has joined the keys, or whatever it adds, the keys with it and any others behind are no map of a file
+-- what a part of a file adds has joined the keys, or whatever it adds, the keys with it and any others behind are no
+-- map of a file
 abbrev pub HasAdded : (List Leaf → Type 0) → Found → Found → Bool → Type 0
 HasAdded Adds before after true = Joined Adds before after
 HasAdded Adds before after false = (added more : List Leaf) (keys : KeyMap) → Adds added → Fill (leaves_in before.keys ++ (added ++ more)) keys → ⊥

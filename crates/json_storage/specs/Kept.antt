@@ -1,4 +1,5 @@
--- What a value keeps where only the names of one kind stand side by side: at which parts keys fit into it. (This project's own.)
+-- What a value keeps where only the names of one kind stand side by side: at which parts keys fit into it. (This
+-- project's own.)
 use Rattle.std.specs.Prelude.{◌≡◌, ◌≢◌, ℕ, ◌+◌, ◌≤◌, ◌&&◌, ◌||◌, Bool, true, false, not, if◌then◌else◌, List, [], ◌∷◌, length}
 use Rattle.std.specs.FinMap as finite
 use Rattle.general_words.specs.Texts.{is_text}

@@ -45,7 +45,8 @@ abbrev pub IsBefore : Part → Members → Type 0
 IsBefore part no_members = ⊤
 IsBefore part (member name d ms) = text_cmp part name ≡ Less
 
--- the first member was taken out where it has a name, and this is its value; else all are there, and this is an empty object
+-- the first member was taken out where it has a name, and this is its value; else all are there, and this is an empty
+-- object
 abbrev pub TakesFirst : Part → Members → Members → Data → Type 0
 TakesFirst part before after d = ((before ≡ member part d after) × IsBefore part after) ⊎ (BeginsOther part before × (after ≡ before) × (d ≡ empty))
 

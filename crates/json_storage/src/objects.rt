@@ -1,4 +1,5 @@
-//! The object of a map, leaf by leaf from the last one: each leaf comes before all others, so only first members change.
+//! The object of a map, leaf by leaf from the last one: each leaf comes before all others, so only first members
+//! change.
 ghost use Rattle.std.specs.Prelude.{◌≡◌, ◌+◌, ◌∷◌, ◌<◌, [], length, IfOk, OnSome, MatchOption};
 ghost use Rattle.std.specs.Bool.{Decides};
 ghost use Rattle.std.specs.FinMap as map;
@@ -16,7 +17,8 @@ use key_set::KeySet;
 use serde_json::{Map, Value};
 use std::alloc::Global;
 
-/// The most parts of a leaf: one more than a key may have, so that what is below a key is seen, and no value nests deeper.
+/// The most parts of a leaf: one more than a key may have, so that what is below a key is seen, and no value nests
+/// deeper.
 pub const DEEPEST: usize = MOST_PARTS + 1;
 
 /// The object of a map, whose leaves have their first parts alone.

@@ -25,7 +25,8 @@ use serde_json::Value;
 use std::alloc::Global;
 use storage_api::WriteRefusal;
 
-/// The text of a map; `NotStorable` where it has a key that a file can't hold beside the others, with the first such key.
+/// The text of a map; `NotStorable` where it has a key that a file can't hold beside the others, with the first such
+/// key.
 pub fn write(alloc: Global, keys: &KeySet) -> Result<Vec<u8>, WriteRefusal>
     requires limited { IsLimited keys.now }
     ensures text { MatchResult result (λ bytes. (bytes.items ≡ text keys.now) × IsStorable keys.now) (RefusesToWrite (BreaksAt keys.now)) }

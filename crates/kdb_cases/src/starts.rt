@@ -44,7 +44,8 @@ impl Start {
         self.stop_after = last;
     }
 
-    /// A disk that begins so and is stopped behind so many calls, or whose call of a number fails, if at all. All is kept here.
+    /// A disk that begins so and is stopped behind so many calls, or whose call of a number fails, if at all. All is
+    /// kept here.
     pub fn copy_disk(&self, stop: Option<u64>, failing: Option<u64>) -> Result<MemDisk, Memory> {
         let mut again = Start::new(self.alloc);
         again.stop_after = stop;

@@ -1,5 +1,5 @@
-//! A run that the disk stops behind each of its calls in turn, or of which each call fails alone, with a crash of each of ten
-//! numbers behind it: what the next run finds.
+//! A run that the disk stops behind each of its calls in turn, or of which each call fails alone, with a crash of each
+//! of ten numbers behind it: what the next run finds.
 
 use crate::ran::{Streams, run_over};
 use crate::starts::Start;
@@ -15,8 +15,8 @@ const CRASHES: u64 = 10;
 /// No run of a case makes as many calls.
 const MOST_CALLS: u64 = 100;
 
-/// What came of the runs with one stop or failing call: their status, and whether the files were old, new or anything else
-/// behind some crash.
+/// What came of the runs with one stop or failing call: their status, and whether the files were old, new or anything
+/// else behind some crash.
 #[derive(Clone, Copy, PartialEq, Eq)]
 struct Found {
     status: u8,
@@ -36,8 +36,8 @@ struct Trial<'a> {
     new: Vec<u8>,
 }
 
-/// A row for each range of stops of which the same came, up to the first that stops nothing; or of calls that fail alone,
-/// from the first to the last of the run.
+/// A row for each range of stops of which the same came, up to the first that stops nothing; or of calls that fail
+/// alone, from the first to the last of the run.
 pub fn rows_of<R: Threads + Wait + Sync>(
     threads: &R,
     alloc: Global,
@@ -75,8 +75,8 @@ pub fn rows_of<R: Threads + Wait + Sync>(
     Ok(rows)
 }
 
-/// What came of the runs that are stopped behind so many calls, or whose call of this number fails, with each crash behind
-/// them. A disk that isn't stopped is left without a crash, too.
+/// What came of the runs that are stopped behind so many calls, or whose call of this number fails, with each crash
+/// behind them. A disk that isn't stopped is left without a crash, too.
 fn found_at<R: Threads + Wait + Sync>(
     threads: &R,
     alloc: Global,

@@ -1,6 +1,7 @@
--- That threads may share a store, where its disk and its matcher may go to another thread and its formats may be shared. No such fact is made for a struct that
--- has a snapshot, as the value under the lock does, and a search which goes down through all that a core has runs out of steps: so each part is a fact of its own.
--- A function above that has threads share a store cites `store_sync` (see `batch_run`).
+-- That threads may share a store, where its disk and its matcher may go to another thread and its formats may be
+-- shared. No such fact is made for a struct that has a snapshot, as the value under the lock does, and a search which
+-- goes down through all that a core has runs out of steps: so each part is a fact of its own. A function above that has
+-- threads share a store cites `store_sync` (see `batch_run`).
 use denote.RattleType.{RattleType}
 use denote.Param.Send.{IsSend, IsSync, sendable}
 use Rattle.std.proofs.Crossing.{crosses}

@@ -1,4 +1,5 @@
--- What a record keeps of the involved mounts, and what a merge makes of a set with it: a name that no involved mount owns stays as it was.
+-- What a record keeps of the involved mounts, and what a merge makes of a set with it: a name that no involved mount
+-- owns stays as it was.
 use Rattle.std.proofs.Common.{◌≡◌, ℕ, ◌+◌, Bool, true, false, cond, not, List, [], ◌∷◌, map as over, take, slice_get, Option, Some, None, refl, sym, ap, ap₂, subst, ◌∙◌}
 use Rattle.std.specs.FinMap as map
 use Rattle.std.specs.List.{list_any}

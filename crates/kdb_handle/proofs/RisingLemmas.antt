@@ -1,4 +1,5 @@
--- The commits in the way of a merged set have rising numbers: behind each get the fronts lie at or above the one before.
+-- The commits in the way of a merged set have rising numbers: behind each get the fronts lie at or above the one
+-- before.
 use Rattle.std.proofs.Common.{◌≡◌, ◌⊎◌, inl, inr, ℕ, ◌<◌, ◌≤◌, List, [], ◌∷◌, ◌++◌, length, map as over, Some, Result, Ok, Err, refl, sym, ap, subst, ◌∙◌, append-nil, arith}
 use Rattle.std.proofs.lemmas.List.{map-append}
 use Rattle.key_merge.specs.declared.strategies.Strategy.{Strategy}

@@ -26,10 +26,11 @@ use Rattle.seat_lock.specs.Story.{made_by}
 use Rattle.store_core.specs.declared.closing.Closed.{Closed}
 use Rattle.store_phases.specs.Stores.{IsStore}
 
--- The disk that comes back. At the opening its journal stood for a run; since then the run went on by the story. A crash at any moment since the
--- opening leaves the files of a prefix of the commits, or these with a set of the story that was begun on just that prefix; and now the files of all commits, or
--- these with the set in doubt. Without a fault since the opening a read gives them, and without one since the run began the disk is calm with them, so that the
--- next opening finds what this one found
+-- The disk that comes back. At the opening its journal stood for a run; since then the run went on by the story. A
+-- crash at any moment since the opening leaves the files of a prefix of the commits, or these with a set of the story
+-- that was begun on just that prefix; and now the files of all commits, or these with the set in doubt. Without a fault
+-- since the opening a read gives them, and without one since the run began the disk is calm with them, so that the next
+-- opening finds what this one found
 pub record IsHandedOn (formats : Formats) {D : Type 0} (g : Ghosts D) (files : List MountedFile) (start : D) (first : Run) (opened : D) (rest : List Told) (disk : D) : Type 0 where
   pub last : Run
   pub by_story : RunsBy formats (store_at files) (visible_keys files) first rest last
@@ -38,11 +39,12 @@ pub record IsHandedOn (formats : Formats) {D : Type 0} (g : Ghosts D) (files : L
   pub shown : ¬ HasRisen (g.faults opened) (g.faults disk) → SameFiles (g.seen disk) (files_of last)
   pub calm : ¬ HasRisen first.faults (g.faults disk) → IsCalm (g.seen disk) (g.may_leave disk) (files_of last) last.doubt
 
--- A closed store. There is one story, which begins with the opening and with all that each handle has seen. Its entries of a handle's number are those that the handle
--- made, each once, in their order, and it has no others. Its history is legal, and is the one that comes back. The disk's count of faults rose by
--- at least the sets that failed, and the matcher's count of refusals by at least those with a refused pattern. Where the opening wrote nothing and no set was
--- begun, no call was made on the disk since the opening. For whatever run the journal stood at the opening, under a head that names the files of the store, the
--- disk that comes back is handed on from it by the story
+-- A closed store. There is one story, which begins with the opening and with all that each handle has seen. Its entries
+-- of a handle's number are those that the handle made, each once, in their order, and it has no others. Its history is
+-- legal, and is the one that comes back. The disk's count of faults rose by at least the sets that failed, and the
+-- matcher's count of refusals by at least those with a refused pattern. Where the opening wrote nothing and no set was
+-- begun, no call was made on the disk since the opening. For whatever run the journal stood at the opening, under a
+-- head that names the files of the store, the disk that comes back is handed on from it by the story
 pub record IsClosed (formats : Formats) {D P : Type 0} (g : Ghosts D) (refused : P → ℕ) (files : List MountedFile) (journal : JournalValue D) (opening : Opening) (given : ℕ) (handles : List HandleValue) (closed : Closed D P) : Type 0 where
   pub rest : List Told
   pub seen : All (λ handle. IsPrefix handle.seen (Opened opening ∷ rest)) handles

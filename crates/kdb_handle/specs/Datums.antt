@@ -1,5 +1,5 @@
--- A journal over a disk as a datum, which tells two of them apart and names no type: so what knows of an opening needn't name the type of the
--- disk. (This project's own.)
+-- A journal over a disk as a datum, which tells two of them apart and names no type: so what knows of an opening
+-- needn't name the type of the disk. (This project's own.)
 use Rattle.std.specs.Prelude.{ℕ, Bool, List, refl}
 use Rattle.std.specs.Coded.{Coded, code_by, coded×, coded_list, coded_ℕ, coded_bool}
 use Rattle.intent_journal.specs.Journal.{JournalValue}

@@ -9,8 +9,8 @@ use Rattle.model_store.specs.Store.{Store, counts_keys}
 abbrev pub front_at : Fronts → ℕ → ℕ
 front_at fronts m = unwrap_or (fronts m) 0
 
--- fronts cover the commits of a number: each that touches a mount which counts by its backend is at or below the front there. Commits are numbered
--- from 1
+-- fronts cover the commits of a number: each that touches a mount which counts by its backend is at or below the front
+-- there. Commits are numbered from 1
 abbrev pub Cover : Store → ℕ → List Commit → Fronts → Type 0
 Cover store number history fronts =
     (place m : ℕ) (commit : Commit) → slice_get history place ≡ Some commit → commit.handle ≡ number → touches m commit ≡ true → counts_keys store m ≡ false → place < front_at fronts m

@@ -1,4 +1,5 @@
--- What a merged set of a handle does: tries that met a conflict and were merged, one after another, and then its end, each a turn of the handle. (This project's own.)
+-- What a merged set of a handle does: tries that met a conflict and were merged, one after another, and then its end,
+-- each a turn of the handle. (This project's own.)
 use Rattle.std.specs.Prelude.{◌≡◌, ℕ, ◌<◌, List, [], ◌∷◌, ◌++◌, map as over, Result, Ok, Err}
 use mathlib.Core.List.{IsPrefix}
 use Rattle.key_merge.specs.declared.strategies.Strategy.{Strategy}
@@ -47,8 +48,9 @@ abbrev pub Rise : ℕ → List ℕ → Type 0
 Rise before [] = Unit {0}
 Rise before (number ∷ numbers) = (before < number) × Rise number numbers
 
--- A set that met the conflict of an item, and the get behind it, which finds a legal history; both leave the number. The base is what the record kept of the involved
--- mounts before that get, and theirs is what these mounts have in the commits that it found
+-- A set that met the conflict of an item, and the get behind it, which finds a legal history; both leave the number.
+-- The base is what the record kept of the involved mounts before that get, and theirs is what these mounts have in the
+-- commits that it found
 pub record IsRetry (formats : Formats) (files : List MountedFile) (parent : Name) (old : HandleValue) (ours : KeyMap) (item : Tried) (new : HandleValue) (base theirs : KeyMap) : Type 0 where
   pub between : HandleValue
   pub stored : IsStored formats files old between parent ours (Err (commit_fault.Conflict item.mount item.by item.front))

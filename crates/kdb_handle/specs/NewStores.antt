@@ -16,7 +16,8 @@ use Rattle.store_core.specs.declared.cores.Core.{Core}
 use Rattle.store_core.specs.declared.cores.Plan.{Plan}
 use Rattle.store_verdict.specs.RecordView.{proc_of, record_of}
 
--- A plan and a core are shared for so many handles and a flusher: the story begins with their opening, and no handle has a seat yet. Or both come back
+-- A plan and a core are shared for so many handles and a flusher: the story begins with their opening, and no handle
+-- has a seat yet. Or both come back
 pub record SharesStore {D P F : Type 0} (code : Coded D) (refused : P → ℕ) (given : Plan F) (core : Core D P) (handles : ℕ) (result : Result (NewStore D F P) (NotShared D F P)) : Type 0 where
   pub plan : IfOk result (λ new. plan_of new.store ≡ given)
   pub start : IfOk result (λ new. (lock_of new.store).start ≡ first_story code refused given core)
@@ -27,8 +28,8 @@ pub record SharesStore {D P F : Type 0} (code : Coded D) (refused : P → ℕ) (
   pub flusher : IfOk result (λ new. HasFlusher (lock_of new.store) (spare_of new.seats) None)
   pub err : IfErr result (λ none. (none.plan ≡ given) × (none.core ≡ core))
 
--- The handle of the next number is opened with some keys in `proc`: it has seen the opening, and made nothing. There is none exactly where no seat is free, or
--- for want of memory; then the seats stay
+-- The handle of the next number is opened with some keys in `proc`: it has seen the opening, and made nothing. There is
+-- none exactly where no seat is free, or for want of memory; then the seats stay
 pub record OpensHandle {F : Type 0} (lock : Place Told) (plan : Plan F) (keys : KeyMap) (old new : FreeSeats) (result : Result HandleValue NoHandle) : Type 0 where
   pub handle : IfOk result (λ handle. IsHandle lock plan handle)
   pub number : IfOk result (λ handle. handle.number ≡ lock.seats - length (seats_of old))

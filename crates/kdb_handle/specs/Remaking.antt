@@ -1,5 +1,6 @@
--- What is made of a set that met a conflict, on the names that the involved mounts own, the tries one after another, and how they end. Nothing here knows of a handle:
--- what makes the tries is in some state, and what a set and a get behind its conflict are in such states comes from outside. (This project's own.)
+-- What is made of a set that met a conflict, on the names that the involved mounts own, the tries one after another,
+-- and how they end. Nothing here knows of a handle: what makes the tries is in some state, and what a set and a get
+-- behind its conflict are in such states comes from outside. (This project's own.)
 use Rattle.std.specs.Prelude.{◌≡◌, ◌⊎◌, ℕ, ◌+◌, ◌<◌, List, [], ◌∷◌, ◌++◌, length, map as over, Result, Ok, Err}
 use Rattle.key_merge.specs.Merging.{AreConflicts, IsMerged}
 use Rattle.key_merge.specs.declared.strategies.Strategy.{Strategy}
@@ -23,7 +24,8 @@ use Rattle.store_core.specs.declared.committing.Done.{Done}
 abbrev pub IsKept : List Name → Name → Record → KeyMap → Type 0
 IsKept points parent rec keys = IsUnion (over (kept rec) (involved_in points parent)) keys
 
--- a set is made of ours, by a base and theirs: merged where an involved mount owns the name, and as ours everywhere else
+-- a set is made of ours, by a base and theirs: merged where an involved mount owns the name, and as ours everywhere
+-- else
 pub record IsRemade (points : List Name) (parent : Name) (strategy : Strategy) (base ours theirs remade : KeyMap) : Type 0 where
   pub reached : IsMerged strategy base (in_reach points parent ours) theirs (in_reach points parent remade)
   pub aside : left_aside points parent remade ≡ left_aside points parent ours
@@ -33,7 +35,8 @@ pub record AreInTheWay (points : List Name) (parent : Name) (strategy : Strategy
   pub abort : strategy ≡ Abort
   pub conflicts : AreConflicts base (in_reach points parent ours) theirs names
 
--- One try leads from a state and the keys that it tries to the next state, and to the keys that are tried next, of which the rest holds
+-- One try leads from a state and the keys that it tries to the next state, and to the keys that are tried next, of
+-- which the rest holds
 pub record LeadsOn {S : Type 0} (IsTry : S → KeyMap → Tried → S → KeyMap → Type 0) (old : S) (ours : KeyMap) (item : Tried) (Rest : S → KeyMap → Type 0) : Type 0 where
   pub mid : S
   pub next : KeyMap
@@ -73,9 +76,9 @@ pub record IsCutBy {S : Type 0} (IsRetry : S → KeyMap → Tried → S → KeyM
   pub retry : IsRetry last keys item new base theirs
   pub unmade : Unmade base theirs
 
--- How a merged set ends behind the tries that it made, the last of which led to a state and some keys. The keys are stored; or the set met a conflict, and it was the
--- last of the tries; or it was refused for another reason; or no set is made of them behind the get of one more item; or there was no memory, behind
--- such a get or before it
+-- How a merged set ends behind the tries that it made, the last of which led to a state and some keys. The keys are
+-- stored; or the set met a conflict, and it was the last of the tries; or it was refused for another reason; or no set
+-- is made of them behind the get of one more item; or there was no memory, behind such a get or before it
 abbrev pub IsEndBy : {S : Type 0} → (S → KeyMap → Tried → S → KeyMap → KeyMap → Type 0) → (S → S → KeyMap → Result Done SetFault → Type 0) → (S → S → Type 0)
     → List Name → Name → Strategy → ℕ → S → KeyMap → List Tried → S → List Tried → Result Done MergeEnd → Type 0
 IsEndBy IsRetry IsSet IsIdle points parent strategy tries last keys made new tried (Ok done) = (tried ≡ made) × IsSet last new keys (Ok done)
@@ -86,7 +89,8 @@ IsEndBy IsRetry IsSet IsIdle points parent strategy tries last keys made new tri
     IsCutBy IsRetry last keys made new tried (λ base theirs. AreInTheWay points parent strategy base keys theirs names)
 IsEndBy IsRetry IsSet IsIdle points parent strategy tries last keys made new tried (Err merge_end.Memory) = ((tried ≡ made) × IsIdle last new) ⊎ IsCutBy IsRetry last keys made new tried (λ base theirs. Unit {0})
 
--- A merged set: the tries that were made lead to the state and the keys that its end speaks of. There are fewer items than tries
+-- A merged set: the tries that were made lead to the state and the keys that its end speaks of. There are fewer items
+-- than tries
 pub record IsMergedBy {S : Type 0} (IsRetry : S → KeyMap → Tried → S → KeyMap → KeyMap → Type 0) (IsSet : S → S → KeyMap → Result Done SetFault → Type 0) (IsIdle : S → S → Type 0)
     (points : List Name) (parent : Name) (strategy : Strategy) (tries : ℕ) (old : S) (ours : KeyMap) (new : S) (after : KeyMap) (tried : List Tried) (end : Result Done MergeEnd) : Type 0 where
   pub made : List Tried

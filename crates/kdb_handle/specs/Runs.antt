@@ -1,4 +1,5 @@
--- How the run on a disk goes on by a story, so that the story says which sets were begun, and behind which commits. (This project's own.)
+-- How the run on a disk goes on by a story, so that the story says which sets were begun, and behind which commits.
+-- (This project's own.)
 use Rattle.std.specs.Prelude.{◌≡◌, ◌⊎◌, ℕ, ◌+◌, List, [], ◌∷◌, ◌++◌, length, Contains, Option, Some}
 use Rattle.journal_codec.specs.declared.files.FileText.{FileText}
 use Rattle.model_crashes.specs.Runs.{Run, IsOneOf, after_begun, after_commit}
@@ -9,8 +10,8 @@ use Rattle.model_maps.specs.KeyMap.{KeyMap}
 use Rattle.model_store.specs.Store.{Store, Formats}
 use Rattle.kdb_handle.specs.Story.{Told, Opened, Committed, Failed, Refused, commits_of}
 
--- from some keys on: the texts of a commit are acknowledged; those of a set that failed are begun, and then none is in doubt, or what was, or these; a refused
--- pattern begins nothing
+-- from some keys on: the texts of a commit are acknowledged; those of a set that failed are begun, and then none is in
+-- doubt, or what was, or these; a refused pattern begins nothing
 abbrev pub RunsBy : Formats → Store → KeyMap → Run → List Told → Run → Type 0
 RunsBy formats store keys run [] last = last ≡ run
 RunsBy formats store keys run (Committed commit ∷ log) last = RunsBy formats store (changed_by commit.changes keys) (after_commit run (entry_of formats store keys commit)) log last
@@ -38,9 +39,9 @@ pub record IsLeftBy (formats : Formats) (store : Store) (keys : KeyMap) (log : L
   pub last : commits_of behind ≡ []
   pub entry_is : entry ≡ entry_of formats store (replay keys (commits_of before)) commit
 
--- What a run comes to by a story, from some keys on. The names of the journal's head, its files and its count of faults at the beginning stay. Its commits gain
--- those of the story. What was begun had been, or is a set of the story behind just the commits before it. What is in doubt had been and no commit came, or is a
--- set that failed behind all commits
+-- What a run comes to by a story, from some keys on. The names of the journal's head, its files and its count of faults
+-- at the beginning stay. Its commits gain those of the story. What was begun had been, or is a set of the story behind
+-- just the commits before it. What is in doubt had been and no commit came, or is a set that failed behind all commits
 pub record ComesTo (formats : Formats) (store : Store) (keys : KeyMap) (first : Run) (log : List Told) (last : Run) : Type 0 where
   pub names : last.names ≡ first.names
   pub files : last.files ≡ first.files

@@ -36,9 +36,10 @@ tells_refusal (Err (commit_fault.HistoryFull weight front)) = false
 tells_refusal (Err (commit_fault.DiskFault front)) = false
 tells_refusal (Err commit_fault.Memory) = false
 
--- A handle's turn with a set. It found a story that begins with all that the handle had seen, and that has of its number just what it made. Its history is
--- legal, and decides the answer, with the rules: no pattern was refused for it but one that it tells. The story gains a commit, or that the set failed,
--- or that a pattern of it was refused, and so do what the handle has seen and what it made; or nothing
+-- A handle's turn with a set. It found a story that begins with all that the handle had seen, and that has of its
+-- number just what it made. Its history is legal, and decides the answer, with the rules: no pattern was refused for it
+-- but one that it tells. The story gains a commit, or that the set failed, or that a pattern of it was refused, and so
+-- do what the handle has seen and what it made; or nothing
 pub record IsDone (formats : Formats) (files : List MountedFile) (old new : HandleValue) (set : Prepared) (result : Result Done CommitFault) : Type 0 where
   pub found : List Told
   pub seen : IsPrefix old.seen found

@@ -30,10 +30,12 @@ told_now (fresh.Committed set) = Committed (commit_of (prepared_of set.value)) �
 told_now (fresh.Failed set) = Failed (commit_of (prepared_of set.value)) ∷ []
 told_now (fresh.Refused set) = Refused (prepared_of set.value).handle ∷ []
 
--- A core with a count of entries stands for a story that begins with its opening, whose store is sound. It has the history of the story, which is legal, the keys that the
--- opening found, and the keys after the history. The disk's count of faults rose by at least the sets that failed, and the matcher's count of refusals
--- by at least those with a refused pattern. Where no set was begun, and no entry waited from the first, the journal and its disk are as the opening left them. And
--- for whatever run the journal stood at the opening, under a head that names the files of the store, it stands now for the run that went on by the story.
+-- A core with a count of entries stands for a story that begins with its opening, whose store is sound. It has the
+-- history of the story, which is legal, the keys that the opening found, and the keys after the history. The disk's
+-- count of faults rose by at least the sets that failed, and the matcher's count of refusals by at least those with a
+-- refused pattern. Where no set was begun, and no entry waited from the first, the journal and its disk are as the
+-- opening left them. And for whatever run the journal stood at the opening, under a head that names the files of the
+-- store, it stands now for the run that went on by the story.
 pub record IsShared (formats : Formats) {D P : Type 0} (g : Ghosts D) (code : Coded D) (refused : P → ℕ) (core : Core D P) (entries : ℕ) (log : List Told) : Type 0 where
   pub opening : Opening
   pub rest : List Told

@@ -19,8 +19,9 @@ pub record IsStarted {F : Type 0} (lock : Place Told) (plan : Plan F) : Type 0 w
   pub start : lock.start ≡ Opened (opening_in lock.start) ∷ []
   pub files : (opening_in lock.start).files ≡ plan.mounted
 
--- A handle of a store: it has seen the opening at least. What it made is what it has seen of its number. Its record is that of its fronts in the history that
--- it has seen, so it stays so when the handle sees more; and these fronts cover the handle's own commits. Its own keys are in `proc`
+-- A handle of a store: it has seen the opening at least. What it made is what it has seen of its number. Its record is
+-- that of its fronts in the history that it has seen, so it stays so when the handle sees more; and these fronts cover
+-- the handle's own commits. Its own keys are in `proc`
 pub record IsHandle {F : Type 0} (lock : Place Told) (plan : Plan F) (handle : HandleValue) : Type 0 where
   pub started : IsStarted lock plan
   pub place : handle.place ≡ lock.place
@@ -31,8 +32,8 @@ pub record IsHandle {F : Type 0} (lock : Place Told) (plan : Plan F) (handle : H
   pub covers : Cover (store_at plan.mounted) handle.number (commits_of handle.seen) (front_in (record_of handle.rec))
   pub procs : AreProc (proc_of handle.rec)
 
--- The seats that no handle has yet, by their numbers: the last ones of the lock but its very last, which is the flusher's. Each has seen the
--- opening and made nothing. Where they stand is room for all seats again
+-- The seats that no handle has yet, by their numbers: the last ones of the lock but its very last, which is the
+-- flusher's. Each has seen the opening and made nothing. Where they stand is room for all seats again
 pub record AreFree (lock : Place Told) (seats : List (Known Told)) (room : ℕ) : Type 0 where
   pub room_is : lock.seats ≤ room
   pub some : length seats < lock.seats

@@ -1,5 +1,5 @@
--- The story of an open store: how it was opened, and then what its handles did, in the order of their turns: the commits, the sets that were
--- begun and failed, and the sets whose pattern the matcher refused. (This project's own.)
+-- The story of an open store: how it was opened, and then what its handles did, in the order of their turns: the
+-- commits, the sets that were begun and failed, and the sets whose pattern the matcher refused. (This project's own.)
 use Rattle.std.specs.Prelude.{◌≡◌, ◌⊎◌, ℕ, ◌+◌, Bool, List, [], ◌∷◌, refl}
 use mathlib.Core.Logic.{inl, inr}
 use base.Stored.{Gv}
@@ -10,17 +10,18 @@ use Rattle.model_history.specs.History.{Commit}
 use Rattle.mounted_files.specs.declared.files.MountedFile.{MountedFile}
 use Rattle.mounted_files.specs.contracts.files.MountedFile.{the_row}
 
--- What an opening fixes. The mounts with what their files held: so it has the table, the keys that each file keeps for others, the bad mounts and
--- the first map. The journal over the disk as the opening left it, as a datum: so it has all that the disk tells of itself, its files, whether
--- it tells them, its moment and its count of faults. The matcher's count of refusals. And whether the opening wrote to the disk.
+-- What an opening fixes. The mounts with what their files held: so it has the table, the keys that each file keeps for
+-- others, the bad mounts and the first map. The journal over the disk as the opening left it, as a datum: so it has all
+-- that the disk tells of itself, its files, whether it tells them, its moment and its count of faults. The matcher's
+-- count of refusals. And whether the opening wrote to the disk.
 pub record Opening : Type 0 where
   pub files : List MountedFile
   pub journal : Gv
   pub refusals : ℕ
   pub wrote : Bool
 
--- an entry of the story. A commit was made by a handle; or its texts were begun, and the disk failed; or the matcher refused a pattern of the set of
--- a handle, which could be one by its length
+-- an entry of the story. A commit was made by a handle; or its texts were begun, and the disk failed; or the matcher
+-- refused a pattern of the set of a handle, which could be one by its length
 pub data Told : Type 0 where
   Opened : Opening → Told
   Committed : Commit → Told

@@ -31,13 +31,15 @@ use Rattle.store_verdict.specs.RecordView.{handle_of, places_of, proc_of, record
 use Rattle.store_verdict.specs.declared.prepared.Prepared.{Prepared}
 use Rattle.store_verdict.specs.declared.records.Record.{Record}
 
--- a set was prepared of some keys at a parent, for the store of some mounted files, against what a record keeps of the involved mounts now
+-- a set was prepared of some keys at a parent, for the store of some mounted files, against what a record keeps of the
+-- involved mounts now
 pub record IsPrepared (formats : Formats) (files : List MountedFile) (number : ℕ) (rec : model.Record) (set : Prepared) : Type 0 where
   pub parent : Name
   pub keys : KeyMap
   pub made : IsMade formats (store_at files) number rec parent keys set
 
--- the core stands for a story from the opening of these files on, and the record and the set are those of a handle in its turn
+-- the core stands for a story from the opening of these files on, and the record and the set are those of a handle in
+-- its turn
 pub record MayCommit (formats : Formats) {D P : Type 0} (g : Ghosts D) (code : Coded D) (refused : P → ℕ) (files : List MountedFile) (core : Core D P) (entries : ℕ) (log : List Told) (rec : Record) (set : Prepared) : Type 0 where
   pub shared : IsShared formats g code refused core entries log
   pub opening : shared.opening.files ≡ files
@@ -52,7 +54,8 @@ is_refusal violation = nat_eq violation.rule 6 && nat_le (length violation.given
 abbrev pub told_of_refusal : sets.Prepared → Violation → List Told
 told_of_refusal set violation = if is_refusal violation then Refused set.handle ∷ [] else []
 
--- what an answer to a commit of a set adds to the story: the commit, or that it failed, or that a pattern was refused, or nothing
+-- what an answer to a commit of a set adds to the story: the commit, or that it failed, or that a pattern was refused,
+-- or nothing
 abbrev pub told_by : sets.Prepared → Result Done CommitFault → List Told
 told_by set (Ok (done.Committed number aside)) = Committed (commit_of set) ∷ []
 told_by set (Ok (done.Same front aside)) = []
@@ -64,14 +67,16 @@ told_by set (Err (fault.DatabaseFull weight front)) = []
 told_by set (Err (fault.HistoryFull weight front)) = []
 told_by set (Err fault.Memory) = []
 
--- what the record keeps then: on a commit what was wanted for each touched mount, with the commit's number where the mount counts by its backend
+-- what the record keeps then: on a commit what was wanted for each touched mount, with the commit's number where the
+-- mount counts by its backend
 abbrev pub record_by : Store → List past.Commit → sets.Prepared → Result Done CommitFault → model.Record → model.Record
 record_by store history set (Ok (done.Committed number aside)) rec = storing store set.touched (length history + 1) (wants (points_of store) set.keys) rec
 record_by store history set (Ok (done.Same front aside)) rec = rec
 record_by store history set (Err why) rec = rec
 
--- What a turn with a set leaves. Wherever the set may be committed, the core stands for the story with what the turn told, and the record is that of its fronts there. The
--- history that the turn found decides the answer, which says what is told and what the record keeps; the number, the places and the keys in `proc` stay
+-- What a turn with a set leaves. Wherever the set may be committed, the core stands for the story with what the turn
+-- told, and the record is that of its fronts there. The history that the turn found decides the answer, which says what
+-- is told and what the record keeps; the number, the places and the keys in `proc` stay
 pub record Commits (formats : Formats) {D F P : Type 0} (g : Ghosts D) (code : Coded D) (refused : P → ℕ) (files : List MountedFile) (old new : Shared D F P) (rec left : Record) (set : Prepared) (result : Result Done CommitFault) : Type 0 where
   pub shared : (log : List Told) → MayCommit formats g code refused files old.core old.entries log rec set → IsShared formats g code refused new.core new.entries (log ++ told_now new.fresh)
   pub keeps : (log : List Told) → MayCommit formats g code refused files old.core old.entries log rec set

@@ -1,4 +1,5 @@
--- What a turn with an undoing needs and leaves: first what it gets and makes, which touches nothing, and then a set of that. (This project's own.)
+-- What a turn with an undoing needs and leaves: first what it gets and makes, which touches nothing, and then a set of
+-- that. (This project's own.)
 use Rattle.std.specs.Prelude.{◌≡◌, ℕ, ◌≤◌, Bool, true, false, List, [], ◌++◌, length, Result, Ok, Err}
 use Rattle.std.specs.Coded.{Coded}
 use Rattle.general_words.specs.Memory.{UnlessMemory}
@@ -35,7 +36,8 @@ use Rattle.store_verdict.specs.declared.faults.PrepareFault.TheVariants as prepa
 use Rattle.store_verdict.specs.declared.prepared.Prepared.{Prepared}
 use Rattle.store_verdict.specs.declared.records.Record.{Record}
 
--- the core stands for a story from the opening of these files on, and the record is that of a handle in its turn, whose own keys are in `proc`
+-- the core stands for a story from the opening of these files on, and the record is that of a handle in its turn, whose
+-- own keys are in `proc`
 pub record MayUndo (formats : Formats) {D P : Type 0} (g : Ghosts D) (code : Coded D) (refused : P → ℕ) (files : List MountedFile) (core : Core D P) (entries : ℕ) (log : List Told) (rec : Record) : Type 0 where
   pub shared : IsShared formats g code refused core entries log
   pub opening : shared.opening.files ≡ files
@@ -99,8 +101,9 @@ wants_memory why = false
 
 -- ---- the turn
 
--- What a turn with an undoing leaves. Wherever it may be made, the core stands for the story with what the turn told, the record is that of its fronts there, and the history
--- that the turn found decides all; the number, the places and the keys in `proc` stay
+-- What a turn with an undoing leaves. Wherever it may be made, the core stands for the story with what the turn told,
+-- the record is that of its fronts there, and the history that the turn found decides all; the number, the places and
+-- the keys in `proc` stay
 pub record Undoes (formats : Formats) {D F P : Type 0} (g : Ghosts D) (code : Coded D) (refused : P → ℕ) (files : List MountedFile) (old new : Shared D F P) (rec left : Record) (number : ℕ) (keys after : KeyMap) (result : Result Done UndoFault) : Type 0 where
   pub shared : (log : List Told) → MayUndo formats g code refused files old.core old.entries log rec → IsShared formats g code refused new.core new.entries (log ++ told_now new.fresh)
   pub keeps : (log : List Told) → MayUndo formats g code refused files old.core old.entries log rec

@@ -1,5 +1,6 @@
--- Taking a commit back, as one turn: a get, the inverse made on what it gave, and a set of that, all by the history that the turn finds. The relation knows of a handle
--- no more than its number, its record and its keys in `proc`: so a session of a batch means the same by it. (This project's own.)
+-- Taking a commit back, as one turn: a get, the inverse made on what it gave, and a set of that, all by the history
+-- that the turn finds. The relation knows of a handle no more than its number, its record and its keys in `proc`: so a
+-- session of a batch means the same by it. (This project's own.)
 use Rattle.std.specs.Prelude.{◌≡◌, ⊤, ℕ, false, List, [], ◌++◌, length, Some, None, Result, Ok, Err}
 use Rattle.std.specs.FinMap as map
 use mathlib.Core.List.{IsPrefix}
@@ -38,8 +39,8 @@ use Rattle.store_verdict.specs.Preparing.{IsRefusedSet}
 use Rattle.store_verdict.specs.RecordView.{proc_of, record_of}
 use Rattle.store_verdict.specs.declared.faults.PrepareFault.TheVariants as prepare_fault
 
--- what an undoing goes by: the mounts with what their files held; the number, the keys in `proc` and the record of who undoes; the commits that there are; and the
--- number of the one that is to be taken back
+-- what an undoing goes by: the mounts with what their files held; the number, the keys in `proc` and the record of who
+-- undoes; the commits that there are; and the number of the one that is to be taken back
 pub record Undo : Type 0 where
   pub files : List MountedFile
   pub handle : ℕ
@@ -56,7 +57,8 @@ of_inverse inverse_fault.Memory = undo_fault.Memory
 
 -- ---- what it comes to, where nothing refuses it
 
--- the parent that it gets: the mountpoint of the mount that the commit touched, and the cascading root where it isn't just one
+-- the parent that it gets: the mountpoint of the mount that the commit touched, and the cascading root where it isn't
+-- just one
 abbrev pub parent_of : Undo → Name
 parent_of undo = undo_parent (store_at undo.files) undo.history undo.number
 
@@ -83,8 +85,8 @@ pub record IsUngot (undo : Undo) (why : GetFault) : Type 0 where
   pub bad : first_bad (store_at undo.files) (parent_of undo) ≡ Some mount
   pub cause : fault_at undo.files mount ≡ Some why
 
--- what refuses it before its set: no commit has the number; a later commit overtakes it, the first such one, at the first such name in it; a mount that the parent
--- involves is bad. Of want of memory nothing is said
+-- what refuses it before its set: no commit has the number; a later commit overtakes it, the first such one, at the
+-- first such name in it; a mount that the parent involves is bad. Of want of memory nothing is said
 abbrev pub IsBarred : Undo → UndoFault → Type 0
 IsBarred undo (undo_fault.NoCommit number front) = IsNumberOfNone undo.history undo.number × (number ≡ undo.number) × (front ≡ length undo.history)
 IsBarred undo (undo_fault.Overtaken name by front) = (overtaken undo.history undo.number ≡ Some (by, name)) × (front ≡ length undo.history)
@@ -97,7 +99,8 @@ pub record IsGot (undo : Undo) : Type 0 where
   pub there : IsThere undo.history undo.number
   pub good : first_bad (store_at undo.files) (parent_of undo) ≡ None
 
--- why its set can be refused: never for a mount that wasn't fetched, and never for a conflict. Want of memory is told alone
+-- why its set can be refused: never for a mount that wasn't fetched, and never for a conflict. Want of memory is told
+-- alone
 abbrev pub CanRefuse : SetFault → Type 0
 CanRefuse (set_fault.Prepare (prepare_fault.NotFetched mount)) = ⊥
 CanRefuse (set_fault.Prepare prepare_fault.Memory) = ⊥
@@ -120,7 +123,8 @@ pub record IsUnset (formats : Formats) (undo : Undo) (left : Record) (after : Ke
   pub left_is : left ≡ rec_got undo
   pub after_is : after ≡ keys_got undo
 
--- its set is the next commit, and changes just the inverse. The keys are those that were stored, and the record keeps of the touched mounts what they have
+-- its set is the next commit, and changes just the inverse. The keys are those that were stored, and the record keeps
+-- of the touched mounts what they have
 pub record IsTakenBack (formats : Formats) (undo : Undo) (left : Record) (after : KeyMap) (number aside : ℕ) : Type 0 where
   pub got : IsGot undo
   pub early : IsEarly formats (store_at undo.files) (set_made undo) None
@@ -129,9 +133,10 @@ pub record IsTakenBack (formats : Formats) (undo : Undo) (left : Record) (after 
   pub left_is : left ≡ record_by (store_at undo.files) undo.history (set_made undo) (Ok (done.Committed number aside)) (rec_got undo)
   pub after_is : after ≡ keys_made undo
 
--- An undoing by some record and some keys leaves these and answers this. It is refused where no commit has the number; where a later commit overtakes it; where a mount that
--- the parent involves is bad; and where its set is: in this order. Behind the first three and after want of memory the record and the keys are as before. What isn't
--- refused is a commit, and never nothing to do
+-- An undoing by some record and some keys leaves these and answers this. It is refused where no commit has the number;
+-- where a later commit overtakes it; where a mount that the parent involves is bad; and where its set is: in this
+-- order. Behind the first three and after want of memory the record and the keys are as before. What isn't refused is a
+-- commit, and never nothing to do
 abbrev pub IsUndoneBy : Formats → Undo → KeyMap → Record → KeyMap → Result Done UndoFault → Type 0
 IsUndoneBy formats undo keys left after (Ok (done.Committed number aside)) = IsTakenBack formats undo left after number aside
 IsUndoneBy formats undo keys left after (Ok (done.Same front aside)) = ⊥
@@ -150,8 +155,9 @@ told_by_undo set (Err why) = []
 abbrev pub undo_by : List MountedFile → HandleValue → List Told → ℕ → Undo
 undo_by files old found number = record { files = files; handle = old.number; procs = proc_of old.rec; rec = record_of old.rec; history = commits_of found; number = number }
 
--- A handle's turn with an undoing. It found a story that begins with all that the handle had seen, and that has of its number just what it made. Its history is
--- legal, and decides the answer, the record and the keys. The story gains what its set told, and so do what the handle has seen and what it made; or nothing
+-- A handle's turn with an undoing. It found a story that begins with all that the handle had seen, and that has of its
+-- number just what it made. Its history is legal, and decides the answer, the record and the keys. The story gains what
+-- its set told, and so do what the handle has seen and what it made; or nothing
 pub record IsUndone (formats : Formats) (files : List MountedFile) (old new : HandleValue) (number : ℕ) (keys after : KeyMap) (result : Result Done UndoFault) : Type 0 where
   pub found : List Told
   pub seen : IsPrefix old.seen found

@@ -1,4 +1,5 @@
--- What contracts see of a shared store and of the seats that no handle has, whatever they are stored as. (This project's own.)
+-- What contracts see of a shared store and of the seats that no handle has, whatever they are stored as. (This
+-- project's own.)
 use Rattle.std.specs.Prelude.{ℕ, List, [], ◌∷◌, Option}
 use Rattle.std.specs.Coded.{Coded}
 use Rattle.std.specs.Vec.{vec_capacity}

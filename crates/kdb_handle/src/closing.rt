@@ -21,8 +21,9 @@ use storage_api::Formats;
 use store_core::Closed;
 
 impl<D: Disk, F: Formats + Drop, P: Patterns + Drop> Locked<Shared<D, F, P>, F> {
-    /// Ends the store, with all handles that were opened, the seats that no handle got, and the flusher where it was given; and gives its disk, its
-    /// matcher and its history back. What commits left to be written is written now, and a failure of it is no refusal.
+    /// Ends the store, with all handles that were opened, the seats that no handle got, and the flusher where it was
+    /// given; and gives its disk, its matcher and its history back. What commits left to be written is written now, and
+    /// a failure of it is no refusal.
     pub fn close_store(
         self,
         seats: FreeSeats,

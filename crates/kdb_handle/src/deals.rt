@@ -60,7 +60,8 @@ impl FreeSeats {
         self.flusher.take()
     }
 
-    /// Opens the handle of the next number, from 1 on, with keys of its own in `proc`. It has fetched nothing and made nothing.
+    /// Opens the handle of the next number, from 1 on, with keys of its own in `proc`. It has fetched nothing and made
+    /// nothing.
     pub fn kdb_open<D: Disk, F: Formats + Drop, P: Patterns + Drop>(
         &mut self,
         alloc: Global,

@@ -11,8 +11,8 @@ use std::marker::Model;
 use std::sync::Wait;
 use storage_api::Formats;
 
-/// A flusher belongs to one store, and moves into the thread that uses it. It asks the store nothing, and makes nothing: to contracts it is its
-/// seat.
+/// A flusher belongs to one store, and moves into the thread that uses it. It asks the store nothing, and makes
+/// nothing: to contracts it is its seat.
 #[derive(Drop)]
 pub struct Flusher {
     pub(crate) seat: Option<Seat<StoryEntry>>,
@@ -33,8 +33,8 @@ impl Model for Flusher {
 }
 
 impl Flusher {
-    /// Writes the files of the commits that wait in the journal, as one turn. The story tells nothing of it, and a failure of it changes no answer: what
-    /// was stored stays so, and what was not written is written later.
+    /// Writes the files of the commits that wait in the journal, as one turn. The story tells nothing of it, and a
+    /// failure of it changes no answer: what was stored stays so, and what was not written is written later.
     pub fn flush<D: Disk, F: Formats + Drop, P: Patterns + Drop, R: Wait>(
         &mut self,
         rt: &R,

@@ -22,8 +22,8 @@ use storage_api::Formats;
 use store_core::Got;
 
 impl Handle {
-    /// The keys of a parent, as the commits make them that there are in the handle's turn. It has then seen these commits. It is refused
-    /// exactly where an involved mount is bad, with the lowest one and why.
+    /// The keys of a parent, as the commits make them that there are in the handle's turn. It has then seen these
+    /// commits. It is refused exactly where an involved mount is bad, with the lowest one and why.
     pub fn kdb_get<D: Disk, F: Formats + Drop, P: Patterns + Drop, R: Wait>(
         &mut self,
         rt: &R,

@@ -10,8 +10,8 @@ use seat_lock::Seat;
 use std::marker::Model;
 use store_verdict::{Prepared, Record};
 
-/// A handle belongs to one store, and moves into the thread that uses it. To contracts it is what it has seen of the store's story, what it
-/// made, and its record. Its type names neither the disk of the store nor its formats.
+/// A handle belongs to one store, and moves into the thread that uses it. To contracts it is what it has seen of the
+/// store's story, what it made, and its record. Its type names neither the disk of the store nor its formats.
 #[derive(Drop)]
 pub struct Handle {
     pub(crate) seat: Option<Seat<StoryEntry>>,

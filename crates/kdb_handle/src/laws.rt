@@ -1,5 +1,6 @@
-//! Laws of handles: when a set that was prepared earlier may still be committed, whose commit blocks one, that the commits in the way of a merged set have
-//! rising numbers, what an undoing makes of the history, and what a story makes of a run. Nothing here runs: each function stands for its contract.
+//! Laws of handles: when a set that was prepared earlier may still be committed, whose commit blocks one, that the
+//! commits in the way of a merged set have rising numbers, what an undoing makes of the history, and what a story makes
+//! of a run. Nothing here runs: each function stands for its contract.
 ghost use Rattle.std.specs.Prelude.{◌≡◌, ℕ, ◌-◌, ◌++◌, ◌∷◌, [], List, Result, true, Ok, Err, length, take};
 ghost use mathlib.Core.List.{IsPrefix};
 ghost use Rattle.kdb_handle.specs.Fronts.{IsAnothers};
@@ -37,8 +38,8 @@ ghost use Rattle.store_verdict.specs.declared.prepared.Prepared.{Prepared};
 
 use storage_api::Formats;
 
-/// A set that a handle prepared earlier is one that its record makes now, where the record accepts it: what is kept of a mount goes by its front and the
-/// handle's own commits. The history may have grown since.
+/// A set that a handle prepared earlier is one that its record makes now, where the record accepts it: what is kept of
+/// a mount goes by its front and the handle's own commits. The history may have grown since.
 pub fn an_accepted_set_is_still_prepared<F: Formats>(_formats: &F)
     ensures { (files : List MountedFile) (earlier later : List Commit) (number handle : ℕ) (before rec : Record) (parent : Name) (keys : KeyMap) (set : Prepared)
         → IsPrefix earlier later → IsRecord (store_at files) earlier handle (front_in before) before → IsRecord (store_at files) later number (front_in rec) rec
@@ -47,7 +48,8 @@ pub fn an_accepted_set_is_still_prepared<F: Formats>(_formats: &F)
         → IsPrepared (formats_of F.Formats) files number rec set }
 {}
 
-/// The commit that blocks a set of a handle is another's: the handle's fronts cover its own commits, and a mount by key passes over them.
+/// The commit that blocks a set of a handle is another's: the handle's fronts cover its own commits, and a mount by key
+/// passes over them.
 pub fn the_blocking_commit_is_anothers<F: Formats + Drop>(_formats: &F)
     ensures { (lock : Place Told) (plan : Plan F) (old new : HandleValue) (set : Prepared) (mount : Name) (by front : ℕ)
         → IsHandle lock plan old → IsPrepared (formats_of F.Formats) plan.mounted old.number (record_of old.rec) set
@@ -55,14 +57,16 @@ pub fn the_blocking_commit_is_anothers<F: Formats + Drop>(_formats: &F)
         → IsAnothers old.number (commits_of done.found) by }
 {}
 
-/// The commits in the way of a merged set have rising numbers, from 1 on: each lies behind all that the get before it found.
+/// The commits in the way of a merged set have rising numbers, from 1 on: each lies behind all that the get before it
+/// found.
 pub fn the_commits_in_the_way_rise<F: Formats>(_formats: &F)
     ensures { (files : List MountedFile) (parent : Name) (strategy : Strategy) (tries : ℕ) (old new : HandleValue) (ours after : KeyMap) (tried : List Tried) (end : Result Done MergeEnd)
         → IsMergedSet (formats_of F.Formats) files parent strategy tries old ours new after tried end
         → Rise 0 (in_the_way tried end) }
 {}
 
-/// An undoing that isn't refused makes one commit more, the handle's own, whose changes are the inverse of the commit that it takes back, in the history that its turn found.
+/// An undoing that isn't refused makes one commit more, the handle's own, whose changes are the inverse of the commit
+/// that it takes back, in the history that its turn found.
 pub fn an_undo_appends_the_inverse<F: Formats>(_formats: &F)
     ensures { (files : List MountedFile) (old new : HandleValue) (number commit aside : ℕ) (keys after : KeyMap)
         → (undone : IsUndone (formats_of F.Formats) files old new number keys after (Ok (Committed commit aside)))
@@ -81,7 +85,8 @@ pub fn an_undo_of_the_last_commit_gives_the_map_before_it<F: Formats>(_formats: 
         → replay (store_at files).start (commits_of new.seen) ≡ replay (store_at files).start (take (number - 1) (commits_of undone.found)) }
 {}
 
-/// What a run comes to by a story: its files stay, its commits gain those of the story, and what was begun or is in doubt had been, or is a set of the story.
+/// What a run comes to by a story: its files stay, its commits gain those of the story, and what was begun or is in
+/// doubt had been, or is a set of the story.
 pub fn a_run_comes_to_its_story<F: Formats>(_formats: &F)
     ensures { (store : Store) (keys : KeyMap) (first last : Run) (story : List Told) → RunsBy (formats_of F.Formats) store keys first story last
         → ComesTo (formats_of F.Formats) store keys first story last }

@@ -1,4 +1,5 @@
-//! Up to 32 handles on threads over one open store. Each call is one turn at the store's core, and a handle knows the commits that it has seen.
+//! Up to 32 handles on threads over one open store. Each call is one turn at the store's core, and a handle knows the
+//! commits that it has seen.
 #![tactic(auto)]
 
 mod closing;

@@ -1,4 +1,5 @@
-//! A handle's merged set: where a set meets a conflict, what it tried is merged with what there is now, and tried again.
+//! A handle's merged set: where a set meets a conflict, what it tried is merged with what there is now, and tried
+//! again.
 ghost use Rattle.std.specs.Prelude.{◌≡◌, ◌≤◌, ◌+◌, ℕ, [], List, length, Err, IfOk, OnOk};
 ghost use Rattle.std.specs.FinMap as map;
 ghost use Rattle.std.specs.Option.{option_or};
@@ -32,8 +33,8 @@ use storage_api::Formats;
 use store_core::{CommitFault, Done};
 use store_verdict::Record;
 
-/// A try that met a conflict, with the get behind it: the mount, the number of the commit that blocks it, and how many commits the set and the get
-/// found.
+/// A try that met a conflict, with the get behind it: the mount, the number of the commit that blocks it, and how many
+/// commits the set and the get found.
 #[derive(Drop)]
 pub struct Tried {
     pub mount: KeyName,
@@ -92,9 +93,10 @@ struct Met {
 }
 
 impl Handle {
-    /// Stores keys at a parent, in some tries. Where a try meets a conflict and isn't the last one, the parent is got again, and what was tried is
-    /// merged with what the involved mounts have now, against what the handle kept of them before. Each set and each get is a turn of its own; between
-    /// turns, and so outside the lock, are the copies, the preparing and the merging.
+    /// Stores keys at a parent, in some tries. Where a try meets a conflict and isn't the last one, the parent is got
+    /// again, and what was tried is merged with what the involved mounts have now, against what the handle kept of them
+    /// before. Each set and each get is a turn of its own; between turns, and so outside the lock, are the copies, the
+    /// preparing and the merging.
     pub fn kdb_set_merged<D: Disk, F: Formats + Drop, P: Patterns + Drop, R: Wait>(
         &mut self,
         rt: &R,
@@ -208,7 +210,8 @@ impl Handle {
         }
     }
 
-    /// Gets the parent behind a conflict, and merges what was tried with what there is now. Room for the item comes before the get.
+    /// Gets the parent behind a conflict, and merges what was tried with what there is now. Room for the item comes
+    /// before the get.
     fn merge_in<D: Disk, F: Formats + Drop, P: Patterns + Drop, R: Wait>(
         &mut self,
         rt: &R,

@@ -30,7 +30,8 @@ pub enum SetFault {
 }
 
 impl Handle {
-    /// What a set of keys at a parent makes against what the handle's record keeps, or the first test that refuses it. It waits for nobody.
+    /// What a set of keys at a parent makes against what the handle's record keeps, or the first test that refuses it.
+    /// It waits for nobody.
     pub fn prepare<D: Disk, F: Formats + Drop, P: Patterns + Drop>(
         &self,
         alloc: Global,
@@ -45,8 +46,9 @@ impl Handle {
         store.plan.prepare(alloc, &self.rec, parent, keys)
     }
 
-    /// Commits a set that was prepared for this handle, and for what its record keeps now of the involved mounts. Every `front` is the number of
-    /// commits that the turn found. `DiskFault` comes only where the disk failed; a set that ended so may still come into the files.
+    /// Commits a set that was prepared for this handle, and for what its record keeps now of the involved mounts. Every
+    /// `front` is the number of commits that the turn found. `DiskFault` comes only where the disk failed; a set that
+    /// ended so may still come into the files.
     pub fn commit<D: Disk, F: Formats + Drop, P: Patterns + Drop, R: Wait>(
         &mut self,
         rt: &R,

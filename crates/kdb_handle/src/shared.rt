@@ -9,8 +9,8 @@ use storage_api::Formats;
 use store_core::{Core, Plan};
 use store_verdict::Prepared;
 
-/// What the present turn has told: nothing, that its set is a commit, that its set was begun and the disk failed, or that the matcher refused a pattern
-/// of it.
+/// What the present turn has told: nothing, that its set is a commit, that its set was begun and the disk failed, or
+/// that the matcher refused a pattern of it.
 #[derive(Drop)]
 pub enum Fresh {
     Nothing,
@@ -19,8 +19,9 @@ pub enum Fresh {
     Refused(Snapshot<Prepared>),
 }
 
-/// The core of an open store, which stands for the story of its handles: the opening, and then the commits, the sets that failed and those with a
-/// refused pattern, in the order of the turns. It stores the commits; of the other entries it has the count alone.
+/// The core of an open store, which stands for the story of its handles: the opening, and then the commits, the sets
+/// that failed and those with a refused pattern, in the order of the turns. It stores the commits; of the other entries
+/// it has the count alone.
 #[derive(Drop)]
 pub struct Shared<D: Disk, F: Formats + Drop, P: Patterns + Drop> {
     pub(crate) core: Core<D, P>,

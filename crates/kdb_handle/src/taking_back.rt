@@ -24,8 +24,8 @@ use storage_api::Formats;
 use store_core::{CommitFault, Done, Plan};
 use store_verdict::{PrepareFault, Record};
 
-/// What an undoing has before its set: the parent that it got, a copy of the record with what that keeps then, the keys that the get gave, and these
-/// with the inverse made on them.
+/// What an undoing has before its set: the parent that it got, a copy of the record with what that keeps then, the keys
+/// that the get gave, and these with the inverse made on them.
 #[derive(Drop)]
 pub(crate) struct Fetching {
     parent: KeyName,
@@ -35,7 +35,8 @@ pub(crate) struct Fetching {
 }
 
 impl<D: Disk, F: Formats + Drop, P: Patterns + Drop> Shared<D, F, P> {
-    /// Takes a commit back. All memory but that of the commit itself is taken before the commit, so that nothing can be wanting behind it.
+    /// Takes a commit back. All memory but that of the commit itself is taken before the commit, so that nothing can be
+    /// wanting behind it.
     pub(crate) fn undo(
         &mut self,
         alloc: Global,

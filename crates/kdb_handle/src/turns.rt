@@ -83,7 +83,8 @@ impl<D: Disk, F: Formats + Drop, P: Patterns + Drop> Shared<D, F, P> {
         let _ = self.core.flush();
     }
 
-    /// A commit. The story tells of it where it was made, or begun; so there has to be room for one more entry before the disk is touched.
+    /// A commit. The story tells of it where it was made, or begun; so there has to be room for one more entry before
+    /// the disk is touched.
     pub(crate) fn commit(
         &mut self,
         alloc: Global,

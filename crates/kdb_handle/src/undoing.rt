@@ -1,4 +1,5 @@
-//! A handle's undoing of a commit: one turn, in which it gets a parent, makes the inverse of the commit on what it got, and sets that.
+//! A handle's undoing of a commit: one turn, in which it gets a parent, makes the inverse of the commit on what it got,
+//! and sets that.
 ghost use Rattle.std.specs.Prelude.{◌≡◌};
 ghost use Rattle.kdb_handle.specs.Stores.{IsHandle};
 ghost use Rattle.kdb_handle.specs.Undoing.{IsUndone, of_inverse};
@@ -55,9 +56,11 @@ impl From<InverseFault> for UndoFault {
 }
 
 impl Handle {
-    /// Takes the commit of a number back, by a commit of its own, as one turn: gets the mountpoint of the mount that the commit touched, or all keys where it touched
-    /// several; sets each name of the commit back to what it had before it; and stores that. On Ok the answer is `Committed`, and the keys are those that were
-    /// stored. Where the set was refused the keys become what the get gave. After every other refusal the keys and the record are as before.
+    /// Takes the commit of a number back, by a commit of its own, as one turn: gets the mountpoint of the mount that
+    /// the commit touched, or all keys where it touched several; sets each name of the commit back to what it had
+    /// before it; and stores that. On Ok the answer is `Committed`, and the keys are those that were stored. Where the
+    /// set was refused the keys become what the get gave. After every other refusal the keys and the record are as
+    /// before.
     pub fn kdb_undo<D: Disk, F: Formats + Drop, P: Patterns + Drop, R: Wait>(
         &mut self,
         rt: &R,

@@ -25,7 +25,8 @@ impl Handle {
         Watch::new(alloc, parent.copy()?, room, self.seen())
     }
 
-    /// Has a watch look at the commits that there are in the handle's turn. It has then seen these commits, and the story tells nothing of the turn.
+    /// Has a watch look at the commits that there are in the handle's turn. It has then seen these commits, and the
+    /// story tells nothing of the turn.
     pub fn kdb_collect<D: Disk, F: Formats + Drop, P: Patterns + Drop, R: Wait>(
         &mut self,
         rt: &R,

@@ -14,7 +14,8 @@ pub record ChangesTo (file now : List ℕ) (seen_old seen_new : List ℕ → Lis
   pub this : seen_new file ≡ now
   pub others : KeepsOthers file seen_old seen_new
 
--- a write of n bytes at this place may have stopped anywhere: any bytes in its range, any length between, and the rest as it was
+-- a write of n bytes at this place may have stopped anywhere: any bytes in its range, any length between, and the rest
+-- as it was
 pub record IsTorn (before : List ℕ) (at n : ℕ) (now : List ℕ) : Type 0 where
   pub front : take at now ≡ take at before
   pub back : drop (at + n) now ≡ drop (at + n) before

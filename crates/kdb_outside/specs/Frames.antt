@@ -9,8 +9,8 @@ pub record GoesOn {D : Type 0} (g : Ghosts D) (old new : D) : Type 0 where
   pub moment : g.moment old ≤ g.moment new
   pub later : g.faults old ≤ g.faults new
 
--- a call only reads: it goes on, and where the disk tells, the files and what a crash may leave of them are as they were, and
--- while it went on a crash might have left nothing else
+-- a call only reads: it goes on, and where the disk tells, the files and what a crash may leave of them are as they
+-- were, and while it went on a crash might have left nothing else
 pub record OnlyReads {D : Type 0} (g : Ghosts D) (old new : D) : Type 0 where
   pub same : g.tells old ≡ true → g.seen new ≡ g.seen old
   pub images : g.tells old ≡ true → KeepsImages (g.may_leave old) (g.may_leave new)

@@ -1,5 +1,5 @@
--- What a crash may leave of the files of a disk. (This project's own. After the crash models of journaling file systems: what was
--- written since a file's last good sync may be there whole, in part, or with other bytes.)
+-- What a crash may leave of the files of a disk. (This project's own. After the crash models of journaling file
+-- systems: what was written since a file's last good sync may be there whole, in part, or with other bytes.)
 use Rattle.std.specs.Prelude.{◌≡◌, ◌≢◌, ◌⊎◌, ℕ, ◌+◌, ◌<◌, ◌≤◌, List, length, take, drop, min, max, slice_get}
 
 -- one content for each file name; a missing file has none
@@ -14,8 +14,8 @@ IsImage may_leave image = (file : List ℕ) → may_leave file (image file)
 abbrev pub Only : List ℕ → (List ℕ → Type 0) → Type 0
 Only bytes leaves = (c : List ℕ) → leaves c → c ≡ bytes
 
--- a crash behind a write of these bytes at this place may leave other bytes in its range, and a length between; a byte that was
--- written over with itself stays
+-- a crash behind a write of these bytes at this place may leave other bytes in its range, and a length between; a byte
+-- that was written over with itself stays
 pub record IsTornWrite (at : ℕ) (bytes before now : List ℕ) : Type 0 where
   pub front : take at now ≡ take at before
   pub back : drop (at + length bytes) now ≡ drop (at + length bytes) before

@@ -31,8 +31,8 @@ pub trait Disk {
     /// How often it has failed. At the type's end the count stands still.
     ghost faults: { Self → ℕ };
 
-    /// The bytes that a read of a file from a place on may give, also where the disk doesn't tell. Nothing else is said of
-    /// them, so whoever hands on what was read hands on what a read gave.
+    /// The bytes that a read of a file from a place on may give, also where the disk doesn't tell. Nothing else is said
+    /// of them, so whoever hands on what was read hands on what a read gave.
     ghost gives: { Self → List ℕ → ℕ → List ℕ → Type 0 };
 
     /// What a read gives is an image.
@@ -101,7 +101,8 @@ pub trait Disk {
         ensures cause { HasCause (faults self.old) (faults self.new) result }
         ensures later { faults self.old ≤ faults self.new };
 
-    /// Has a file kept as it is now: a crash then leaves what a read gives. After a failed sync what was pending still is.
+    /// Has a file kept as it is now: a crash then leaves what a read gives. After a failed sync what was pending still
+    /// is.
     fn sync(&mut self, file: &FileName) -> Result<(), Failed>
         ensures same { tells self.old ≡ true → seen self.new ≡ seen self.old }
         ensures synced { tells self.old ≡ true → OnOk result (Only (seen self.old file.now) (may_leave self.new file.now)) }
@@ -113,8 +114,8 @@ pub trait Disk {
         ensures cause { HasCause (faults self.old) (faults self.new) result }
         ensures later { faults self.old ≤ faults self.new };
 
-    /// Says that the disk is done with for now, so that others may use what it stands for: a disk over a folder gives its lock back, and takes it
-    /// again at its next call. Nothing that a contract sees changes.
+    /// Says that the disk is done with for now, so that others may use what it stands for: a disk over a folder gives
+    /// its lock back, and takes it again at its next call. Nothing that a contract sees changes.
     fn release(&mut self)
         ensures { self.new ≡ self.old };
 }

@@ -13,8 +13,8 @@ pub fn a_crash_tears_a_write()
     ensures longer { IsTornWrite 3 (codes "xyz") (codes "abcd") (codes "abcdy") }
 {}
 
-/// It keeps the bytes outside the range, and those that were written over with themselves. The file gets no shorter, and no
-/// longer than by the whole write.
+/// It keeps the bytes outside the range, and those that were written over with themselves. The file gets no shorter,
+/// and no longer than by the whole write.
 pub fn a_crash_tears_no_more_than_a_write()
     ensures before { IsTornWrite 1 (codes "xy") (codes "abcd") (codes "zxyd") → ⊥ }
     ensures behind { IsTornWrite 1 (codes "xy") (codes "abcd") (codes "axyz") → ⊥ }

@@ -83,7 +83,8 @@ pub fn a_byte_written_again_stays<D: Disk>(before: &D, after: &D, file: &FileNam
         → EachOf (D.may_leave before.now file.now) (HasByte (at + i) value) → EachOf (D.may_leave after.now file.now) (HasByte (at + i) value) }
 {}
 
-/// A byte outside the range of a write, or before the length of a cut, keeps its value in everything that a crash leaves.
+/// A byte outside the range of a write, or before the length of a cut, keeps its value in everything that a crash
+/// leaves.
 pub fn a_byte_out_of_reach_stays<D: Disk>(before: &D, after: &D, file: &FileName)
     ensures before_write { (at : ℕ) (bytes : List ℕ) (place value : ℕ) → place < at
         → Touches file.now (IsTornWrite at bytes) (D.may_leave before.now) (D.may_leave after.now)

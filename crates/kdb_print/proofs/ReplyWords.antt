@@ -35,8 +35,8 @@ abbrev is_of_undo : List ℕ → Bool
 is_of_undo word = is_text word (codes "no-commit") || is_text word (codes "overtaken")
 
 -- what kind of line begins with a word: the answers of a get, a look and a set, refusals, those of a merge alone, those
--- of a watch and a poll, the refusals of an undo alone, the lines that begin a session, a phase or the history, the tries
--- of a merge, and the changes that a poll tells; 0 is any other
+-- of a watch and a poll, the refusals of an undo alone, the lines that begin a session, a phase or the history, the
+-- tries of a merge, and the changes that a poll tells; 0 is any other
 abbrev pub kind_of : Line → ℕ
 kind_of (first, words) =
     if is_text first (codes "got") then 1 else
@@ -67,7 +67,8 @@ table_tag_of word =
     (if is_text word (codes "bad-conflicts") then 28 else
     0))))))))
 
--- which refusal a line tells, by its third word; a file that is too large is told by a commit with the front, and by a prepare without
+-- which refusal a line tells, by its third word; a file that is too large is told by a commit with the front, and by a
+-- prepare without
 abbrev pub refusal_tag_of : Line → ℕ
 refusal_tag_of line =
     if is_text (word_at 2 line) (codes "bad-file") then 5 else

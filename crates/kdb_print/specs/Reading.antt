@@ -129,7 +129,8 @@ tries_of (Merged merging) = merging.tried
 tries_of (MergeRefused fault) = fault.tried
 tries_of reply = []
 
--- a reply as its last line tells it: a merge's and an undo's commit as a set's, and their refusals as a set's, or a get's, where it has them too
+-- a reply as its last line tells it: a merge's and an undo's commit as a set's, and their refusals as a set's, or a
+-- get's, where it has them too
 abbrev pub last_of_end : MergeEnd → Reply
 last_of_end (merge_end.Set fault) = SetRefused fault
 last_of_end merge_end.Memory = Memory
@@ -156,9 +157,9 @@ told_last reply = if is_memory reply then Memory else last_of reply
 abbrev pub told_of : Reply → List Tried × Reply
 told_of reply = (tries_of reply, told_last reply)
 
--- what the lines of a session tell, of each reply but for those of edits. The last line of a merge or an undo can be that of a set:
--- the steps tell which of them it is, but not where an edit may have wanted memory, since then it isn't known which line
--- is whose
+-- what the lines of a session tell, of each reply but for those of edits. The last line of a merge or an undo can be
+-- that of a set: the steps tell which of them it is, but not where an edit may have wanted memory, since then it isn't
+-- known which line is whose
 abbrev pub told : List Reply → List (List Tried × Reply)
 told replies = over told_of (filter (λ reply. not (is_quiet reply)) replies)
 
@@ -208,7 +209,8 @@ is_undo (Undone done) = true
 is_undo (UndoRefused fault) = true
 is_undo reply = false
 
--- a reply that a step can give: edits alone are quiet, merges and undos alone answer as theirs do, and each step may want memory
+-- a reply that a step can give: edits alone are quiet, merges and undos alone answer as theirs do, and each step may
+-- want memory
 pub record IsReplyTo (step : Step) (reply : Reply) : Type 0 where
   pub fits : IsReply reply
   pub quiet : (is_quiet reply ≡ edits step) ⊎ (reply ≡ Memory)

@@ -1,5 +1,5 @@
-//! What the program `kdb` does from its start to its end: it takes its words and its streams, and runs the tool over the files
-//! of a folder. It is a crate of its own, so that several programs can be run on it.
+//! What the program `kdb` does from its start to its end: it takes its words and its streams, and runs the tool over
+//! the files of a folder. It is a crate of its own, so that several programs can be run on it.
 #![tactic(auto)]
 
 mod streams;
@@ -23,7 +23,8 @@ const FOLDER: &str = ".kdb";
 /// The variable that names the folder which it stands in.
 const ABOVE: &str = "KDB_DIR";
 
-/// The path of the store's folder: in the folder that the variable names, or in the one that the program runs in where it names none.
+/// The path of the store's folder: in the folder that the variable names, or in the one that the program runs in where
+/// it names none.
 fn folder(rt: HostRuntime) -> io::Result<String> {
     match env::var(&rt, ABOVE) {
         Ok(above) if !above.is_empty() => Ok(format!(in rt.alloc(); "{above}/{FOLDER}")?),
@@ -42,8 +43,9 @@ fn words(rt: HostRuntime) -> io::Result<Vec<Text>> {
     Ok(words)
 }
 
-/// Runs the tool with the words of the command line over the files of `.kdb`, in the folder that `KDB_DIR` names or else in the one that the
-/// program was started in, and answers the status that it is to end with. `threads` is the runtime as `main` has it, which may start threads and wait.
+/// Runs the tool with the words of the command line over the files of `.kdb`, in the folder that `KDB_DIR` names or
+/// else in the one that the program was started in, and answers the status that it is to end with. `threads` is the
+/// runtime as `main` has it, which may start threads and wait.
 pub fn start<R: Threads + Wait + Sync>(rt: HostRuntime, threads: &R) -> ExitCode {
     let mut err = WriterSink::new(rt.stderr());
     match taken_streams(rt) {
@@ -98,7 +100,8 @@ fn run_in<E: Sink, R: Threads + Wait + Sync>(
     ExitCode::from(status.code())
 }
 
-/// Nothing can be opened, not even what takes the place of a closed stream, the store's folder has no name, or memory is wanting.
+/// Nothing can be opened, not even what takes the place of a closed stream, the store's folder has no name, or memory
+/// is wanting.
 fn refuse_to_start<E: Sink>(error: io::Error, err: &mut E) -> ExitCode {
     match error.kind() {
         ErrorKind::OutOfMemory => end(70, "kdb: C01110 out of memory\n", err),

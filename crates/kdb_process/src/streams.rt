@@ -11,8 +11,8 @@ pub fn dead_end(rt: HostRuntime) -> io::Result<File> {
     File::open(&rt, "/")
 }
 
-/// Takes the number of each standard stream that is closed, as long as these files are open. No file that is opened meanwhile
-/// becomes such a stream then, and reading or writing one fails.
+/// Takes the number of each standard stream that is closed, as long as these files are open. No file that is opened
+/// meanwhile becomes such a stream then, and reading or writing one fails.
 pub fn taken_streams(rt: HostRuntime) -> io::Result<Vec<File>> {
     let mut taken = Vec::new(rt.alloc());
     for _ in 0..=LAST_STREAM {

@@ -8,8 +8,8 @@ use key_meta::Memory;
 use key_name::KeyName;
 use std::alloc::Global;
 
-/// A text on one line: as it is where it needs no quotes, and else quoted. A text needs quotes that has a blank, a quote or a
-/// control byte. It fails only for want of memory.
+/// A text on one line: as it is where it needs no quotes, and else quoted. A text needs quotes that has a blank, a
+/// quote or a control byte. It fails only for want of memory.
 pub fn shown_text(alloc: Global, text: &str) -> Result<String, Memory>
     ensures { IfOk result (λ line. string_bytes line ≡ shown_text text.now) }
 {

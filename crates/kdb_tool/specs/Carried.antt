@@ -28,7 +28,8 @@ use Rattle.kdb_tool.specs.Scripts.{AsksFor, AsksStore, FailsToRead, HasAsked, Is
 use Rattle.kdb_tool.specs.Unplayed.{AnswersUnplayed, IsUnopened}
 use Rattle.kdb_tool.specs.Working.{Works}
 
--- a script was played on the store of a disk. What is said of its files is said of a disk that tells, and mostly of one that is calm
+-- a script was played on the store of a disk. What is said of its files is said of a disk that tells, and mostly of one
+-- that is calm
 pub record PlaysScript {D P : Type 0} (d : disks.Ghosts D) (p : matchers.Ghosts P) (script : Script) (disk : D) (patterns : P) (ended : Ended D P) : Type 0 where
   pub worked : d.tells disk ≡ true → (files : Image) (doubt : Option (List FileText)) → IsCalm (d.seen disk) (d.may_leave disk) files doubt
       → Works d files doubt (p.refusals patterns) (p.refusals ended.patterns) (IsUnopened (opened_files (d.seen disk))) (λ played. played ≡ script) ended.answer disk ended.disk
@@ -43,7 +44,8 @@ pub record PlaysScript {D P : Type 0} (d : disks.Ghosts D) (p : matchers.Ghosts 
   pub goes : GoesOn d disk ended.disk
   pub later : p.refusals patterns ≤ p.refusals ended.patterns
 
--- a batch was carried out by its words and its input: a script was played, or what there is in its place was told without the store
+-- a batch was carried out by its words and its input: a script was played, or what there is in its place was told
+-- without the store
 pub record CarriesOutBatch {S D P : Type 0} (s : sources.Ghosts S) (d : disks.Ghosts D) (p : matchers.Ghosts P) (line : List (List ℕ)) (source source_now : S) (disk : D) (patterns : P) (ended : Ended D P) : Type 0 where
   pub worked : d.tells disk ≡ true → (files : Image) (doubt : Option (List FileText)) → IsCalm (d.seen disk) (d.may_leave disk) files doubt → (given : List ℕ) → IsGiven (takes_words line) (s.left source) given
       → Works d files doubt (p.refusals patterns) (p.refusals ended.patterns) (AnswersUnplayed line given (opened_files (d.seen disk))) (AsksFor line given) ended.answer disk ended.disk

@@ -27,7 +27,8 @@ EndsWithoutMemory status out err = status ≡ 70 → Gives (warned 70 out_of_mem
 abbrev pub EndsInFault : Type 0 → Type 0 → ℕ → Change → Change → Type 0
 EndsInFault disk_failed input_failed status out err = status ≡ 74 → FaultCause disk_failed input_failed status out err ⊎ (disk_failed × GivesText 74 status out err)
 
--- what is told where the store isn't opened for its journal, by the line that refuses it: a script that is refused is told before that
+-- what is told where the store isn't opened for its journal, by the line that refuses it: a script that is refused is
+-- told before that
 pub data TellsOfJournal (words : List (List ℕ)) (input line : List ℕ) (report : Report) : Type 0 where
   WordsRefused : takes_words words ≡ false → report ≡ warned 1 options_refused → TellsOfJournal words input line report
   ScriptRefused : takes_words words ≡ true → RefusesScript input (tells report) → TellsOfJournal words input line report

@@ -1,4 +1,5 @@
--- A generated run: its script was played on a disk of its own that had no files, and what its history came to. (This project's own.)
+-- A generated run: its script was played on a disk of its own that had no files, and what its history came to. (This
+-- project's own.)
 use Rattle.std.specs.Prelude.{◌≡◌, ℕ, List, [], ◌∷◌, length, sum_by, codes}
 use Rattle.std.specs.FinMap as map
 use Rattle.std.specs.List.{AllByRecursion}
@@ -51,8 +52,9 @@ pub record ComesTo (history : List Commit) (tally : Tally) : Type 0 where
   pub keys : tally.keys ≡ length (map.entries (generated_keys history))
   pub sum : SumsTo (generated_keys history) tally.sum
 
--- The sessions of the script of so many rounds took their steps on a store of no files. Their replies are fair by the history of its commits; none of them is a want of
--- memory or a fault of the disk; and the history comes to the tally that is told of so many rounds
+-- The sessions of the script of so many rounds took their steps on a store of no files. Their replies are fair by the
+-- history of its commits; none of them is a want of memory or a fault of the disk; and the history comes to the tally
+-- that is told of so many rounds
 pub record PlaysRounds (rounds : ℕ) : Type 0 where
   pub mounted : List MountedFile
   pub opened : IsOpened all.Reads all.IsBadAt no_files mounted

@@ -1,4 +1,5 @@
--- What a batch does whose sessions take their steps: its replies, its history, the files, and what a crash may leave. (This project's own.)
+-- What a batch does whose sessions take their steps: its replies, its history, the files, and what a crash may leave.
+-- (This project's own.)
 use Rattle.std.specs.Prelude.{◌≡◌, ◌⊎◌, ℕ, List, [], Option, None, map as over}
 use Rattle.all_formats.specs.Meanings as all
 use Rattle.batch_script.specs.declared.steps.Script.{Script}
@@ -34,13 +35,15 @@ use Rattle.tool_commands.specs.Report.{Report}
 use Rattle.tool_single.specs.Crashing.{HasNothingToWrite}
 use Rattle.tool_single.specs.Sets.{formats}
 
--- The sessions of a script took their steps, on a disk that was found with some files and a doubt. The files mean a store. There is one story of what the sessions did,
--- whose commits are legal on the store, and by which the replies are fair; it has as many sets that failed and refused patterns as the replies tell, and no more, and the
--- counts of faults and of refused patterns rose by at least so many.
--- The run on the disk began with the files of the opening, under a head that names those of the store, and with a doubt that stands for no other files than were found, and went on by the story. A crash at any
--- moment since the call began leaves the files as they were found, or a prefix of the commits on those of the opening, or such a prefix with the set that was begun
--- just there; and behind the call all commits, or all with the set in doubt. Where the disk didn't fail, it shows the files of all commits, and is calm with them. Where
--- no set was begun and the opening had nothing to write, it was only read
+-- The sessions of a script took their steps, on a disk that was found with some files and a doubt. The files mean a
+-- store. There is one story of what the sessions did, whose commits are legal on the store, and by which the replies
+-- are fair; it has as many sets that failed and refused patterns as the replies tell, and no more, and the counts of
+-- faults and of refused patterns rose by at least so many. The run on the disk began with the files of the opening,
+-- under a head that names those of the store, and with a doubt that stands for no other files than were found, and went
+-- on by the story. A crash at any moment since the call began leaves the files as they were found, or a prefix of the
+-- commits on those of the opening, or such a prefix with the set that was begun just there; and behind the call all
+-- commits, or all with the set in doubt. Where the disk didn't fail, it shows the files of all commits, and is calm
+-- with them. Where no set was begun and the opening had nothing to write, it was only read
 pub record Plays {D : Type 0} (g : Ghosts D) (files : Image) (doubt : Option (List FileText)) (refusals_before refusals_now : ℕ) (script : Script) (transcripts : Transcripts) (disk end : D) : Type 0 where
   pub mounted : List MountedFile
   pub opened : IsOpened all.Reads all.IsBadAt (opened_files (g.seen disk)) mounted
@@ -61,7 +64,8 @@ pub record Plays {D : Type 0} (g : Ghosts D) (files : Image) (doubt : Option (Li
   pub calm : ¬ HasRisen (g.faults disk) (g.faults end) → IsCalm (g.seen end) (g.may_leave end) (files_of last) last.doubt
   pub untouched : BeginsNone story → HasNothingToWrite (g.seen disk) → OnlyReads g disk end
 
--- what a batch tells of its sessions, with the mounts and the numbers of the sessions: the worst of its replies as the status, and all of them with the history on out
+-- what a batch tells of its sessions, with the mounts and the numbers of the sessions: the worst of its replies as the
+-- status, and all of them with the history on out
 abbrev pub report_with : List Mount → List ℕ → Script → Transcripts → List Commit → Report
 report_with mounts sessions script transcripts history = record {
   status = status_of transcripts.phases;

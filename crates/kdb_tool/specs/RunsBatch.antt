@@ -27,7 +27,8 @@ use Rattle.kdb_tool.specs.Plays.{Plays, report_by}
 use Rattle.kdb_tool.specs.Scripts.{AsksFor, AsksStore, FailsToRead, HasAsked, IsGiven, LeavesInput, takes_words}
 use Rattle.kdb_tool.specs.Unplayed.{AnswersUnplayed}
 
--- the sessions took their steps, and out has what they replied with the history, or a front of it: nothing where memory was wanting for that text
+-- the sessions took their steps, and out has what they replied with the history, or a front of it: nothing where memory
+-- was wanting for that text
 pub record TellsPlayed {D : Type 0} (g : disks.Ghosts D) (files : Image) (doubt : Option (List FileText)) (refusals_before refusals_now : ℕ) (words : List (List ℕ)) (input : List ℕ) (disk end : D) (status : ℕ) (out err : Change) : Type 0 where
   pub script : Script
   pub asks : AsksFor words input script
@@ -36,7 +37,8 @@ pub record TellsPlayed {D : Type 0} (g : disks.Ghosts D) (files : Image) (doubt 
   pub told : Delivers (report_by script transcripts plays.mounted (commits_of plays.story)) status out err ⊎ Delivers (warned 70 out_of_memory) status out err
   pub prefix : GainsFront out.held_before out.held_now (report_by script transcripts plays.mounted (commits_of plays.story)).out
 
--- what a batch did on a calm disk: no session took a step, by an answer; or all took theirs; or it was cut short by want of memory or a fault before that
+-- what a batch did on a calm disk: no session took a step, by an answer; or all took theirs; or it was cut short by
+-- want of memory or a fault before that
 pub data RanBatch {D : Type 0} (g : disks.Ghosts D) (files : Image) (doubt : Option (List FileText)) (refusals_before refusals_now : ℕ) (words : List (List ℕ)) (input : List ℕ) (input_failed : Type 0) (disk end : D) (status : ℕ) (out err : Change) : Type 0 where
   Unplayed : Follows g files doubt (AnswersUnplayed words input (opened_files (g.seen disk))) disk end status out err → RanBatch g files doubt refusals_before refusals_now words input input_failed disk end status out err
   Played : TellsPlayed g files doubt refusals_before refusals_now words input disk end status out err → RanBatch g files doubt refusals_before refusals_now words input input_failed disk end status out err
@@ -56,7 +58,8 @@ pub record RunsBatch {S K E D P : Type 0} (s : sources.Ghosts S) (k : sinks.Ghos
       → RanBatch d files doubt (p.refusals patterns) (p.refusals patterns_now) words given (LosesInput (FailsToRead (takes_words words) (s.faults input) (s.faults input_now)) disk end patterns patterns_now) disk end status (change_of k out out_now) (change_of e err err_now)
   -- without a fault of the disk it is calm behind the call, for the next one
   pub calm : d.tells disk ≡ true → (files : Image) (doubt : Option (List FileText)) → IsCalm (d.seen disk) (d.may_leave disk) files doubt → ¬ HasRisen (d.faults disk) (d.faults end) → IsAtRest d end
-  -- words that are refused decide alone, whatever the disk does; where they or the script are refused the disk and the matcher are left alone
+  -- words that are refused decide alone, whatever the disk does; where they or the script are refused the disk and the
+  -- matcher are left alone
   pub by_words : EndsByWords words status (change_of k out out_now) (change_of e err err_now)
   pub unasked : (given : List ℕ) → IsGiven (takes_words words) (s.left input) given → (AsksStore words given → ⊥) → (end ≡ disk) × (patterns_now ≡ patterns)
   -- a broken journal is told by its place, and one of a version that isn't known by that
@@ -64,8 +67,9 @@ pub record RunsBatch {S K E D P : Type 0} (s : sources.Ghosts S) (k : sinks.Ghos
       → EndsByJournal words given (bad_journal at) status (change_of k out out_now) (change_of e err err_now)
   pub unknown : d.tells disk ≡ true → (version : ℕ) → unknown_version (d.seen disk) ≡ Some version → (given : List ℕ) → IsGiven (takes_words words) (s.left input) given
       → EndsByJournal words given (unknown_journal version) status (change_of k out out_now) (change_of e err err_now)
-  -- the disk is only read then, where there is no former journal, or where it is that one which isn't whole; and else a batch that tells it has retired the
-  -- former journal, and brought its entries into their files, and changed nothing else
+  -- the disk is only read then, where there is no former journal, or where it is that one which isn't whole; and else a
+  -- batch that tells it has retired the former journal, and brought its entries into their files, and changed nothing
+  -- else
   pub broken_stays : d.tells disk ≡ true → (fault : JournalFault) → found_in (d.seen disk) ≡ Err fault → IsKept (d.seen disk) → OnlyReads d disk end
   pub broken_kept : d.tells disk ≡ true → (fault : JournalFault) → found_in (d.seen disk) ≡ Err fault → ¬ IsKept (d.seen disk)
       → (given : List ℕ) → IsGiven (takes_words words) (s.left input) given → AsksStore words given → IsAnswered status → LeavesRetired d disk end

@@ -16,7 +16,8 @@ use Rattle.tool_single.specs.Outcome.{Delivers, GainsFront}
 abbrev pub summed : ℕ → Report
 summed rounds = told (summary rounds (tally_of rounds))
 
--- the script was played and its summary told; or the run ended in want of memory, which a fault of the memory disk counts as
+-- the script was played and its summary told; or the run ended in want of memory, which a fault of the memory disk
+-- counts as
 pub data TellsRounds (rounds : ℕ) (status : ℕ) (out err : Change) : Type 0 where
   Summed : PlaysRounds rounds → Delivers (summed rounds) status out err → TellsRounds rounds status out err
   Without : Delivers (warned 70 out_of_memory) status out err → TellsRounds rounds status out err

@@ -25,7 +25,8 @@ most_taken = script.longest_script + 1
 abbrev pub taken : List ℕ → List ℕ
 taken input = take most_taken input
 
--- a batch is given this input: the bytes that its source tells. Where its words are refused it takes none, and this is any
+-- a batch is given this input: the bytes that its source tells. Where its words are refused it takes none, and this is
+-- any
 abbrev pub IsGiven : Bool → Option (List ℕ) → List ℕ → Type 0
 IsGiven false left input = Unit {0}
 IsGiven true left input = left ≡ Some input

@@ -1,4 +1,5 @@
--- The answer to a batch whose sessions take no step: its words are refused, or its script, or the store isn't opened. (This project's own.)
+-- The answer to a batch whose sessions take no step: its words are refused, or its script, or the store isn't opened.
+-- (This project's own.)
 use Rattle.std.specs.Prelude.{◌≡◌, ℕ, true, false, List, Err}
 use Rattle.all_formats.specs.Meanings as all
 use Rattle.batch_script.specs.Scripts as script
@@ -11,7 +12,8 @@ use Rattle.tool_single.specs.Answers.{IsRefusedBy}
 use Rattle.kdb_tool.specs.Lines.{bad_line, script_too_long}
 use Rattle.kdb_tool.specs.Scripts.{AsksFor, taken, takes_words}
 
--- what some input is refused with as a script: its length, which is looked at first, or the first line that has no meaning
+-- what some input is refused with as a script: its length, which is looked at first, or the first line that has no
+-- meaning
 pub data RefusesScript (input : List ℕ) (answer : Answer) : Type 0 where
   TooLong : script.is_too_long (taken input) ≡ true → answer ≡ refused 5 script_too_long → RefusesScript input answer
   BadLine : script.is_too_long (taken input) ≡ false → (line : ℕ) → script.IsBadAt (taken input) line → answer ≡ refused 5 (bad_line line) → RefusesScript input answer

@@ -23,7 +23,8 @@ use Rattle.tool_single.specs.declared.answers.Ended.{Ended}
 use Rattle.tool_single.specs.declared.answers.Stop.{Stop}
 use Rattle.tool_single.specs.declared.answers.Stop.TheVariants as stops
 
--- the answer by the replies of the sessions: they are told, or memory was wanting for that; or it was wanting before the first step
+-- the answer by the replies of the sessions: they are told, or memory was wanting for that; or it was wanting before
+-- the first step
 abbrev pub AnswersWith : List Mount → List ℕ → Script → List Commit → Option Transcripts → Result code.Report Stop → Type 0
 AnswersWith mounts sessions script history (Some transcripts) answer = Tells (report_with mounts sessions script transcripts history) answer
 AnswersWith mounts sessions script history None answer = answer ≡ Err stops.Memory

@@ -176,8 +176,8 @@ fn end_rounds<D: Disk + Drop, P: Patterns + Drop>(
     Generated { answer, patterns }
 }
 
-/// The summary of a run whose replies are well and whose history comes to what so many rounds do. Any other run ends as for want of memory: that there is none
-/// where memory suffices isn't proved.
+/// The summary of a run whose replies are well and whose history comes to what so many rounds do. Any other run ends as
+/// for want of memory: that there is none where memory suffices isn't proved.
 fn sum_up(
     alloc: Global,
     rounds: u32,

@@ -1,4 +1,5 @@
-//! The top call of the tool: a single command, or a batch of sessions, from the words of a command line to what it prints and the status that it ends with.
+//! The top call of the tool: a single command, or a batch of sessions, from the words of a command line to what it
+//! prints and the status that it ends with.
 #![tactic(auto)]
 
 mod generating;

@@ -49,7 +49,8 @@ pub fn play_script<
     }
 }
 
-/// Plays it on a store that was just opened. What the text names is had before: without memory for it no session takes a step.
+/// Plays it on a store that was just opened. What the text names is had before: without memory for it no session takes
+/// a step.
 fn play_store<G: Gate + Sync, D: Disk + Send, P: Patterns + Drop + Send, R: Threads + Wait + Sync>(
     rt: &R,
     alloc: Global,

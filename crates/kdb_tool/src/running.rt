@@ -13,7 +13,8 @@ use std::thread::Threads;
 use tool_commands::Status;
 use tool_single::{Ended, finish};
 
-/// Carries out the command line of a batch, whose words come without the program's name: the first is `batch`. Gives the disk and the matcher back.
+/// Carries out the command line of a batch, whose words come without the program's name: the first is `batch`. Gives
+/// the disk and the matcher back.
 pub fn run_batch<
     S: Source,
     K: Sink,
@@ -44,8 +45,8 @@ pub fn run_batch<
     (status, disk, patterns)
 }
 
-/// Carries out the command line of a generated run, whose words come without the program's name: the first is `gen`. It takes no disk and no input. Gives the
-/// matcher back.
+/// Carries out the command line of a generated run, whose words come without the program's name: the first is `gen`. It
+/// takes no disk and no input. Gives the matcher back.
 pub fn run_gen<
     K: Sink,
     E: Sink,

@@ -1,4 +1,5 @@
-//! What a history comes to: how many commits it has, which keys it leaves below the name of generated scripts, and the sum of their values.
+//! What a history comes to: how many commits it has, which keys it leaves below the name of generated scripts, and the
+//! sum of their values.
 ghost use Rattle.std.specs.Prelude.{◌≡◌, IfOk, IfSome};
 ghost use Rattle.kdb_tool.specs.Generated.{ComesTo, IsNumber, SumsTo, generated_keys, generated_name, number_of};
 

@@ -16,8 +16,9 @@ use std::thread::Threads;
 use tool_commands::Status;
 use tool_single::run_one;
 
-/// Carries out a command line, whose words come without the program's name, and gives the disk and the matcher back. Each step of a session of a batch
-/// or of a generated run passes the gate; threads are started and wait for each other in these alone. A generated run has a disk of its own.
+/// Carries out a command line, whose words come without the program's name, and gives the disk and the matcher back.
+/// Each step of a session of a batch or of a generated run passes the gate; threads are started and wait for each other
+/// in these alone. A generated run has a disk of its own.
 pub fn run<
     S: Source,
     K: Sink,

@@ -24,7 +24,8 @@ pub fn put_value(
     Ok(())
 }
 
-/// A key gets a metadata text and keeps its value. A missing key is made with the empty value. A metadata name has 1 to `LONGEST_META_NAME` bytes.
+/// A key gets a metadata text and keeps its value. A missing key is made with the empty value. A metadata name has 1 to
+/// `LONGEST_META_NAME` bytes.
 pub fn put_meta(
     alloc: Global,
     keys: &mut KeySet,

@@ -1,5 +1,5 @@
--- What becomes of each name where two sets, ours and theirs, come from one base. (After Elektra's page on three-way merge; value
--- and metadata of a key are one thing here, which is this project's own.)
+-- What becomes of each name where two sets, ours and theirs, come from one base. (After Elektra's page on three-way
+-- merge; value and metadata of a key are one thing here, which is this project's own.)
 use Rattle.std.specs.Prelude.{◌≡◌, ◌≢◌, Bool, true, false, List, [], Option, None, Some}
 use Rattle.std.specs.Prelude.{cond}
 use Rattle.std.specs.FinMap as map

@@ -1,4 +1,5 @@
-//! A text that owns its bytes. Contracts see it as those bytes, so that texts can be elements of lists and values of maps.
+//! A text that owns its bytes. Contracts see it as those bytes, so that texts can be elements of lists and values of
+//! maps.
 ghost use Rattle.std.specs.Prelude.{◌≡◌, nat_eq, refl, Some, IfOk};
 ghost use Rattle.std.specs.Cmp.{partial_equiv_from_equiv, partial_order_from_agreeing_total};
 ghost use Rattle.std.specs.Cmp.Lexicographic.{pointwise, slice_cmp, texts_ties};

@@ -1,4 +1,5 @@
--- A part that is spelled well, is free of NUL and leaves the path short enough makes a name behind another, and one that makes a name is not refused.
+-- A part that is spelled well, is free of NUL and leaves the path short enough makes a name behind another, and one
+-- that makes a name is not refused.
 use Rattle.std.proofs.Common.{◌≡◌, ◌≢◌, ℕ, ◌≤◌, Bool, true, false, ltb, not, ◌==◌, ◌&&◌, List, [], ◌∷◌, ◌++◌, length, Option, Some, None, refl, ap, ◌∙◌, arith}
 use Rattle.std.specs.List.{position}
 use Rattle.std.specs.Option.{option_map, option_or}

@@ -1,4 +1,5 @@
--- How long spelled parts and paths are: what a count adds, and that no path that a text leads to is too long to be counted.
+-- How long spelled parts and paths are: what a count adds, and that no path that a text leads to is too long to be
+-- counted.
 use Rattle.std.proofs.Common.{◌≡◌, ◌≢◌, ℕ, ◌+◌, ◌-◌, ◌*◌, ◌<◌, ◌≤◌, Bool, true, false, cond, ◌==◌, ◌||◌, List, [], ◌∷◌, ◌++◌, length, get_or, take, drop, replicate, ltb, map, codes, Option, Some, option_and_then, inl, inr, refl, sym, ap, subst, ◌∙◌, arith, length-append}
 use Rattle.std.specs.List.{AllByRecursion, flat_map}
 use Rattle.std.specs.Option.{option_map}

@@ -1,4 +1,5 @@
--- Where files are mounted, and to which of these points, each of which has all that is below it, a name belongs. (After Elektra's page on mounting.)
+-- Where files are mounted, and to which of these points, each of which has all that is below it, a name belongs. (After
+-- Elektra's page on mounting.)
 use Rattle.std.specs.Prelude.{◌≡◌, ℕ, nat_le, Bool, true, not, ◌&&◌, ◌||◌, List, length, Option}
 use Rattle.std.specs.List.{list_all, position}
 use Rattle.std.specs.List.Sorted.{IsStrictlySortedBy}
@@ -7,7 +8,8 @@ use Rattle.model_names.specs.Name.{Name}
 use Rattle.model_names.specs.Namespaces.{has_files}
 use Rattle.model_names.specs.Order.{name_cmp}
 
--- the points of mounts, which are numbered in this order: names that ascend, each in a namespace whose keys are in files
+-- the points of mounts, which are numbered in this order: names that ascend, each in a namespace whose keys are in
+-- files
 pub record IsPoints (points : List Name) : Type 0 where
   pub ascending : IsStrictlySortedBy name_cmp points
   pub in_files : list_all (λ point. has_files point.namespace) points ≡ true

@@ -1,4 +1,5 @@
--- Paths that are taken as they are: what stands between their slashes are the parts that they lead to. (This project's own.)
+-- Paths that are taken as they are: what stands between their slashes are the parts that they lead to. (This project's
+-- own.)
 use Rattle.std.specs.Prelude.{ℕ, Bool, false, not, ◌&&◌, ◌==◌, if◌then◌else◌, List, [], ◌∷◌, Option, Some, None}
 use Rattle.std.specs.List.{list_all}
 use Rattle.model_names.specs.Name.{Part}

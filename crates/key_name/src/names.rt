@@ -95,7 +95,8 @@ impl KeyName {
         Ok(text)
     }
 
-    /// Appends what stands behind the first slash of its path to some bytes. Behind want of memory a front of it may stand there.
+    /// Appends what stands behind the first slash of its path to some bytes. Behind want of memory a front of it may
+    /// stand there.
     pub fn push_relative(&self, bytes: &mut Vec<u8>) -> Result<(), Memory>
         ensures ok { OnOk result (bytes.new.items ≡ bytes.old.items ++ drop 1 (path self.now)) }
         ensures front { OnErr result (IsPrefix bytes.old.items bytes.new.items) }
@@ -154,8 +155,8 @@ impl KeyName {
         })
     }
 
-    /// A name with the parts of this one, which is a cascading name, behind its own. Where it is a root, the parts are not
-    /// copied.
+    /// A name with the parts of this one, which is a cascading name, behind its own. Where it is a root, the parts are
+    /// not copied.
     pub fn joined_onto(self, point: &KeyName) -> Result<KeyName, NameFault>
         requires cascading { self.namespace ≡ Cascading }
         ensures ok { IfOk result (λ name. name ≡ joined point.now self) }
@@ -174,8 +175,9 @@ impl KeyName {
 
     /// This name with a part behind its own. The part is taken as it is, without escapes.
     ///
-    /// `BadArray` comes, at place 0, where the part looks like an array's and isn't canonical; then `Nul`, with the place of the
-    /// first one in the part; then `TooLong`, with the bytes of the path that would result, at most `usize::MAX`.
+    /// `BadArray` comes, at place 0, where the part looks like an array's and isn't canonical; then `Nul`, with the
+    /// place of the first one in the part; then `TooLong`, with the bytes of the path that would result, at most
+    /// `usize::MAX`.
     pub fn child(&self, part: &str) -> Result<KeyName, NameFault>
         ensures ok { IfOk result (λ name. name ≡ child_of self.now part.now) }
         ensures accepted { OnOk result (child_refusal self.now part.now ≡ None) }
@@ -315,7 +317,8 @@ impl KeyName {
         self.path_bytes() + relative.path_bytes()
     }
 
-    /// How many bytes the path has with a part behind its own. A length beyond the type's end is given as its last value.
+    /// How many bytes the path has with a part behind its own. A length beyond the type's end is given as its last
+    /// value.
     fn child_bytes(&self, part: &str) -> usize
         ensures { result ≡ saturated (length (path (child_of self.now part.now))) }
     {

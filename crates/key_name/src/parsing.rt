@@ -36,8 +36,8 @@ pub fn cut_namespace(text: &str) -> Result<(Namespace, &str), NameFault>
     }
 }
 
-/// The parts that the path behind a namespace's word leads to. The first fault of the whole text is told, where it is not the
-/// length of its path.
+/// The parts that the path behind a namespace's word leads to. The first fault of the whole text is told, where it is
+/// not the length of its path.
 pub fn parts_of(alloc: Global, namespace: Namespace, path: &str) -> Result<Vec<String>, NameFault>
     ensures leads { IfOk result (λ parts. walked [] (raw_parts path.now) ≡ Some (map (λ part. string_bytes part) parts.items)) }
     ensures no_nul { OnOk result (position (λ b. b == 0) (text_behind namespace path.now) ≡ None) }

@@ -31,8 +31,8 @@ fn is_plain(path: &str) -> bool
     !is_first
 }
 
-/// Whether a byte may stand in a plain path, as the first one of a part or as another. A slash in the place of a first one leaves the
-/// part empty.
+/// Whether a byte may stand in a plain path, as the first one of a part or as another. A slash in the place of a first
+/// one leaves the part empty.
 fn fits(is_first: bool, byte: u8) -> bool
     ensures { result ≡ (is_plain_byte byte && (not is_first || (not (byte == 47) && begins_plainly byte))) }
 {

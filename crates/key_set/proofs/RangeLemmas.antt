@@ -119,7 +119,8 @@ module _ {A : Type 0} where
   none_to_come (f ∷ es) zero is le = absurd cc
   none_to_come (f ∷ es) (suc n) is le = ap suc (none_to_come es n is (omega arith))
 
--- keys before a name's place are before it and the others are not; from there on they are at or below it as far as a second place
+-- keys before a name's place are before it and the others are not; from there on they are at or below it as far as a
+-- second place
 module _ (above : Name) {X : Type 0} (es : List (Name × X)) (h : T (is_sorted name_cmp es)) (from to : ℕ) (order : from ≤ to) (within : to ≤ length es)
     (before : T (all_before name_cmp above (take from es))) (behind : T (none_before name_cmp above (drop from es)))
     (below : (k : ℕ) (d : Name × X) → from ≤ k → k < to → k < length es → is_at_or_below above (get_or es k d).0 ≡ true) where

@@ -1,4 +1,5 @@
--- Keys under names that stand behind another one, and under those that lead there from it. (After Elektra's page on mounting.)
+-- Keys under names that stand behind another one, and under those that lead there from it. (After Elektra's page on
+-- mounting.)
 use Rattle.std.specs.Prelude.{Bool, nat_le, length, map as over, Option, filter_map}
 use Rattle.std.specs.FinMap as map
 use Rattle.std.specs.List.{list_all}

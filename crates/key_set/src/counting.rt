@@ -20,7 +20,8 @@ impl KeySet {
         self.keys.get_counted(name, steps)
     }
 
-    /// Gives a name an entry, as `append` does. For n keys before the call it takes s comparisons with 2^s ≤ 128 (2n + 1).
+    /// Gives a name an entry, as `append` does. For n keys before the call it takes s comparisons
+    /// with 2^s ≤ 128 (2n + 1).
     pub fn append_counted<L: Ledger>(
         &mut self,
         name: KeyName,

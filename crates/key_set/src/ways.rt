@@ -14,7 +14,8 @@ use key_name::KeyName;
 use std::alloc::Global;
 
 impl KeySet {
-    /// The keys at or below a point, under the names that lead there. They are sound: names and texts of a set are names and texts.
+    /// The keys at or below a point, under the names that lead there. They are sound: names and texts of a set are
+    /// names and texts.
     pub fn relative_to(&self, alloc: Global, point: &KeyName) -> Result<KeySet, Memory>
         ensures is { IfOk result (λ found. found ≡ relative point.now self.now) }
         ensures sound { IfOk result (λ found. AreSound point.now found) }

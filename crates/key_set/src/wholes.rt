@@ -16,8 +16,8 @@ use std::alloc::{AllocError, Global};
 use std::mem;
 
 impl KeySet {
-    /// The keys under names that stand behind a point. There are none where one of these names would be too long. Keys that this set
-    /// alone has are not copied.
+    /// The keys under names that stand behind a point. There are none where one of these names would be too long. Keys
+    /// that this set alone has are not copied.
     pub fn behind(self, point: &KeyName) -> Result<Option<KeySet>, Memory>
         requires cascading { AllByRecursion (λ key. key.0.namespace ≡ Cascading) (map.entries self) }
         ensures { IfOk result (λ found. found ≡ (if all_fit point.now self then Some (whole point.now self) else None)) }

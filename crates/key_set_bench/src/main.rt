@@ -1,6 +1,7 @@
-//! Appends names to a key set, looks them up and copies the set, to be timed from outside by bench/key_set.sh. The words are how many
-//! names there are, whether they are appended (1 or 0), how many rounds each of them is looked up, in which order they come (0 mixed, 1
-//! rising, 2 falling), and how many copies are made. Up to a hundred thousand names are in the order of their numbers.
+//! Appends names to a key set, looks them up and copies the set, to be timed from outside by bench/key_set.sh. The
+//! words are how many names there are, whether they are appended (1 or 0), how many rounds each of them is looked up,
+//! in which order they come (0 mixed, 1 rising, 2 falling), and how many copies are made. Up to a hundred thousand
+//! names are in the order of their numbers.
 #![tactic(auto)]
 
 use key_meta::{Memory, Meta, Text};

@@ -32,7 +32,8 @@ enum Order {
     ByTexts,
 }
 
-/// A number below 10,000 as a key that stands where its decimal text stands among such texts: 7 before 70, and 70 before 8.
+/// A number below 10,000 as a key that stands where its decimal text stands among such texts: 7 before 70, and 70
+/// before 8.
 fn by_its_text(number: u64) -> u64 {
     let (padded, digits) = match number {
         0..=9 => (number.wrapping_mul(1000), 1),
@@ -65,8 +66,9 @@ fn chunks_of(alloc: Global, count: u64, order: Order) -> Result<usize, AllocErro
     Ok(map_of(alloc, count, order)?.chunk_count())
 }
 
-/// Rising keys fill one chunk after another. Of falling ones the 65th cuts the first chunk, and so does each 32nd behind it: 30 cuts by
-/// 1,000 keys. In the order of their texts a chunk is begun by a cut that leaves it 32 entries, so 10,000 fill 312 at most.
+/// Rising keys fill one chunk after another. Of falling ones the 65th cuts the first chunk, and so does each 32nd
+/// behind it: 30 cuts by 1,000 keys. In the order of their texts a chunk is begun by a cut that leaves it 32 entries,
+/// so 10,000 fill 312 at most.
 #[test]
 fn keys_fill_chunks_by_the_order_that_they_come_in(rt: HostRuntime) -> Result<(), Fail> {
     assert_eq!(rt; chunks_of(rt.alloc(), 1000, Order::Rising)?, 16);
@@ -91,7 +93,8 @@ fn changed(alloc: Global, map: &mut ChunkedMap<u64, Count>) -> Result<usize, All
     taken(map, 30, 90)
 }
 
-/// How many entries were taken out at last, how many are left, and how many a copy has that was made before, in how many chunks.
+/// How many entries were taken out at last, how many are left, and how many a copy has that was made before, in how
+/// many chunks.
 fn counts_beside_a_copy(alloc: Global) -> Result<[usize; 4], AllocError> {
     let mut map = map_of(alloc, 500, Order::Rising)?;
     let copied = map.copy()?;

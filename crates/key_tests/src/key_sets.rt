@@ -71,7 +71,8 @@ fn tell_cut(set: &mut KeySet, at: &KeyName, all: &mut String) -> Result<(), Memo
     tell(&taken, all)
 }
 
-/// Tells a set, what of it is at or below a name, that by its ways from there, what is cut, what is cut again, and what is left.
+/// Tells a set, what of it is at or below a name, that by its ways from there, what is cut, what is cut again, and what
+/// is left.
 fn tell_cuts(
     alloc: Global,
     set: &mut KeySet,
@@ -120,7 +121,8 @@ fn weighs_its_keys(rt: HostRuntime) -> Result<(), Fail> {
     Ok(())
 }
 
-/// Which number comes at a step: in an order that rises, falls or is mixed. The stride is a prime that doesn't divide their number.
+/// Which number comes at a step: in an order that rises, falls or is mixed. The stride is a prime that doesn't divide
+/// their number.
 fn number_at(step: u32, count: u32, order: u32) -> u32 {
     match order {
         0 => step,

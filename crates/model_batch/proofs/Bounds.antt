@@ -1,4 +1,5 @@
--- In fair transcripts each conflict is with the commit of another, and a merge is spent only where others made as many commits as it has tries.
+-- In fair transcripts each conflict is with the commit of another, and a merge is spent only where others made as many
+-- commits as it has tries.
 use Rattle.std.proofs.Common.{◌≡◌, ◌⊎◌, inl, inr, ℕ, zero, suc, ◌+◌, ◌-◌, ◌<◌, ◌≤◌, Bool, true, false, ◌||◌, nat_eq, List, [], ◌∷◌, ◌++◌, length, slice_get, Option, Some, None, Err, refl, sym, ap, subst, ◌∙◌, arith}
 use Rattle.std.specs.FinMap as map
 use Rattle.std.specs.List.{AllByRecursion, flat_map}

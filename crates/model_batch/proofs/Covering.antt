@@ -1,4 +1,5 @@
--- The fronts of a session cover all commits of its own that it was told of. So what is in the way of a set is the commit of another.
+-- The fronts of a session cover all commits of its own that it was told of. So what is in the way of a set is the
+-- commit of another.
 use Rattle.std.proofs.Common.{◌≡◌, ◌⊎◌, inl, inr, ℕ, ◌+◌, ◌-◌, nat_lt, ◌<◌, ◌≤◌, Bool, true, false, List, [], ◌∷◌, ◌++◌, length, slice_get, Some, Result, Ok, Err, refl, sym, ap, subst, ◌∙◌, arith, length-append, ltb-true, ltb-false}
 use Rattle.std.specs.List.{AllByRecursion}
 use Rattle.std.proofs.lemmas.Option.{slice_get_within}

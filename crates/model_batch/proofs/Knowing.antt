@@ -1,5 +1,5 @@
--- A session that knows of fewer commits takes the same steps with the same replies. So what the phases before made can be left out, and all steps of a session are one
--- list. And phases one behind the other, while the history goes on.
+-- A session that knows of fewer commits takes the same steps with the same replies. So what the phases before made can
+-- be left out, and all steps of a session are one list. And phases one behind the other, while the history goes on.
 use Rattle.std.proofs.Common.{◌≡◌, ◌⊎◌, inl, inr, ℕ, ◌+◌, ◌<◌, ◌≤◌, List, [], ◌∷◌, ◌++◌, length, Result, Ok, Err, refl, sym, ap, subst, append-nil, append_assoc, arith}
 use Rattle.std.specs.FinMap as map
 use mathlib.Core.List.{IsPrefix}

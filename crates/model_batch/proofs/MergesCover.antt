@@ -1,4 +1,5 @@
--- A merged set: what is in the way of each try is the commit of another, behind that of the try before; and the fronts cover as before.
+-- A merged set: what is in the way of each try is the commit of another, behind that of the try before; and the fronts
+-- cover as before.
 use Rattle.std.proofs.Common.{◌≡◌, inl, inr, ℕ, ◌+◌, ◌≤◌, Bool, true, false, List, [], ◌∷◌, ◌++◌, length, map as over, take, Some, Result, Ok, Err, refl, sym, ap, subst, ◌∙◌, arith, length-append}
 use Rattle.std.specs.List.{AllByRecursion}
 use mathlib.Core.List.{IsPrefix}

@@ -1,5 +1,5 @@
--- Polls one after the other tell each change once, in order, or count it: a step that is no watch and no poll leaves what is watched, and a poll watches on from
--- where its news end.
+-- Polls one after the other tell each change once, in order, or count it: a step that is no watch and no poll leaves
+-- what is watched, and a poll watches on from where its news end.
 use Rattle.std.proofs.Common.{◌≡◌, ◌⊎◌, inl, inr, ℕ, ◌+◌, ◌-◌, ◌<◌, ◌≤◌, true, false, List, [], ◌∷◌, ◌++◌, length, take, Option, Some, None, Result, Ok, Err, refl, sym, ap, subst, ◌∙◌, append_assoc, arith, length-drop, length-take, take-append-drop}
 use Rattle.std.specs.List.{AllByRecursion, flat_map}
 use Rattle.circular_buffer.specs.Buffer.{keep_last}

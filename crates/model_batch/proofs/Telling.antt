@@ -1,4 +1,5 @@
--- What a session's steps mean: while the history goes on, one list of them behind another, and of the number of commits that it was told of.
+-- What a session's steps mean: while the history goes on, one list of them behind another, and of the number of commits
+-- that it was told of.
 use Rattle.std.proofs.Common.{◌≡◌, ◌⊎◌, inl, inr, ℕ, ◌-◌, ◌≤◌, List, [], ◌∷◌, ◌++◌, length, Result, Ok, Err, refl, sym, ap, subst, ◌∙◌, arith}
 use Rattle.std.specs.FinMap as map
 use Rattle.std.specs.List.{AllByRecursion, flat_map}

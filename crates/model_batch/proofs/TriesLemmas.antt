@@ -1,4 +1,5 @@
--- Tries one after another: what holds of the first state where it holds of the last, what each of them keeps, and the same tries by relations that say less.
+-- Tries one after another: what holds of the first state where it holds of the last, what each of them keeps, and the
+-- same tries by relations that say less.
 use Rattle.std.proofs.Common.{inl, inr, ℕ, List, [], ◌∷◌, ◌++◌, Result, Ok, Err, sym, subst, append-nil, append_assoc}
 use Rattle.key_merge.specs.declared.strategies.Strategy.{Strategy}
 use Rattle.kdb_handle.specs.Remaking.{AreTries, IsCutBy, IsEndBy, IsMergedBy, IsTryBy}

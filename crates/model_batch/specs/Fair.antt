@@ -1,5 +1,5 @@
--- Which replies of some sessions are fair, by the one history that their store comes to have. Steps and replies stand in rows: for each phase a
--- row, and in it a list for each session. (This project's own.)
+-- Which replies of some sessions are fair, by the one history that their store comes to have. Steps and replies stand
+-- in rows: for each phase a row, and in it a list for each session. (This project's own.)
 use Rattle.std.specs.Prelude.{◌≡◌, ◌⊎◌, ℕ, zero, suc, ◌+◌, ◌<◌, List, [], ◌∷◌, ◌++◌, length, sum_by, slice_get, take, Some, All}
 use Rattle.std.specs.List.{flat_map}
 use Rattle.std.specs.Option.{unwrap_or}
@@ -46,8 +46,9 @@ TellsPhases formats files procs number history sessions i old before (made ∷ s
     TellsPhase formats files procs number history (count_told sessions before) old (in_row i made) (in_row i row)
     (λ mid. TellsPhases formats files procs number history sessions i mid (before ++ row ∷ []) steps replies new)
 
--- The sessions' handles are numbered from 1. Each session's replies are what its steps mean. The commits with its number are just those that its replies tell, in
--- order, each once; and no others are in the history. In each phase every front is at least the count of the commits of all earlier phases
+-- The sessions' handles are numbered from 1. Each session's replies are what its steps mean. The commits with its
+-- number are just those that its replies tell, in order, each once; and no others are in the history. In each phase
+-- every front is at least the count of the commits of all earlier phases
 pub record IsFair (formats : Formats) (files : List MountedFile) (sessions : ℕ) (procs : ℕ → KeyMap) (history : List Commit) (steps : List (List (List Step))) (replies : List (List (List Reply))) : Type 0 where
   pub tells : (i : ℕ) → i < sessions → (last : Session) × TellsPhases formats files (procs (i + 1)) (i + 1) history sessions i first_session [] steps replies last
   pub own : (i : ℕ) → i < sessions → numbers_by (i + 1) history ≡ commits_told i replies

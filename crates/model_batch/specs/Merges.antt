@@ -1,5 +1,6 @@
--- What a merged set means to a session: tries one after another, each a set that met a conflict and the get behind it, and then an end. Each set and
--- each get means what such a step would mean, but that the working set stays meanwhile. (This project's own.)
+-- What a merged set means to a session: tries one after another, each a set that met a conflict and the get behind it,
+-- and then an end. Each set and each get means what such a step would mean, but that the working set stays meanwhile.
+-- (This project's own.)
 use Rattle.std.specs.Prelude.{◌≡◌, ℕ, ◌≤◌, List, length, None, Result, Err}
 use mathlib.Core.List.{IsPrefix}
 use Rattle.key_merge.specs.declared.strategies.Strategy.{Strategy}
@@ -23,8 +24,8 @@ use Rattle.set_split.specs.Parts.{in_reach}
 use Rattle.store_core.specs.declared.committing.CommitFault.TheVariants.{Conflict}
 use Rattle.store_core.specs.declared.committing.Done.{Done}
 
--- A set that met the conflict of an item, and the get behind it, which finds no fewer commits. The base is what the record kept of the involved mounts before that get,
--- and theirs is what these mounts have in the commits that it found
+-- A set that met the conflict of an item, and the get behind it, which finds no fewer commits. The base is what the
+-- record kept of the involved mounts before that get, and theirs is what these mounts have in the commits that it found
 pub record Retries (formats : Formats) (files : List MountedFile) (number : ℕ) (history : List Commit) (parent : Name) (old : Session) (ours : KeyMap) (item : Tried) (new : Session) (base theirs : KeyMap) : Type 0 where
   pub mid : Session
   pub conflict : IsJudgedThen formats (store_at files) number history parent ours old (set_reply (Err (Conflict item.mount item.by item.front))) mid
@@ -49,7 +50,8 @@ Stays old new = new ≡ old
 abbrev pub EndsSo : Formats → List MountedFile → ℕ → List Commit → Name → Strategy → ℕ → Session → KeyMap → List Tried → Session → List Tried → Result Done MergeEnd → Type 0
 EndsSo formats files number history parent = IsEndBy (Retries formats files number history parent) (SetsSo formats files number history parent) Stays (points_of (store_at files)) parent
 
--- The working set is set in so many tries, and becomes what was set. Where it isn't set it stays, and all else of the session is as after the gets of the tries
+-- The working set is set in so many tries, and becomes what was set. Where it isn't set it stays, and all else of the
+-- session is as after the gets of the tries
 pub record Merges (formats : Formats) (files : List MountedFile) (number : ℕ) (history : List Commit) (parent : Name) (strategy : Strategy) (tries : ℕ) (old : Session) (answer : Reply) (new : Session) : Type 0 where
   pub tried : List Tried
   pub end : Result Done MergeEnd

@@ -83,7 +83,8 @@ fronts_of_undo (undo_fault.Overtaken name by front) = front ∷ []
 fronts_of_undo (undo_fault.Set why) = fronts_of_fault why
 fronts_of_undo other = []
 
--- the fronts that a reply tells: how many commits a get, a watch or a poll found, and how many stood before what was judged
+-- the fronts that a reply tells: how many commits a get, a watch or a poll found, and how many stood before what was
+-- judged
 abbrev pub fronts_told : Reply → List ℕ
 fronts_told (Got front count) = front ∷ []
 fronts_told (SetDone done) = fronts_of_done done

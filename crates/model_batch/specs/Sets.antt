@@ -1,5 +1,5 @@
--- What a set of some keys at a parent means to a session, by the history that the store comes to have. The first so many commits are a list
--- with which that history begins. (This project's own.)
+-- What a set of some keys at a parent means to a session, by the history that the store comes to have. The first so
+-- many commits are a list with which that history begins. (This project's own.)
 use Rattle.std.specs.Prelude.{◌≡◌, ◌≢◌, ◌⊎◌, ℕ, ◌+◌, ◌≤◌, List, [], ◌∷◌, ◌++◌, length, None, Result, Ok, Err}
 use mathlib.Core.List.{IsPrefix}
 use Rattle.kdb_handle.specs.Sets.{tells_refusal}
@@ -34,7 +34,8 @@ pub record Lacks (memory : Reply) (old : Session) (answer : Reply) (new : Sessio
 abbrev pub kept_then : Store → List Commit → List ℕ → Record → Record
 kept_then store past mounts rec = keeping mounts (length past) (wants (points_of store) (replay store.start past)) rec
 
--- a record after an answer: on a commit it keeps what was wanted for each touched mount, with the commit's number where the mount counts by its backend
+-- a record after an answer: on a commit it keeps what was wanted for each touched mount, with the commit's number where
+-- the mount counts by its backend
 abbrev pub record_then : Store → List Commit → Prepared → Result Done CommitFault → Record → Record
 record_then store past set (Ok (Committed number aside)) rec = storing store set.touched (length past + 1) (wants (points_of store) set.keys) rec
 record_then store past set (Ok (Same front aside)) rec = rec
@@ -62,8 +63,9 @@ StandsNext history past set (Err why) = IsPrefix past history
 abbrev pub set_by : Store → ℕ → Session → Name → KeyMap → Prepared
 set_by store number session parent keys = prepared (points_of store) number session.rec parent keys
 
--- The set is judged by the first so many commits, no fewer than the session was told of, and passes all that needs no history. The answer tells
--- their number; a commit is the next one. A pattern was refused only where the answer tells it; and the disk fails only in the place of a commit
+-- The set is judged by the first so many commits, no fewer than the session was told of, and passes all that needs no
+-- history. The answer tells their number; a commit is the next one. A pattern was refused only where the answer tells
+-- it; and the disk fails only in the place of a commit
 pub record IsJudgedThen (formats : Formats) (store : Store) (number : ℕ) (history : List Commit) (parent : Name) (keys : KeyMap) (old : Session) (answer : Reply) (new : Session) : Type 0 where
   pub past : List Commit
   pub no_less : old.told ≤ length past
@@ -82,7 +84,8 @@ pub record IsUnprepared (formats : Formats) (store : Store) (number : ℕ) (pare
   pub reply_is : answer ≡ reply.SetRefused (set_fault.Prepare why)
   pub new_is : new ≡ old
 
--- what a set of some keys at a parent means: it is judged, or refused before; or there is no memory. The working set stays
+-- what a set of some keys at a parent means: it is judged, or refused before; or there is no memory. The working set
+-- stays
 abbrev pub MeansSet : Formats → Store → ℕ → List Commit → Name → KeyMap → Session → Reply → Session → Type 0
 MeansSet formats store number history parent keys old answer new =
     IsJudgedThen formats store number history parent keys old answer new

@@ -1,5 +1,5 @@
--- What one step of a session means, by the history that the store comes to have: what it replies, and what of the session changes. A later
--- kind of step is one more case. (This project's own.)
+-- What one step of a session means, by the history that the store comes to have: what it replies, and what of the
+-- session changes. A later kind of step is one more case. (This project's own.)
 use Rattle.std.specs.Prelude.{◌≡◌, ◌⊎◌, ℕ, ◌≤◌, List, length, Some, None}
 use Rattle.std.specs.FinMap as map
 use mathlib.Core.List.{IsPrefix}
@@ -33,7 +33,8 @@ use Rattle.store_core.specs.Gets.{fault_at}
 abbrev pub got_then : List MountedFile → KeyMap → ℕ → List Commit → Name → KeyMap
 got_then files procs number past parent = got (store_of files (λ r. procs)) (replay (store_at files).start past) number parent
 
--- no involved mount is bad, and the working set becomes the keys after the first so many commits, no fewer than the session was told of
+-- no involved mount is bad, and the working set becomes the keys after the first so many commits, no fewer than the
+-- session was told of
 pub record Gets (files : List MountedFile) (procs : KeyMap) (number : ℕ) (history : List Commit) (parent : Name) (old : Session) (answer : Reply) (new : Session) : Type 0 where
   pub past : List Commit
   pub begins : IsPrefix past history

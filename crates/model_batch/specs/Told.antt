@@ -23,8 +23,8 @@ Tells formats files procs number history old (step ∷ steps) (answer ∷ answer
 abbrev pub knowing : ℕ → Session → Session
 knowing told session = record session { told = told }
 
--- The steps of a phase have their replies, and the rest goes on from what they left. When the phase begins the session knows of no fewer commits than before, and of
--- no fewer than the phases before it made
+-- The steps of a phase have their replies, and the rest goes on from what they left. When the phase begins the session
+-- knows of no fewer commits than before, and of no fewer than the phases before it made
 pub record TellsPhase (formats : Formats) (files : List MountedFile) (procs : KeyMap) (number : ℕ) (history : List Commit) (made : ℕ) (old : Session) (steps : List Step) (answers : List Reply) (Rest : Session → Type 0) : Type 0 where
   pub told : ℕ
   pub no_less : old.told ≤ told

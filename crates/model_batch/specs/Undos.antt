@@ -1,5 +1,5 @@
--- What taking a commit back means to a session, by the history that the store comes to have: it is made and judged by the first so many commits, as the call of a
--- handle is by those that its turn found. (This project's own.)
+-- What taking a commit back means to a session, by the history that the store comes to have: it is made and judged by
+-- the first so many commits, as the call of a handle is by those that its turn found. (This project's own.)
 use Rattle.std.specs.Prelude.{◌≡◌, ◌≢◌, ℕ, ◌≤◌, List, length, Result, Ok, Err}
 use mathlib.Core.List.{IsPrefix}
 use Rattle.kdb_handle.specs.Opened.{store_at}
@@ -23,7 +23,8 @@ use Rattle.store_core.specs.declared.committing.Done.TheVariants.{Committed, Sam
 abbrev pub undo_then : List MountedFile → KeyMap → ℕ → Record → List Commit → ℕ → Undo
 undo_then files procs number rec past undone = record { files = files; handle = number; procs = procs; rec = rec; history = past; number = undone }
 
--- of how many commits a session knows behind it: of its own, or of those by which it was judged, also where the reply doesn't tell them
+-- of how many commits a session knows behind it: of its own, or of those by which it was judged, also where the reply
+-- doesn't tell them
 abbrev pub undo_told : ℕ → Result Done UndoFault → ℕ
 undo_told front (Ok (Committed number aside)) = number
 undo_told front (Ok (Same same aside)) = front
@@ -34,7 +35,8 @@ abbrev pub UndoStands : List Commit → List Commit → Prepared → Result Done
 UndoStands history past set (Ok done) = StandsNext history past set (Ok done)
 UndoStands history past set (Err why) = IsPrefix past history
 
--- A commit is taken back by the first so many commits, no fewer than the session knows of. The working set and the record become what a handle's would
+-- A commit is taken back by the first so many commits, no fewer than the session knows of. The working set and the
+-- record become what a handle's would
 pub record Undoes (formats : Formats) (files : List MountedFile) (procs : KeyMap) (number : ℕ) (history : List Commit) (undone : ℕ) (old : Session) (answer : Reply) (new : Session) : Type 0 where
   pub past : List Commit
   pub no_less : old.told ≤ length past

@@ -1,4 +1,5 @@
--- What watching means to a session, by the history that the store comes to have: a watch begins, and polls tell what changed since. (This project's own.)
+-- What watching means to a session, by the history that the store comes to have: a watch begins, and polls tell what
+-- changed since. (This project's own.)
 use Rattle.std.specs.Prelude.{◌≡◌, ℕ, ◌-◌, ◌≤◌, Bool, true, false, List, [], ◌∷◌, length, Some, None}
 use Rattle.std.specs.List.{flat_map}
 use Rattle.circular_buffer.specs.Buffer.{keep_last}
@@ -13,7 +14,8 @@ use Rattle.watch_feed.specs.Polls.{AreTold}
 use Rattle.watch_feed.specs.declared.news.Changed.{Changed}
 use Rattle.watch_feed.specs.declared.news.News.{News}
 
--- The session watches a parent from behind the first so many commits on, no fewer than it was told of. What it watched before it watches no more
+-- The session watches a parent from behind the first so many commits on, no fewer than it was told of. What it watched
+-- before it watches no more
 pub record Watches (history : List Commit) (parent : Name) (room : ℕ) (old : Session) (answer : Reply) (new : Session) : Type 0 where
   pub past : List Commit
   pub begins : IsPrefix past history
@@ -30,7 +32,8 @@ abbrev pub news_then : Watching → List Commit → News
 news_then watched past =
     record { front = length past; missed = length (changes_then watched past) - watched.room; changes = keep_last watched.room (changes_then watched past) }
 
--- The session is told what changed in the first so many commits, no fewer than it was told of, and watches from there on
+-- The session is told what changed in the first so many commits, no fewer than it was told of, and watches from there
+-- on
 pub record Polls (history : List Commit) (old : Session) (answer : Reply) (new : Session) : Type 0 where
   pub watched : Watching
   pub is_watched : old.watching ≡ Some watched
@@ -58,8 +61,8 @@ abbrev pub news_told : Reply → List News
 news_told (reply.News told) = told ∷ []
 news_told other = []
 
--- The session still watches the same parent with the same room, from behind no fewer commits; and the news that it was told tell each change between once, in
--- order, or count it as missed
+-- The session still watches the same parent with the same room, from behind no fewer commits; and the news that it was
+-- told tell each change between once, in order, or count it as missed
 pub record Follows (history : List Commit) (watched : Watching) (answers : List Reply) (new : Session) : Type 0 where
   pub to : ℕ
   pub no_less : watched.from ≤ to

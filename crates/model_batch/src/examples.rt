@@ -20,7 +20,8 @@ pub fn commits_go_by_their_handles()
     ensures second { numbers_by 2 (record { handle = 1; touched = 0 ∷ []; changes = [] } ∷ record { handle = 2; touched = 0 ∷ []; changes = [] } ∷ record { handle = 1; touched = 1 ∷ []; changes = [] } ∷ []) ≡ 2 ∷ [] }
 {}
 
-/// A commit tells its number, and that it found one fewer; a set that the disk failed, or whose file would be too large, tells how many it found, and so do a watch and a poll.
+/// A commit tells its number, and that it found one fewer; a set that the disk failed, or whose file would be too
+/// large, tells how many it found, and so do a watch and a poll.
 pub fn replies_tell_fronts()
     ensures number { numbers_told (reply.SetDone (done.Committed 3 0)) ≡ 3 ∷ [] }
     ensures commit { fronts_told (reply.SetDone (done.Committed 3 0)) ≡ 2 ∷ [] }
@@ -33,7 +34,8 @@ pub fn replies_tell_fronts()
     ensures quiet { fronts_told reply.Quiet ≡ [] }
 {}
 
-/// An undoing tells its commit and its front as a set does, where it was refused for want of such a commit or by a later one the front, and by a bad mount none.
+/// An undoing tells its commit and its front as a set does, where it was refused for want of such a commit or by a
+/// later one the front, and by a bad mount none.
 pub fn undos_tell_fronts()
     ensures number { numbers_told (reply.Undone (done.Committed 3 0)) ≡ 3 ∷ [] }
     ensures commit { fronts_told (reply.Undone (done.Committed 3 0)) ≡ 2 ∷ [] }
@@ -43,8 +45,8 @@ pub fn undos_tell_fronts()
     ensures bad { (why : GetFault) → fronts_told (reply.UndoRefused (undo.Get why)) ≡ [] }
 {}
 
-/// A merge that met two conflicts tells two fronts of each try and the one of its end, and who was in the way; it is told as a commit, as spent,
-/// or as cut off by keys in conflict.
+/// A merge that met two conflicts tells two fronts of each try and the one of its end, and who was in the way; it is
+/// told as a commit, as spent, or as cut off by keys in conflict.
 pub fn merges_tell_their_tries()
     ensures merged { (mount : Name) → fronts_told (reply.Merged (record { tried = record { mount = mount; by = 3; front = 4; again = 4 } ∷ record { mount = mount; by = 5; front = 6; again = 7 } ∷ []; done = done.Committed 9 0 })) ≡ 4 ∷ 4 ∷ 6 ∷ 7 ∷ 8 ∷ [] }
     ensures number { (mount : Name) → numbers_told (reply.Merged (record { tried = record { mount = mount; by = 3; front = 4; again = 4 } ∷ []; done = done.Committed 9 0 })) ≡ 9 ∷ [] }
@@ -59,8 +61,8 @@ pub fn others_are_counted()
     ensures { count_of_others 1 (record { handle = 1; touched = 0 ∷ []; changes = [] } ∷ record { handle = 2; touched = 0 ∷ []; changes = [] } ∷ record { handle = 1; touched = 1 ∷ []; changes = [] } ∷ []) ≡ 1 }
 {}
 
-/// A script in which the sessions 2 and 5 have steps in the first phase, 5 alone in the second, and 7 has a key in `proc` alone: its sessions, and the rows of their steps
-/// and of their replies.
+/// A script in which the sessions 2 and 5 have steps in the first phase, 5 alone in the second, and 7 has a key in
+/// `proc` alone: its sessions, and the rows of their steps and of their replies.
 pub fn sessions_have_rows()
     ensures sessions { (name : Name) (one two three : List Step)
         → sessions_of (record { proc = record { session = 7; key = name; value = [] } ∷ []; phases = record { sessions = record { session = 2; steps = one } ∷ record { session = 5; steps = two } ∷ [] } ∷ record { sessions = record { session = 5; steps = three } ∷ [] } ∷ [] })

@@ -1,5 +1,5 @@
-//! Laws of fair transcripts: whose commits are in the way of a set, how many tries a merge can spend, and what polls tell. Nothing here runs: each
-//! function stands for its contract.
+//! Laws of fair transcripts: whose commits are in the way of a set, how many tries a merge can spend, and what polls
+//! tell. Nothing here runs: each function stands for its contract.
 ghost use Rattle.std.specs.Prelude.{◌≡◌, ℕ, ◌+◌, ◌≤◌, ◌<◌, false, List, [], ◌∷◌, ◌++◌, length, slice_get, Some};
 ghost use Rattle.std.specs.List.{AllByRecursion};
 ghost use Rattle.batch_script.specs.declared.steps.Step.{Step};
@@ -23,7 +23,8 @@ ghost use Rattle.mounted_files.specs.declared.files.MountedFile.{MountedFile};
 
 use storage_api::Formats;
 
-/// In fair transcripts each commit that a session is told of as in the way is another's. So a session alone is told of none.
+/// In fair transcripts each commit that a session is told of as in the way is another's. So a session alone is told of
+/// none.
 pub fn a_conflict_is_with_the_commit_of_another<F: Formats>(_formats: &F)
     ensures anothers { (files : List MountedFile) (sessions : ℕ) (procs : ℕ → KeyMap) (history : List Commit) (steps : List (List (List Step))) (replies : List (List (List Reply)))
         → IsFair (formats_of F.Formats) files sessions procs history steps replies
@@ -33,7 +34,8 @@ pub fn a_conflict_is_with_the_commit_of_another<F: Formats>(_formats: &F)
         → AllByRecursion (λ answer. conflicts_told answer ≡ []) (of_session 0 replies) }
 {}
 
-/// In fair transcripts a merge spends all its tries only where others made as many commits: each try met one more of them.
+/// In fair transcripts a merge spends all its tries only where others made as many commits: each try met one more of
+/// them.
 pub fn a_merge_is_not_spent_by_fewer_commits_than_its_tries<F: Formats>(_formats: &F)
     ensures { (files : List MountedFile) (sessions : ℕ) (procs : ℕ → KeyMap) (history : List Commit) (steps : List (List (List Step))) (replies : List (List (List Reply)))
         → IsFair (formats_of F.Formats) files sessions procs history steps replies
@@ -42,8 +44,8 @@ pub fn a_merge_is_not_spent_by_fewer_commits_than_its_tries<F: Formats>(_formats
         → tries ≤ count_of_others (i + 1) history }
 {}
 
-/// Behind a session's watch, its polls one after the other tell each change at or below the parent once and in order, or count it among those that they
-/// missed, until another watch begins. By `fair` so it is in fair transcripts.
+/// Behind a session's watch, its polls one after the other tell each change at or below the parent once and in order,
+/// or count it among those that they missed, until another watch begins. By `fair` so it is in fair transcripts.
 pub fn a_session_is_told_each_change_once<F: Formats>(_formats: &F)
     ensures behind { (files : List MountedFile) (procs : KeyMap) (number : ℕ) (history : List Commit) (old new : Session) (parent : Name) (room front : ℕ) (steps : List Step) (replies : List Reply)
         → Tells (formats_of F.Formats) files procs number history old (step.Watch parent room ∷ steps) (reply.Watching front ∷ replies) new

@@ -1,4 +1,5 @@
-//! What the steps of a batch's sessions mean, and which transcripts of a script are fair. Definitions for the crates above, with their laws.
+//! What the steps of a batch's sessions mean, and which transcripts of a script are fair. Definitions for the crates
+//! above, with their laws.
 #![tactic(auto)]
 
 mod examples;
@@ -26,8 +27,8 @@ pub use laws::{
 };
 use storage_api::Formats;
 
-/// A session is told step by step: what its steps mean stays so when the history goes on, and goes on from where other steps ended. The number of commits that
-/// it was told of never falls, and each front is at least that number at first.
+/// A session is told step by step: what its steps mean stays so when the history goes on, and goes on from where other
+/// steps ended. The number of commits that it was told of never falls, and each front is at least that number at first.
 pub fn a_session_is_told_step_by_step<F: Formats>(_formats: &F)
     ensures more { (files : List MountedFile) (procs : KeyMap) (number : ℕ) (history longer : List Commit) (old new : Session) (steps : List Step) (answers : List Reply)
         → IsPrefix history longer → Tells (formats_of F.Formats) files procs number history old steps answers new

@@ -1,5 +1,6 @@
--- What a run of commits promises of a crash: the files of a prefix of its commits, or these with one entry that was begun on just that
--- prefix. (This project's own. After crash refinement of journaling file systems: a crash leaves a prefix of the acknowledged steps.)
+-- What a run of commits promises of a crash: the files of a prefix of its commits, or these with one entry that was
+-- begun on just that prefix. (This project's own. After crash refinement of journaling file systems: a crash leaves a
+-- prefix of the acknowledged steps.)
 use Rattle.std.specs.Prelude.{◌≡◌, ◌⊎◌, ℕ, ◌≤◌, List, [], ◌∷◌, ◌++◌, length, take, Option, Some, None, Contains}
 use Rattle.kdb_outside.specs.Images.{Image}
 use Rattle.journal_codec.specs.declared.files.FileText.{FileText}
@@ -10,8 +11,8 @@ use Rattle.journal_steps.specs.Outcomes.{with_entries, IsEither}
 abbrev pub Begun : Type 0
 Begun = ℕ × List FileText
 
--- a run on a disk: the names that the head of its journal has, or will have; the files and the count of faults when it began, the commits
--- since then, what was begun, and the entry that may yet come into the files
+-- a run on a disk: the names that the head of its journal has, or will have; the files and the count of faults when it
+-- began, the commits since then, what was begun, and the entry that may yet come into the files
 pub record Run : Type 0 where
   pub names : List (List ℕ)
   pub files : Image
@@ -29,7 +30,8 @@ abbrev pub IsBegun : List Begun → ℕ → Option (List FileText) → Type 0
 IsBegun begun number None = Unit {0}
 IsBegun begun number (Some entry) = Contains begun (number, entry)
 
--- an image stands for the files of one prefix of the commits, and for these with one entry that was begun on just that prefix
+-- an image stands for the files of one prefix of the commits, and for these with one entry that was begun on just that
+-- prefix
 pub record IsReached (files : Image) (commits : List (List FileText)) (begun : List Begun) (image : Image) : Type 0 where
   pub number : ℕ
   pub within : number ≤ length commits
@@ -37,7 +39,8 @@ pub record IsReached (files : Image) (commits : List (List FileText)) (begun : L
   pub was_begun : IsBegun begun number doubt
   pub is : HasOnly (IsEither (with_entries files (take number commits)) doubt) image
 
--- amid a commit an image stands for the files and these with the former doubt, or for the files and these with the commit
+-- amid a commit an image stands for the files and these with the former doubt, or for the files and these with the
+-- commit
 abbrev pub IsAmid : Image → Option (List FileText) → List FileText → Image → Type 0
 IsAmid files doubt entry image = HasOnly (IsEither files doubt) image ⊎ HasOnly (IsEither files (Some entry)) image
 

@@ -16,7 +16,8 @@ pub fn a_run_only_reaches_more()
         → IsReached (after_commit run entry).files (after_commit run entry).commits (after_commit run entry).begun image }
 {}
 
-/// One image stands for one prefix and at most one entry over it: outcomes of two prefixes, or of two entries, never come of one crash.
+/// One image stands for one prefix and at most one entry over it: outcomes of two prefixes, or of two entries, never
+/// come of one crash.
 pub fn an_image_reached_has_one_prefix()
     ensures { (files : Image) (commits : List (List Item)) (begun : List Begun) (image : Image) → IsReached files commits begun image
         → (number : ℕ) × (doubt : Option (List Item)) × (number ≤ length commits) × (IsBegun begun number doubt)

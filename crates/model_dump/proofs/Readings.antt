@@ -1,4 +1,5 @@
--- The same bytes are read in one way, record by record. Each lemma holds of every reader that makes one progress of a record.
+-- The same bytes are read in one way, record by record. Each lemma holds of every reader that makes one progress of a
+-- record.
 use Rattle.std.specs.Prelude.{◌≡◌, ◌≢◌, ◌⊎◌, ℕ, List, [], ◌∷◌, ◌++◌, length}
 use Rattle.std.specs.List.{flat_map}
 use Rattle.std.proofs.Common.{refl, sym, ap, subst, ◌∙◌, arith, append_assoc, inl, inr}

@@ -86,7 +86,8 @@ pub spelled_record-words : (r : Record) (k : RecordKind) (x rest : List ℕ) →
 spelled_record-words r k x rest e =
     words_once r.kind k _ rest (sym (append_assoc (words_of r.kind) (sizes_and_texts r.first r.second) x) ∙ e)
 
--- a record behind the words of a kind and digits in the places of its sizes: the digits are its sizes, and its texts follow
+-- a record behind the words of a kind and digits in the places of its sizes: the digits are its sizes, and its texts
+-- follow
 pub spelled_record-sizes : (r : Record) (k : RecordKind) (x ds es rest : List ℕ) → IsSized r → AllDigits 10 ds → AllDigits 10 es → spelled_record r ++ x ≡ words_of k ++ (ds ++ (32 ∷ (es ++ (10 ∷ rest)))) → (r.kind ≡ k) × (decimal (length r.first) ≡ ds) × (decimal (length r.second) ≡ es) × (r.first ++ (10 ∷ (r.second ++ (10 ∷ x))) ≡ rest)
 spelled_record-sizes r k x ds es rest sized p q e =
     let words = spelled_record-words r k x _ e in

@@ -1,4 +1,5 @@
--- Bytes read as a map or stop somewhere: of each record it can be told whether it stands at the front and has a reading.
+-- Bytes read as a map or stop somewhere: of each record it can be told whether it stands at the front and has a
+-- reading.
 use Rattle.std.specs.Prelude.{◌≡◌, ◌≢◌, ◌⊎◌, ℕ, zero, suc, ◌-◌, ◌<◌, ◌≤◌, List, [], ◌∷◌, ◌++◌, length}
 use Rattle.std.specs.List.{flat_map}
 use Rattle.std.specs.Fmt.{decimal}

@@ -1,5 +1,6 @@
--- Which bytes read as which map, and where reading stops in all others. A reader may know some records alone, so both are
--- stated over a relation Step between how far a dump was read, a record, and how far it was read then. (This project's own.)
+-- Which bytes read as which map, and where reading stops in all others. A reader may know some records alone, so both
+-- are stated over a relation Step between how far a dump was read, a record, and how far it was read then. (This
+-- project's own.)
 use Rattle.std.specs.Prelude.{◌≡◌, ◌≢◌, ◌⊎◌, ℕ, ◌+◌, ◌==◌, List, [], ◌∷◌, ◌++◌, length, take, count_by}
 use Rattle.std.specs.List.{flat_map}
 use Rattle.model_maps.specs.KeyMap.{KeyMap, no_keys}

@@ -27,8 +27,8 @@ pub fn faults_stop_at_their_lines()
     ensures header_line { line_at (codes "x") 0 ≡ 1 }
 {}
 
-/// The text of no keys, of the key `/sw/a`, and of the keys `/` and `/b`, of which one has metadata: keys and metadata stand in
-/// order, whichever came first.
+/// The text of no keys, of the key `/sw/a`, and of the keys `/` and `/b`, of which one has metadata: keys and metadata
+/// stand in order, whichever came first.
 pub fn small_maps_have_their_texts()
     ensures no_keys { text no_keys ≡ codes "kdbOpen 2\n$end\n" }
     ensures one_key { text (map.insert no_keys (record { namespace = Cascading; parts = codes "sw" ∷ codes "a" ∷ [] }) (plain_entry (codes "1"))) ≡ codes "kdbOpen 2\n$key string 4 1\nsw/a\n1\n$end\n" }

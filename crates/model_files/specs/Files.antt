@@ -1,4 +1,5 @@
--- The files of a store after a history: the file of each mount that a commit touches holds the text of its present keys. (This project's own.)
+-- The files of a store after a history: the file of each mount that a commit touches holds the text of its present
+-- keys. (This project's own.)
 use Rattle.std.specs.Prelude.{◌≡◌, ℕ, ◌≤◌, Bool, false, if◌then◌else◌, List, length, map as over, slice_get, Option, Some, None, option_and_then, bytes_eq, codes, nat_eq}
 use Rattle.std.specs.FinMap as map
 use Rattle.std.specs.FinMap.{FinMap}
@@ -18,7 +19,8 @@ use Rattle.set_split.specs.Parts.{owned_by}
 abbrev pub HaveOwnFiles : List Mount → Type 0
 HaveOwnFiles mounts = (i j : ℕ) (one other : Mount) → slice_get mounts i ≡ Some one → slice_get mounts j ≡ Some other → one.file ≡ other.file → i ≡ j
 
--- mounts whose files an entry of a journal can hold: few enough, each with a file of its own, none of which is the journal's
+-- mounts whose files an entry of a journal can hold: few enough, each with a file of its own, none of which is the
+-- journal's
 pub record HaveFiles (mounts : List Mount) : Type 0 where
   pub own : HaveOwnFiles mounts
   pub named : (i : ℕ) (mount : Mount) → slice_get mounts i ≡ Some mount → IsFileName mount.file

@@ -1,5 +1,5 @@
-//! The files of a store after a history, and the entries of a journal that make them. Definitions for the crates above, with
-//! their laws.
+//! The files of a store after a history, and the entries of a journal that make them. Definitions for the crates above,
+//! with their laws.
 #![tactic(auto)]
 
 ghost use Rattle.std.specs.Prelude.{◌≡◌, ◌≤◌, ℕ, true, List, length, take, Option};
@@ -20,14 +20,15 @@ ghost use Rattle.model_files.specs.Texts.{entries_of, entry_of};
 
 use storage_api::Formats;
 
-/// Where each mount has a file of its own, the files after a legal history are those at its beginning with the entry of each
-/// of its commits, one after the other.
+/// Where each mount has a file of its own, the files after a legal history are those at its beginning with the entry of
+/// each of its commits, one after the other.
 pub fn the_files_of_a_history_are_those_of_its_entries<F: Formats>(_formats: &F)
     ensures { (store : Store) (files : Image) (history : List Commit) → HaveOwnFiles store.mounts → IsLegal (formats_of F.Formats) store history
         → files_after (formats_of F.Formats) store files history ≡ with_entries files (entries_of (formats_of F.Formats) store history) }
 {}
 
-/// The entries of a prefix of a history are that many of its entries, so that a prefix of the one is a prefix of the other.
+/// The entries of a prefix of a history are that many of its entries, so that a prefix of the one is a prefix of the
+/// other.
 pub fn the_entries_of_a_prefix_are_the_first_ones<F: Formats>(_formats: &F)
     ensures count { (store : Store) (history : List Commit) → length (entries_of (formats_of F.Formats) store history) ≡ length history }
     ensures first { (store : Store) (history : List Commit) (number : ℕ) → entries_of (formats_of F.Formats) store (take number history) ≡ take number (entries_of (formats_of F.Formats) store history) }
@@ -35,8 +36,8 @@ pub fn the_entries_of_a_prefix_are_the_first_ones<F: Formats>(_formats: &F)
         → files_after (formats_of F.Formats) store files (take number history) ≡ with_entries files (take number (entries_of (formats_of F.Formats) store history)) }
 {}
 
-/// An image that a run with the entries of a legal history may have left stands for the files after one prefix of that history,
-/// and for these with one entry that was begun on just that prefix.
+/// An image that a run with the entries of a legal history may have left stands for the files after one prefix of that
+/// history, and for these with one entry that was begun on just that prefix.
 pub fn a_crash_leaves_a_prefix_of_the_history<F: Formats>(_formats: &F)
     ensures { (store : Store) (files : Image) (history : List Commit) (begun : List Begun) (image : Image) → HaveOwnFiles store.mounts → IsLegal (formats_of F.Formats) store history
         → IsReached files (entries_of (formats_of F.Formats) store history) begun image
@@ -49,7 +50,8 @@ pub fn a_legal_commit_is_an_entry<F: Formats>(_formats: &F)
         → IsEntry (entry_of (formats_of F.Formats) store before commit) }
 {}
 
-/// The names of the files of a table are a header of a journal, where there is a mount and the mounts have files for it.
+/// The names of the files of a table are a header of a journal, where there is a mount and the mounts have files for
+/// it.
 pub fn the_files_of_a_table_are_a_header()
     ensures { (store : Store) → HaveFiles store.mounts → 1 ≤ length store.mounts → IsHeader (table_files store) }
 {}

@@ -6,8 +6,8 @@ use Rattle.model_maps.specs.KeyMap.{KeyMap, no_keys}
 use Rattle.model_maps.specs.Limits.{IsLimited}
 use Rattle.model_formats.specs.Holding.{EachHas, LacksFirst}
 
--- which bytes read as which map; with which line, from 1, the first thing without a reading begins in all others; the text of
--- a map; which key of a map a file can hold beside the others; and whether the others don't matter for that
+-- which bytes read as which map; with which line, from 1, the first thing without a reading begins in all others; the
+-- text of a map; which key of a map a file can hold beside the others; and whether the others don't matter for that
 pub record Format : Type 1 where
   pub Reads : List ℕ → KeyMap → Type 0
   pub IsBadAt : List ℕ → ℕ → Type 0
@@ -27,7 +27,8 @@ BreaksAt format keys name = LacksFirst (format.Holds keys) keys name
 pub record IsLawful (format : Format) : Type 0 where
   -- the text of a map that can be stored reads as that map
   pub text_reads : (keys : KeyMap) → IsLimited keys → IsStorable format keys → format.Reads (format.text keys) keys
-  -- bytes read as at most one map, which can be stored and is within the limits of a file; no bytes read as the empty map
+  -- bytes read as at most one map, which can be stored and is within the limits of a file; no bytes read as the empty
+  -- map
   pub one_reading : (bytes : List ℕ) (keys other : KeyMap) → format.Reads bytes keys → format.Reads bytes other → keys ≡ other
   pub read_is_storable : (bytes : List ℕ) (keys : KeyMap) → format.Reads bytes keys → IsStorable format keys
   pub read_is_limited : (bytes : List ℕ) (keys : KeyMap) → format.Reads bytes keys → IsLimited keys

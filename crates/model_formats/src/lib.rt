@@ -1,5 +1,5 @@
-//! What a format of files is, with the laws that each one keeps, and which key of a map is the first that a file can't hold.
-//! Definitions for the crates above.
+//! What a format of files is, with the laws that each one keeps, and which key of a map is the first that a file can't
+//! hold. Definitions for the crates above.
 #![tactic(auto)]
 
 ghost use Rattle.std.specs.Prelude.{◌≡◌, ◌⊎◌, [], ◌∷◌, codes};

@@ -1,5 +1,5 @@
--- What one map has that another has not, as changes of names. (After Elektra's kdbSet, which stores a key set in place of what was fetched;
--- the changes are this project's own.)
+-- What one map has that another has not, as changes of names. (After Elektra's kdbSet, which stores a key set in place
+-- of what was fetched; the changes are this project's own.)
 use Rattle.std.specs.Prelude.{if◌then◌else◌, List, [], ◌∷◌, ◌++◌, filter_map, Option, Some, None}
 use Rattle.std.specs.FinMap as map
 use Rattle.std.specs.FinMap.{FinMap}

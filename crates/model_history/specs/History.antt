@@ -1,5 +1,5 @@
--- The commits of an opening, one after the other: what they make of a map, which of them touch a mount, and what they weigh. (This
--- project's own.)
+-- The commits of an opening, one after the other: what they make of a map, which of them touch a mount, and what they
+-- weigh. (This project's own.)
 use Rattle.std.specs.Prelude.{ℕ, nat_eq, ◌+◌, Bool, not, ◌&&◌, List, [], ◌∷◌, length, filter, sum_by, drop, Option, Some, None}
 use Rattle.std.specs.List.{list_any, position_from}
 use Rattle.model_names.specs.Name.{Name}

@@ -4,8 +4,8 @@ ghost use Rattle.model_names.specs.declared.namespaces.Namespace.TheVariants.{Us
 ghost use Rattle.model_maps.specs.Entry.{plain_entry};
 ghost use Rattle.model_history.specs.History.{first_after, history_weight, weight_of_commit};
 
-/// A commit weighs 64; a change 16, the bytes of its name's canonical spelling and those of its new entry; a removal has no
-/// entry. The name `user:/a` has 7 bytes.
+/// A commit weighs 64; a change 16, the bytes of its name's canonical spelling and those of its new entry; a removal
+/// has no entry. The name `user:/a` has 7 bytes.
 pub fn a_change_of_a_commit_weighs_its_texts()
     ensures none { weight_of_commit (record { handle = 1; touched = []; changes = [] }) ≡ 64 }
     ensures new { weight_of_commit (record { handle = 1; touched = 0 ∷ []; changes = (record { namespace = User; parts = codes "a" ∷ [] }, Some (plain_entry (codes "xyz"))) ∷ [] }) ≡ 90 }

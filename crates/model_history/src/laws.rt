@@ -26,8 +26,8 @@ pub fn changes_of_sorted_names_are_made_each()
     ensures { (keys : KeyMap) (changes : Changes) (name : Name) → map.get (after keys changes) name ≡ unwrap_or (map.get changes name) (map.get keys name) }
 {}
 
-/// The first commit behind a front that touches a mount does so, stands behind the front, and none between them does; where
-/// none is told, none behind the front does.
+/// The first commit behind a front that touches a mount does so, stands behind the front, and none between them does;
+/// where none is told, none behind the front does.
 pub fn the_first_commit_after_a_front_touches_the_mount()
     ensures behind { (history : List Commit) (mount front number : ℕ) → first_after history mount front ≡ Some number → front < number }
     ensures there { (history : List Commit) (mount front number : ℕ) → first_after history mount front ≡ Some (number + 1) → (commit : Commit) → slice_get history number ≡ Some commit → touches mount commit ≡ true }
@@ -36,8 +36,8 @@ pub fn the_first_commit_after_a_front_touches_the_mount()
     ensures none { (history : List Commit) (mount front at : ℕ) (commit : Commit) → first_after history mount front ≡ None → front ≤ at → slice_get history at ≡ Some commit → touches mount commit ≡ false }
 {}
 
-/// The first change of a name behind a front that isn't by a handle is another handle's, stands behind the front, and none between
-/// them is such; where none is told, none behind the front is.
+/// The first change of a name behind a front that isn't by a handle is another handle's, stands behind the front, and
+/// none between them is such; where none is told, none behind the front is.
 pub fn the_first_change_after_a_front_is_anothers()
     ensures behind { (history : List Commit) (name : Name) (front handle number : ℕ) → first_change_after history name front handle ≡ Some number → front < number }
     ensures there { (history : List Commit) (name : Name) (front handle number : ℕ) → first_change_after history name front handle ≡ Some (number + 1) → (commit : Commit) → slice_get history number ≡ Some commit → changes_beside name handle commit ≡ true }

@@ -1,4 +1,5 @@
--- The text of a map that can be stored reads as it: the keys that are left, in name order, make the groups that are left.
+-- The text of a map that can be stored reads as it: the keys that are left, in name order, make the groups that are
+-- left.
 use Rattle.std.specs.Prelude.{◌≡◌, ◌≢◌, ◌≤◌, List, [], ◌∷◌, ◌++◌, length, None}
 use Rattle.std.proofs.Common.{refl, sym, ap, subst, ◌∙◌, append_assoc, arith, inl, inr}
 use Rattle.std.specs.FinMap as finite
@@ -26,8 +27,8 @@ use Rattle.general_words.proofs.Lists.{all_append}
 abbrev at : KeyMap → Progress
 at keys = record { keys = keys; waiting = [] }
 
--- what the groups of the keys that are left say: behind the front of a map, whose last host is h in the family f, the aliases
--- that are left of it lead to a front, from which the lines of the other groups lead to the whole
+-- what the groups of the keys that are left say: behind the front of a map, whose last host is h in the family f, the
+-- aliases that are left of it lead to a front, from which the lines of the other groups lead to the whole
 record Written (whole part : KeyMap) (f h : Part) (groups : List Part × List Group) : Type 0 where
   left : List (Name × Entry)
   cut : finite.entries whole ≡ finite.entries (with_aliases f h groups.0 part) ++ left

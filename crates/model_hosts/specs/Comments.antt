@@ -1,4 +1,5 @@
--- The comments of a host as its metadata: the items of an array `comment`. (After Elektra's hosts plugin, in this profile.)
+-- The comments of a host as its metadata: the items of an array `comment`. (After Elektra's hosts plugin, in this
+-- profile.)
 use Rattle.std.specs.Prelude.{ℕ, ◌+◌, List, [], ◌∷◌, codes}
 use Rattle.std.specs.FinMap as finite
 use Rattle.model_maps.specs.Entry.{Meta, array_texts, item_name}

@@ -1,5 +1,5 @@
--- Which bytes read as which map in a hosts file, and which are bad at which line. (After Elektra's hosts plugin; the limits, and
--- that one host twice in a family has no reading, are this project's own.)
+-- Which bytes read as which map in a hosts file, and which are bad at which line. (After Elektra's hosts plugin; the
+-- limits, and that one host twice in a family has no reading, are this project's own.)
 use Rattle.std.specs.Prelude.{◌≡◌, ℕ, ◌<◌, ◌≤◌, List, [], ◌∷◌, ◌++◌, length, Option, Some, None}
 use Rattle.std.specs.FinMap as finite
 use Rattle.std.specs.List.{AllByRecursion}
@@ -39,7 +39,8 @@ with_aliases of_family host [] keys = keys
 with_aliases of_family host (alias ∷ aliases) keys =
     with_aliases of_family host aliases (finite.insert keys (alias_name of_family host alias) (plain_entry []))
 
--- an entry adds a host that is new in its family, its aliases, and the comments that waited; the words are parts as they are
+-- an entry adds a host that is new in its family, its aliases, and the comments that waited; the words are parts as
+-- they are
 pub record AddsHost (before : Progress) (address host : List ℕ) (aliases : List (List ℕ)) (own : Option (List ℕ)) (after : Progress) : Type 0 where
   pub is_new : finite.get before.keys (host_name (family address) host) ≡ None
   pub is_name : IsName (host_name (family address) host)

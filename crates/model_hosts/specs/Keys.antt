@@ -1,5 +1,5 @@
--- The keys of a hosts file: a host's key holds its address and comments, and stands above the keys of its aliases. (After
--- Elektra's hosts plugin, in this profile.)
+-- The keys of a hosts file: a host's key holds its address and comments, and stands above the keys of its aliases.
+-- (After Elektra's hosts plugin, in this profile.)
 use Rattle.std.specs.Prelude.{◌≡◌, ◌≢◌, ◌⊎◌, ℕ, ◌<◌, ◌≤◌, ◌==◌, if◌then◌else◌, List, [], ◌∷◌, length, Some, codes}
 use Rattle.std.specs.FinMap as finite
 use Rattle.std.specs.List.{AllByRecursion, list_any}

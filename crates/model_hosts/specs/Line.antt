@@ -20,8 +20,8 @@ is_filled (b ∷ bytes) = true
 abbrev pub words : List ℕ → List (List ℕ)
 words bytes = filter is_filled (slice_split is_blank bytes)
 
--- a line is skipped, is a comment that waits for an entry, is an entry with an address, a host, its aliases and a comment of
--- its own, or can't be read
+-- a line is skipped, is a comment that waits for an entry, is an entry with an address, a host, its aliases and a
+-- comment of its own, or can't be read
 pub data Meaning : Type 0 where
   Skipped : Meaning
   Comment : List ℕ → Meaning

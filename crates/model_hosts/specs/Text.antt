@@ -22,8 +22,8 @@ last_part [] = []
 last_part (part ∷ []) = part
 last_part (part ∷ next ∷ parts) = last_part (next ∷ parts)
 
--- keys in name order as groups: each key of two parts is a host, and the keys behind it, up to the next host, are its aliases;
--- beside the groups, the aliases before the first host
+-- keys in name order as groups: each key of two parts is a host, and the keys behind it, up to the next host, are its
+-- aliases; beside the groups, the aliases before the first host
 abbrev pub grouped : List (Name × Entry) → List Part × List Group
 grouped [] = ([], [])
 grouped (key ∷ keys) =

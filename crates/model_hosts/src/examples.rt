@@ -9,7 +9,8 @@ ghost use Rattle.model_hosts.specs.Keys.{family, host_name, alias_name, IsStorab
 ghost use Rattle.model_hosts.specs.Hosts.{with_own, host_entry, Reads, IsBadAt};
 ghost use Rattle.model_hosts.specs.Text.{grouped, host_line, text};
 
-/// A line without words and without `#` is skipped; one with a `#` alone waits, with what stands behind the `#` as it is.
+/// A line without words and without `#` is skipped; one with a `#` alone waits, with what stands behind the `#` as it
+/// is.
 pub fn some_lines_are_skipped_or_wait()
     ensures empty { meaning [] ≡ Skipped }
     ensures blanks { meaning (codes " \t\r") ≡ Skipped }
@@ -19,8 +20,8 @@ pub fn some_lines_are_skipped_or_wait()
     ensures nothing { meaning (codes "#") ≡ Comment [] }
 {}
 
-/// The first word is the address, the second the host, and the others are aliases, each as it stands; behind the first `#` is
-/// the entry's own comment.
+/// The first word is the address, the second the host, and the others are aliases, each as it stands; behind the first
+/// `#` is the entry's own comment.
 pub fn entries_have_their_words()
     ensures tab { meaning (codes "127.0.0.1\tlocalhost") ≡ Gives (codes "127.0.0.1") (codes "localhost") [] None }
     ensures blanks { meaning (codes " ::1     ip6-localhost ip6-loopback \r") ≡ Gives (codes "::1") (codes "ip6-localhost") (codes "ip6-loopback" ∷ []) None }
@@ -65,22 +66,22 @@ pub fn groups_have_their_lines()
     ensures no_alias { host_line (codes "127.0.0.1") (codes "localhost") [] ≡ codes "127.0.0.1\tlocalhost" }
 {}
 
-/// The text of no keys, and of three hosts in two families, of which two have a comment and two an alias: in name order,
-/// whichever came first.
+/// The text of no keys, and of three hosts in two families, of which two have a comment and two an alias: in name
+/// order, whichever came first.
 pub fn maps_have_their_texts()
     ensures no_keys { text no_keys ≡ [] }
     ensures hosts { text (map.insert (map.insert (map.insert (map.insert (map.insert no_keys (host_name (codes "ipv4") (codes "localhost")) (host_entry (codes "127.0.0.1") (codes " The loopback" ∷ []))) (host_name (codes "ipv4") (codes "box.example")) (host_entry (codes "127.0.1.1") (codes " this machine" ∷ []))) (alias_name (codes "ipv4") (codes "box.example") (codes "box")) (plain_entry [])) (host_name (codes "ipv6") (codes "ip6-localhost")) (host_entry (codes "::1") [])) (alias_name (codes "ipv6") (codes "ip6-localhost") (codes "ip6-loopback")) (plain_entry [])) ≡ codes "# this machine\n127.0.1.1\tbox.example box\n# The loopback\n127.0.0.1\tlocalhost\n::1\tip6-localhost ip6-loopback\n" }
 {}
 
-/// An entry takes the comment that waited and then its own, and an alias that stands twice is one key. A comment behind the last
-/// entry is dropped.
+/// An entry takes the comment that waited and then its own, and an alias that stands twice is one key. A comment behind
+/// the last entry is dropped.
 pub fn small_files_read()
     ensures comment { Reads (codes "# c\n\n# d\n") no_keys }
     ensures entry { Reads (codes "# c\n1\ta b b # d\r\n#e") (map.insert (map.insert no_keys (host_name (codes "ipv4") (codes "a")) (host_entry (codes "1") (codes " c" ∷ codes " d" ∷ []))) (alias_name (codes "ipv4") (codes "a") (codes "b")) (plain_entry [])) }
 {}
 
-/// A file is bad at its first line without a reading: one word, a host that stood before in its family, a NUL in a word, a carriage
-/// return alone behind a blank, and a comment that isn't UTF-8, at the end too.
+/// A file is bad at its first line without a reading: one word, a host that stood before in its family, a NUL in a
+/// word, a carriage return alone behind a blank, and a comment that isn't UTF-8, at the end too.
 pub fn files_are_bad_at_their_first_bad_line()
     ensures one_word { IsBadAt (codes "# c\nlocalhost\n") 2 }
     ensures host_twice { IsBadAt (codes "1 a\n\n2 a b\n") 3 }

@@ -49,8 +49,8 @@ pub fn bytes_have_a_reading_or_one_bad_line()
     ensures one_line { (bytes : List ℕ) (line other : ℕ) → IsBadAt bytes line → IsBadAt bytes other → line ≡ other }
 {}
 
-/// A map can be stored or breaks at a key, never both, and at one key alone: one of its keys that is neither a host's nor an
-/// alias's, before which every key in name order is one.
+/// A map can be stored or breaks at a key, never both, and at one key alone: one of its keys that is neither a host's
+/// nor an alias's, before which every key in name order is one.
 pub fn a_map_can_be_stored_or_has_one_first_breaking_key()
     ensures some { (keys : KeyMap) → IsStorable keys ⊎ ((name : Name) × BreaksAt keys name) }
     ensures not_both { (keys : KeyMap) (name : Name) → IsStorable keys → BreaksAt keys name → ⊥ }

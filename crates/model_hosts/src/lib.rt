@@ -1,5 +1,5 @@
-//! The format of hosts files: which bytes read as which map, which are bad at which line, the text of a map, and which maps can
-//! be stored. Definitions for the crates above, with their laws and worked lines.
+//! The format of hosts files: which bytes read as which map, which are bad at which line, the text of a map, and which
+//! maps can be stored. Definitions for the crates above, with their laws and worked lines.
 #![tactic(auto)]
 
 mod examples;
@@ -20,8 +20,8 @@ pub use laws::{
     different_maps_have_different_texts, no_bytes_read_as_no_keys, what_reads_is_storable,
 };
 
-/// The laws of a format as one record. That a map can be stored or breaks at one key follows from it; this and the others stand by
-/// themselves too.
+/// The laws of a format as one record. That a map can be stored or breaks at one key follows from it; this and the
+/// others stand by themselves too.
 pub fn hosts_is_lawful()
     ensures { IsLawful hosts }
 {}

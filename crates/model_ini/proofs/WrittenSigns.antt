@@ -1,5 +1,5 @@
--- What the signs that are written for a text are: none is a bare backslash, line feed, carriage return or tab, in a name none is a
--- bare equals sign, the ends aren't blank, and a name begins with no mark.
+-- What the signs that are written for a text are: none is a bare backslash, line feed, carriage return or tab, in a
+-- name none is a bare equals sign, the ends aren't blank, and a name begins with no mark.
 use Rattle.std.specs.Prelude.{◌≡◌, ◌≢◌, ℕ, false, ◌||◌, ◌==◌, List, [], ◌∷◌, map}
 use Rattle.std.proofs.Common.{cond, refl}
 use Rattle.std.specs.List.{AllByRecursion}

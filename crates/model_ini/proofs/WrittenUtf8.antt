@@ -62,8 +62,8 @@ split s ss text h =
 bare : (b c : ℕ) → byte_of (Plain b) ≡ Some c → c ≡ b
 bare b c h = branch_taken (b == 92) None (Some b) (Some c) h (λ is none. absurd cc) (λ same. sym (some_is b c same))
 
--- signs are spelled in UTF-8 where the text that they stand for is, behind any bytes: those carry the bytes of a letter that is
--- spelled half
+-- signs are spelled in UTF-8 where the text that they stand for is, behind any bytes: those carry the bytes of a letter
+-- that is spelled half
 utf8-signs : (ss : List Sign) (front text : List ℕ) → text_of ss ≡ Some text → IsUtf8 (front ++ text) → IsUtf8 (front ++ flat_map spelled_sign ss)
 utf8-signs [] front text h utf8 = let none : [] ≡ text = some_is [] text h in subst (λ (t : List ℕ). IsUtf8 (front ++ t)) (sym none) utf8
 utf8-signs (Plain b ∷ ss) front text h utf8 =

@@ -1,5 +1,5 @@
--- Which bytes read as which map in simpleini, which are bad at which line, and which maps can be stored. (After Elektra's
--- simpleini plugin; the limits, and that sections and names twice have no reading, are this project's own.)
+-- Which bytes read as which map in simpleini, which are bad at which line, and which maps can be stored. (After
+-- Elektra's simpleini plugin; the limits, and that sections and names twice have no reading, are this project's own.)
 use Rattle.std.specs.Prelude.{◌≡◌, ◌≢◌, ℕ, ◌≤◌, List, [], ◌∷◌, None}
 use Rattle.std.specs.FinMap as finite
 use Rattle.std.specs.Str.{IsUtf8}
@@ -12,7 +12,8 @@ use Rattle.model_lines.specs.Reading.{Leads, StopsAt}
 use Rattle.model_formats.specs.Holding.{EachHas, LacksFirst}
 use Rattle.model_ini.specs.Line.{Meaning, Skipped, Pair, Unreadable, meaning}
 
--- the relative name with a slash before it spells a name that is new and isn't the mountpoint; the map doesn't get too heavy
+-- the relative name with a slash before it spells a name that is new and isn't the mountpoint; the map doesn't get too
+-- heavy
 pub record AddsKey (before : KeyMap) (text value : List ℕ) (after : KeyMap) : Type 0 where
   pub name : Name
   pub spelled : Spells (47 ∷ text) name

@@ -22,8 +22,8 @@ abbrev pub meaning_of_sides : Option (List Sign × List Sign) → Meaning
 meaning_of_sides None = Unreadable
 meaning_of_sides (Some sides) = pair_of (text_of (trimmed sides.0)) (text_of (trimmed sides.1))
 
--- what a line says behind the blanks at its front: one without signs, and one that begins with `#` or `;`, is skipped; one
--- that begins with `[` can't be read
+-- what a line says behind the blanks at its front: one without signs, and one that begins with `#` or `;`, is skipped;
+-- one that begins with `[` can't be read
 abbrev pub meaning_behind_blanks : List Sign → Meaning
 meaning_behind_blanks [] = Skipped
 meaning_behind_blanks (Covered b ∷ rest) = meaning_of_sides (cut_at_equals (Covered b ∷ rest))

@@ -1,6 +1,6 @@
--- The signs of a line of simpleini: a byte as it stands, or a byte that a backslash covers. A line is split into signs before
--- anything else is asked of it, so that what a backslash covers is neither a separator, nor a mark, nor a blank. (After Elektra's
--- simpleini plugin; the escapes are this project's own.)
+-- The signs of a line of simpleini: a byte as it stands, or a byte that a backslash covers. A line is split into signs
+-- before anything else is asked of it, so that what a backslash covers is neither a separator, nor a mark, nor a blank.
+-- (After Elektra's simpleini plugin; the escapes are this project's own.)
 use Rattle.std.specs.Prelude.{ℕ, Bool, false, ◌&&◌, ◌||◌, ◌==◌, if◌then◌else◌, List, [], ◌∷◌, length, Option, Some, None, option_and_then}
 use Rattle.std.specs.Option.{option_map}
 use Rattle.model_ini.specs.declared.signs.Sign.{Sign}
@@ -17,8 +17,8 @@ abbrev pub spelled_sign : Sign → List ℕ
 spelled_sign (Plain b) = b ∷ []
 spelled_sign (Covered b) = 92 ∷ b ∷ []
 
--- what a covered byte stands for: `\` for itself, `n`, `r`, `t` and `s` for a line feed, a carriage return, a tab and a blank,
--- and `=`, `#`, `;` and `[` for themselves; any other stands for nothing
+-- what a covered byte stands for: `\` for itself, `n`, `r`, `t` and `s` for a line feed, a carriage return, a tab and a
+-- blank, and `=`, `#`, `;` and `[` for themselves; any other stands for nothing
 abbrev pub escape : ℕ → Option ℕ
 escape b =
     if b == 92 then Some 92 else

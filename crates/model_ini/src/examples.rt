@@ -27,7 +27,8 @@ pub fn entries_are_cut_at_the_first_equals_sign()
     ensures mark_in_value { meaning (codes "a = #[;") ≡ Pair (codes "a") (codes "#[;") }
 {}
 
-/// Blanks and tabs around both sides are dropped, unless they are written by an escape; so is one carriage return at the end.
+/// Blanks and tabs around both sides are dropped, unless they are written by an escape; so is one carriage return at
+/// the end.
 pub fn blanks_at_the_ends_are_dropped()
     ensures both { meaning (codes "\t a b \t=\tc d \t\r") ≡ Pair (codes "a b") (codes "c d") }
     ensures escaped { meaning (codes "c = \\sy") ≡ Pair (codes "c") (codes " y") }
@@ -59,8 +60,8 @@ pub fn lines_without_reading()
     ensures blank { meaning (codes "a = x\\ ") ≡ Unreadable }
 {}
 
-/// A key's line has its name and value with their escapes: blanks at the ends alone, equals signs and first marks in the name
-/// alone.
+/// A key's line has its name and value with their escapes: blanks at the ends alone, equals signs and first marks in
+/// the name alone.
 pub fn keys_have_their_lines()
     ensures equals { line_of (codes "a=b") (codes "=x") ≡ codes "a\\=b = =x" }
     ensures blank { line_of (codes "c") (codes " y") ≡ codes "c = \\sy" }
@@ -86,8 +87,8 @@ pub fn small_files_read()
     ensures one_key { Reads (codes "# b = 2\n\n /a= 1\r") (map.insert no_keys (record { namespace = Cascading; parts = codes "a" ∷ [] }) (plain_entry (codes "1"))) }
 {}
 
-/// A file is bad at its first line without a reading: a section, a line without an equals sign behind lines that are skipped, the
-/// mountpoint's own name, a name twice in two spellings, and bytes that aren't UTF-8, in a comment too.
+/// A file is bad at its first line without a reading: a section, a line without an equals sign behind lines that are
+/// skipped, the mountpoint's own name, a name twice in two spellings, and bytes that aren't UTF-8, in a comment too.
 pub fn files_are_bad_at_their_first_bad_line()
     ensures section { IsBadAt (codes "[main]") 1 }
     ensures no_equals { IsBadAt (codes "# a\n\nb\nc") 3 }

@@ -48,8 +48,8 @@ pub fn bytes_have_a_reading_or_one_bad_line()
     ensures one_line { (bytes : List ℕ) (line other : ℕ) → IsBadAt bytes line → IsBadAt bytes other → line ≡ other }
 {}
 
-/// A map can be stored or breaks at a key, never both, and at one key alone: one of its keys, before which every key in name
-/// order can be stored.
+/// A map can be stored or breaks at a key, never both, and at one key alone: one of its keys, before which every key in
+/// name order can be stored.
 pub fn a_map_can_be_stored_or_has_one_first_breaking_key()
     ensures some { (keys : KeyMap) → IsStorable keys ⊎ ((name : Name) × BreaksAt keys name) }
     ensures not_both { (keys : KeyMap) (name : Name) → IsStorable keys → BreaksAt keys name → ⊥ }

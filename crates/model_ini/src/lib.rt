@@ -1,5 +1,5 @@
-//! The format simpleini: which bytes read as which map, which are bad at which line, the text of a map, and which maps can be
-//! stored. Definitions for the crates above, with their laws and worked lines.
+//! The format simpleini: which bytes read as which map, which are bad at which line, the text of a map, and which maps
+//! can be stored. Definitions for the crates above, with their laws and worked lines.
 #![tactic(auto)]
 
 mod examples;
@@ -24,8 +24,8 @@ pub use laws::{
 };
 pub use signs::Sign;
 
-/// The laws of a format as one record. That a map can be stored or breaks at one key follows from it; this and the others stand by
-/// themselves too.
+/// The laws of a format as one record. That a map can be stored or breaks at one key follows from it; this and the
+/// others stand by themselves too.
 pub fn simpleini_is_lawful()
     ensures { IsLawful ini }
 {}

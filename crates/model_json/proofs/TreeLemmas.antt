@@ -1,4 +1,5 @@
--- The object of leaves, one part at a time: leaves in name order are those of a part and those of other parts, and so is their object.
+-- The object of leaves, one part at a time: leaves in name order are those of a part and those of other parts, and so
+-- is their object.
 use Rattle.std.specs.Prelude.{◌≡◌, ◌≢◌, ℕ, Bool, true, false, List, [], ◌∷◌, ◌++◌, Some, unwrap_or, ⊤}
 use Rattle.std.proofs.Common.{refl, sym, ap, subst, ◌∙◌, cond}
 use Rattle.std.specs.Cmp.{tied_itself}

@@ -17,8 +17,8 @@ abbrev pub begins_as_item : List Part → Bool
 begins_as_item [] = false
 begins_as_item (part ∷ parts) = is_array_like part
 
--- a key of the object: it has a value alone and parts, of which the first is a member's, no key is below it, and at each of its
--- parts the parts that keys have there are of one kind
+-- a key of the object: it has a value alone and parts, of which the first is a member's, no key is below it, and at
+-- each of its parts the parts that keys have there are of one kind
 pub record IsJsonKey (keys : KeyMap) (name : Name) (entry : Entry) : Type 0 where
   pub no_meta : entry.meta ≡ finite.empty
   pub some_part : name.parts ≢ []

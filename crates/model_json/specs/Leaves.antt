@@ -1,4 +1,5 @@
--- The texts of a JSON value, each at the parts on the way to it. (After Elektra's JSON storage; the profile is this project's own.)
+-- The texts of a JSON value, each at the parts on the way to it. (After Elektra's JSON storage; the profile is this
+-- project's own.)
 use Rattle.std.specs.Prelude.{ℕ, ◌+◌, Bool, true, false, if◌then◌else◌, List, [], ◌∷◌, ◌++◌, map, Option, Some, None, option_map, option_and_then, decimal, codes}
 use Rattle.std.specs.Fmt.{signed_decimal}
 use Rattle.std.specs.Option.{option_or}
@@ -36,8 +37,8 @@ if_some (leaf ∷ found) = Some (leaf ∷ found)
 abbrev pub joined : Part → Option (List Leaf) → Option (List Leaf) → Option (List Leaf)
 joined part here later = option_and_then (λ found. option_map (λ more. within part found ++ more) later) here
 
--- the leaves of a value in its order: a member's part is its name, which may not look like an array's; an element's part is
--- that of its index. A null has no reading, and no number that isn't an integer of 64 bits has one
+-- the leaves of a value in its order: a member's part is its name, which may not look like an array's; an element's
+-- part is that of its index. A null has no reading, and no number that isn't an integer of 64 bits has one
 abbrev mutual
   pub leaves : Data → Option (List Leaf)
   leaves null = None

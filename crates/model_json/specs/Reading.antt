@@ -1,5 +1,5 @@
--- Which bytes read as which map in a JSON file. (After Elektra's JSON storage; the profile is this project's own. What a JSON text
--- is, and how deep it may nest, are serde_json's.)
+-- Which bytes read as which map in a JSON file. (After Elektra's JSON storage; the profile is this project's own. What
+-- a JSON text is, and how deep it may nest, are serde_json's.)
 use Rattle.std.specs.Prelude.{◌≡◌, ◌⊎◌, ℕ, ◌+◌, ◌≤◌, List, [], ◌∷◌, ◌++◌, length, map, Some, ⊤}
 use Rattle.std.specs.FinMap as finite
 use Rattle.std.specs.List.{AllByRecursion}
@@ -46,7 +46,8 @@ abbrev mutual
   MembersNamed before no_members = ⊤
   MembersNamed before (member name d ms) = IsNamed before name × AreNamed (before ++ name ∷ []) d × MembersNamed before ms
 
--- bytes are a JSON text, whose value is an object, and its leaves are the keys of a map in name order, within the limits of a file
+-- bytes are a JSON text, whose value is an object, and its leaves are the keys of a map in name order, within the
+-- limits of a file
 pub record ReadsObject (bytes : List ℕ) (keys : KeyMap) : Type 0 where
   pub members : Members
   pub found : List Leaf

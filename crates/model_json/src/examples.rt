@@ -12,7 +12,8 @@ ghost use Rattle.model_json.specs.Keys.{IsJsonKey, BreaksAt};
 ghost use Rattle.model_json.specs.Reading.{name_at, Reads, IsBadAt};
 ghost use Rattle.model_json.specs.Text.{with_arrays};
 
-/// A member's part is its name, and an element's that of its index; `true` is a text; an object without keys gives nothing.
+/// A member's part is its name, and an element's that of its index; `true` is a text; an object without keys gives
+/// nothing.
 pub fn leaves_stand_at_their_parts()
     ensures members { leaves (object (member (codes "on") (boolean true) (member (codes "ports") (array (item (string (codes "80")) (item (string (codes "81")) no_items))) no_members))) ≡ Some ((codes "on" ∷ [], codes "true") ∷ (codes "ports" ∷ codes "#0" ∷ [], codes "80") ∷ (codes "ports" ∷ codes "#1" ∷ [], codes "81") ∷ []) }
     ensures nothing { leaves (object (member (codes "a") (object no_members) (member (codes "b") (array no_items) no_members))) ≡ Some [] }
@@ -25,7 +26,8 @@ pub fn integers_have_their_digits()
     ensures other { (x : Float) → leaves (number (float x)) ≡ None }
 {}
 
-/// A null has no reading, nor has an element without keys, nor a member's name that looks like an array's, with keys or without.
+/// A null has no reading, nor has an element without keys, nor a member's name that looks like an array's, with keys or
+/// without.
 pub fn values_without_reading()
     ensures nothing { leaves null ≡ None }
     ensures element { leaves (array (item (object no_members) no_items)) ≡ None }

@@ -1,5 +1,5 @@
-//! The format of JSON files: which bytes read as which map, the text of a map, and which maps can be stored. Definitions for the
-//! crates above, with their laws and worked values.
+//! The format of JSON files: which bytes read as which map, the text of a map, and which maps can be stored.
+//! Definitions for the crates above, with their laws and worked values.
 #![tactic(auto)]
 
 mod examples;
@@ -27,7 +27,8 @@ pub fn json_files_is_lawful()
     ensures { IsLawful json_files }
 {}
 
-/// The leaves of the value that a text is stand in name order, each once: a reading asks no more of a text by asking for that.
+/// The leaves of the value that a text is stand in name order, each once: a reading asks no more of a text by asking
+/// for that.
 pub fn what_is_read_ascends()
     ensures { (bytes : List ℕ) (d : Data) (found : List Leaf) → read bytes ≡ Some d → leaves d ≡ Some found → length found ≤ last_index → T (is_sorted name_cmp (map key_of found)) }
 {}

@@ -1,5 +1,5 @@
--- What lines lead to, and the first line without a reading. A format says by a relation Step what one line makes of what the
--- lines before it made. (This project's own.)
+-- What lines lead to, and the first line without a reading. A format says by a relation Step what one line makes of
+-- what the lines before it made. (This project's own.)
 use Rattle.std.specs.Prelude.{◌≡◌, ℕ, ◌+◌, List, [], ◌∷◌, ◌++◌, length}
 
 -- lines that have a reading one after the other lead from what was read before them to what was read behind them

@@ -1,5 +1,5 @@
-//! Files that are read line by line: their lines, what each leads to, the first bad line, the first key that a format can't
-//! hold, and the laws of a format. Definitions for the crates above, with worked lines.
+//! Files that are read line by line: their lines, what each leads to, the first bad line, the first key that a format
+//! can't hold, and the laws of a format. Definitions for the crates above, with worked lines.
 #![tactic(auto)]
 
 mod examples;

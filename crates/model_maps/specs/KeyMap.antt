@@ -1,4 +1,5 @@
--- What a store holds: an entry for each of some names, in name order. (Elektra's KeySet. The weights are this project's own.)
+-- What a store holds: an entry for each of some names, in name order. (Elektra's KeySet. The weights are this project's
+-- own.)
 use Rattle.std.specs.Prelude.{ℕ, ◌+◌, not, length, sum_by}
 use Rattle.std.specs.Coded.{Coded}
 use Rattle.std.specs.FinMap as map

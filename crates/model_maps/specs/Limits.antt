@@ -1,5 +1,5 @@
--- Which maps a file can hold, whatever its format: names without a namespace, and texts and a weight within their limits.
--- (This project's own.)
+-- Which maps a file can hold, whatever its format: names without a namespace, and texts and a weight within their
+-- limits. (This project's own.)
 use Rattle.std.specs.Prelude.{◌≡◌, ℕ, ◌≤◌, List, Some}
 use Rattle.std.specs.FinMap as finite
 use Rattle.model_names.specs.declared.namespaces.Namespace.TheVariants.{Cascading}

@@ -1,4 +1,5 @@
--- Array parts: a part that looks like an array's is made of underscores and digits, and its canonical form is that of its index.
+-- Array parts: a part that looks like an array's is made of underscores and digits, and its canonical form is that of
+-- its index.
 use Rattle.std.specs.Prelude.{◌≡◌, ◌≢◌, ℕ, ◌+◌, ◌-◌, ◌^◌, ◌<◌, ◌≤◌, ◌⊎◌, nat_lt, nat_le, true, false, not, ◌&&◌, ◌||◌, ◌==◌, List, [], ◌∷◌, ◌++◌, length, replicate, Option, Some, None}
 use Rattle.std.proofs.Common.{zero, suc, get_or, refl, sym, ap, ap₂, ◌∙◌, inl, inr, arith, lit<, length-append}
 use Rattle.std.specs.Char.{is_ascii_digit}

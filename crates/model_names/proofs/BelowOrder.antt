@@ -1,4 +1,5 @@
--- The names at or below a name stand together in the order of names: none is before it, and a name between two of them is one.
+-- The names at or below a name stand together in the order of names: none is before it, and a name between two of them
+-- is one.
 use Rattle.std.proofs.Common.{◌≡◌, Bool, false, T, ◌&&◌, nat_eq, List, [], ◌∷◌, refl, sym, ap, subst, ◌∙◌, eqb-true, eq-eqb}
 use Rattle.std.specs.Cmp.{IsTotalOrder, tied_itself}
 use Rattle.std.specs.Cmp.Lexicographic.{slice_cmp, pointwise}

@@ -1,5 +1,5 @@
--- Parts that number the items of an array: a `#`, one underscore less than the index has digits, and these digits, so that
--- they sort by their indices. (After Elektra's page on arrays; the canonical form is this project's own.)
+-- Parts that number the items of an array: a `#`, one underscore less than the index has digits, and these digits, so
+-- that they sort by their indices. (After Elektra's page on arrays; the canonical form is this project's own.)
 use Rattle.std.specs.Prelude.{◌≡◌, ℕ, ◌+◌, ◌-◌, nat_lt, nat_le, Bool, true, false, not, ◌&&◌, ◌||◌, ◌==◌, if◌then◌else◌, List, [], ◌∷◌, ◌++◌, length, drop, replicate, slice_index, Option, Some, None}
 use Rattle.std.specs.Char.{is_ascii_digit}
 use Rattle.std.specs.Fmt.{decimal}

@@ -1,4 +1,5 @@
--- A key's name: a namespace and a list of parts. (Elektra's page on key names; the rules on parts are this project's own.)
+-- A key's name: a namespace and a list of parts. (Elektra's page on key names; the rules on parts are this project's
+-- own.)
 use Rattle.std.specs.Prelude.{◌≡◌, ℕ, zero, suc, List, refl}
 use Rattle.std.specs.Coded.{Coded, code_by, coded×, coded_list, coded_ℕ}
 use Rattle.model_names.specs.declared.namespaces.Namespace.{Namespace}

@@ -1,4 +1,5 @@
--- Which namespaces stand for files. (After Elektra's page on namespaces; that files stand in four of them is this project's own.)
+-- Which namespaces stand for files. (After Elektra's page on namespaces; that files stand in four of them is this
+-- project's own.)
 use Rattle.std.specs.Prelude.{nat_eq, Bool, List, [], ◌∷◌}
 use Rattle.std.specs.List.{list_any}
 use Rattle.model_names.specs.declared.namespaces.Namespace.{Namespace}

@@ -1,7 +1,8 @@
 -- Which cuts of a text are its raw parts, said of the parts themselves. (This project's own.)
 use Rattle.std.specs.Prelude.{◌≡◌, ◌≢◌, ℕ, List, [], ◌∷◌, ◌++◌}
 
--- bytes whose escapes are whole: a byte that is no backslash stands for itself, and a backslash escapes the byte behind it
+-- bytes whose escapes are whole: a byte that is no backslash stands for itself, and a backslash escapes the byte behind
+-- it
 pub data HasWholeEscapes : List ℕ → Type 0 where
   Empty : HasWholeEscapes []
   Byte : (b : ℕ) (bytes : List ℕ) → b ≢ 92 → HasWholeEscapes bytes → HasWholeEscapes (b ∷ bytes)

@@ -25,8 +25,8 @@ pub data Move : Type 0 where
 abbrev pub put_letter : ℕ → ℕ → Result Part ℕ → Result Part ℕ
 put_letter bytes letter rest = result_map_both (λ part. letter ∷ part) (λ at. at + bytes) rest
 
--- the letters of a raw part without their escapes, or the place in it of the first backslash that escapes nothing: one that
--- stands before neither a slash nor a backslash
+-- the letters of a raw part without their escapes, or the place in it of the first backslash that escapes nothing: one
+-- that stands before neither a slash nor a backslash
 abbrev pub read_letters : List ℕ → Result Part ℕ
 read_letters [] = Ok []
 read_letters (b ∷ []) = if b == 92 then Err 0 else Ok (b ∷ [])
@@ -37,12 +37,14 @@ read_letters (b ∷ c ∷ bytes) =
 abbrev pub unescaped : List ℕ → Option Part
 unescaped raw = result_ok (read_letters raw)
 
--- the part that a raw part stands for which is none of the reserved ones: an array-like part is made canonical or refused
+-- the part that a raw part stands for which is none of the reserved ones: an array-like part is made canonical or
+-- refused
 abbrev pub part_of_text : Part → Option Part
 part_of_text part = if is_array_like part then canonical_part part else Some part
 
--- what is read of a raw part: its move, or none where it looks like an array's part and has no canonical form, or the place in
--- it of its first backslash that escapes nothing. `%` is the empty part, and `\%`, `\.` and `\..` are literal parts
+-- what is read of a raw part: its move, or none where it looks like an array's part and has no canonical form, or the
+-- place in it of its first backslash that escapes nothing. `%` is the empty part, and `\%`, `\.` and `\..` are literal
+-- parts
 abbrev pub read_part : List ℕ → Result (Option Move) ℕ
 read_part raw =
     if (length raw == 0) || is_text raw (codes ".") then Ok (Some Stays) else

@@ -40,8 +40,8 @@ pub fn the_name_of_a_text_is_the_one_it_spells()
     ensures refused { (text : List ℕ) (refusal : Refusal) → refusal_of text ≡ Some refusal → name_of text ≡ None }
 {}
 
-/// The raw parts of a text, each behind a slash, are the text behind its first slash. None of them has a bare slash, and
-/// each slash between two of them is bare.
+/// The raw parts of a text, each behind a slash, are the text behind its first slash. None of them has a bare slash,
+/// and each slash between two of them is bare.
 pub fn raw_parts_are_cut_at_bare_slashes()
     ensures joined { (bytes : List ℕ) → flat_map (λ raw. 47 ∷ raw) (raw_parts bytes) ≡ 47 ∷ bytes }
     ensures cut { (bytes : List ℕ) → AreCut (raw_parts bytes) }

@@ -1,4 +1,5 @@
--- Words that stand behind one another are told apart: a text in quotes ends at its last quote, and one without at the next blank.
+-- Words that stand behind one another are told apart: a text in quotes ends at its last quote, and one without at the
+-- next blank.
 use Rattle.std.specs.Prelude.{◌≡◌, ◌≢◌, ℕ, ◌/◌, ◌%◌, ◌≤◌, ◌<◌, true, List, [], ◌∷◌, ◌++◌}
 use Rattle.std.proofs.Common.{refl, sym, ap, ◌∙◌, inl, inr, arith, append_assoc}
 use Rattle.std.specs.List.{flat_map, list_all}

@@ -7,7 +7,8 @@ ghost use Rattle.model_names.specs.Name.{Name};
 ghost use Rattle.model_names.specs.WellFormed.{IsName};
 ghost use Rattle.model_quoting.specs.Quoted.{is_line_byte, quoted, shown, shown_text};
 
-/// Quotes, backslashes and control bytes are written with a backslash; a text with none of them and no blank stands bare.
+/// Quotes, backslashes and control bytes are written with a backslash; a text with none of them and no blank stands
+/// bare.
 pub fn texts_are_quoted_where_needed()
     ensures bare { shown_text (codes "user:/sw/a") ≡ codes "user:/sw/a" }
     ensures empty { shown_text [] ≡ [] }
@@ -25,8 +26,8 @@ pub fn one_shown_text_one_text()
     ensures { (a b : List ℕ) → shown_text a ≡ shown_text b → a ≡ b }
 {}
 
-/// A text in quotes ends at its last quote, and what is shown ends at the next blank or control byte, so that what stands behind it
-/// can be told.
+/// A text in quotes ends at its last quote, and what is shown ends at the next blank or control byte, so that what
+/// stands behind it can be told.
 pub fn texts_on_a_line_are_told_from_what_follows()
     ensures in_quotes { (a b rest other : List ℕ) → quoted a ++ rest ≡ quoted b ++ other → (a ≡ b) × (rest ≡ other) }
     ensures shown { (a b rest other : List ℕ) (blank end : ℕ) → blank ≤ 32 → end ≤ 32 → shown_text a ++ blank ∷ rest ≡ shown_text b ++ end ∷ other → (a ≡ b) × (blank ∷ rest ≡ end ∷ other) }

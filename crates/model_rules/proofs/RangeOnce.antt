@@ -1,5 +1,5 @@
--- A text is a range of one list of intervals at most: in an item that is two numbers, the minus between them is the first
--- one behind the first byte.
+-- A text is a range of one list of intervals at most: in an item that is two numbers, the minus between them is the
+-- first one behind the first byte.
 use Rattle.std.specs.Prelude.{◌≡◌, ◌≢◌, ℕ, suc, ◌<◌, Bool, true, false, List, [], ◌∷◌, ◌++◌, length, drop, ℤ}
 use Rattle.std.specs.List.{AllZip, slice_split}
 use Rattle.std.specs.Str.Parse.{AllDigits, IsNumeral}

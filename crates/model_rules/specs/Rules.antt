@@ -1,5 +1,5 @@
--- What a value breaks under its metadata: each case of a rule with its number and the text that is given. (This project's
--- own, after Elektra's plugins `type`, `range` and `validation`.)
+-- What a value breaks under its metadata: each case of a rule with its number and the text that is given. (This
+-- project's own, after Elektra's plugins `type`, `range` and `validation`.)
 use Rattle.std.specs.Prelude.{◌≡◌, ◌≢◌, ℕ, ◌<◌, ◌≤◌, List, [], length, Option, None, Some, ℤ, MatchOption, codes}
 use Rattle.std.specs.FinMap as map
 use Rattle.std.specs.List.{Contains}
@@ -35,8 +35,8 @@ pub record BreaksEnum (value : List ℕ) (meta : Meta) (broken : Broken) : Type 
 abbrev pub longest_pattern : ℕ
 longest_pattern = 1024
 
--- 6 where `check/validation` is too long for a pattern or is refused as one, 7 where that pattern matches nowhere in the
--- value. Which patterns are refused, and which match nowhere in a value, is the matcher's matter
+-- 6 where `check/validation` is too long for a pattern or is refused as one, 7 where that pattern matches nowhere in
+-- the value. Which patterns are refused, and which match nowhere in a value, is the matcher's matter
 pub data BreaksPattern (Refuses : List ℕ → Type 0) (Misses : List ℕ → List ℕ → Type 0) (value : List ℕ) (meta : Meta) (broken : Broken) : Type 0 where
   LongPattern : (pattern : List ℕ) → map.get meta (codes "check/validation") ≡ Some pattern → longest_pattern < length pattern → broken ≡ breach 6 pattern → BreaksPattern Refuses Misses value meta broken
   BadPattern : (pattern : List ℕ) → map.get meta (codes "check/validation") ≡ Some pattern → length pattern ≤ longest_pattern → Refuses pattern → broken ≡ breach 6 pattern → BreaksPattern Refuses Misses value meta broken

@@ -1,4 +1,5 @@
--- Where no text that is a pattern may be refused, some keys have one first violation at most, and none where they have no violations.
+-- Where no text that is a pattern may be refused, some keys have one first violation at most, and none where they have
+-- no violations.
 use Rattle.std.proofs.Common.{◌≡◌, ℕ, Bool, List, [], ◌∷◌, ◌++◌, Option, Some, None, refl, sym, ap, ap₂, subst, ◌∙◌}
 use Rattle.std.specs.Option.{option_to_list}
 use Rattle.general_words.proofs.Lists.{head_is, tail_is}

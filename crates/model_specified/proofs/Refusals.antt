@@ -1,5 +1,5 @@
--- What a refused pattern can have to do with violations: with none, with rule 6 of a short pattern, and with whether there is a list at all;
--- and what a text has that is no pattern.
+-- What a refused pattern can have to do with violations: with none, with rule 6 of a short pattern, and with whether
+-- there is a list at all; and what a text has that is no pattern.
 use Rattle.std.proofs.Common.{◌≡◌, ℕ, ◌≤◌, Bool, true, false, nat_le, List, [], ◌∷◌, ◌++◌, map, length, Option, Some, None, refl, sym, ap, subst, ◌∙◌, arith, append-nil, codes}
 use Rattle.std.specs.FinMap as finite
 use Rattle.std.specs.Option.{option_to_list}

@@ -1,4 +1,5 @@
--- What the keys of `spec:` say of a path. (After Elektra's page on specifications; which key comes before which is this project's own.)
+-- What the keys of `spec:` say of a path. (After Elektra's page on specifications; which key comes before which is this
+-- project's own.)
 use Rattle.std.specs.Prelude.{Bool, not, ◌&&◌, List, [], ◌++◌, map}
 use Rattle.std.specs.FinMap as finite
 use Rattle.std.specs.List.{filter, flat_map}
@@ -22,8 +23,8 @@ spec_keys keys = at_or_below (spec_name []) keys
 abbrev pub is_pattern_of : List Part → Name → Bool
 is_pattern_of path name = matches_glob path name.parts && not (name_eq name (spec_name path))
 
--- the specification keys of a path: the key with the path itself, if it is there, and then each other one whose parts match
--- the path, in key order
+-- the specification keys of a path: the key with the path itself, if it is there, and then each other one whose parts
+-- match the path, in key order
 abbrev pub specs_of : KeyMap → List Part → List Entry
 specs_of specs path = option_to_list (finite.get specs (spec_name path)) ++ map (λ key. key.1) (filter (λ key. is_pattern_of path key.0) (finite.entries specs))
 

@@ -1,4 +1,5 @@
--- What a set comes to under its own specifications. (After Elektra's page on specifications; the words for booleans are Elektra's.)
+-- What a set comes to under its own specifications. (After Elektra's page on specifications; the words for booleans are
+-- Elektra's.)
 use Rattle.std.specs.Prelude.{ℕ, nat_eq, Bool, true, false, not, ◌&&◌, if◌then◌else◌, List, [], ◌∷◌, map, Option, Some, None, option_and_then, codes}
 use Rattle.std.specs.FinMap as finite
 use Rattle.std.specs.List.{flat_map, list_any}
@@ -17,8 +18,8 @@ use Rattle.model_specified.specs.SpecMeta.{laid_over, said_of, spec_keys, spec_n
 abbrev pub default_name : List Part → Name
 default_name path = record { namespace = Default; parts = path }
 
--- the default that a key of `spec:` makes: where its name has no glob and it has metadata `default`, the key of `default:` with its
--- path has that text and no metadata
+-- the default that a key of `spec:` makes: where its name has no glob and it has metadata `default`, the key of
+-- `default:` with its path has that text and no metadata
 abbrev pub default_of : Name × Entry → List (Name × Entry)
 default_of spec =
     if has_glob spec.0.parts then [] else option_to_list (option_map (λ text. (default_name spec.0.parts, plain_entry text)) (finite.get spec.1.meta (codes "default")))

@@ -1,4 +1,5 @@
--- Which rules the keys of a set break, as its specifications have them. (After Elektra's plugins `type`, `range` and `validation`.)
+-- Which rules the keys of a set break, as its specifications have them. (After Elektra's plugins `type`, `range` and
+-- `validation`.)
 use Rattle.std.specs.Prelude.{◌≡◌, ◌⊎◌, ℕ, nat_eq, Bool, false, ◌&&◌, ◌||◌, List, [], ◌∷◌, ◌++◌, map, Option, None, MatchOption}
 use Rattle.std.specs.FinMap as finite
 use Rattle.std.specs.List.{filter, list_any}
@@ -48,7 +49,8 @@ AreOfKeysBy MayRefuse [] violations = violations ≡ []
 AreOfKeysBy MayRefuse (key ∷ keys) violations =
     (own : List Violation) × (others : List Violation) × AreOfKeyBy MayRefuse key own × AreOfKeysBy MayRefuse keys others × (violations ≡ own ++ others)
 
--- the calls of a matcher refuse patterns only where its count of refusals rose, those outside the grammar too: so it is said of all patterns alike
+-- the calls of a matcher refuse patterns only where its count of refusals rose, those outside the grammar too: so it is
+-- said of all patterns alike
 abbrev pub TellsPattern : Type 0 → List ℕ → Meta → Option Broken → Type 0
 TellsPattern HasRisen value meta answer = TellsPatternBy (λ _. HasRisen) value meta answer
 
@@ -81,7 +83,8 @@ AreViolations HasRisen is_chosen keys violations = AreOfKeys HasRisen (checked_k
 abbrev pub IsNoPattern : List ℕ → Type 0
 IsNoPattern pattern = IsInGrammar pattern → ⊥
 
--- a text breaks the rule on patterns freely where it is no pattern, and a pattern only where the matcher's count of refusals rose
+-- a text breaks the rule on patterns freely where it is no pattern, and a pattern only where the matcher's count of
+-- refusals rose
 abbrev pub MayBeRefused : Type 0 → List ℕ → Type 0
 MayBeRefused HasRisen pattern = HasRisen ⊎ IsNoPattern pattern
 
@@ -92,7 +95,8 @@ pub data BreaksAtFirst (HasRisen : Type 0) (value : List ℕ) (meta : Meta) (bro
   ByEnum : Tells (BreaksType value meta) None → Tells (BreaksRange value meta) None → BreaksEnum value meta broken → BreaksAtFirst HasRisen value meta broken
   ByPattern : Tells (BreaksType value meta) None → Tells (BreaksRange value meta) None → Tells (BreaksEnum value meta) None → BreaksPattern (λ _. HasRisen) Misses value meta broken → BreaksAtFirst HasRisen value meta broken
 
--- some keys have a first violation: those in front of its key have none, and the key breaks this rule first. No pattern that comes behind it has a part in it
+-- some keys have a first violation: those in front of its key have none, and the key breaks this rule first. No pattern
+-- that comes behind it has a part in it
 pub record BeginWith (HasRisen : Type 0) (keys : List (Name × Entry)) (violation : Violation) : Type 0 where
   pub front : List (Name × Entry)
   pub key : Name × Entry

@@ -25,7 +25,8 @@ pub fn keys_come_by_namespace()
     ensures system { name_cmp (record { namespace = System; parts = codes "z" ∷ [] }) (record { namespace = Default; parts = codes "a" ∷ [] }) ≡ Less }
 {}
 
-/// `_` stands for any part and `#` for an item of an array, in paths that are as long; a path's own name is no pattern of it.
+/// `_` stands for any part and `#` for an item of an array, in paths that are as long; a path's own name is no pattern
+/// of it.
 pub fn patterns_match_paths_part_by_part()
     ensures any { is_pattern_of (codes "sw" ∷ codes "a" ∷ codes "port" ∷ []) (spec_name (codes "sw" ∷ codes "_" ∷ codes "port" ∷ [])) ≡ true }
     ensures item { is_pattern_of (codes "sw" ∷ codes "#_10" ∷ []) (spec_name (codes "sw" ∷ codes "#" ∷ [])) ≡ true }
@@ -41,7 +42,8 @@ pub fn a_plain_name_makes_a_default()
     ensures without { default_of (spec_name (codes "a" ∷ []), plain_entry []) ≡ [] }
 {}
 
-/// Of `spec:/_` with the type `char` and `spec:/a` with the type `string`, the second gives the path `/a` its type, and the first `/b`.
+/// Of `spec:/_` with the type `char` and `spec:/a` with the type `string`, the second gives the path `/a` its type, and
+/// the first `/b`.
 pub fn the_path_itself_comes_before_its_patterns()
     ensures own { map.get (spec_meta (map.insert (map.insert no_keys (spec_name (codes "_" ∷ [])) (with_meta (plain_entry []) (codes "type") (codes "char"))) (spec_name (codes "a" ∷ [])) (with_meta (plain_entry []) (codes "type") (codes "string"))) (codes "a" ∷ [])) (codes "type") ≡ Some (codes "string") }
     ensures other { map.get (spec_meta (map.insert (map.insert no_keys (spec_name (codes "_" ∷ [])) (with_meta (plain_entry []) (codes "type") (codes "char"))) (spec_name (codes "a" ∷ [])) (with_meta (plain_entry []) (codes "type") (codes "string"))) (codes "b" ∷ [])) (codes "type") ≡ Some (codes "char") }

@@ -23,7 +23,8 @@ pub fn the_tests_of_globs_decide()
     ensures has { (parts : List Part) → Decides (has_glob parts) (HasGlob parts) }
 {}
 
-/// In the specification metadata of a path each name has the text of the first specification key of the path that has it.
+/// In the specification metadata of a path each name has the text of the first specification key of the path that has
+/// it.
 pub fn the_first_specification_key_with_a_name_gives_its_text()
     ensures { (keys : KeyMap) (path : List Part) (name : List ℕ) → map.get (spec_meta keys path) name ≡ first_some (λ spec. map.get spec.meta name) (specs_of (spec_keys keys) path) }
 {}
@@ -33,7 +34,8 @@ pub fn each_key_is_specified_by_itself()
     ensures { (keys : KeyMap) (name : Name) → map.get (specified keys) name ≡ option_map (specified_entry (spec_keys keys) name) (map.get (with_defaults (spec_keys keys) keys) name) }
 {}
 
-/// Once the defaults are made, a name of `default:` has the one that the key of `spec:` with its path makes, and else what it had.
+/// Once the defaults are made, a name of `default:` has the one that the key of `spec:` with its path makes, and else
+/// what it had.
 pub fn a_default_stands_in_place_of_what_was_there()
     ensures { (keys : KeyMap) (name : Name) → map.get (with_defaults (spec_keys keys) keys) name ≡ option_or (default_at (spec_keys keys) name) (map.get keys name) }
 {}
@@ -43,9 +45,9 @@ pub fn without_refusals_a_set_has_one_list_of_violations()
     ensures { (is_chosen : Name → Bool) (keys : KeyMap) (a b : List Violation) → AreViolations ⊥ is_chosen keys a → AreViolations ⊥ is_chosen keys b → a ≡ b }
 {}
 
-/// A text that is no pattern breaks rule 6 freely, and a pattern only where the count of refusals rose (`MayBeRefused`). Read so, it is
-/// absurd that a set has no list of violations, and it has one alone where the count didn't rise. The lists that a call tells are among
-/// these, and all of them where the count rose.
+/// A text that is no pattern breaks rule 6 freely, and a pattern only where the count of refusals rose
+/// (`MayBeRefused`). Read so, it is absurd that a set has no list of violations, and it has one alone where the count
+/// didn't rise. The lists that a call tells are among these, and all of them where the count rose.
 pub fn by_the_grammar_a_set_has_its_lists_of_violations()
     ensures some { (before now : ℕ) (is_chosen : Name → Bool) (keys : KeyMap)
         → ((violations : List Violation) → AreViolationsBy (MayBeRefused (HasRisen before now)) is_chosen keys violations → ⊥)
@@ -85,8 +87,8 @@ pub fn a_list_begins_with_the_first_violation()
     ensures { (before now : ℕ) (is_chosen : Name → Bool) (keys : KeyMap) (violation : Violation) (more : List Violation) → AreViolations (HasRisen before now) is_chosen keys (violation ∷ more) → IsFirstViolation (HasRisen before now) is_chosen keys (Some violation) }
 {}
 
-/// Only the first violation's own pattern has to be refused for it, and none where it isn't rule 6 with a pattern of at most 1,024 bytes: patterns that come behind it
-/// have no part in it.
+/// Only the first violation's own pattern has to be refused for it, and none where it isn't rule 6 with a pattern of at
+/// most 1,024 bytes: patterns that come behind it have no part in it.
 pub fn the_first_violation_needs_no_refusal_behind_it()
     ensures { (before now : ℕ) (is_chosen : Name → Bool) (keys : KeyMap) (violation : Violation) → IsFirstViolation (HasRisen before now) is_chosen keys (Some violation)
         → IsFirstViolation ((violation.rule ≡ 6) × (length violation.given ≤ longest_pattern) × HasRisen before now) is_chosen keys (Some violation) }
@@ -102,7 +104,8 @@ pub fn to_find_no_violations_needs_no_refusals()
     ensures { (before now : ℕ) (is_chosen : Name → Bool) (keys : KeyMap) → AreViolations (HasRisen before now) is_chosen keys [] → AreViolations ⊥ is_chosen keys [] }
 {}
 
-/// Rule 6 is the first violation, with a pattern of at most 1,024 bytes, only where the matcher's count of refusals rose.
+/// Rule 6 is the first violation, with a pattern of at most 1,024 bytes, only where the matcher's count of refusals
+/// rose.
 pub fn a_short_pattern_is_refused_by_the_matcher()
     ensures { (before now : ℕ) (is_chosen : Name → Bool) (keys : KeyMap) (violation : Violation) → IsFirstViolation (HasRisen before now) is_chosen keys (Some violation) → violation.rule ≡ 6 → length violation.given ≤ longest_pattern → HasRisen before now }
 {}

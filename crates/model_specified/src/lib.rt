@@ -1,5 +1,5 @@
-//! What a set of keys comes to under its own specifications, and which rules its keys break then. Definitions for the crates
-//! above, with the laws that join them.
+//! What a set of keys comes to under its own specifications, and which rules its keys break then. Definitions for the
+//! crates above, with the laws that join them.
 #![tactic(auto)]
 
 mod examples;

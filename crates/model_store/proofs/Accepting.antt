@@ -41,8 +41,8 @@ accepts-own points handle rec parent keys =
 
 -- ---- a set that was made earlier
 
--- the set of a record that is accepted by a record of the history as it went on is the one that this record makes now: the fronts of the involved
--- mounts are the same, and the handle committed nothing since
+-- the set of a record that is accepted by a record of the history as it went on is the one that this record makes now:
+-- the fronts of the involved mounts are the same, and the handle committed nothing since
 module _ (store : Store) (history later : List Commit) (number handle : ℕ) (earlier now : Fronts) (parent : Name) (keys : KeyMap)
     (within : (m front : ℕ) → earlier m ≡ Some front → front ≤ length history)
     (ok : accepts (record_of store (history ++ later) number now) number (set_of store history handle earlier parent keys) ≡ true) where

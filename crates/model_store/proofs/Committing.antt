@@ -1,4 +1,5 @@
--- The commit of a set that passed and that nothing blocks is legal, and leaves of each touched mount what its handle's record then keeps.
+-- The commit of a set that passed and that nothing blocks is legal, and leaves of each touched mount what its handle's
+-- record then keeps.
 use Rattle.std.proofs.Common.{◌≡◌, ℕ, ◌+◌, ◌≤◌, Bool, true, false, cond, List, [], ◌∷◌, ◌++◌, length, Option, Some, None, refl, sym, ap, subst, ◌∙◌, arith, length-append}
 use Rattle.std.specs.FinMap as map
 use Rattle.std.specs.FinMap.{find}
@@ -183,7 +184,8 @@ module _ (formats : Formats) (store : Store) (history : List Commit) (handle : �
     pub backend_fits : (m : ℕ) → is_among set.touched m ≡ true → counts_keys store m ≡ false → Fits formats store then_wanted m
     backend_fits m among is = fits-alike formats store wanted then_wanted m (sym (stored_at m among is)) (passed.fits m among)
 
-    -- and that of one by key can be stored: its keys come from the present ones and from those that are wanted, which both can be
+    -- and that of one by key can be stored: its keys come from the present ones and from those that are wanted, which
+    -- both can be
     key_storable : IsSound formats store → (m : ℕ) → is_among set.touched m ≡ true → counts_keys store m ≡ true → IsStorableAt formats store then_wanted m
     key_storable sound m among is =
         let fits = passed.fits m among in

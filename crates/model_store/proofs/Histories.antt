@@ -25,7 +25,8 @@ replay-cut (suc n) keys [] = refl
 replay-cut (suc n) keys (commit ∷ commits) = replay-cut n (changed_by commit.changes keys) commits
 
 module _ (formats : Formats) (store : Store) where
-  -- a legal commit leaves what is owned by a mount that it doesn't touch, also in another map than that on which it is legal
+  -- a legal commit leaves what is owned by a mount that it doesn't touch, also in another map than that on which it is
+  -- legal
   pub untouched : (before keys : KeyMap) (commit : Commit) (m : ℕ) → IsLegalCommit formats store before commit → touches m commit ≡ false → owned_by (points_of store) m (changed_by commit.changes keys) ≡ owned_by (points_of store) m keys
   untouched before keys commit m legal off = same_owned (points_of store) m _ _ (λ q mine. get-changed_by commit.changes keys q (true_is _ legal.names) ∙ by q mine (find name_cmp q commit.changes) refl)
     where

@@ -1,4 +1,5 @@
--- What follows from a verdict: a set that passed has fronts and fits its files; a set that commits is blocked by nothing and is light.
+-- What follows from a verdict: a set that passed has fronts and fits its files; a set that commits is blocked by
+-- nothing and is light.
 use Rattle.std.proofs.Common.{◌≡◌, ◌≢◌, ℕ, ◌≤◌, Bool, true, false, cond, nat_lt, List, [], ◌∷◌, ◌++◌, Option, Some, None, refl, sym, ap, subst, ◌∙◌, inl, inr, ltb-false}
 use Rattle.std.specs.Option.{option_map, option_or, option_and_then}
 use Rattle.general_words.specs.Saturated.{saturated}

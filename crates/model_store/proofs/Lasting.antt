@@ -1,4 +1,5 @@
--- What lasts over a legal history of a sound store: the file of each good mount can be stored as the present map has it, and no text is too long.
+-- What lasts over a legal history of a sound store: the file of each good mount can be stored as the present map has
+-- it, and no text is too long.
 use Rattle.std.proofs.Common.{◌≡◌, ℕ, Bool, true, false, List, [], ◌∷◌, Option, Some, None, refl, sym, ap, subst, ◌∙◌}
 use Rattle.std.specs.FinMap as map
 use Rattle.std.specs.FinMap.{find}

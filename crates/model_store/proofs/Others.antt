@@ -1,4 +1,5 @@
--- The commit that blocks a mount is another handle's: by its backend an own commit moves the front, and by key own commits are passed over.
+-- The commit that blocks a mount is another handle's: by its backend an own commit moves the front, and by key own
+-- commits are passed over.
 use Rattle.std.proofs.Common.{◌≡◌, ℕ, ◌+◌, ◌-◌, ◌≤◌, Bool, true, false, cond, not, ◌&&◌, ◌||◌, nat_eq, nat_lt, List, [], ◌∷◌, ◌++◌, drop, length, slice_get, Option, Some, None, refl, sym, ap, subst, ◌∙◌, arith, eqb-true, eq-eqb}
 use Rattle.std.specs.List.{list_any, position_from}
 use Rattle.std.specs.Option.{option_and_then}

@@ -1,4 +1,5 @@
--- What is found under the names that lead to keys from a point, and that a file which is made of two others has its keys from them.
+-- What is found under the names that lead to keys from a point, and that a file which is made of two others has its
+-- keys from them.
 use Rattle.std.proofs.Common.{◌≡◌, ◌⊎◌, ℕ, Bool, true, false, T, cond, List, [], ◌∷◌, drop, length, filter_map, Option, Some, None, refl, sym, ap, subst, ◌∙◌, inl, inr}
 use Rattle.std.specs.FinMap as map
 use Rattle.std.specs.FinMap.{find, is_sorted}

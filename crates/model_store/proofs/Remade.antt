@@ -1,5 +1,5 @@
--- The texts of the files that a set touches can be made anew of the map after it, where nothing blocks it; those of mounts by their backends are the
--- ones that were wanted.
+-- The texts of the files that a set touches can be made anew of the map after it, where nothing blocks it; those of
+-- mounts by their backends are the ones that were wanted.
 use Rattle.std.proofs.Common.{◌≡◌, ℕ, true, false, Option, Some, None, sym, ap, subst, ◌∙◌}
 use Rattle.model_history.specs.Changes.{after}
 use Rattle.model_history.specs.History.{replay}

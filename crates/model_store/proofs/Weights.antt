@@ -1,4 +1,5 @@
--- A commit weighs, besides its own, no more than the map before it and the map after it: a change has an entry in one of them.
+-- A commit weighs, besides its own, no more than the map before it and the map after it: a change has an entry in one
+-- of them.
 use Rattle.std.proofs.Common.{◌≡◌, ◌+◌, ◌≤◌, Bool, true, false, T, cond, List, [], ◌∷◌, Option, Some, None, refl, sym, ap, subst, ◌∙◌, arith}
 use Rattle.std.specs.Prelude.{sum_by}
 use Rattle.std.specs.FinMap as map

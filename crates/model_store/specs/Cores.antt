@@ -1,5 +1,5 @@
--- What the calls of a store do with what they keep: the history, the present map, what each record keeps, and the prepared sets. (This
--- project's own.)
+-- What the calls of a store do with what they keep: the history, the present map, what each record keeps, and the
+-- prepared sets. (This project's own.)
 use Rattle.std.specs.Prelude.{◌≡◌, ℕ, nat_eq, ◌+◌, Bool, true, ◌&&◌, if◌then◌else◌, List, [], ◌∷◌, ◌++◌, length, Option, Some, None}
 use Rattle.std.specs.List.{list_all}
 use Rattle.std.specs.Option.{option_eq, option_map}
@@ -32,8 +32,8 @@ keeping mounts front keys rec = record {
   committed = rec.committed;
 }
 
--- what a record has of a mount that its handle's commit touched: what was wanted there, from the commit's number on; of a mount by key, from the
--- front on that it has
+-- what a record has of a mount that its handle's commit touched: what was wanted there, from the commit's number on; of
+-- a mount by key, from the front on that it has
 abbrev pub kept_from : Bool → ℕ → KeyMap → Option Fetched → Option Fetched
 kept_from by_key number keys fetched = if by_key then option_map (λ had. record { front = had.front; kept = keys }) fetched else Some (record { front = number; kept = keys })
 
@@ -44,8 +44,8 @@ storing store mounts number keys rec = record {
   committed = rec.committed + 1;
 }
 
--- a prepared set was made for this handle, with the fronts that its record still has of the involved mounts, and the handle has committed nothing
--- since
+-- a prepared set was made for this handle, with the fronts that its record still has of the involved mounts, and the
+-- handle has committed nothing since
 abbrev pub accepts : Record → ℕ → Prepared → Bool
 accepts rec handle set =
     nat_eq handle set.handle && (nat_eq rec.committed set.committed && list_all (λ m. option_eq nat_eq (front_in rec m) (set.fronts m)) set.involved)

@@ -1,4 +1,5 @@
--- What is asked of a store, and what it answers. (After Elektra's kdbGet and kdbSet; a set is prepared before it is stored.)
+-- What is asked of a store, and what it answers. (After Elektra's kdbGet and kdbSet; a set is prepared before it is
+-- stored.)
 use Rattle.std.specs.Prelude.{ℕ, nat_eq, Bool, ◌||◌, if◌then◌else◌, Option, Some, None}
 use Rattle.general_words.specs.Searches.{first_some}
 use Rattle.key_set.specs.WithAll.{with_all}
@@ -18,8 +19,8 @@ pub data Event : Type 0 where
   Prepare : ℕ → ℕ → Name → KeyMap → Event
   Commit : ℕ → ℕ → Event
 
--- want of memory; a bad mount; the length of the history and the keys; a refusal of the preparing; a prepared set; what became of it, with
--- the length of the history; a disk that failed, with that length
+-- want of memory; a bad mount; the length of the history and the keys; a refusal of the preparing; a prepared set; what
+-- became of it, with the length of the history; a disk that failed, with that length
 pub data Answer : Type 0 where
   Memory : Answer
   Bad : ℕ → Answer

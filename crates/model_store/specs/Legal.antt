@@ -25,9 +25,9 @@ pub record HasChange (points : List Name) (changes : List Change) (mount : ℕ) 
   pub found : find name_cmp name changes ≡ Some new
   pub owned : owns points mount name ≡ true
 
--- a commit on a map: it touches some mount; its mounts aren't bad and ascend; its names ascend, each is one that a touched mount owns, and each
--- touched mount has one; each change gives what the map has not, with no text that is too long; and the map after it fits the files of the touched
--- mounts, keeps the rules in them and isn't too heavy
+-- a commit on a map: it touches some mount; its mounts aren't bad and ascend; its names ascend, each is one that a
+-- touched mount owns, and each touched mount has one; each change gives what the map has not, with no text that is too
+-- long; and the map after it fits the files of the touched mounts, keeps the rules in them and isn't too heavy
 pub record IsLegalCommit (formats : Formats) (store : Store) (before : KeyMap) (commit : Commit) : Type 0 where
   pub some : commit.touched ≢ []
   pub good : AllByRecursion (λ m. store.is_bad m ≡ false) commit.touched

@@ -29,7 +29,8 @@ IsSet formats store history None None = Unit {0}
 IsSet formats store history (Some asked) (Some set) = IsAsked formats store history asked set
 IsSet formats store history asked set = ⊥
 
--- a core stands for a world of a sound store: one history, which is legal; the map after it; each record and each set is that of the definitions
+-- a core stands for a world of a sound store: one history, which is legal; the map after it; each record and each set
+-- is that of the definitions
 pub record Stands (formats : Formats) (store : Store) (world : World) (core : Core) : Type 0 where
   pub sound : IsSound formats store
   pub history : core.history ≡ world.history

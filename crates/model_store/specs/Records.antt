@@ -6,8 +6,9 @@ use Rattle.model_history.specs.History.{Commit, commits_by, is_among, replay}
 use Rattle.model_store.specs.Store.{Store, counts_keys, points_of}
 use Rattle.set_split.specs.Parts.{owned_by}
 
--- for each mount the length of the history that the handle last saw of it: at its last get of the mount, or, where the mount counts by its
--- backend, with its last own commit that touched it, whichever is later; none where there was neither
+-- for each mount the length of the history that the handle last saw of it: at its last get of the mount, or, where the
+-- mount counts by its backend, with its last own commit that touched it, whichever is later; none where there was
+-- neither
 abbrev pub Fronts : Type 0
 Fronts = ℕ → Option ℕ
 

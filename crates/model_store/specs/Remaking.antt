@@ -9,8 +9,8 @@ use Rattle.model_store.specs.Fitting.{IsStorableAt, too_heavy}
 use Rattle.model_store.specs.Sets.{Prepared, wants}
 use Rattle.model_store.specs.Store.{Store, Formats, counts_keys, points_of}
 
--- the file of each touched mount can hold what the mount owns of the map after a set; no text of this map is too long; the files of the mounts by their
--- backends are light enough, and these mounts own what the set wants there
+-- the file of each touched mount can hold what the mount owns of the map after a set; no text of this map is too long;
+-- the files of the mounts by their backends are light enough, and these mounts own what the set wants there
 pub record CanRemake (formats : Formats) (store : Store) (keys : KeyMap) (set : Prepared) : Type 0 where
   pub storable : AllByRecursion (IsStorableAt formats store (wants (points_of store) (after keys set.changes))) set.touched
   pub short : AreShort (after keys set.changes)

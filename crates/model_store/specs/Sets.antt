@@ -1,4 +1,5 @@
--- What a set of keys at a parent wants, against what its handle keeps. (After Elektra's kdbSet, which stores the mounts whose keys changed.)
+-- What a set of keys at a parent wants, against what its handle keeps. (After Elektra's kdbSet, which stores the mounts
+-- whose keys changed.)
 use Rattle.std.specs.Prelude.{ℕ, Bool, not, if◌then◌else◌, List, [], ◌∷◌, ◌++◌, length, filter, Option, None}
 use Rattle.std.specs.FinMap as map
 use Rattle.std.specs.Option.{option_map, unwrap_or}
@@ -12,8 +13,8 @@ use Rattle.model_store.specs.Store.{Store, points_of}
 use Rattle.set_split.specs.Involved.{involved_in}
 use Rattle.set_split.specs.Parts.{owned_by, left_aside}
 
--- a prepared set: whose it is, how many commits of this handle there were, the mounts that its parent involves and their fronts, the keys,
--- the touched mounts, what changes, and how many keys no involved mount owns
+-- a prepared set: whose it is, how many commits of this handle there were, the mounts that its parent involves and
+-- their fronts, the keys, the touched mounts, what changes, and how many keys no involved mount owns
 pub record Prepared : Type 0 where
   pub handle : ℕ
   pub committed : ℕ

@@ -1,5 +1,5 @@
--- What an opening makes sure of, so that a commit by key can make the text of a file anew: what files hold can be written again, and the keys of two
--- maps that a file can hold make one that it can hold. (This project's own.)
+-- What an opening makes sure of, so that a commit by key can make the text of a file anew: what files hold can be
+-- written again, and the keys of two maps that a file can hold make one that it can hold. (This project's own.)
 use Rattle.std.specs.Prelude.{◌≡◌, ◌⊎◌, ℕ, true, false, slice_get, Some}
 use Rattle.std.specs.FinMap as map
 use Rattle.kdb_outside.specs.declared.kinds.Kind.{Kind}
@@ -22,8 +22,8 @@ ComeFrom first second keys = (name : Name) (entry : Entry) → map.get keys name
 abbrev pub Mixes : Formats → Kind → Type 0
 Mixes formats kind = (first second keys : KeyMap) → formats.IsStorable kind first → formats.IsStorable kind second → ComeFrom first second keys → formats.IsStorable kind keys
 
--- a mount that isn't bad can store the keys that it begins with; no text is too long, in what is visible and in what files keep for others; and a
--- mount by key has a format that mixes, and isn't that of the table
+-- a mount that isn't bad can store the keys that it begins with; no text is too long, in what is visible and in what
+-- files keep for others; and a mount by key has a format that mixes, and isn't that of the table
 pub record IsSound (formats : Formats) (store : Store) : Type 0 where
   pub storable : (m : ℕ) → store.is_bad m ≡ false → IsStorableAt formats store (wants (points_of store) store.start) m
   pub short : AreShort store.start

@@ -1,5 +1,5 @@
--- What an opening fixes: the mounts, which of them are bad, the keys that each file keeps for other mounts, the map of all visible keys,
--- and the keys in `proc` of each handle. (After Elektra's page on mounting.)
+-- What an opening fixes: the mounts, which of them are bad, the keys that each file keeps for other mounts, the map of
+-- all visible keys, and the keys in `proc` of each handle. (After Elektra's page on mounting.)
 use Rattle.std.specs.Prelude.{ℕ, Bool, true, false, not, List, filter, map as over, slice_get}
 use Rattle.std.specs.List.{list_any}
 use Rattle.std.specs.Option.{option_map_or}

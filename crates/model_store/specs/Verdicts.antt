@@ -1,5 +1,6 @@
--- What comes of a set: the first of its refusals, nothing to do, or a commit. A relation, since which keys a format can hold is one. (After
--- Elektra's kdbSet, whose conflict is another's change since the own get; the order, the limits and conflicts by key are this project's own.)
+-- What comes of a set: the first of its refusals, nothing to do, or a commit. A relation, since which keys a format can
+-- hold is one. (After Elektra's kdbSet, whose conflict is another's change since the own get; the order, the limits and
+-- conflicts by key are this project's own.)
 use Rattle.std.specs.Prelude.{◌≡◌, ◌⊎◌, ℕ, nat_lt, ◌+◌, Bool, true, not, ◌&&◌, if◌then◌else◌, List, [], ◌∷◌, ◌++◌, length, drop, slice_get, Option, Some, None, option_and_then}
 use Rattle.std.specs.FinMap as map
 use Rattle.std.specs.List.{AllByRecursion, list_any, position_from}
@@ -43,7 +44,8 @@ not_fetched set = first_some (λ m. if_unseen m (set.fronts m)) set.involved
 abbrev pub long_value : Store → Prepared → Option Early
 long_value store set = option_map (λ long. ValueTooLong long.0 long.1) (first_long_in (points_of store) set.involved set.keys)
 
--- what is refused before the formats are asked: a mount that wasn't fetched, a text that is too long, a file that is too heavy
+-- what is refused before the formats are asked: a mount that wasn't fetched, a text that is too long, a file that is
+-- too heavy
 abbrev pub before_formats : Store → Prepared → Option Early
 before_formats store set = option_or (not_fetched set) (option_or (long_value store set) (first_some (too_heavy store (wanted_in store set)) set.touched))
 
@@ -62,7 +64,8 @@ pub record BreaksFirst (formats : Formats) (store : Store) (set : Prepared) (ans
 abbrev pub behind_formats : Formats → Store → Prepared → Option Early
 behind_formats formats store set = option_or (first_some (too_long formats store (wanted_in store set)) set.touched) (first_some (bad_table store (wanted_in store set)) set.touched)
 
--- what is told from the formats on: the first touched mount that breaks; or all can be stored, and what is told behind that
+-- what is told from the formats on: the first touched mount that breaks; or all can be stored, and what is told behind
+-- that
 abbrev pub FromFormats : Formats → Store → Prepared → Option Early → Type 0
 FromFormats formats store set answer =
     BreaksFirst formats store set answer
@@ -82,8 +85,8 @@ changes_same points set m commit = list_any (λ change. owns points m change.0 &
 abbrev pub first_same : List Name → List Commit → Prepared → ℕ → ℕ → Option ℕ
 first_same points history set m front = position_from (changes_same points set m) (front + 1) (drop front history)
 
--- the commit that blocks a mount of a set, by its front of the mount: the first behind it that touches the mount; of a mount by key, the first
--- of another handle behind it that changes a name which the set changes there
+-- the commit that blocks a mount of a set, by its front of the mount: the first behind it that touches the mount; of a
+-- mount by key, the first of another handle behind it that changes a name which the set changes there
 abbrev pub blocking_behind : Store → List Commit → Prepared → ℕ → ℕ → Option ℕ
 blocking_behind store history set m front = if counts_keys store m then first_same (points_of store) history set m front else first_after history m front
 
@@ -92,9 +95,10 @@ blocking store history set m = option_and_then (blocking_behind store history se
 
 -- ---- what the history decides
 
--- no mount is touched, with the number of keys left aside; a commit blocks a mount; the file of a mount by key would be too large after the set,
--- with the weight of its keys or the length of its text; a key of a touched mount breaks a rule after the set, with whether the matcher's count
--- of refusals rose; the map after the set, or the history with it, weighs too much; or the set is a commit, with the number of keys left aside
+-- no mount is touched, with the number of keys left aside; a commit blocks a mount; the file of a mount by key would be
+-- too large after the set, with the weight of its keys or the length of its text; a key of a touched mount breaks a
+-- rule after the set, with whether the matcher's count of refusals rose; the map after the set, or the history with it,
+-- weighs too much; or the set is a commit, with the number of keys left aside
 pub data Late : Type 0 where
   Same : ℕ → Late
   Conflict : ℕ → ℕ → Late
@@ -119,14 +123,15 @@ conflict_at store history set m = option_map (Conflict m) (blocking store histor
 abbrev pub conflict : Store → List Commit → Prepared → Option Late
 conflict store history set = first_some (conflict_at store history set) set.touched
 
--- how much too large a file with some keys would be: the weight of the keys where they are too heavy, and else the length of their text where
--- that is too long
+-- how much too large a file with some keys would be: the weight of the keys where they are too heavy, and else the
+-- length of their text where that is too long
 abbrev pub oversize : Formats → Mount → KeyMap → Option ℕ
 oversize formats mount keys =
     if nat_lt heaviest_map (weight keys) then Some (saturated (weight keys)) else (
     if nat_lt longest_file (length (formats.text mount.kind keys)) then Some (length (formats.text mount.kind keys)) else None)
 
--- the file of a mount by key with what it is to hold of some keys. That of a mount by its backend holds what the set wants, and was found small enough
+-- the file of a mount by key with what it is to hold of some keys. That of a mount by its backend holds what the set
+-- wants, and was found small enough
 abbrev pub too_large_file : Formats → Store → KeyMap → ℕ → Mount → Option Late
 too_large_file formats store keys m mount =
     if mount.by_key then option_map (TooLarge m) (oversize formats mount (contents store m mount (owned_by (points_of store) m keys))) else None
@@ -166,7 +171,8 @@ IsLate formats store history keys set answer =
     (Follows (if_full (history_weight (history ++ commit_of set ∷ []))) (Some answer)
     (answer ≡ Commits (commit_of set) set.aside))))))
 
--- a verdict that no refusal of a pattern can have changed: it is no violation that was found while the matcher's count of refusals rose
+-- a verdict that no refusal of a pattern can have changed: it is no violation that was found while the matcher's count
+-- of refusals rose
 abbrev pub is_certain : Late → Bool
 is_certain (Same aside) = true
 is_certain (Conflict m by) = true

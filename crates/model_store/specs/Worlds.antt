@@ -1,4 +1,5 @@
--- What the answers to events mean: everything is judged anew by the history, the fronts of the handle, and what was asked. (This project's own.)
+-- What the answers to events mean: everything is judged anew by the history, the fronts of the handle, and what was
+-- asked. (This project's own.)
 use Rattle.std.specs.Prelude.{◌≡◌, ℕ, ◌+◌, List, [], ◌∷◌, ◌++◌, length, Option, Some, None}
 use Rattle.model_names.specs.Name.{Name}
 use Rattle.model_maps.specs.KeyMap.{KeyMap}
@@ -12,7 +13,8 @@ use Rattle.model_store.specs.Verdicts.{Late, Commits, IsEarly, IsLate}
 use Rattle.model_store.specs.Events.{Event, Get, Prepare, Commit, Answer, Memory, Bad, Got, Refused, Ready, Judged, Failed, first_bad, got, put}
 use Rattle.set_split.specs.Involved.{involved_in}
 
--- what was asked with a prepared set: whose it is, the length of the history and the fronts then, the parent and the keys
+-- what was asked with a prepared set: whose it is, the length of the history and the fronts then, the parent and the
+-- keys
 pub record Asked : Type 0 where
   pub handle : ℕ
   pub found : ℕ
@@ -52,8 +54,8 @@ pub record Prepares (formats : Formats) (store : Store) (world : World) (r p : �
   pub early : IsEarly formats store (set_now store world r parent keys) None
   pub next_is : next ≡ record world { asked = put p (Some (record { handle = r; found = length world.history; fronts = world.fronts r; parent = parent; keys = keys })) world.asked }
 
--- a commit joins the history, and its handle has then seen it of the mounts that it touches and that count by their backend; any other verdict
--- changes nothing
+-- a commit joins the history, and its handle has then seen it of the mounts that it touches and that count by their
+-- backend; any other verdict changes nothing
 abbrev pub world_after : Store → World → ℕ → Late → World
 world_after store world r (Commits commit aside) = record {
   history = world.history ++ commit ∷ [];

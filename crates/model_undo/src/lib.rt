@@ -1,4 +1,5 @@
-//! What it is to undo a commit: its inverse, and the later commits that stand in the way. Definitions for the crates above.
+//! What it is to undo a commit: its inverse, and the later commits that stand in the way. Definitions for the crates
+//! above.
 #![tactic(auto)]
 
 mod examples;

@@ -1,4 +1,5 @@
--- The parent of the mounts that a commit touched involves each of them, and a get of it shows what they have: so the commit can be undone from that.
+-- The parent of the mounts that a commit touched involves each of them, and a get of it shows what they have: so the
+-- commit can be undone from that.
 use Rattle.std.proofs.Common.{◌≡◌, ℕ, zero, suc, ◌+◌, ◌-◌, ◌<◌, ◌≤◌, nat_eq, Bool, true, false, true≢false, cond, ◌||◌, ◌==◌, List, [], ◌∷◌, length, take, get_or, slice_get, Option, Some, None, refl, sym, ap, subst, ◌∙◌, eqb-true, inl, inr, arith}
 use Rattle.std.specs.FinMap as map
 use Rattle.std.specs.List.{list_any, range_with_len}

@@ -1,4 +1,5 @@
--- The set that undoes a commit: that of a handle which has got a parent and made the inverse on its keys. (This project's own.)
+-- The set that undoes a commit: that of a handle which has got a parent and made the inverse on its keys. (This
+-- project's own.)
 use Rattle.std.specs.Prelude.{◌≡◌, ℕ, ◌-◌, true, List, [], ◌∷◌, length, take, slice_get, Some, None}
 use Rattle.std.specs.Option.{option_map_or, unwrap_or}
 use Rattle.model_history.specs.Changes.{changed_by}
@@ -47,8 +48,8 @@ undo_set store history handle parent rec keys number = prepared (points_of store
 abbrev pub ShowPresent : Store → List Commit → Name → KeyMap → Type 0
 ShowPresent store history parent keys = (m : ℕ) → is_among (involved_in (points_of store) parent) m ≡ true → wants (points_of store) keys m ≡ wants (points_of store) (replay store.start history) m
 
--- a commit can be undone from some keys at a parent: it is legal where it stands, none overtakes it, the parent involves the mounts that it
--- touched, and the keys show them as they are
+-- a commit can be undone from some keys at a parent: it is legal where it stands, none overtakes it, the parent
+-- involves the mounts that it touched, and the keys show them as they are
 pub record CanUndo (formats : Formats) (store : Store) (history : List Commit) (parent : Name) (keys : KeyMap) (number : ℕ) : Type 0 where
   pub commit : Commit
   pub stands : commit_at history number ≡ Some commit

@@ -1,5 +1,5 @@
--- Which mounts of a table count conflicts by key: only such whose format takes each key beside any others, and never that
--- of the table's own keys.
+-- Which mounts of a table count conflicts by key: only such whose format takes each key beside any others, and never
+-- that of the table's own keys.
 use Rattle.std.proofs.Common.{◌≡◌, ℕ, true, false, List, slice_get, Some, Ok}
 use Rattle.model_maps.specs.KeyMap.{KeyMap}
 use Rattle.mount_table.specs.Counting.{may_count}

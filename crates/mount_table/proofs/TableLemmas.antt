@@ -1,5 +1,5 @@
--- What a table that was read is: mounts in the order of their mountpoints, each in a namespace whose keys are in files. What holds of the
--- default mounts, and is kept by each mount that an entry adds, holds of the mounts of a table.
+-- What a table that was read is: mounts in the order of their mountpoints, each in a namespace whose keys are in files.
+-- What holds of the default mounts, and is kept by each mount that an entry adds, holds of the mounts of a table.
 use Rattle.std.proofs.Common.{◌≡◌, ℕ, ◌+◌, ◌<◌, ◌≤◌, Bool, true, false, true≢false, cond, not, ◌&&◌, ◌||◌, nat_eq, nat_le, ltb, T, List, [], ◌∷◌, ◌++◌, length, take, get_or, map as over, filter, fold, Option, Some, None, is_some, ok_or, Result, Ok, Err, codes, refl, sym, ap, subst, ◌∙◌, inl, inr, ◌⊎◌, arith, length-append, Bor}
 use Rattle.std.specs.Cmp.{Equal-is, tied_itself}
 use Rattle.std.specs.FinMap as map
@@ -135,8 +135,8 @@ IsPoint-from text name h =
     let same : found.0 ≡ name = some_is found.0 name test.1 in
     record { named = found.1 ∙ ap (λ n. Some n) same; is = ap (is_point text) (sym same) ∙ test.0 }
 
--- what each mount is: in a namespace whose keys are in files, and on a file whose name is one and isn't the journal's. It
--- counts by key only where its format allows it, and never where the table's own keys are
+-- what each mount is: in a namespace whose keys are in files, and on a file whose name is one and isn't the journal's.
+-- It counts by key only where its format allows it, and never where the table's own keys are
 pub record IsGood (mount : Mount) : Type 0 where
   pub files : has_files mount.at.namespace ≡ true
   pub named : is_file_name mount.file ≡ true

@@ -1,4 +1,5 @@
--- The keys after an entry is added or removed, or why it isn't. (After Elektra's manual pages of kdb mount and kdb umount.)
+-- The keys after an entry is added or removed, or why it isn't. (After Elektra's manual pages of kdb mount and kdb
+-- umount.)
 use Rattle.std.specs.Prelude.{◌≡◌, ℕ, Bool, if◌then◌else◌, List, None, Result, Ok, Err}
 use Rattle.key_name.specs.Children.{child_refusal}
 use Rattle.kdb_outside.specs.declared.kinds.Kind.{Kind}

@@ -1,4 +1,5 @@
--- Where the entries of a mount table stand among the keys. (After Elektra's page on mounting; the layout is this project's own.)
+-- Where the entries of a mount table stand among the keys. (After Elektra's page on mounting; the layout is this
+-- project's own.)
 use Rattle.std.specs.Prelude.{ℕ, List, [], ◌∷◌, Option, None, if◌then◌else◌, slice_get, codes}
 use Rattle.model_names.specs.declared.namespaces.Namespace.TheVariants.{System}
 use Rattle.model_names.specs.Below.{is_at_or_below}

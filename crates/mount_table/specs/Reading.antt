@@ -24,7 +24,8 @@ abbrev pub kind_said : Option (List ℕ) → Option Kind
 kind_said None = Some Dump
 kind_said (Some word) = kind_of word
 
--- the mount of an entry at a mountpoint, or what is wrong with it: the file first, then the format. It counts by its backend
+-- the mount of an entry at a mountpoint, or what is wrong with it: the file first, then the format. It counts by its
+-- backend
 abbrev pub mount_at : Part → MountEntry → Name → Result Mount TableFault
 mount_at text said point = do
   path ← ok_or said.path (NoPath text)

@@ -1,4 +1,5 @@
--- The mount table that some keys make. (After Elektra's page on mounting: the default mounts, and one mount for each entry.)
+-- The mount table that some keys make. (After Elektra's page on mounting: the default mounts, and one mount for each
+-- entry.)
 use Rattle.std.specs.Prelude.{ℕ, ◌≤◌, nat_lt, Bool, false, not, if◌then◌else◌, List, [], ◌∷◌, ◌++◌, length, filter, fold, Result, Ok, Err, codes}
 use Rattle.std.specs.FinMap as map
 use Rattle.std.specs.FinMap.{FinMap}

@@ -28,9 +28,9 @@ use std::alloc::Global;
 /// Adds the entry of a mountpoint, with its children `path` and `plugin`, and with `conflicts` where its conflicts are
 /// to be counted by key.
 ///
-/// `AlreadyMounted` comes where any key is the entry or below it, and else what `read_table` refuses of the keys with the
-/// children added. A mountpoint whose spelling has over 1,024 bytes counts there as any other, and so it is a bad one,
-/// even where the names of the children would be too long. After a refusal the keys are as before.
+/// `AlreadyMounted` comes where any key is the entry or below it, and else what `read_table` refuses of the keys with
+/// the children added. A mountpoint whose spelling has over 1,024 bytes counts there as any other, and so it is a bad
+/// one, even where the names of the children would be too long. After a refusal the keys are as before.
 pub fn add(
     alloc: Global,
     keys: &mut KeySet,

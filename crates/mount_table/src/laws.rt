@@ -15,8 +15,8 @@ ghost use Rattle.mount_table.specs.Table.{most_mounts, remaining, table_of};
 ghost use Rattle.mount_table.specs.declared.faults.TableFault.{TableFault};
 ghost use Rattle.mount_table.specs.declared.mounts.Mount.{Mount};
 
-/// Keys make no table for what is wrong with an entry, or for the number of mounts: never for what adding or removing an
-/// entry is refused for, nor for want of memory.
+/// Keys make no table for what is wrong with an entry, or for the number of mounts: never for what adding or removing
+/// an entry is refused for, nor for want of memory.
 pub fn a_table_is_refused_for_its_entries_or_their_number()
     ensures { (keys : KeyMap) (fault : TableFault) → table_of keys ≡ Err fault → IsOfTable fault }
 {}
@@ -26,7 +26,8 @@ pub fn a_table_has_a_mount_for_each_entry()
     ensures { (keys : KeyMap) (mounts : List Mount) → table_of keys ≡ Ok mounts → length mounts ≡ length (remaining (entries_of keys)) + length (map.entries (entries_of keys)) }
 {}
 
-/// Each mount of a table has a file of its own: a file's name that doesn't begin with `journal`. There are at most 64 of them.
+/// Each mount of a table has a file of its own: a file's name that doesn't begin with `journal`. There are at most 64
+/// of them.
 pub fn the_mounts_of_a_table_have_files_of_their_own()
     ensures own { (keys : KeyMap) (mounts : List Mount) → table_of keys ≡ Ok mounts → (i j : ℕ) (one other : Mount) → slice_get mounts i ≡ Some one → slice_get mounts j ≡ Some other → one.file ≡ other.file → i ≡ j }
     ensures named { (keys : KeyMap) (mounts : List Mount) → table_of keys ≡ Ok mounts → (i : ℕ) (mount : Mount) → slice_get mounts i ≡ Some mount → IsFileName mount.file }

@@ -44,12 +44,12 @@ impl Model for MountTable {
 impl MountTable {
     /// The table that some keys make, or what is wrong with their first faulty entry.
     ///
-    /// Each distinct part directly below `system:/elektra/mountpoints` is an entry: the part is its mountpoint, the value
-    /// of its child `path` its file, that of its child `plugin` its format, which is dump where that child is missing, and
-    /// that of its child `conflicts` how its conflicts are counted: `keys` by key, and `backend` by its backend, as where
-    /// that child is missing.
-    /// The default mounts are `spec:/` on `spec.ecf`, `dir:/` on `dir.ecf`, `user:/` on `user.ecf` and `system:/` on
-    /// `system.ecf`, each unless an entry has its mountpoint, and `system:/elektra` on `elektra.ecf`.
+    /// Each distinct part directly below `system:/elektra/mountpoints` is an entry: the part is its mountpoint, the
+    /// value of its child `path` its file, that of its child `plugin` its format, which is dump where that child is
+    /// missing, and that of its child `conflicts` how its conflicts are counted: `keys` by key, and `backend` by its
+    /// backend, as where that child is missing. The default mounts are `spec:/` on `spec.ecf`, `dir:/` on `dir.ecf`,
+    /// `user:/` on `user.ecf` and `system:/` on `system.ecf`, each unless an entry has its mountpoint, and
+    /// `system:/elektra` on `elektra.ecf`.
     pub fn read_table(alloc: Global, keys: &KeySet) -> Result<MountTable, TableFault>
         ensures { Gives result (table_of keys.now) }
     {

@@ -1,4 +1,5 @@
--- Keys with sound names and short texts that weigh little enough are within the limits of a file, and such keys have short texts.
+-- Keys with sound names and short texts that weigh little enough are within the limits of a file, and such keys have
+-- short texts.
 use Rattle.std.proofs.Common.{◌≡◌, ℕ, ◌≤◌, nat_lt, Bool, true, false, cond, List, [], ◌∷◌, length, map as over, Some, None, refl, sym, ap, subst, ◌∙◌}
 use Rattle.std.specs.FinMap as map
 use Rattle.std.specs.FinMap.{find}

@@ -8,7 +8,8 @@ use Rattle.mounted_files.specs.Weighed.{visible_weight, weighed_behind, weighed_
 use Rattle.mounted_files.specs.declared.files.FileState.{FileState}
 use Rattle.mounted_files.specs.declared.files.MountedFile.{MountedFile}
 
--- the table's own file makes the table, and is weighed first; each other file means its state, weighed behind those before it
+-- the table's own file makes the table, and is weighed first; each other file means its state, weighed behind those
+-- before it
 pub record Begins (Reads : Reading) (IsBad : Badness) (bytes_of : List ℕ → List ℕ) (begun : Begun) : Type 0 where
   pub table : MakesTable Reads (bytes_of own_mount.file) (Ok begun.table)
   pub own_state : FileState

@@ -1,5 +1,5 @@
--- An opening that has begun: the table and the place of its own mount there, the state of its own file, and the files of
--- the first of the other mounts, all of them weighed. (This project's own.)
+-- An opening that has begun: the table and the place of its own mount there, the state of its own file, and the files
+-- of the first of the other mounts, all of them weighed. (This project's own.)
 use Rattle.std.specs.Prelude.{ℕ, nat_lt, if◌then◌else◌, suc, List}
 use Rattle.std.specs.List.{remove}
 use Rattle.mount_table.specs.declared.mounts.Mount.{Mount}

@@ -1,4 +1,5 @@
--- What the bytes of a mount's file mean: its keys, or why it is bad. (After Elektra's page on mounting; the limits are this project's own.)
+-- What the bytes of a mount's file mean: its keys, or why it is bad. (After Elektra's page on mounting; the limits are
+-- this project's own.)
 use Rattle.std.specs.Prelude.{◌≡◌, ◌⊎◌, ℕ, ◌<◌, ◌≤◌, true, false, List, length, slice_get, Some, map as over}
 use Rattle.backend_files.specs.WholeFile.{longest_file}
 use Rattle.kdb_outside.specs.declared.kinds.Kind.{Kind}

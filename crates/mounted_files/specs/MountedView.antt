@@ -11,14 +11,16 @@ use Rattle.mounted_files.specs.Weighed.{added_weight, visible_weight}
 use Rattle.mounted_files.specs.declared.mounted.Mounted.TheInside as mounted
 use Rattle.mounted_files.specs.declared.opening.Opening.TheInside as opening
 
--- the files are those of the table's mounts, which some keys make; their texts are short, and their visible keys together weigh little enough
+-- the files are those of the table's mounts, which some keys make; their texts are short, and their visible keys
+-- together weigh little enough
 pub record IsMounted (inside : mounted.Inside) : Type 0 where
   pub table : map (λ file. file.mount) inside.files.items ≡ inside.table
   pub made : IsMadeByKeys inside.table
   pub short : HaveShortTexts inside.files.items
   pub light : sum_by (λ file. visible_weight file.state) inside.files.items ≤ heaviest_map
 
--- some keys make the table, its own mount is at its place, the files are those of the first of the other mounts, and all of them weigh so much
+-- some keys make the table, its own mount is at its place, the files are those of the first of the other mounts, and
+-- all of them weigh so much
 pub record IsBegun (inside : opening.Inside) : Type 0 where
   pub made : IsMadeByKeys inside.table
   pub ascending : IsStrictlySortedBy name_cmp (map (λ mount. mount.at) inside.table)

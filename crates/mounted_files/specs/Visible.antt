@@ -1,4 +1,5 @@
--- The keys that mounted files show. (After Elektra's kdbGet, which gives all keys of the mounts that its parent involves.)
+-- The keys that mounted files show. (After Elektra's kdbGet, which gives all keys of the mounts that its parent
+-- involves.)
 use Rattle.std.specs.Prelude.{List}
 use Rattle.std.specs.List.{fold}
 use Rattle.key_set.specs.WithAll.{with_all}

@@ -54,7 +54,8 @@ impl Mounted {
         &self.table
     }
 
-    /// The files, in the order of the table. No text of their keys is too long, and their visible keys together weigh 16,777,216 at most.
+    /// The files, in the order of the table. No text of their keys is too long, and their visible keys together weigh
+    /// 16,777,216 at most.
     pub fn files(&self) -> &[MountedFile]
         ensures files { result.now ≡ self.now }
         ensures short { HaveShortTexts self.now }

@@ -1,5 +1,5 @@
-//! An opening: the table's own file begins it, and the files of the other mounts are added one by one, in the order of the
-//! table. Each is weighed as it comes, so that the keys of one that is too heavy are not kept.
+//! An opening: the table's own file begins it, and the files of the other mounts are added one by one, in the order of
+//! the table. Each is weighed as it comes, so that the keys of one that is too heavy are not kept.
 ghost use Rattle.std.specs.Prelude.{◌≡◌, ◌+◌, ◌<◌, ◌^◌, ℕ, List, [], length, slice_get, Some, Ok, IfOk, OnOk, OnErr, MatchResult, map as over};
 ghost use Rattle.std.specs.List.Sorted.{IsStrictlySortedBy};
 ghost use Rattle.std.specs.Option.{option_copied};
@@ -34,7 +34,8 @@ use std::alloc::Global;
 use std::marker::Model;
 use storage_api::Formats;
 
-/// A mount table with the state of its own file, and the states of the files of its first other mounts. All are weighed.
+/// A mount table with the state of its own file, and the states of the files of its first other mounts. All are
+/// weighed.
 #[derive(Drop)]
 pub struct Opening {
     table: MountTable,
@@ -67,8 +68,9 @@ impl Model for Opening {
 }
 
 impl Opening {
-    /// Begins an opening, given what `elektra.ecf` gave, the file of the table's own keys. They make the table. `TooLong` and `BadFile` come
-    /// where that file is too long or holds no keys, and `BadTable` where its keys make no table.
+    /// Begins an opening, given what `elektra.ecf` gave, the file of the table's own keys. They make the table.
+    /// `TooLong` and `BadFile` come where that file is too long or holds no keys, and `BadTable` where its keys make no
+    /// table.
     pub fn new<F: Formats>(
         alloc: Global,
         formats: &F,
@@ -128,8 +130,8 @@ impl Opening {
         Ok(())
     }
 
-    /// All files together, once each mount has its file: the table's own file was weighed first, and then the others in the order of the
-    /// table. A mount is bad whose visible keys bring the weight of all of them over 16,777,216.
+    /// All files together, once each mount has its file: the table's own file was weighed first, and then the others in
+    /// the order of the table. A mount is bad whose visible keys bring the weight of all of them over 16,777,216.
     pub fn mounted<F: Formats>(self, _formats: &F) -> Result<Mounted, Memory>
         requires { length self.files ≡ length (others self) }
         ensures opened { IfOk result (λ mounted. (bytes_of : List ℕ → List ℕ) → Begins F.reads F.is_bad_at bytes_of self → IsOpened F.reads F.is_bad_at bytes_of mounted) }

@@ -15,7 +15,8 @@ use key_set::KeySet;
 use set_split::owned;
 use std::alloc::Global;
 
-/// The state of a file with these keys: those that the mount of this number owns are visible, and the others are its shadow.
+/// The state of a file with these keys: those that the mount of this number owns are visible, and the others are its
+/// shadow.
 pub fn good_state(
     alloc: Global,
     points: &[KeyName],
@@ -30,7 +31,8 @@ pub fn good_state(
     Ok(FileState::Good { visible, shadow })
 }
 
-/// A copy of the keys that the mount of this number doesn't own, given those that it owns. Mostly it owns all, and then none is looked at.
+/// A copy of the keys that the mount of this number doesn't own, given those that it owns. Mostly it owns all, and then
+/// none is looked at.
 fn not_owned(
     alloc: Global,
     points: &[KeyName],

@@ -1,4 +1,5 @@
--- Globs that rise from a depth on: what is less at that depth stands first, and those with one part there rise from the next depth on.
+-- Globs that rise from a depth on: what is less at that depth stands first, and those with one part there rise from the
+-- next depth on.
 use Rattle.std.proofs.Common.{◌≡◌, ℕ, zero, suc, ◌==◌, ◌+◌, ◌-◌, ◌<◌, ◌≤◌, Bool, true, false, T, List, [], ◌∷◌, ◌++◌, length, get_or, take, drop, map, slice_get, cond, Option, Some, None, Bor, append-nil, refl, sym, ap, ap₂, subst, ◌∙◌, arith}
 use Rattle.std.specs.Bool.{Decides, one_answer}
 use Rattle.std.specs.Cmp.{alike_right, tied_itself}

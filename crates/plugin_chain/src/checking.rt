@@ -172,8 +172,8 @@ fn check_value<P: Patterns>(
     Ok(())
 }
 
-/// Takes room for a refused pattern at a key, and answers a copy of the key's name, where the key has a pattern: want of memory then comes before the
-/// search and hides no refusal.
+/// Takes room for a refused pattern at a key, and answers a copy of the key's name, where the key has a pattern: want
+/// of memory then comes before the search and hides no refusal.
 fn room_for_refusal(
     list: &mut Vec<Violation>,
     key: &KeyName,

@@ -8,8 +8,8 @@ use key_meta::{Memory, Meta, Text};
 use key_name::{KeyName, Namespace};
 use key_set::{Entry, KeySet};
 
-/// The keys with the defaults that the keys of `spec:` make, each in place of a key that was there. Where there is none, the two
-/// sets share all keys.
+/// The keys with the defaults that the keys of `spec:` make, each in place of a key that was there. Where there is
+/// none, the two sets share all keys.
 pub fn with_defaults(specs: &KeySet, keys: &KeySet) -> Result<KeySet, Memory>
     ensures { IfOk result (λ made. made ≡ with_defaults specs.now keys.now) }
 {

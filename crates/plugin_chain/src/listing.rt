@@ -18,8 +18,8 @@ use key_set::KeySet;
 use model_specified::Violation;
 use regex_check::{LastPattern, Patterns};
 
-/// All violations of the specified set at or below a name, by key in order and for each key by rule. A cascading name stands for
-/// its path in every namespace.
+/// All violations of the specified set at or below a name, by key in order and for each key by rule. A cascading name
+/// stands for its path in every namespace.
 pub fn violations<P: Patterns>(
     patterns: &mut P,
     keys: &KeySet,
@@ -56,8 +56,8 @@ fn all_at<P: Patterns>(
     Ok(list)
 }
 
-/// The first violation of a key that one of the touched mounts owns, of all violations by key in order and for each key by rule. The points of
-/// all mounts stand in name order, and the mounts are numbered by them from 0.
+/// The first violation of a key that one of the touched mounts owns, of all violations by key in order and for each key
+/// by rule. The points of all mounts stand in name order, and the mounts are numbered by them from 0.
 pub fn first_violation<P: Patterns>(
     patterns: &mut P,
     keys: &KeySet,

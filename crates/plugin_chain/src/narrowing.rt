@@ -1,5 +1,6 @@
-//! Some keys in name order, narrowed down to those that a path may match. Keys whose first parts are the same stand together, so at each
-//! depth those with one part there are found by halves: a part of a pattern is the path's own, `_`, or `#`.
+//! Some keys in name order, narrowed down to those that a path may match. Keys whose first parts are the same stand
+//! together, so at each depth those with one part there are found by halves: a part of a pattern is the path's own,
+//! `_`, or `#`.
 ghost use Rattle.std.specs.Prelude.{◌≡◌, ◌+◌, ◌++◌, codes, slice_get, Some, OnOk};
 ghost use Rattle.std.specs.Ordering.{is_le, is_lt};
 ghost use Rattle.model_names.specs.Order.{part_cmp};
@@ -10,10 +11,12 @@ use key_meta::Memory;
 use key_name::KeyName;
 use std::cmp::Ordering;
 
-/// So many keys for each part before a depth are compared as they are: it costs less than to tell them apart by the part there.
+/// So many keys for each part before a depth are compared as they are: it costs less than to tell them apart by the
+/// part there.
 const FEW: usize = 16;
 
-/// Adds keys of some that a path may match, among them all that are its patterns. Before a depth the keys have the same parts.
+/// Adds keys of some that a path may match, among them all that are its patterns. Before a depth the keys have the same
+/// parts.
 pub fn gather<'s, 'a>(
     found: &mut Vec<&'s Glob<'a>>,
     globs: &'s [Glob<'a>],
@@ -139,7 +142,8 @@ fn count_below<'a>(globs: &[Glob<'a>], depth: usize, word: &str) -> usize
     )
 }
 
-/// How many keys have a part at a depth that is a word or less, or no part there. Where keys have the same parts, it is most often none or all.
+/// How many keys have a part at a depth that is a word or less, or no part there. Where keys have the same parts, it is
+/// most often none or all.
 fn count_up_to<'a>(globs: &[Glob<'a>], depth: usize, word: &str) -> usize
     requires { IsRising depth globs.now }
     ensures { SplitsAt (λ glob. is_le (beside depth word.now glob)) globs.now result }

@@ -13,8 +13,9 @@ use key_meta::{Memory, Meta};
 use key_name::{KeyName, Namespace};
 use key_set::KeySet;
 
-/// The specification metadata of a path: each metadata name has the text of the first specification key of the path that has it.
-/// The first is the key of `spec:` with that path, and then the others whose parts match it follow in key order.
+/// The specification metadata of a path: each metadata name has the text of the first specification key of the path
+/// that has it. The first is the key of `spec:` with that path, and then the others whose parts match it follow in key
+/// order.
 pub fn spec_meta(keys: &KeySet, path: &KeyName) -> Result<Meta, Memory>
     ensures { IfOk result (λ meta. meta ≡ spec_meta keys.now path.now.parts) }
 {

@@ -19,8 +19,9 @@ use key_name::{KeyName, Namespace};
 use key_set::{Entry, KeySet};
 use std::alloc::Global;
 
-/// The specified set: the keys with the defaults that the keys of `spec:` make; outside `spec:` and cascading each key has the
-/// specification metadata of its path over its own; and a boolean's word is 1 or 0. Keys that stay as they are, are shared.
+/// The specified set: the keys with the defaults that the keys of `spec:` make; outside `spec:` and cascading each key
+/// has the specification metadata of its path over its own; and a boolean's word is 1 or 0. Keys that stay as they are,
+/// are shared.
 pub fn specified(keys: &KeySet) -> Result<KeySet, Memory>
     ensures { IfOk result (λ set. set ≡ specified keys.now) }
 {

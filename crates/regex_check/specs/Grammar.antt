@@ -1,5 +1,5 @@
--- Which texts are patterns, and where they match: as the reader of the toolchain's crate `regex` reads them with its default
--- options. A pattern isn't anchored: it may match anywhere in a value. (Rust's crate `regex`.)
+-- Which texts are patterns, and where they match: as the reader of the toolchain's crate `regex` reads them with its
+-- default options. A pattern isn't anchored: it may match anywhere in a value. (Rust's crate `regex`.)
 use Rattle.std.specs.Prelude.{◌≡◌, ◌≤◌, Bool, true, false, List, ℕ, IsSomeAnd, is_some}
 use Rattle.std.specs.Option.{option_map_or}
 use Rattle.std.specs.Str.{chars}

@@ -15,7 +15,8 @@ use std::alloc::Global;
 const LONGEST_PATTERN: usize = 1024;
 
 /// The breach of rule 6 or 7, if there is one: `check/validation` is too long or is refused as a pattern, or it matches
-/// nowhere in the value. A pattern that is too long is not handed to the matcher. Want of memory leaves the count of refusals.
+/// nowhere in the value. A pattern that is too long is not handed to the matcher. Want of memory leaves the count of
+/// refusals.
 pub fn check_pattern<P: Patterns>(
     alloc: Global,
     patterns: &mut P,

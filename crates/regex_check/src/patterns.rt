@@ -22,8 +22,8 @@ pub enum Search {
 pub trait Patterns {
     ghost refusals: { Self → ℕ };
 
-    /// Searches for a pattern anywhere in a value. It is refused only where the count of refusals rose in this call. Want of
-    /// memory is no refusal: it leaves the count as it was.
+    /// Searches for a pattern anywhere in a value. It is refused only where the count of refusals rose in this call.
+    /// Want of memory is no refusal: it leaves the count as it was.
     fn search(&mut self, alloc: Global, pattern: &str, value: &str) -> Result<Search, Memory>
         ensures answer { IfOk result (Answers pattern.now value.now) }
         ensures cause { IfOk result (λ search. search ≡ Search.Refused → HasRisen (refusals self.old) (refusals self.new)) }

@@ -1,4 +1,5 @@
--- The rule of the table under a lock. Word 0 is the turn, word 1 the number of tickets drawn, both modulo 2^64, and the one slot has the value, or nothing while a seat has it.
+-- The rule of the table under a lock. Word 0 is the turn, word 1 the number of tickets drawn, both modulo 2^64, and the
+-- one slot has the value, or nothing while a seat has it.
 use Rattle.std.specs.Prelude.{◌≡◌, ◌⊎◌, ℕ, ◌+◌, ◌%◌, ◌^◌, ◌<◌, ◌≤◌, ◌==◌, Bool, true, cond, List, [], ◌∷◌, length, Option, Some, None}
 use mathlib.Core.Option.{none, some}
 use mathlib.Core.List.{IsPrefix}
@@ -58,7 +59,8 @@ module _ {E : Type 0} (maker : E → ℕ) where
   IsWithin log [] = Unit {0}
   IsWithin log (m ∷ ms) = IsPrefix (made_by maker m.0 log) m.1 × IsWithin log ms
 
-  -- what the rule says of one view. A view with a ticket has a number, and who holds the value has the ticket of the turn and has seen the whole list
+  -- what the rule says of one view. A view with a ticket has a number, and who holds the value has the ticket of the
+  -- turn and has seen the whole list
   pub record Fits (turn drawn : ℕ) (log : List E) (v : View E) : Type 0 where
     pub ticket : IsOut turn drawn v.ticket
     pub few : tickets v.ticket ≤ length v.mine

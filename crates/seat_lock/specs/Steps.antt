@@ -11,7 +11,8 @@ module _ {E V : Type 0} where
   abbrev pub Draws : Step (Option V) → Me (Option V) (View E) → ℕ → Me (Option V) (View E) → Type 0
   Draws step me found after = (ticket : ℕ) × (found ≡ ticket % 2 ^ 64) × (after ≡ (with_ticket (Some ticket) me.0, me.1))
 
-  -- what was seen and what was beside it begin one list, of which the longer is kept. It has no entries of the seat's numbers but those that they made
+  -- what was seen and what was beside it begin one list, of which the longer is kept. It has no entries of the seat's
+  -- numbers but those that they made
   abbrev pub Compares : (E → ℕ) → Step (Option V) → Me (Option V) (View E) → ℕ → Me (Option V) (View E) → Type 0
   Compares maker step me found after = (after ≡ (compared_view me.0, me.1)) × IsPrefix me.0.seen after.0.seen × IsPrefix me.0.beside after.0.seen × IsWithin maker after.0.seen me.0.mine
 

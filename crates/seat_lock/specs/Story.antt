@@ -1,4 +1,5 @@
--- Lists of entries, each with its maker's number: what a seat and a lock promise about the list for which the shared value stands.
+-- Lists of entries, each with its maker's number: what a seat and a lock promise about the list for which the shared
+-- value stands.
 use Rattle.std.specs.Prelude.{◌≡◌, ◌⊎◌, ℕ, ◌+◌, ◌<◌, ◌==◌, cond, nat_lt, List, [], ◌∷◌, length, filter, slice_get, Some, All}
 use mathlib.Core.List.{IsPrefix}
 use Rattle.seat_lock.specs.Known.{Known, Place, knowledge}
@@ -20,7 +21,8 @@ module _ {E : Type 0} (maker : E → ℕ) where
   abbrev pub IsOneTurn : ℕ → List E → Type 0
   IsOneTurn number added = (added ≡ []) ⊎ ((entry : E) × (maker entry ≡ number) × (added ≡ entry ∷ []))
 
--- What a closed lock gives: a value that stands for one list, which begins with all that each seat has seen. Each seat's own entries are those that it made, in order. The others are those with which the lock began, and no more
+-- What a closed lock gives: a value that stands for one list, which begins with all that each seat has seen. Each
+-- seat's own entries are those that it made, in order. The others are those with which the lock began, and no more
 pub record IsClosed {E V : Type 0} (maker : E → ℕ) (stands : V → List E → Type 0) (lock : Place E) (seats : List (Known E)) (value : V) : Type 0 where
   pub log : List E
   pub stands_for : stands value log

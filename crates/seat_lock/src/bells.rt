@@ -6,8 +6,8 @@ use std::sync::Wait;
 use std::sync::atomic::{AtomicU64, Ordering};
 use std::thread::Parker;
 
-/// More than a lock has seats, so no two tickets that are out have one bell. It divides 2^64, so that this stays so where
-/// the numbers of the tickets begin again.
+/// More than a lock has seats, so no two tickets that are out have one bell. It divides 2^64, so that this stays so
+/// where the numbers of the tickets begin again.
 const BELLS: u64 = 64;
 
 /// A seat that has so many turns before its own at most looks on, if it is awake. No more seats than these keep a

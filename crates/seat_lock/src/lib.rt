@@ -1,5 +1,5 @@
-//! A lock between threads, whose seats know what they saw. The value under it stands for a list of entries, each with its
-//! maker's number. What a turn finds begins with all that its seat had seen.
+//! A lock between threads, whose seats know what they saw. The value under it stands for a list of entries, each with
+//! its maker's number. What a turn finds begins with all that its seat had seen.
 #![tactic(auto)]
 
 mod bells;

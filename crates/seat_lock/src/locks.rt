@@ -17,7 +17,8 @@ use std::marker::Model;
 use std::mem;
 use std::sync::Wait;
 
-/// A lock with its value. To contracts it is which lock it is, how many seats it has, and the entries with which it began.
+/// A lock with its value. To contracts it is which lock it is, how many seats it has, and the entries with which it
+/// began.
 pub struct Lock<V: Storied> {
     board: Board<V>,
     bells: Bells,
@@ -73,8 +74,8 @@ impl<V: Storied> Lock<V> {
         })
     }
 
-    /// Waits for the seat's turn. What is found begins with all that the seat has seen, and has of the seat's number those
-    /// entries that it made.
+    /// Waits for the seat's turn. What is found begins with all that the seat has seen, and has of the seat's number
+    /// those entries that it made.
     pub fn enter<R: Wait>(&self, rt: &R, seat: Seat<V::Entry>) -> Turn<V>
         requires { seat.place ≡ self.now.place }
         ensures same { (result.place ≡ seat.place) × (result.number ≡ seat.number) × (result.own ≡ seat.own) }

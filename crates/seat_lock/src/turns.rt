@@ -3,8 +3,8 @@ use crate::board::Sitter;
 use crate::story::Storied;
 use std::marker::Model;
 
-/// A turn at a lock, with its value. To contracts it is the lock, the seat's number, the entries that were found, those of
-/// them that the seat made, and the value.
+/// A turn at a lock, with its value. To contracts it is the lock, the seat's number, the entries that were found, those
+/// of them that the seat made, and the value.
 pub struct Turn<V: Storied> {
     pub(crate) seat: Sitter<V>,
     pub(crate) number: u32,

@@ -1,5 +1,5 @@
-//! Which file holds a key: the mounts that are involved in a parent, a key set split by the mounts that own its keys, and
-//! the parts united again.
+//! Which file holds a key: the mounts that are involved in a parent, a key set split by the mounts that own its keys,
+//! and the parts united again.
 #![tactic(auto)]
 
 mod laws;

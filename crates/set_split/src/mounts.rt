@@ -18,8 +18,8 @@ struct Root {
     owner: Option<usize>,
 }
 
-/// The numbers of the mounts that are involved in a parent, ascending: those that own the parent, and those whose point is
-/// the parent or below it. A cascading parent stands for its path in each namespace whose keys stand in files.
+/// The numbers of the mounts that are involved in a parent, ascending: those that own the parent, and those whose point
+/// is the parent or below it. A cascading parent stands for its path in each namespace whose keys stand in files.
 pub fn involved(alloc: Global, points: &[KeyName], parent: &KeyName) -> Result<List<usize>, Memory>
     requires { IsPoints points.now }
     ensures { IfOk result (λ mounts. mounts ≡ involved_in points.now parent.now) }

@@ -15,8 +15,8 @@ use key_set::{Entry, KeySet};
 /// As many keys as stand in one chunk. Cut out of it, they would be copied all.
 const FEW: usize = 64;
 
-/// The keys that the mount of this number owns: those at its point or below it, and not at or below a point behind it. Of a set of few keys
-/// they are copied; else they are shared with the set, until one of the two changes.
+/// The keys that the mount of this number owns: those at its point or below it, and not at or below a point behind it.
+/// Of a set of few keys they are copied; else they are shared with the set, until one of the two changes.
 pub fn owned(points: &[KeyName], i: usize, keys: &KeySet) -> Result<KeySet, Memory>
     requires { IsStrictlySortedBy name_cmp points.now }
     ensures { IfOk result (λ owned. owned ≡ owned_by points.now i keys.now) }

@@ -7,8 +7,8 @@ ghost use Rattle.key_name.specs.Owner.{IsPoints};
 
 use key_name::{KeyName, are_ascending};
 
-/// Whether names can be the points of mounts: they stand in name order, each of them once, and each in a namespace whose
-/// keys stand in files, which are `spec`, `dir`, `user` and `system`.
+/// Whether names can be the points of mounts: they stand in name order, each of them once, and each in a namespace
+/// whose keys stand in files, which are `spec`, `dir`, `user` and `system`.
 pub fn are_points(points: &[KeyName]) -> bool
     ensures { Decides result (IsPoints points.now) }
 {

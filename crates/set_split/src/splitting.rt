@@ -11,8 +11,9 @@ use key_name::KeyName;
 use key_set::KeySet;
 use std::alloc::Global;
 
-/// The keys that the mounts involved in a parent own, in a part for each of these mounts, as `owned` gives them: copied from a set of few
-/// keys, else shared with it until one of the two changes. Keys that none of them owns are left aside, and counted.
+/// The keys that the mounts involved in a parent own, in a part for each of these mounts, as `owned` gives them: copied
+/// from a set of few keys, else shared with it until one of the two changes. Keys that none of them owns are left
+/// aside, and counted.
 pub fn split(
     alloc: Global,
     points: &[KeyName],

@@ -11,8 +11,8 @@ use key_meta::Memory;
 use key_set::KeySet;
 use std::alloc::Global;
 
-/// The keys of all parts as one set. The parts of a split have no name in common; of a name that is in several parts, the
-/// last one's entry stays.
+/// The keys of all parts as one set. The parts of a split have no name in common; of a name that is in several parts,
+/// the last one's entry stays.
 pub fn unite(alloc: Global, parts: Parts) -> Result<KeySet, Memory>
     ensures { IfOk result (λ keys. IsUnion (maps_of parts.parts) keys) }
 {

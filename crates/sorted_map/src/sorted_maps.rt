@@ -93,7 +93,8 @@ impl<K: Ord, V> SortedMap<K, V> {
 }
 
 impl<K: Ord + Drop, V: Drop> SortedMap<K, V> {
-    /// Gives a key a value, and answers the value that it had. A key that is there stays, and the one passed in is dropped.
+    /// Gives a key a value, and answers the value that it had. A key that is there stays, and the one passed in is
+    /// dropped.
     pub fn insert(&mut self, key: K, value: V) -> Result<Option<V>, AllocError>
         ensures former { IfOk result (λ former. former ≡ find K.cmp key self.old) }
         ensures ok { OnOk result (self.new ≡ put K.cmp key value self.old) }
@@ -109,7 +110,8 @@ impl<K: Ord + Drop, V: Drop> SortedMap<K, V> {
         }
     }
 
-    /// Gives each key of another map the value that it has there. A key that is there stays, and the other map's is dropped.
+    /// Gives each key of another map the value that it has there. A key that is there stays, and the other map's is
+    /// dropped.
     pub fn insert_all(&mut self, other: SortedMap<K, V>) -> Result<(), AllocError>
         ensures ok { OnOk result (self.new ≡ put_all K.cmp other self.old) }
         ensures err { OnErr result (self.new ≡ self.old) }
@@ -222,7 +224,8 @@ fn room_for_both<T>(left: &Vec<T>, right: &Vec<T>) -> Result<Vec<T>, AllocError>
     }
 }
 
-/// Moves the entries of two lists into one, where each key stands once. Of a key that both have, the second has the value.
+/// Moves the entries of two lists into one, where each key stands once. Of a key that both have, the second has the
+/// value.
 fn merge<K: Ord + Drop, V: Drop>(
     ours: Vec<(K, V)>,
     theirs: Vec<(K, V)>,

@@ -1,5 +1,5 @@
--- The names that a cascading name stands for, in the order in which they are searched. (After Elektra's page on cascading; the search of cascading
--- names in `override` and `fallback` is this project's own.)
+-- The names that a cascading name stands for, in the order in which they are searched. (After Elektra's page on
+-- cascading; the search of cascading names in `override` and `fallback` is this project's own.)
 use Rattle.std.specs.Prelude.{ℕ, ◌==◌, if◌then◌else◌, List, [], ◌∷◌, ◌++◌, map, length, Option, Some, None, codes}
 use Rattle.std.specs.List.{flat_map}
 use Rattle.std.specs.Option.{option_to_list}
@@ -19,7 +19,8 @@ paths_in path namespaces = map (λ namespace. record { namespace = namespace; pa
 abbrev pub usual : List Namespace
 usual = Proc ∷ Dir ∷ User ∷ System ∷ []
 
--- the names that a name in `override` or `fallback` stands for: itself, and for a cascading one its path in these namespaces
+-- the names that a name in `override` or `fallback` stands for: itself, and for a cascading one its path in these
+-- namespaces
 abbrev pub names_for : Option Name → List Name
 names_for None = []
 names_for (Some name) = if rank name.namespace == rank Cascading then paths_in name.parts usual else name ∷ []
@@ -42,7 +43,8 @@ abbrev pub paths_by : List Part → List (List ℕ) → List Name
 paths_by path words =
     if length words == 0 then paths_in path usual else flat_map (λ word. paths_in path (option_to_list (searched word))) words
 
--- all names that a path stands for: those in `override`, its path in the namespaces that words ask for, those in `fallback`, and its default
+-- all names that a path stands for: those in `override`, its path in the namespaces that words ask for, those in
+-- `fallback`, and its default
 abbrev pub candidates_by : List Part → List (List ℕ) → List (List ℕ) → List (List ℕ) → List Name
 candidates_by path overrides words fallbacks =
     flat_map names_of overrides ++ (paths_by path words ++ (flat_map names_of fallbacks ++ default_name path ∷ []))

@@ -11,8 +11,8 @@ pub fn words_name_namespaces()
     ensures usual { paths_by (codes "a" ∷ []) [] ≡ record { namespace = Proc; parts = codes "a" ∷ [] } ∷ record { namespace = Dir; parts = codes "a" ∷ [] } ∷ record { namespace = User; parts = codes "a" ∷ [] } ∷ record { namespace = System; parts = codes "a" ∷ [] } ∷ [] }
 {}
 
-/// All candidates of `/a`, where `override` has `user:/b`, `namespace` has `system`, and `fallback` has a text that is no name and `/c`; and
-/// where it has none of these.
+/// All candidates of `/a`, where `override` has `user:/b`, `namespace` has `system`, and `fallback` has a text that is
+/// no name and `/c`; and where it has none of these.
 pub fn a_path_has_its_candidates()
     ensures all { (said : Meta)
         → array_texts said (codes "override") ≡ codes "user:/b" ∷ []

@@ -13,8 +13,9 @@ use key_name::{KeyName, Namespace};
 use key_set::{Entry, KeySet};
 use plugin_chain::spec_meta;
 
-/// What is found for a name: with a namespace, the key itself; for a cascading one the first of its candidates that is present, which are the names in
-/// `override`, its path in the namespaces that are searched, the names in `fallback`, and its default.
+/// What is found for a name: with a namespace, the key itself; for a cascading one the first of its candidates that is
+/// present, which are the names in `override`, its path in the namespaces that are searched, the names in `fallback`,
+/// and its default.
 pub fn lookup(keys: &KeySet, path: &KeyName) -> Result<Option<Found>, Memory>
     ensures { IfOk result (λ answer. answer ≡ found keys.now path.now) }
 {

@@ -99,7 +99,8 @@ pub trait Formats {
     fn read(&self, alloc: Global, kind: Kind, bytes: &[u8]) -> Result<KeySet, ReadRefusal>
         ensures { MatchResult result (λ keys. reads kind bytes.now keys) (RefusesToRead (is_bad_at kind bytes.now)) };
 
-    /// The text of a map; `NotStorable` exactly where a file of this kind can't hold it, with the first key that it can't.
+    /// The text of a map; `NotStorable` exactly where a file of this kind can't hold it, with the first key that it
+    /// can't.
     fn write(&self, alloc: Global, kind: Kind, keys: &KeySet) -> Result<Vec<u8>, WriteRefusal>
         requires { IsLimited keys.now }
         ensures text { MatchResult result (λ bytes. (bytes.items ≡ text kind keys.now) × is_storable kind keys.now) (RefusesToWrite (breaks_at kind keys.now)) };

@@ -17,8 +17,8 @@ use std::alloc::Global;
 use std::mem;
 use store_play::Event;
 
-/// What a disk begins with, the runs and crashes behind that, the last run and what it left; the keys that are prepared next, and the events that are played next,
-/// with how many of them are before each flush.
+/// What a disk begins with, the runs and crashes behind that, the last run and what it left; the keys that are prepared
+/// next, and the events that are played next, with how many of them are before each flush.
 #[derive(Drop)]
 pub struct Cases {
     alloc: Global,
@@ -177,7 +177,8 @@ impl Cases {
         (events, flushes)
     }
 
-    /// The events, tried over and over: stopped after each of these numbers of calls, or with each of these calls failing alone.
+    /// The events, tried over and over: stopped after each of these numbers of calls, or with each of these calls
+    /// failing alone.
     fn tried_commits(&mut self, word: &str, rest: &str) -> Result<String, Memory> {
         let (events, flushes) = self.take_steps();
         let steps = Steps {

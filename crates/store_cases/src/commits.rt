@@ -1,5 +1,5 @@
-//! A run of several commits that is stopped after so many calls of the disk, or of which one call fails: how many of the commits were told, and how many the
-//! files have once the store was opened again.
+//! A run of several commits that is stopped after so many calls of the disk, or of which one call fails: how many of
+//! the commits were told, and how many the files have once the store was opened again.
 
 use crate::left::files_behind;
 use crate::starts::Start;
@@ -12,8 +12,8 @@ use store_play::{Answer, Event};
 /// How many crashes are tried behind each run.
 const CHOICES: u64 = 10;
 
-/// What came of the crashes behind one run: how many of the commits were answered as stored, and behind how many of them
-/// the files are as they are then, at least and at most. No number where a crash isn't allowed to leave them so.
+/// What came of the crashes behind one run: how many of the commits were answered as stored, and behind how many of
+/// them the files are as they are then, at least and at most. No number where a crash isn't allowed to leave them so.
 #[derive(Clone, Copy, PartialEq, Eq)]
 struct Found {
     told: Option<Told>,
@@ -28,7 +28,8 @@ struct Told {
     last: usize,
 }
 
-/// A row for each range of numbers of calls, from the first to the last, of which the same came: where just so many go through.
+/// A row for each range of numbers of calls, from the first to the last, of which the same came: where just so many go
+/// through.
 pub fn stopped_commits(
     alloc: Global,
     start: &mut Start,
@@ -134,8 +135,8 @@ fn told_of(answers: &[Answer]) -> Told {
     told
 }
 
-/// Behind how many commits the files are as these, where a crash is allowed to leave them so: they have all up to the last
-/// that was told, and at most the next one more, which was begun; and none where the store wasn't opened.
+/// Behind how many commits the files are as these, where a crash is allowed to leave them so: they have all up to the
+/// last that was told, and at most the next one more, which was begun; and none where the store wasn't opened.
 fn place_of(files: &Vec<u8>, ends: &[Vec<u8>], told: Option<Told>) -> Option<usize> {
     let (least, most) = match told {
         Some(told) => (told.last, told.last.saturating_add(1)),

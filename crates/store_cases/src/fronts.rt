@@ -30,8 +30,9 @@ struct Told {
     lines: String,
 }
 
-/// A line for each answer, and behind that of a commit and the last one a line for each file that isn't as it was told last, once a crash was behind the
-/// run and the store was opened again. Where no call of the disk is to fail, a file that the close left otherwise is told, too.
+/// A line for each answer, and behind that of a commit and the last one a line for each file that isn't as it was told
+/// last, once a crash was behind the run and the store was opened again. Where no call of the disk is to fail, a file
+/// that the close left otherwise is told, too.
 pub fn fronts_of(
     alloc: Global,
     start: &Start,

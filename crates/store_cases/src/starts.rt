@@ -7,7 +7,8 @@ use kdb_outside::FileName;
 use key_meta::Memory;
 use std::alloc::Global;
 
-/// Two files at most, the calls of the disk that fail, how many go through, and the calls of the matcher that are refused.
+/// Two files at most, the calls of the disk that fail, how many go through, and the calls of the matcher that are
+/// refused.
 #[derive(Drop)]
 pub struct Start {
     alloc: Global,

@@ -54,7 +54,8 @@ pub fn first_disk(
     }
 }
 
-/// Opens the store, plays the events with the flushes between them, and closes it. The listed calls of the matcher are refused, counted from 1.
+/// Opens the store, plays the events with the flushes between them, and closes it. The listed calls of the matcher are
+/// refused, counted from 1.
 pub fn play(
     alloc: Global,
     disk: MemDisk,

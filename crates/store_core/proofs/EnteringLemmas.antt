@@ -1,4 +1,5 @@
--- A set that is a commit joins a history that stays legal, and the texts of the commit are an entry that the journal can hold.
+-- A set that is a commit joins a history that stays legal, and the texts of the commit are an entry that the journal
+-- can hold.
 use Rattle.std.proofs.Common.{◌≡◌, ◌≢◌, ℕ, ◌<◌, ◌≤◌, Bool, true, false, ◌||◌, nat_eq, List, [], ◌∷◌, ◌++◌, length, slice_get, Option, Some, None, refl, sym, ap, ap₂, subst, ◌∙◌, arith, eqb-true}
 use Rattle.std.specs.List.{AllByRecursion, list_any}
 use Rattle.std.proofs.lemmas.Bool.{or_parts}

@@ -18,7 +18,8 @@ use Rattle.store_core.specs.declared.committing.Done.TheVariants.{Committed, Sam
 abbrev pub point_at : List Mount → ℕ → Option Name
 point_at mounts m = option_map (λ mount. mount.at) (slice_get mounts m)
 
--- the answer to a commit of a set that found so many commits, by whether the matcher's count of refusals rose; a mount is told by its mountpoint
+-- the answer to a commit of a set that found so many commits, by whether the matcher's count of refusals rose; a mount
+-- is told by its mountpoint
 abbrev pub IsAnswer : List Mount → Bool → ℕ → Prepared → Result Done CommitFault → event.Answer → Type 0
 IsAnswer mounts risen found set (Ok (Committed number aside)) answer = (number ≡ found + 1) × (answer ≡ event.Judged found (late.Commits (late.commit_of set) aside))
 IsAnswer mounts risen found set (Ok (Same front aside)) answer = answer ≡ event.Judged front (late.Same aside)
@@ -30,7 +31,8 @@ IsAnswer mounts risen found set (Err (HistoryFull weight front)) answer = answer
 IsAnswer mounts risen found set (Err (DiskFault front)) answer = answer ≡ event.Failed front
 IsAnswer mounts risen found set (Err Memory) answer = answer ≡ event.Memory
 
--- what the history decides of a set, by the answer to its commit, whatever the disk tells: it decides before the disk is touched
+-- what the history decides of a set, by the answer to its commit, whatever the disk tells: it decides before the disk
+-- is touched
 abbrev pub IsJudged : Formats → Store → Bool → List Commit → KeyMap → Prepared → Result Done CommitFault → Type 0
 IsJudged formats store risen history keys set (Ok (Committed number aside)) = (number ≡ length history + 1) × late.IsLate formats store history keys set (late.Commits (late.commit_of set) aside)
 IsJudged formats store risen history keys set (Ok (Same front aside)) = (front ≡ length history) × late.IsLate formats store history keys set (late.Same aside)

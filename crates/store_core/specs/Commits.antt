@@ -28,7 +28,8 @@ use Rattle.store_verdict.specs.RecordView.{handle_of, places_of, proc_of}
 use Rattle.store_verdict.specs.declared.prepared.Prepared.{Prepared}
 use Rattle.store_verdict.specs.declared.records.Record.{Record}
 
--- by the mounted files of the plan, for any keys that the handles have in `proc`, and by the matcher's count of refusals
+-- by the mounted files of the plan, for any keys that the handles have in `proc`, and by the matcher's count of
+-- refusals
 pub record CommitsSet (formats : Formats) {D P : Type 0} (g : Ghosts D) (refusals : P → ℕ) (files : List MountedFile) (old new : Core D P) (before after : Record) (set : Prepared) (result : Result Done CommitFault) : Type 0 where
   -- what the history decides, whatever the disk tells
   pub judged : (procs : ℕ → KeyMap) → IsJudged formats (store_of files procs) (has_risen (refusals old.patterns) (refusals new.patterns)) old.history.commits old.keys (prepared_of set) result

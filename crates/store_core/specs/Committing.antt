@@ -1,7 +1,7 @@
--- What a commit on an open store promises, by its answer, of what is kept and of the disk: the contract that a call of a handle with its prepared
--- set is to have. What is kept goes on as the definitions of a store say (`Made`, of `model_store`), and the run on the disk as its answer says.
--- `Core::enter` is the half of it that writes; a crash amid it leaves the files, with the former doubt or with this entry (`any_moment` there).
--- (This project's own.)
+-- What a commit on an open store promises, by its answer, of what is kept and of the disk: the contract that a call of
+-- a handle with its prepared set is to have. What is kept goes on as the definitions of a store say (`Made`, of
+-- `model_store`), and the run on the disk as its answer says. `Core::enter` is the half of it that writes; a crash amid
+-- it leaves the files, with the former doubt or with this entry (`any_moment` there). (This project's own.)
 use Rattle.std.specs.Prelude.{◌≡◌, ℕ, List, Option, Some, None}
 use Rattle.kdb_outside.specs.declared.disks.Disk.{Ghosts}
 use Rattle.journal_codec.specs.declared.files.FileText.{FileText}

@@ -17,15 +17,16 @@ use Rattle.store_phases.specs.Stores.{IsStore}
 abbrev pub core_with : {D P : Type 0} → Core D P → (ℕ → Record) → (ℕ → Option Prepared) → cores.Core
 core_with core records sets = record { history = core.history.commits; keys = core.keys; records = records; sets = sets }
 
--- A core, with these records and sets, stands for a world, and the mounts have files that the journal can hold, whatever the disk tells. It keeps the
--- keys that the store begins with; so its history, which is legal, leads from these to the keys that it has (`stands`)
+-- A core, with these records and sets, stands for a world, and the mounts have files that the journal can hold,
+-- whatever the disk tells. It keeps the keys that the store begins with; so its history, which is legal, leads from
+-- these to the keys that it has (`stands`)
 pub record StandsIn (formats : Formats) (store : Store) {D P : Type 0} (core : Core D P) (records : ℕ → Record) (sets : ℕ → Option Prepared) (world : World) : Type 0 where
   pub files : HaveFiles store.mounts
   pub start : core.start ≡ store.start
   pub stands : Stands formats store world (core_with core records sets)
 
--- it does, its journal stands for a run since the disk was opened, the head of the journal names the files of the store's mounts, and the
--- run's entries are those of the world's history
+-- it does, its journal stands for a run since the disk was opened, the head of the journal names the files of the
+-- store's mounts, and the run's entries are those of the world's history
 pub record StandsFor (formats : Formats) {D P : Type 0} (g : Ghosts D) (store : Store) (opened : D) (core : Core D P) (records : ℕ → Record) (sets : ℕ → Option Prepared) (world : World) (run : Run) : Type 0 where
   pub here : StandsIn formats store core records sets world
   pub on_disk : IsStore g opened core.journal run

@@ -30,7 +30,8 @@ pub record HoldsRun {D : Type 0} (g : Ghosts D) (mounts : List Mount) (opened : 
   pub names : run.names ≡ names_at mounts
   pub store : IsStore g opened journal run
 
--- it is acknowledged: it joined the history, and the run on the disk, and its record keeps what was wanted for each touched mount
+-- it is acknowledged: it joined the history, and the run on the disk, and its record keeps what was wanted for each
+-- touched mount
 pub record HasEntered {D P : Type 0} (g : Ghosts D) (mounts : List Mount) (commit : Commit) (keys : KeyMap) (set : Prepared) (old new : Core D P) (before after : Record) : Type 0 where
   pub history : new.history.commits ≡ old.history.commits ++ commit ∷ []
   pub keys_are : new.keys ≡ keys

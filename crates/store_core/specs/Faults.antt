@@ -27,7 +27,8 @@ of_refusal (refusal.BadFile line) = BadFile line
 of_refusal (refusal.BadTable fault) = BadTable fault
 of_refusal refusal.Memory = Memory
 
--- why a store isn't opened, by the bytes of the file of the table's own keys; the disk, its journal and want of memory have causes of their own
+-- why a store isn't opened, by the bytes of the file of the table's own keys; the disk, its journal and want of memory
+-- have causes of their own
 abbrev pub RefusesStore : Reading → Badness → List ℕ → OpenFault → Type 0
 RefusesStore Reads IsBad bytes (TooLong n) = RefusesOpening Reads IsBad bytes (refusal.TooLong n)
 RefusesStore Reads IsBad bytes (BadFile line) = RefusesOpening Reads IsBad bytes (refusal.BadFile line)
@@ -37,7 +38,8 @@ RefusesStore Reads IsBad bytes (BadJournal at) = Unit {0}
 RefusesStore Reads IsBad bytes (UnknownVersion version) = Unit {0}
 RefusesStore Reads IsBad bytes Memory = Unit {0}
 
--- why a store isn't opened whose journal has a head or an open entry that isn't whole: for that, by its place, unless the disk failed or memory was wanting
+-- why a store isn't opened whose journal has a head or an open entry that isn't whole: for that, by its place, unless
+-- the disk failed or memory was wanting
 abbrev pub RefusesBroken : ℕ → OpenFault → Type 0
 RefusesBroken place DiskFault = Unit {0}
 RefusesBroken place (BadJournal at) = at ≡ place
@@ -47,7 +49,8 @@ RefusesBroken place (TooLong bytes) = ⊥
 RefusesBroken place (BadFile line) = ⊥
 RefusesBroken place Memory = Unit {0}
 
--- why a store isn't opened whose journal has a version that isn't known: for that, unless the disk failed or memory was wanting
+-- why a store isn't opened whose journal has a version that isn't known: for that, unless the disk failed or memory was
+-- wanting
 abbrev pub RefusesUnknown : ℕ → OpenFault → Type 0
 RefusesUnknown version DiskFault = Unit {0}
 RefusesUnknown version (BadJournal at) = ⊥

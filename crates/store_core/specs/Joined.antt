@@ -26,8 +26,9 @@ use Rattle.store_verdict.specs.RecordView.{handle_of, places_of, record_of}
 use Rattle.store_verdict.specs.declared.prepared.Prepared.{Prepared}
 use Rattle.store_verdict.specs.declared.records.Record.{Record}
 
--- the core stands for a world, with this record as that of its handle and with this set as that of a number; the record accepts
--- the set, which holds what is wanted for each touched mount, and the texts that the formats give of it. The disk has no part in it
+-- the core stands for a world, with this record as that of its handle and with this set as that of a number; the record
+-- accepts the set, which holds what is wanted for each touched mount, and the texts that the formats give of it. The
+-- disk has no part in it
 pub record BelongsIn (formats : Formats) {D P : Type 0} (store : Store) (core : Core D P) (records : ℕ → model.Record) (made : ℕ → Option sets.Prepared) (world : World) (p : ℕ) (rec : Record) (set : Prepared) : Type 0 where
   pub stands : StandsIn formats store core records made world
   pub record_is : records (handle_of rec) ≡ record_of rec
@@ -52,7 +53,8 @@ pub record IsReady (formats : Formats) {D P : Type 0} (files : List MountedFile)
   pub number : ℕ
   pub belongs : BelongsIn formats (store_of files procs) core records made world number rec set
 
--- the set was committed as the definitions say, with this answer, where the matcher's count of refusals rose or not. The disk has no part in it
+-- the set was committed as the definitions say, with this answer, where the matcher's count of refusals rose or not.
+-- The disk has no part in it
 pub record HasMade (formats : Formats) {D P : Type 0} (store : Store) (before after : Core D P) (records : ℕ → model.Record) (made : ℕ → Option sets.Prepared) (p : ℕ) (old new : Record) (set : Prepared) (risen : Bool) (result : Result Done CommitFault) : Type 0 where
   pub answer : Answer
   pub is_answer : IsAnswer store.mounts risen (length before.history.commits) (prepared_of set) result answer

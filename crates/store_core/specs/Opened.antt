@@ -34,8 +34,8 @@ may_be_of_journal (Some (TooLong bytes)) = false
 may_be_of_journal (Some (BadFile line)) = false
 may_be_of_journal (Some Memory) = true
 
--- what an opening leaves of a calm disk that didn't fail: it was only read; or it was written, and shows the files that it had or those of the
--- opening, and the next opening finds the same files
+-- what an opening leaves of a calm disk that didn't fail: it was only read; or it was written, and shows the files that
+-- it had or those of the opening, and the next opening finds the same files
 pub data IsLeft {D : Type 0} (g : Ghosts D) (disk end : D) : Type 0 where
   StillRead : OnlyReads g disk end → IsLeft g disk end
   StillFound : StaysFound g disk end → IsLeft g disk end

@@ -61,7 +61,8 @@ pub record OpensStore (formats : Formats) (Reads : Reading) (IsBad : Badness) {D
   pub as_seen : g.tells disk ≡ true → HasNoFormer (g.seen disk) → open_list (g.seen disk) ≡ []
       → MatchResult result (λ opened. IsOpened Reads IsBad (g.seen disk) opened.plan.mounted) (λ refused. RefusesStore Reads IsBad (g.seen disk own_mount.file) refused.fault)
   pub left_alone : g.tells disk ≡ true → HasNoFormer (g.seen disk) → open_list (g.seen disk) ≡ [] → OnlyReads g disk (disk_of result)
-  -- of each disk that tells, also one that isn't calm and has an open entry, the files are what it shows then, and so is what refuses them
+  -- of each disk that tells, also one that isn't calm and has an open entry, the files are what it shows then, and so
+  -- is what refuses them
   pub told : g.tells disk ≡ true
       → MatchResult result (λ opened. IsOpened Reads IsBad (g.seen (disk_of result)) opened.plan.mounted) (λ refused. RefusesStore Reads IsBad (g.seen (disk_of result) own_mount.file) refused.fault)
   -- why it is refused

@@ -16,8 +16,9 @@ pub struct Closed<D: Disk, P: Patterns + Drop> {
 }
 
 impl<D: Disk, P: Patterns + Drop> Core<D, P> {
-    /// Ends the store, and gives its disk, its matcher and its history back. What commits left to be written is written now, and a failure of it is no
-    /// refusal. Where nothing was written since the opening began, nothing is written now.
+    /// Ends the store, and gives its disk, its matcher and its history back. What commits left to be written is written
+    /// now, and a failure of it is no refusal. Where nothing was written since the opening began, nothing is written
+    /// now.
     pub fn close(self) -> Closed<D, P>
         ensures { ClosesStore D.Disk self result }
     {

@@ -1,4 +1,5 @@
-//! A commit of a handle's prepared set: the history and the rules decide, then memory is taken, then the disk is written, and then the record moves.
+//! A commit of a handle's prepared set: the history and the rules decide, then memory is taken, then the disk is
+//! written, and then the record moves.
 ghost use Rattle.std.specs.Prelude.{◌≡◌, ◌≤◌, ◌<◌, ℕ, IfOk, None, length, map as over};
 ghost use Rattle.model_history.specs.Changes.{after};
 ghost use Rattle.model_maps.specs.KeyMap.{KeyMap};
@@ -54,8 +55,8 @@ pub enum CommitFault {
         bytes: u64,
         front: u64,
     },
-    /// A key that a touched mount owns breaks a rule after the set: the first violation. Rule 6 tells a pattern of at most 1,024 bytes only where
-    /// the matcher's count of refusals rose in this call.
+    /// A key that a touched mount owns breaks a rule after the set: the first violation. Rule 6 tells a pattern of at
+    /// most 1,024 bytes only where the matcher's count of refusals rose in this call.
     Invalid {
         violation: Violation,
         front: u64,
@@ -95,10 +96,10 @@ impl<D: Disk, P: Patterns + Drop> Core<D, P> {
     /// Commits a set that the record of its handle accepts. Nothing to do, a conflict, too large a file, a broken rule
     /// and want of room are found before the disk is touched, and so is want of memory. Where a touched mount counts by
     /// key, the texts of the touched files are made anew of the keys after the set, with what others changed there.
-    /// Amid it a crash leaves the files, with the former doubt or with the entry that the history gives of the set. From
-    /// `Committed` on every crash leaves the commit; and the record has then for each touched mount what was wanted
-    /// there, with the commit's number, or where the mount counts by key with the front that it had. After every other
-    /// answer the keys, the history and the record are as before.
+    /// Amid it a crash leaves the files, with the former doubt or with the entry that the history gives of the set.
+    /// From `Committed` on every crash leaves the commit; and the record has then for each touched mount what was
+    /// wanted there, with the commit's number, or where the mount counts by key with the front that it had. After every
+    /// other answer the keys, the history and the record are as before.
     pub fn commit<F: Formats + Drop>(
         &mut self,
         alloc: Global,

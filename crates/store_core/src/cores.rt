@@ -13,8 +13,8 @@ use mounted_files::Mounted;
 use regex_check::Patterns;
 use storage_api::Formats;
 
-/// What an opening fixes: the formats, and the mounts with what their files held, and with the header of the journal that
-/// names these files.
+/// What an opening fixes: the formats, and the mounts with what their files held, and with the header of the journal
+/// that names these files.
 #[derive(Drop)]
 pub struct Plan<F: Formats + Drop> {
     pub(crate) formats: F,
@@ -44,9 +44,9 @@ impl<F: Formats + Drop> Plan<F> {
     }
 }
 
-/// What changes: the journal over the disk, the commits since the opening, the keys of all mounts after them, whether anything was written to the
-/// disk since the opening began, and what matches the patterns of the rules. The keys that the opening found stay beside them: the history leads
-/// from these to those after it.
+/// What changes: the journal over the disk, the commits since the opening, the keys of all mounts after them, whether
+/// anything was written to the disk since the opening began, and what matches the patterns of the rules. The keys that
+/// the opening found stay beside them: the history leads from these to those after it.
 #[derive(Drop)]
 pub struct Core<D: Disk, P: Patterns + Drop> {
     pub(crate) journal: Journal<D>,

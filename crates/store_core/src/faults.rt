@@ -21,7 +21,8 @@ pub enum OpenFault {
     BadTable { fault: TableFault },
     /// `elektra.ecf` has more than 1,048,576 bytes: so many.
     TooLong { bytes: u64 },
-    /// `elektra.ecf` doesn't read as keys: the line, from 1. Line 0 says that the whole name of a key would be too long.
+    /// `elektra.ecf` doesn't read as keys: the line, from 1. Line 0 says that the whole name of a key would be too
+    /// long.
     BadFile { line: u64 },
     Memory,
 }

@@ -26,8 +26,9 @@ pub struct Got {
 }
 
 impl<D: Disk, P: Patterns + Drop> Core<D, P> {
-    /// The keys that a parent involves, and with them the handle's own where the parent is cascading or in `proc`. The record keeps the number of
-    /// commits and a copy for each involved mount. It is refused exactly where such a mount is bad, with the lowest one and why; the record then stays.
+    /// The keys that a parent involves, and with them the handle's own where the parent is cascading or in `proc`. The
+    /// record keeps the number of commits and a copy for each involved mount. It is refused exactly where such a mount
+    /// is bad, with the lowest one and why; the record then stays.
     pub fn get<F: Formats + Drop>(
         &self,
         alloc: Global,

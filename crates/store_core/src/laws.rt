@@ -22,8 +22,8 @@ use regex_check::Patterns;
 use storage_api::Formats;
 use store_verdict as verdict;
 
-/// A core that stands for a world and a run stands, behind a commit with any answer, for what that answer means: for the next world of the handles,
-/// and for the run that goes on by it.
+/// A core that stands for a world and a run stands, behind a commit with any answer, for what that answer means: for
+/// the next world of the handles, and for the run that goes on by it.
 pub fn a_core_stands_after_each_commit<D: Disk, F: Formats, P: Patterns + Drop>(
     before: &Core<D, P>,
     after: &Core<D, P>,
@@ -36,7 +36,8 @@ pub fn a_core_stands_after_each_commit<D: Disk, F: Formats, P: Patterns + Drop>(
         × StandsFor (formats_of F.Formats) D.Disk store opened after.now next sets then_world later }
 {}
 
-/// A set that was prepared for a store, and that its record accepts now, may be committed, where the core stands with that record and that set.
+/// A set that was prepared for a store, and that its record accepts now, may be committed, where the core stands with
+/// that record and that set.
 pub fn a_prepared_set_may_be_committed<D: Disk, F: Formats, P: Patterns + Drop>(
     core: &Core<D, P>,
     rec: &verdict::Record,

@@ -18,8 +18,8 @@ use mounted_files::{Mounted, Opening};
 use std::alloc::Global;
 use storage_api::Formats;
 
-/// Reads the table's own file and then the file of each other mount, each file once. Whatever the disk tells, what a good
-/// file held can be written again.
+/// Reads the table's own file and then the file of each other mount, each file once. Whatever the disk tells, what a
+/// good file held can be written again.
 pub(crate) fn mount_files<D: Disk, F: Formats>(
     alloc: Global,
     journal: &mut Journal<D>,

@@ -33,8 +33,9 @@ pub struct Opened<D: Disk, F: Formats + Drop, P: Patterns + Drop> {
     pub core: Core<D, P>,
 }
 
-/// Opens the journal of a disk, reads `elektra.ecf` and then the file of each other mount of the table, each once and in the table's order. Then
-/// nothing has been committed. A refusal is the first one met, and hands the disk and the matcher back.
+/// Opens the journal of a disk, reads `elektra.ecf` and then the file of each other mount of the table, each once and
+/// in the table's order. Then nothing has been committed. A refusal is the first one met, and hands the disk and the
+/// matcher back.
 pub fn open_store<D: Disk, F: Formats + Drop, P: Patterns + Drop>(
     alloc: Global,
     disk: D,

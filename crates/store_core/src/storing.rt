@@ -1,4 +1,5 @@
-//! A set that is a commit enters the history: memory is taken first, then the disk is written, and then the commit is kept.
+//! A set that is a commit enters the history: memory is taken first, then the disk is written, and then the commit is
+//! kept.
 ghost use Rattle.std.specs.Prelude.{◌≤◌, ◌<◌, ◌++◌, ◌∷◌, [], All, length, map as over};
 ghost use Rattle.commit_log.specs.CommitView.{commit_of};
 ghost use Rattle.store_core.specs.Heads.{names_at};
@@ -19,8 +20,9 @@ use store_phases::commit;
 use store_verdict::{Prepared, Record};
 
 impl<D: Disk, P: Patterns + Drop> Core<D, P> {
-    /// Stores a set that is a commit, and has its record keep what was wanted. All memory is taken before the disk is touched. From `Ok` on every crash
-    /// leaves the commit; else what is kept is as it was, and after `DiskFault` at most one entry may still come into the files.
+    /// Stores a set that is a commit, and has its record keep what was wanted. All memory is taken before the disk is
+    /// touched. From `Ok` on every crash leaves the commit; else what is kept is as it was, and after `DiskFault` at
+    /// most one entry may still come into the files.
     pub(crate) fn enter<F: Formats + Drop>(
         &mut self,
         alloc: Global,

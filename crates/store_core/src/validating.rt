@@ -13,7 +13,8 @@ use plugin_chain::{Violation, violations};
 use regex_check::Patterns;
 
 impl<D: Disk, P: Patterns + Drop> Core<D, P> {
-    /// All violations of a set at or below a name, under the set's own specifications. Nothing is kept of it but the matcher's count.
+    /// All violations of a set at or below a name, under the set's own specifications. Nothing is kept of it but the
+    /// matcher's count.
     pub fn violations(&mut self, keys: &KeySet, at: &KeyName) -> Result<List<Violation>, Memory>
         ensures all { IfOk result (AreViolations (HasRisen (P.refusals self.old.patterns) (P.refusals self.new.patterns)) (is_within at.now) keys.now) }
         ensures later { P.refusals self.old.patterns ≤ P.refusals self.new.patterns }

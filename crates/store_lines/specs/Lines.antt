@@ -45,8 +45,8 @@ not_storable mount key = codes "C03200 not-storable " ++ (shown mount ++ (32 ∷
 abbrev pub history_full : ℕ → List ℕ
 history_full weight = codes "C01100 history-full " ++ decimal weight
 
--- a gate of the journal is open, and no whole head or no whole body of an entry stands behind it: the place, in a body of the former
--- journal or in the file
+-- a gate of the journal is open, and no whole head or no whole body of an entry stands behind it: the place, in a body
+-- of the former journal or in the file
 abbrev pub bad_journal : ℕ → List ℕ
 bad_journal at = codes "C03100 bad-journal " ++ decimal at
 

@@ -70,8 +70,8 @@ pub fn history_full(alloc: Global, weight: u64) -> Result<String, Memory>
     format!(in alloc; "C01100 history-full {weight}")
 }
 
-/// A gate of the journal is open, and no whole head or no whole body of an entry stands behind it: the place, in a body of the
-/// former journal or in the file.
+/// A gate of the journal is open, and no whole head or no whole body of an entry stands behind it: the place, in a body
+/// of the former journal or in the file.
 pub fn bad_journal(alloc: Global, at: u64) -> Result<String, Memory>
     ensures { IfOk result (λ text. string_bytes text ≡ bad_journal at) }
 {

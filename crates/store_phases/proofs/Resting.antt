@@ -1,4 +1,5 @@
--- A journal at rest between the phases: what is known of it before and behind each step, and how it passes from one into the other.
+-- A journal at rest between the phases: what is known of it before and behind each step, and how it passes from one
+-- into the other.
 use Rattle.std.proofs.Common.{◌≡◌, ◌≢◌, ◌⊎◌, ℕ, ◌+◌, ◌≤◌, List, [], ◌∷◌, ◌++◌, length, Bool, true, false, inl, inr, Option, Some, None, Result, Ok, Err, OnOk, OnErr, refl, sym, ap, subst, ◌∙◌, arith, length-append}
 use Rattle.std.specs.Prelude.{not, ◌==◌}
 use Rattle.std.proofs.lemmas.Bool.{eqb-true, le-leb}

@@ -19,7 +19,8 @@ use Rattle.intent_journal.specs.States.{IsRetired, IsCalm}
 use Rattle.model_crashes.specs.Runs.{new_run}
 use Rattle.store_phases.specs.Stores.{IsStore}
 
--- a run begins on the files that the opening leaves, with what that leaves in doubt, whichever names the head of its journal will have
+-- a run begins on the files that the opening leaves, with what that leaves in doubt, whichever names the head of its
+-- journal will have
 pub record HasBegun {D : Type 0} (g : Ghosts D) (disk : D) (journal : JournalValue D) : Type 0 where
   pub later : Option (List FileText)
   pub may_be : MayBeLeft (g.seen disk) later

@@ -22,7 +22,8 @@ pub record IsPhase {D : Type 0} (g : Ghosts D) (old new : JournalValue D) (resul
   pub goes : GoesOn g old.disk new.disk
   pub cause : HasCause (g.faults old.disk) (g.faults new.disk) result
 
--- whether the phase went well or not, the journal is at rest behind it with these files and this doubt, and no crash amid it leaves others
+-- whether the phase went well or not, the journal is at rest behind it with these files and this doubt, and no crash
+-- amid it leaves others
 pub record KeepsRest {D : Type 0} (g : Ghosts D) (old new : JournalValue D) (names : List (List ℕ)) (files : Image) (doubt : Option (List FileText)) : Type 0 where
   pub rests : IsResting g new names files doubt
   pub any_moment : LeavesOnly g old.disk new.disk (HasOnly (IsEither files doubt))

@@ -8,8 +8,9 @@ use Rattle.intent_journal.specs.States.{RestsAs}
 use Rattle.journal_lists.specs.Heads.{front_size}
 use Rattle.journal_steps.specs.Outcomes.{with_entries}
 
--- the disk tells, and a crash leaves these files, or these with the doubt, where a gate is in doubt: they are the files from before the
--- entries of the list, with these entries; and the head of the journal has these names, where it is there
+-- the disk tells, and a crash leaves these files, or these with the doubt, where a gate is in doubt: they are the files
+-- from before the entries of the list, with these entries; and the head of the journal has these names, where it is
+-- there
 pub record IsResting {D : Type 0} (g : Ghosts D) (journal : JournalValue D) (names : List (List ℕ)) (files : Image) (doubt : Option (List FileText)) : Type 0 where
   pub tells : g.tells journal.disk ≡ true
   pub before : Image

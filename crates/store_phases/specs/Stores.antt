@@ -21,7 +21,8 @@ pub record IsStore {D : Type 0} (g : Ghosts D) (opened : D) (journal : JournalVa
   pub doubt_begun : IsBegun run.begun (length run.commits) run.doubt
   -- where the count of faults didn't rise since the run began, a disk whose gate is in doubt is calm
   pub calm : journal.in_doubt ≡ true → ¬ HasRisen run.faults (g.faults journal.disk) → IsCalm (g.seen journal.disk) (g.may_leave journal.disk) (files_of run) run.doubt
-  -- a crash at any moment since the opening leaves the files of a prefix of the commits, or these with one entry that was begun on it
+  -- a crash at any moment since the opening leaves the files of a prefix of the commits, or these with one entry that
+  -- was begun on it
   pub always : LeavesOnly g opened journal.disk (IsReached run.files run.commits run.begun)
 
 -- a journal stands for a run, and the header and the entry are those of that run

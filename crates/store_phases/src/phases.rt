@@ -1,5 +1,6 @@
-//! The phases of a commit on the disk: room is made for an entry, the journal gets its head where it has none, the entry is put behind
-//! the list, and its gate opened. The files take the contents of the whole list at once, when it is brought in.
+//! The phases of a commit on the disk: room is made for an entry, the journal gets its head where it has none, the
+//! entry is put behind the list, and its gate opened. The files take the contents of the whole list at once, when it is
+//! brought in.
 ghost use Rattle.std.specs.Prelude.{◌≡◌, ◌≤◌, ◌++◌, ◌∷◌, [], ℕ, length, List, Option, Some, None, true, false, OnOk, OnErr};
 ghost use Rattle.kdb_outside.specs.Images.{Image};
 ghost use Rattle.journal_codec.specs.declared.files.FileText.{FileText as Item};
@@ -50,7 +51,8 @@ pub fn make_room<D: Disk>(journal: &mut Journal<D>, body: usize) -> Result<(), F
     make_clean(journal)
 }
 
-/// Puts the head of the journal, as `journal_codec::encode_header` gives it, where it has none. After `Err` the header gate is in doubt.
+/// Puts the head of the journal, as `journal_codec::encode_header` gives it, where it has none. After `Err` the header
+/// gate is in doubt.
 pub fn head<D: Disk>(journal: &mut Journal<D>, header: &[u8]) -> Result<(), Failed>
     requires sure { journal.old.in_doubt ≡ false }
     requires header { IsHeaderBytes header.now }

@@ -35,8 +35,8 @@ pub fn open<D: Disk>(alloc: Global, disk: D) -> Result<Journal<D>, JournalRefuse
     Journal::open(alloc, disk)
 }
 
-/// Stores an entry of the run, whose files take their contents later, with the header of the run's journal. From `Ok` on every crash
-/// leaves it; after `Err` at most one entry is in doubt.
+/// Stores an entry of the run, whose files take their contents later, with the header of the run's journal. From `Ok`
+/// on every crash leaves it; after `Err` at most one entry is in doubt.
 pub fn commit<D: Disk>(
     journal: &mut Journal<D>,
     header: &[u8],
@@ -57,8 +57,8 @@ pub fn commit<D: Disk>(
     store(journal, header, encoded, files)
 }
 
-/// Brings the entries that wait into their files, and closes a gate in doubt before. False exactly where none waits, and
-/// then nothing is done. The run stays: what it stored is stored, and what may come into the files may do so still.
+/// Brings the entries that wait into their files, and closes a gate in doubt before. False exactly where none waits,
+/// and then nothing is done. The run stays: what it stored is stored, and what may come into the files may do so still.
 pub fn flush<D: Disk>(journal: &mut Journal<D>) -> Result<bool, Failed>
     ensures none { journal.old.list ≡ [] → (journal.new ≡ journal.old) × (result ≡ Ok false) }
     ensures some { journal.old.list ≢ [] → IfOk result (λ wrote. wrote ≡ true) }

@@ -1,5 +1,5 @@
--- When an answer to a commit may come: a fault of the disk only where the disk's count rose, and a refused pattern only where the matcher's did.
--- (This project's own.)
+-- When an answer to a commit may come: a fault of the disk only where the disk's count rose, and a refused pattern only
+-- where the matcher's did. (This project's own.)
 use Rattle.std.specs.Prelude.{◌≡◌, ℕ, ◌≤◌, length, Err}
 use Rattle.kdb_outside.specs.Faults.{HasRisen}
 use Rattle.model_rules.specs.Rules.{longest_pattern}

@@ -1,5 +1,5 @@
--- The handles of a store as the definitions have them: a handle's number is the place of its record, and a set's that of the set. (This
--- project's own.)
+-- The handles of a store as the definitions have them: a handle's number is the place of its record, and a set's that
+-- of the set. (This project's own.)
 use Rattle.std.specs.Prelude.{◌≡◌, ℕ, ◌≤◌, List, length, slice_get, Option, Some, None, option_and_then}
 use Rattle.std.specs.Option.{option_map, option_map_or, unwrap_or}
 use Rattle.kdb_outside.specs.declared.disks.Disk.{Ghosts}
@@ -82,7 +82,8 @@ pub record IsHeld (formats : Formats) (store : Store) (known : Option sets.Prepa
 abbrev pub AreHeld : Formats → Store → (ℕ → Option sets.Prepared) → List (Option Prepared) → Type 0
 AreHeld formats store known places = (p : ℕ) (set : Prepared) → held_at places p ≡ Some set → IsHeld formats store (known p) set
 
--- a core with the records of some handles, and the sets that were prepared, stands for a world and for a run on the disk
+-- a core with the records of some handles, and the sets that were prepared, stands for a world and for a run on the
+-- disk
 pub record Holds (formats : Formats) {D P : Type 0} (g : Ghosts D) (files : List MountedFile) (procs : ℕ → KeyMap) (opened : D) (core : Core D P) (records : List Record) (places : List (Option Prepared)) (known : ℕ → Option sets.Prepared) (world : World) (run : Run) : Type 0 where
   pub stands : StandsFor formats g (store_of files procs) opened core (records_of records) known world run
   pub handles : AreHandles files procs records

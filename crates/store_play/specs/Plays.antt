@@ -49,7 +49,8 @@ IsSkipped stage (Commit handle number) NoSet = stage.held number ≡ None
 IsSkipped stage (Commit handle number) NotAccepted = Declines stage handle number
 IsSkipped stage event why = ⊥
 
--- a call was made, with an answer: what is kept goes on as the definitions of a store say, and so does the run on the disk
+-- a call was made, with an answer: what is kept goes on as the definitions of a store say, and so does the run on the
+-- disk
 pub record Calls (formats : Formats) (store : Store) (files : List MountedFile) (before : Stage) (asked : Event) (told : Answer) (after : Stage) : Type 0 where
   pub answer : event.Answer
   pub tells : Tells files asked told answer

@@ -57,8 +57,8 @@ pub record HasPlayedNew (formats : Formats) {D P : Type 0} (g : Ghosts D) (mount
   pub core_is : last.core ≡ core_with core records known
   pub stands : StandsFor formats g (store_with mounted procs) opened core records known world last.run
 
--- and the store was closed: a crash since the opening leaves what the run reached, and now its files or these with its doubt. Without a fault a read
--- gives its files, and the disk is calm
+-- and the store was closed: a crash since the opening leaves what the run reached, and now its files or these with its
+-- doubt. Without a fault a read gives its files, and the disk is calm
 pub record HasRunOpened (formats : Formats) {D P : Type 0} (g : Ghosts D) (mounted : List MountedFile) (procs : List KeyMap) (places : ℕ) (opened : D) (first : Run) (events : List Event) (ran : Ran D P) : Type 0 where
   pub core : Core D P
   pub played : HasPlayedNew formats g mounted procs places opened first events ran.answers core
@@ -85,10 +85,10 @@ CrashesCalm g disk = EveryImage (g.may_leave disk) StandsForOne
 abbrev pub WasOrReached : Image → Option (List FileText) → Run → Image → Type 0
 WasOrReached files doubt run image = HasOnly (IsEither files doubt) image ⊎ IsReached run.files run.commits run.begun image
 
--- the events were played from the opening to the close, behind a run that began as the first one. The calls that they made are those of one owner. A
--- crash at any moment since the disk was handed in leaves what it stood for then, or the files of a prefix of the commits, or these with one set that
--- was begun on just that prefix; and now the files of all commits, or these with the set in doubt. Without a fault a read gives the files of all
--- commits, and the disk is calm
+-- the events were played from the opening to the close, behind a run that began as the first one. The calls that they
+-- made are those of one owner. A crash at any moment since the disk was handed in leaves what it stood for then, or the
+-- files of a prefix of the commits, or these with one set that was begun on just that prefix; and now the files of all
+-- commits, or these with the set in doubt. Without a fault a read gives the files of all commits, and the disk is calm
 pub record HasRun (formats : Formats) {D P : Type 0} (g : Ghosts D) (mounted : List MountedFile) (procs : List KeyMap) (places : ℕ) (disk : D) (files : Image) (doubt : Option (List FileText)) (first : Run) (events : List Event) (ran : Ran D P) : Type 0 where
   pub last : Stage
   pub plays : Plays formats (store_with mounted procs) mounted (first_stage (store_with mounted procs) first (length procs) places) events ran.answers last
@@ -109,7 +109,8 @@ pub record HasRun (formats : Formats) {D P : Type 0} (g : Ghosts D) (mounted : L
 abbrev pub FromCalm : {D : Type 0} → Ghosts D → D → (Image → Option (List FileText) → Type 0) → Type 0
 FromCalm g disk P = (files : Image) (doubt : Option (List FileText)) → IsCalm (g.seen disk) (g.may_leave disk) files doubt → P files doubt
 
--- the run that begins on the files that the journals of a disk leave, with what they leave in doubt, under a head with some names
+-- the run that begins on the files that the journals of a disk leave, with what they leave in doubt, under a head with
+-- some names
 abbrev pub opened_run : {D : Type 0} → Ghosts D → D → Option (List FileText) → List (List ℕ) → Run
 opened_run g disk later names = new_run names (opened_files (g.seen disk)) (g.faults disk) later
 
@@ -117,7 +118,8 @@ opened_run g disk later names = new_run names (opened_files (g.seen disk)) (g.fa
 abbrev pub ForOpenedRun : {D : Type 0} → Ghosts D → D → ((List (List ℕ) → Run) → Type 0) → Type 0
 ForOpenedRun g disk Property = (later : Option (List FileText)) × MayBeLeft (g.seen disk) later × Property (opened_run g disk later)
 
--- events were played on the store of some opened files, behind a run that began as the first one, under a head that names the files of the store
+-- events were played on the store of some opened files, behind a run that began as the first one, under a head that
+-- names the files of the store
 abbrev pub HasRunFiles : Formats → Reading → Badness → {D P : Type 0} → Ghosts D → List KeyMap → ℕ → List Event → D → Image → Option (List FileText) → (List (List ℕ) → Run) → Ran D P → Type 0
 HasRunFiles formats Reads IsBad g procs places events disk files doubt first ran =
     (mounted : List MountedFile) × IsOpened Reads IsBad (opened_files (g.seen disk)) mounted

@@ -11,7 +11,8 @@ use Rattle.store_play.specs.Handles.{records_of, held_in}
 use Rattle.store_verdict.specs.declared.prepared.Prepared.{Prepared}
 use Rattle.store_verdict.specs.declared.records.Record.{Record}
 
--- the core, the run on the disk, the sets that are held until they are committed, and how many handles and places for sets there are
+-- the core, the run on the disk, the sets that are held until they are committed, and how many handles and places for
+-- sets there are
 pub record Stage : Type 0 where
   pub core : cores.Core
   pub run : Run
@@ -27,7 +28,8 @@ abbrev pub set_asked : (ℕ → Option sets.Prepared) → event.Event → Option
 set_asked sets (event.Commit r p) = sets p
 set_asked sets asked = None
 
--- what is held after a call: a set that was prepared, in place of one of its number; and no set that was committed, whatever the answer
+-- what is held after a call: a set that was prepared, in place of one of its number; and no set that was committed,
+-- whatever the answer
 abbrev pub held_after : event.Event → event.Answer → (ℕ → Option sets.Prepared) → (ℕ → Option sets.Prepared) → ℕ → Option sets.Prepared
 held_after (event.Prepare r p parent keys) event.Ready known held = put p (known p) held
 held_after (event.Commit r p) answer known held = put p None held

@@ -11,8 +11,8 @@ use storage_api::Formats;
 use store_core::Plan;
 use store_verdict::{Prepared, Record};
 
-/// The record of each handle, and the sets that were prepared and not committed yet. A handle's number is the place of its record, and a
-/// set's that of the set.
+/// The record of each handle, and the sets that were prepared and not committed yet. A handle's number is the place of
+/// its record, and a set's that of the set.
 #[derive(Drop)]
 pub struct Handles {
     pub(crate) records: Vec<Record>,

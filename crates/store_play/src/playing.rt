@@ -23,11 +23,13 @@ use std::alloc::Global;
 use storage_api::Formats;
 use store_core::{Core, Plan};
 
-/// Plays events one after the other, and makes a flush behind each of these numbers of them. Where memory for the answers is wanting, none is played.
+/// Plays events one after the other, and makes a flush behind each of these numbers of them. Where memory for the
+/// answers is wanting, none is played.
 ///
-/// Each call that an event makes is judged as the definitions of a store say, and the store has one owner: each answer is the one that is meant by
-/// the history, the handle's fronts and what was asked. The core stands again, with a run that went on by these answers, so that a crash at any moment
-/// since the opening leaves what the run says. A fault of the disk and a refused pattern are answered only where their counts rose.
+/// Each call that an event makes is judged as the definitions of a store say, and the store has one owner: each answer
+/// is the one that is meant by the history, the handle's fronts and what was asked. The core stands again, with a run
+/// that went on by these answers, so that a crash at any moment since the opening leaves what the run says. A fault of
+/// the disk and a refused pattern are answered only where their counts rose.
 pub fn play<D: Disk, F: Formats + Drop, P: Patterns + Drop>(
     alloc: Global,
     plan: &Plan<F>,
@@ -55,7 +57,8 @@ pub fn play<D: Disk, F: Formats + Drop, P: Patterns + Drop>(
     Ok(List::from_vec(answers))
 }
 
-/// Plays one event, and makes the flushes that come behind so many events. A flush is no event: what is kept stays, and so does what the run stored.
+/// Plays one event, and makes the flushes that come behind so many events. A flush is no event: what is kept stays, and
+/// so does what the run stored.
 fn turn<D: Disk, F: Formats + Drop, P: Patterns + Drop>(
     alloc: Global,
     plan: &Plan<F>,

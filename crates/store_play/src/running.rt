@@ -31,9 +31,10 @@ pub struct Ran<D: Disk, P: Patterns + Drop> {
     pub flushes: Flushes,
 }
 
-/// Opens the store of a calm disk, plays events by new handles, with a flush behind each of these numbers of them, and closes it. What a crash then leaves
-/// is calm again. It is refused where the store isn't opened, and where memory is wanting
-/// before the first event; the disk and the matcher are then handed back. Where no fault came the disk is calm again, refused or not.
+/// Opens the store of a calm disk, plays events by new handles, with a flush behind each of these numbers of them, and
+/// closes it. What a crash then leaves is calm again. It is refused where the store isn't opened, and where memory is
+/// wanting before the first event; the disk and the matcher are then handed back. Where no fault came the disk is calm
+/// again, refused or not.
 pub fn run<D: Disk, F: Formats + Drop, P: Patterns + Drop>(
     alloc: Global,
     disk: D,

@@ -27,8 +27,8 @@ use Rattle.store_verdict.specs.declared.renewing.Written.TheVariants as written
 
 -- ---- the touched mounts
 
--- the file of each touched mount can hold what the mount owns of some keys; no text of these is too long; and the files of mounts by their backends
--- were found light enough. (Those of mounts by key are weighed when they are made anew.)
+-- the file of each touched mount can hold what the mount owns of some keys; no text of these is too long; and the files
+-- of mounts by their backends were found light enough. (Those of mounts by key are weighed when they are made anew.)
 pub record MayRenew (formats : Formats) (store : Store) (keys : KeyMap) (touched : List ℕ) : Type 0 where
   pub storable : AllByRecursion (IsStorableAt formats store (wants (points_of store) keys)) touched
   pub short : AreShort keys

@@ -11,8 +11,8 @@ use crate::prepared::{Seen, front_of};
 use crate::{Prepared, Record};
 
 impl Record {
-    /// Whether a set was prepared for this handle, with the fronts that the record still has of the involved mounts, and
-    /// the handle has committed nothing since.
+    /// Whether a set was prepared for this handle, with the fronts that the record still has of the involved mounts,
+    /// and the handle has committed nothing since.
     pub fn accepts(&self, set: &Prepared) -> bool
         ensures { result ≡ accepts (record_of self.now) (handle_of self.now) (prepared_of set.now) }
     {

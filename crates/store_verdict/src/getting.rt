@@ -26,8 +26,8 @@ pub enum Getting {
     Bad { mount: usize },
 }
 
-/// What a get of a parent gives a handle, by the present keys and the number of commits so far. The record keeps that number and a copy for each
-/// involved mount, unless one of them is bad.
+/// What a get of a parent gives a handle, by the present keys and the number of commits so far. The record keeps that
+/// number and a copy for each involved mount, unless one of them is bad.
 pub fn get(
     alloc: Global,
     mounted: &Mounted,
@@ -96,8 +96,8 @@ fn is_bad_state(state: &FileState) -> bool
     }
 }
 
-/// The keys that a get of a parent gives a handle, by the parts of the involved mounts: their keys, and where the parent is cascading or in
-/// `proc` the handle's own too.
+/// The keys that a get of a parent gives a handle, by the parts of the involved mounts: their keys, and where the
+/// parent is cascading or in `proc` the handle's own too.
 fn got(alloc: Global, rec: &Record, parts: &Parts, parent: &KeyName) -> Result<KeySet, Memory>
     ensures { IfOk result (λ found. (store : Store) (keys : KeyMap) → numbered parts.now.parts ≡ parts_of (points_of store) parent.now keys → store.procs (handle_of rec.now) ≡ proc_of rec.now → found ≡ got store keys (handle_of rec.now) parent.now) }
 {

@@ -43,8 +43,8 @@ pub enum Late {
         mount: usize,
         by: u64,
     },
-    /// The file of a mount that counts by key would be too large after the set: the weight of its keys, or the length of
-    /// its text.
+    /// The file of a mount that counts by key would be too large after the set: the weight of its keys, or the length
+    /// of its text.
     TooLarge {
         mount: usize,
         bytes: u64,
@@ -79,11 +79,11 @@ pub struct Block {
 
 /// What becomes of a prepared set by the commits so far and the keys of all mounts after it.
 ///
-/// The first of these applies: `Same`, where no mount is touched; `Conflict`, for the lowest touched mount that a commit
-/// behind the set's front blocks, with the first such commit: one that touches the mount, or where the mount counts by key
-/// one of another handle that changes a key which the set changes there; `TooLarge`, for the lowest touched mount that
-/// counts by key and whose file would be too large; `Invalid`, with the first violation in the touched mounts;
-/// `DatabaseFull`; `HistoryFull`; `Commits`.
+/// The first of these applies: `Same`, where no mount is touched; `Conflict`, for the lowest touched mount that a
+/// commit behind the set's front blocks, with the first such commit: one that touches the mount, or where the mount
+/// counts by key one of another handle that changes a key which the set changes there; `TooLarge`, for the lowest
+/// touched mount that counts by key and whose file would be too large; `Invalid`, with the first violation in the
+/// touched mounts; `DatabaseFull`; `HistoryFull`; `Commits`.
 pub fn judge<F: Formats, P: Patterns>(
     alloc: Global,
     formats: &F,

@@ -1,5 +1,5 @@
-//! What becomes of a set of keys, without a disk: what a handle keeps, what a prepare makes or refuses, and what the history
-//! decides of a prepared set.
+//! What becomes of a set of keys, without a disk: what a handle keeps, what a prepare makes or refuses, and what the
+//! history decides of a prepared set.
 #![tactic(auto)]
 
 mod accepting;

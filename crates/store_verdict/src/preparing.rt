@@ -23,14 +23,15 @@ use storage_api::Formats;
 
 /// What a set of keys at a parent makes, against what its handle keeps.
 ///
-/// The keys that an involved mount owns are wanted there, in place of those that the record keeps of it. It is touched where they differ.
-/// What its file is to hold are the wanted keys and those that it keeps for other mounts.
+/// The keys that an involved mount owns are wanted there, in place of those that the record keeps of it. It is touched
+/// where they differ. What its file is to hold are the wanted keys and those that it keeps for other mounts.
 ///
-/// The first of these applies: `NotFetched`, for the lowest involved mount that the record has no front of; `ValueTooLong`, for the first key
-/// that an involved mount owns with too long a text, its value before its metadata; `FileTooLarge` with a weight, for the lowest touched
-/// mount whose file would hold keys of more than 16,777,216; `NotStorable`, for the lowest one whose format can't hold these keys;
-/// `FileTooLarge` with a length, for the lowest one whose text would have more than 1,048,576 bytes; `BadTable`, where the keys wanted for
-/// `system:/elektra` make no table.
+/// The first of these applies: `NotFetched`, for the lowest involved mount that the record has no front of;
+/// `ValueTooLong`, for the first key that an involved mount owns with too long a text, its value before its metadata;
+/// `FileTooLarge` with a weight, for the lowest touched mount whose file would hold keys of more than 16,777,216;
+/// `NotStorable`, for the lowest one whose format can't hold these keys; `FileTooLarge` with a length, for the lowest
+/// one whose text would have more than 1,048,576 bytes; `BadTable`, where the keys wanted for `system:/elektra` make no
+/// table.
 pub fn prepare<F: Formats>(
     alloc: Global,
     formats: &F,

@@ -122,8 +122,8 @@ impl Record {
         keep_all(&mut self.fetched, front, parts.into_vec());
     }
 
-    /// Keeps what a commit of the handle's own wanted for each touched mount: from the commit's number on, or of a mount
-    /// that counts by key from the front on that the record has. It takes no memory.
+    /// Keeps what a commit of the handle's own wanted for each touched mount: from the commit's number on, or of a
+    /// mount that counts by key from the front on that the record has. It takes no memory.
     pub fn store(&mut self, table: &MountTable, number: u64, parts: List<Part>)
         requires places { All (λ part. part.mount < places_of self.old) parts }
         requires count { (record_of self.old).committed < number }

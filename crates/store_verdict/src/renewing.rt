@@ -1,5 +1,5 @@
-//! The texts of touched files, made anew of the map after a set where one of their mounts counts by key: another handle's
-//! commit may have changed other keys of the same file since the set was prepared.
+//! The texts of touched files, made anew of the map after a set where one of their mounts counts by key: another
+//! handle's commit may have changed other keys of the same file since the set was prepared.
 ghost use Rattle.std.specs.Prelude.{◌≡◌, ℕ, IfOk, map as over};
 ghost use Rattle.std.specs.List.{AllByRecursion};
 ghost use Rattle.key_name.specs.Owner.{IsPoints};
@@ -26,8 +26,9 @@ use set_split::{Part, owned};
 use std::alloc::{AllocError, Global};
 use storage_api::Formats;
 
-/// What came of it: the texts in the order of the files' names, or none where no touched mount counts by key; or the lowest
-/// mount that counts by key and whose file would be too large, with the weight of its keys or the length of its text.
+/// What came of it: the texts in the order of the files' names, or none where no touched mount counts by key; or the
+/// lowest mount that counts by key and whose file would be too large, with the weight of its keys or the length of its
+/// text.
 #[derive(Drop)]
 pub enum Renewal {
     Texts { renewed: Option<List<FileText>> },

@@ -25,7 +25,8 @@ pub mod Values
 abbrev pub every_key : Name
 every_key = record { namespace = Cascading; parts = [] }
 
--- a command on a key: it gets the keys of a parent, makes a step of them, and may end with these statuses beside 0 and 5
+-- a command on a key: it gets the keys of a parent, makes a step of them, and may end with these statuses beside 0 and
+-- 5
 pub record Row : Type 0 where
   pub parent : Name
   pub step : KeyMap → Step

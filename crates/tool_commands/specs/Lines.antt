@@ -1,5 +1,5 @@
--- The lines that the tool puts on err beside those of what a store refuses, and those that it prints. (This project's own; the
--- codes are Elektra's.)
+-- The lines that the tool puts on err beside those of what a store refuses, and those that it prints. (This project's
+-- own; the codes are Elektra's.)
 use Rattle.std.specs.Prelude.{ℕ, Bool, if◌then◌else◌, List, [], ◌∷◌, ◌++◌, codes}
 use Rattle.model_names.specs.Name.{Name}
 use Rattle.model_quoting.specs.Quoted.{quoted, shown}

@@ -40,7 +40,7 @@ abbrev pub IsOneOf : List ℕ → ℕ → Type 0
 IsOneOf [] status = ⊥
 IsOneOf (one ∷ others) status = (status ≡ one) ⊎ IsOneOf others status
 
--- how a command ends that reached the files: with 0 where it is done, 5 where the store refuses, or a status of its own, which is
--- none of want of memory or of a fault
+-- how a command ends that reached the files: with 0 where it is done, 5 where the store refuses, or a status of its
+-- own, which is none of want of memory or of a fault
 abbrev pub IsEnd : List ℕ → ℕ → Type 0
 IsEnd own status = IsOneOf (0 ∷ 5 ∷ own) status × (status < 70)

@@ -33,8 +33,8 @@ use Rattle.tool_words.proofs.RowLemmas.{request-names_files}
 use Rattle.tool_single.proofs.AnswerLemmas.{owner_in-there}
 use Rattle.tool_single.proofs.SetLemmas.{Set-some}
 
--- some answer is one of these: it can't be that none is. Which one it is may hang on what a matcher refuses, and on whether a text is a pattern, a number or
--- in a range, which no proof here decides
+-- some answer is one of these: it can't be that none is. Which one it is may hang on what a matcher refuses, and on
+-- whether a text is a pattern, a number or in a range, which no proof here decides
 abbrev pub Some : (Answer → Type 0) → Type 0
 Some Answered = ¬ ((answer : Answer) → ¬ Answered answer)
 

@@ -1,4 +1,5 @@
--- What answers where some refusals are allowed does so where more are, and what stores something does whatever is allowed.
+-- What answers where some refusals are allowed does so where more are, and what stores something does whatever is
+-- allowed.
 use Rattle.std.specs.Prelude.{◌≡◌, ℕ, List, [], ◌∷◌, Result, Ok, Err}
 use Rattle.std.proofs.Common.{refl, sym, ap, ◌∙◌}
 use Rattle.model_maps.specs.KeyMap.{KeyMap}

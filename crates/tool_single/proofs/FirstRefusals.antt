@@ -1,5 +1,5 @@
--- First violations by which texts may be refused as patterns: where each text that is no pattern is among them, it is absurd that some keys have neither
--- one nor none.
+-- First violations by which texts may be refused as patterns: where each text that is no pattern is among them, it is
+-- absurd that some keys have neither one nor none.
 use Rattle.std.proofs.Common.{◌≡◌, ℕ, ◌≤◌, Bool, true, false, T, List, [], ◌∷◌, ◌++◌, map, length, Option, Some, None, refl, sym, ap, subst, arith, append-nil}
 use Rattle.std.specs.Option.{option_to_list}
 use Rattle.general_words.proofs.Lists.{head_is}
@@ -65,7 +65,8 @@ module _ (MayRefuse : List ℕ → Type 0) where
       by [] rest is_of_key of_rest all again = again (subst (AreOfKeysBy MayRefuse keys) (sym all) of_rest)
       by (v ∷ own) rest is_of_key of_rest all again = subst IsOwned (sym (head_is violation v _ _ all)) (of_key key v own is_of_key)
 
-  -- it is absurd that some keys have neither a first violation that tells a text which may be refused, if it goes by a refusal, nor none
+  -- it is absurd that some keys have neither a first violation that tells a text which may be refused, if it goes by a
+  -- refusal, nor none
   pub first-or_none : RefusesEach MayRefuse → (keys : List (Name × Entry)) → ((violation : Violation) (risen : Bool) → (T risen → MayRefuse violation.given) → BeginWith (T risen) keys violation → ⊥) → (AreOfKeys ⊥ keys [] → ⊥) → ⊥
   first-or_none each keys some none = some_by_keys MayRefuse each keys by
     where

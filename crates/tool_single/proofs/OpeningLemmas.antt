@@ -103,7 +103,8 @@ refused_serve g disk end files doubt before now question why (Err stops.ReadFaul
 
 -- ---- one that is
 
--- on a calm disk the opened journal stands for a run on the files that the opening leaves, with a doubt that stands for no other files
+-- on a calm disk the opened journal stands for a run on the files that the opening leaves, with a doubt that stands for
+-- no other files
 pub has_begun : {D : Type 0} (g : Ghosts D) (disk : D) (files : Image) (doubt : Option (List FileText)) (names : List (List ℕ)) (journal : JournalValue D) → IsCalm (g.seen disk) (g.may_leave disk) files doubt → IsEither files doubt (opened_files (g.seen disk))
     → (later : Option (List FileText)) → MayBeLeft (g.seen disk) later → IsStore g journal.disk journal (new_run names (opened_files (g.seen disk)) (g.faults disk) later)
     → ((others : Image) (other : Option (List FileText)) → IsCalm (g.seen disk) (g.may_leave disk) others other → SameFiles others (opened_files (g.seen disk)) → IsStore g journal.disk journal (new_run names others (g.faults disk) other))

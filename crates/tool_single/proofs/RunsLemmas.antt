@@ -232,7 +232,8 @@ amid_so : (files opened : Image) (doubt : Option (List FileText)) (texts : Texts
 amid_so files opened doubt [] image only = inl only
 amid_so files opened doubt (text ∷ texts) image only = only
 
--- the disk that the next run finds is calm with what the run stored, or, where it was cut off, as before or with that in doubt
+-- the disk that the next run finds is calm with what the run stored, or, where it was cut off, as before or with that
+-- in doubt
 abbrev pub IsCalmBehind : {D : Type 0} → Ghosts D → Image → Option (List FileText) → OneRun D → D → Texts → Type 0
 IsCalmBehind g files doubt run next texts =
     IsCalm (g.seen next) (g.may_leave next) (files_behind files (opened_files (g.seen run.found)) texts) (doubt_behind doubt texts)

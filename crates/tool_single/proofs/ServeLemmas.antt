@@ -41,8 +41,8 @@ use Rattle.tool_single.specs.declared.answers.Stop.TheVariants as stops
 use Rattle.tool_single.proofs.CalmLemmas.{calm_on}
 use Rattle.tool_single.proofs.CrashLemmas.{found, reached_none, reached_begun, reached_commit, left_found}
 
--- an opened store stands for a run without a commit, under a head with these names, on the files that the opening leaves and with a doubt that stands for no
--- other files
+-- an opened store stands for a run without a commit, under a head with these names, on the files that the opening
+-- leaves and with a doubt that stands for no other files
 pub record HasBegun {D : Type 0} (g : Ghosts D) (disk : D) (files : Image) (doubt : Option (List FileText)) (names : List (List ℕ)) (journal : JournalValue D) : Type 0 where
   pub first : Option (List FileText)
   pub store : IsStore g journal.disk journal (new_run names (opened_files (g.seen disk)) (g.faults disk) first)

@@ -1,5 +1,5 @@
--- Verdicts by which texts may be refused as patterns. Where none of them is a pattern a set has one at most; where each text that is no pattern is among
--- them it is absurd that it has none.
+-- Verdicts by which texts may be refused as patterns. Where none of them is a pattern a set has one at most; where each
+-- text that is no pattern is among them it is absurd that it has none.
 use Rattle.std.proofs.Common.{◌≡◌, ℕ, nat_lt, Bool, true, false, T, List, [], ◌∷◌, ◌++◌, Option, Some, None, refl, sym, ap, subst, ◌∙◌, inl, inr}
 use Rattle.general_words.specs.Saturated.{saturated}
 use Rattle.general_words.proofs.Lists.{some_is}

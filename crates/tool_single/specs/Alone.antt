@@ -1,4 +1,5 @@
--- The store of a command with its one handle, and what the handle gets before anything was committed. (This project's own.)
+-- The store of a command with its one handle, and what the handle gets before anything was committed. (This project's
+-- own.)
 use Rattle.std.specs.Prelude.{ℕ, List, Option, Some, None, option_and_then, Result, Ok, Err}
 use Rattle.model_maps.specs.KeyMap.{KeyMap, no_keys}
 use Rattle.model_names.specs.Name.{Name}

@@ -50,7 +50,8 @@ abbrev pub AnswersGot : (List ℕ → Type 0) → List MountedFile → Name → 
 AnswersGot MayRefuse files name action (Ok keys) answer = AnswersStep MayRefuse files (parent_of name action) (step_of keys name action) answer
 AnswersGot MayRefuse files name action (Err fault) answer = answer ≡ refused 5 (line_of_get fault)
 
--- `export` of keys under the names that lead to them from a name: their text in a format, or the whole name of the first that the format can't hold
+-- `export` of keys under the names that lead to them from a name: their text in a format, or the whole name of the
+-- first that the format can't hold
 pub data AnswersText (name : Name) (kind : Kind) (keys : KeyMap) (answer : Answer) : Type 0 where
   Written : all.IsStorable kind keys → answer ≡ done (all.text kind keys) → AnswersText name kind keys answer
   NotHeld : (key : Name) → all.BreaksAt kind keys key → answer ≡ refused 5 (not_storable name (joined name key)) → AnswersText name kind keys answer
@@ -107,8 +108,8 @@ pub record AnswersOver (MayRefuse : List ℕ → Type 0) (question : Question) (
   pub opens : Opens all.Reads all.IsBadAt bytes_of opened
   pub answers : AnswersOpened MayRefuse opened question answer
 
--- `import`: the keys that some bytes hold as a file at a name would, take the place of all at or below it. Bytes that hold none are
--- refused as such a file is, before the files are looked at
+-- `import`: the keys that some bytes hold as a file at a name would, take the place of all at or below it. Bytes that
+-- hold none are refused as such a file is, before the files are looked at
 pub data AnswersImport (MayRefuse : List ℕ → Type 0) (name : Name) (kind : Kind) (bytes : List ℕ) (bytes_of : List ℕ → List ℕ) (answer : Answer) : Type 0 where
   Held : (keys : KeyMap) → Holds all.Reads name kind bytes keys → AnswersOver MayRefuse (On name (Replace keys)) bytes_of answer → AnswersImport MayRefuse name kind bytes bytes_of answer
   Bad : (cause : Cause) → IsCause all.Reads all.IsBadAt name kind bytes cause → answer ≡ refused 5 (line_of_get (fault_of name cause)) → AnswersImport MayRefuse name kind bytes bytes_of answer
@@ -120,8 +121,9 @@ AnswersRequest MayRefuse (Bars name) input bytes_of answer = answer ≡ refused 
 AnswersRequest MayRefuse (Asks question) input bytes_of answer = AnswersOver MayRefuse question bytes_of answer
 AnswersRequest MayRefuse (Imports name kind) input bytes_of answer = AnswersImport MayRefuse name kind (taken input) bytes_of answer
 
--- the answer to a command line with some input, where files gives each file name its bytes. It is one and the same but for the texts that may be refused
--- as patterns (`MayRefuse`): a value that such a text is to check breaks the rule on patterns then. Where each text that is no pattern is among them
--- there is always an answer, and where no other text is, one alone
+-- the answer to a command line with some input, where files gives each file name its bytes. It is one and the same but
+-- for the texts that may be refused as patterns (`MayRefuse`): a value that such a text is to check breaks the rule on
+-- patterns then. Where each text that is no pattern is among them there is always an answer, and where no other text
+-- is, one alone
 abbrev pub Answers : (List ℕ → Type 0) → List (List ℕ) → List ℕ → (List ℕ → List ℕ) → Answer → Type 0
 Answers MayRefuse words input files answer = AnswersRequest MayRefuse (request words) input files answer

@@ -14,7 +14,8 @@ use Rattle.tool_single.specs.Answers.{line_of_get}
 use Rattle.tool_single.specs.Input.{taken}
 use Rattle.tool_single.specs.Outcome.{Gives}
 
--- of an import: an input that holds no keys is refused as a file is, before the journal is looked at, and else the journal is
+-- of an import: an input that holds no keys is refused as a file is, before the journal is looked at, and else the
+-- journal is
 pub data ToldOfImport (name : Name) (kind : Kind) (input line : List ℕ) (report : Report) : Type 0 where
   Held : (keys : KeyMap) → Holds all.Reads name kind (taken input) keys → report ≡ warned 5 line → ToldOfImport name kind input line report
   Bad : (cause : Cause) → IsCause all.Reads all.IsBadAt name kind (taken input) cause → report ≡ warned 5 (line_of_get (fault_of name cause)) → ToldOfImport name kind input line report

@@ -29,7 +29,8 @@ use Rattle.tool_single.specs.declared.answers.Stop.TheVariants as stops
 abbrev pub Refusing : {D P : Type 0} → matchers.Ghosts P → P → Ended D P → List ℕ → Type 0
 Refusing p patterns ended = MayRefuse ended.answer (p.refusals patterns) (p.refusals ended.patterns)
 
--- a question was put to the store of a disk. What is said of its files is said of a disk that tells, and mostly of one that is calm
+-- a question was put to the store of a disk. What is said of its files is said of a disk that tells, and mostly of one
+-- that is calm
 pub record PutsQuestion {D P : Type 0} (d : disks.Ghosts D) (p : matchers.Ghosts P) (question : Question) (disk : D) (patterns : P) (ended : Ended D P) : Type 0 where
   pub served : d.tells disk ≡ true → (files : Image) (doubt : Option (List FileText)) → IsCalm (d.seen disk) (d.may_leave disk) files doubt
       → Serve d files doubt (AnswersOver (Refusing p patterns ended) question (opened_files (d.seen disk))) ended.answer disk ended.disk

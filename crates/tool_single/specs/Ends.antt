@@ -19,8 +19,8 @@ pub data EndsRefused (report : Report) (status : ℕ) (out err : Change) : Type 
   NoMemory : status ≡ 70 → EndsRefused report status out err
   SinkFails : LosesSink status out err → EndsRefused report status out err
 
--- words that ask the store for nothing decide how a run ends; a question to the store ends with its own statuses alone, and an
--- import with 0 or 5
+-- words that ask the store for nothing decide how a run ends; a question to the store ends with its own statuses alone,
+-- and an import with 0 or 5
 abbrev pub EndsByWords : Request → ℕ → Change → Change → Type 0
 EndsByWords (Refuses code text) status out err = EndsRefused (warned code text) status out err
 EndsByWords (Bars name) status out err = EndsRefused (warned 2 (not_writable name)) status out err

@@ -1,5 +1,5 @@
--- The place that is told of a journal that isn't whole. No crash of this store leaves one. (This project's own. After the longest viable
--- prefix, at which a parser tells an error.)
+-- The place that is told of a journal that isn't whole. No crash of this store leaves one. (This project's own. After
+-- the longest viable prefix, at which a parser tells an error.)
 use Rattle.std.specs.Prelude.{◌≡◌, ◌≢◌, ℕ, ◌+◌, ◌<◌, ◌≤◌, true, false, List, [], ◌∷◌, ◌++◌, length, drop, slice_index, Option, Some, None, All}
 use Rattle.std.specs.List.{flat_map}
 use Rattle.std.specs.List.Sorted.{IsStrictlySortedBy}
@@ -20,8 +20,8 @@ use Rattle.kdb_outside.specs.Images.{Image}
 
 -- ---- in a body, of a list behind a header that names some files, or without one
 
--- some bytes are the body of this entry. Its first byte tells by its size whether another gate follows, and counts without that; behind a
--- header one does, and the header names the entry's files
+-- some bytes are the body of this entry. Its first byte tells by its size whether another gate follows, and counts
+-- without that; behind a header one does, and the header names the entry's files
 abbrev pub IsBody : Option (List (List ℕ)) → List ℕ → List FileText → Type 0
 IsBody None body files = IsEntry files × (spelled files ≡ uncounted body)
 IsBody (Some names) body files = IsEntry files × (are_listed names files ≡ true) × (spelled_on files ≡ body)
@@ -37,8 +37,8 @@ pub record IsStrangeName (names : List (List ℕ)) (body : List ℕ) (at : ℕ) 
   pub strange : is_listed names name ≡ false
   pub at_is : at ≡ length (bytes_of (Begun count files None)) + 1
 
--- behind a header a body goes wrong at its count, where that says that no gate follows; at the name of a file that the header doesn't name; or
--- as each body does, where no such name stands before
+-- behind a header a body goes wrong at its count, where that says that no gate follows; at the name of a file that the
+-- header doesn't name; or as each body does, where no such name stands before
 pub data IsWrongListed (names : List (List ℕ)) (body : List ℕ) (at : ℕ) : Type 0 where
   LastOne : followed body ≡ false → at ≡ 0 → IsWrongListed names body at
   StrangeName : followed body ≡ true → IsStrangeName names (uncounted body) at → IsWrongListed names body at
@@ -56,10 +56,11 @@ pub record IsInLimits (number place : ℕ) (tail : List ℕ) : Type 0 where
   pub few : number < most_entries
   pub within : place + head_size + size_of tail ≤ last_place
 
--- what stands behind the gate of an open entry is no whole one, by the length of its body, which stands first, and the bytes behind that up to it. It is one
--- entry too many, or it ends too late: without a header that is told at the front of its body, and behind one at its length; or the bytes go
--- wrong, told at the place where they do; or they are an entry's, but fewer than the length, told at their end. Without a header these places count in the
--- body, and behind one from the file's first byte
+-- what stands behind the gate of an open entry is no whole one, by the length of its body, which stands first, and the
+-- bytes behind that up to it. It is one entry too many, or it ends too late: without a header that is told at the front
+-- of its body, and behind one at its length; or the bytes go wrong, told at the place where they do; or they are an
+-- entry's, but fewer than the length, told at their end. Without a header these places count in the body, and behind
+-- one from the file's first byte
 pub data IsBrokenAt (header : Option (List (List ℕ))) (number place : ℕ) (tail : List ℕ) (at : ℕ) : Type 0 where
   TooMany : most_entries ≤ number → at ≡ (rule_of header).late place → IsBrokenAt header number place tail at
   TooLate : last_place < place + head_size + size_of tail → at ≡ (rule_of header).late place → IsBrokenAt header number place tail at
@@ -67,7 +68,8 @@ pub data IsBrokenAt (header : Option (List (List ℕ))) (number place : ℕ) (ta
   CutShort : IsInLimits number place tail → (files : List FileText) → IsBody header (body_of tail) files → length (body_of tail) ≢ size_of tail
       → at ≡ (rule_of header).told place (length (body_of tail)) → IsBrokenAt header number place tail at
 
--- from a gate on: behind these open entries, each of which is whole and followed by the next, stands an open one that is broken so
+-- from a gate on: behind these open entries, each of which is whole and followed by the next, stands an open one that
+-- is broken so
 abbrev pub BreaksBehind : Option (List (List ℕ)) → ℕ → ℕ → List ℕ → List (List FileText) → ℕ → Type 0
 BreaksBehind header number place c [] at = IsOpenAt c × IsBrokenAt header number place (drop 1 c) at
 BreaksBehind header number place c (entry ∷ entries) at = IsOpenAt c × IsWhole (rule_of header) number place (drop 1 c) entry × (followed (body_of (drop 1 c)) ≡ true)
@@ -87,8 +89,9 @@ pub record AreFirstNames (count : ℕ) (names : List (List ℕ)) : Type 0 where
   pub ascending : IsStrictlySortedBy (slice_cmp nat_cmp) names
   pub each : All IsHeaderName names
 
--- the bytes of a header go wrong: no count of 1 to 64 stands first; or behind names that it can begin with stands none that can come next, told
--- where that would stand behind its length; or bytes are left behind all its names, told at their front
+-- the bytes of a header go wrong: no count of 1 to 64 stands first; or behind names that it can begin with stands none
+-- that can come next, told where that would stand behind its length; or bytes are left behind all its names, told at
+-- their front
 pub data IsWrongHeader (header : List ℕ) (at : ℕ) : Type 0 where
   NoCount : (1 ≤ slice_index header 0 → slice_index header 0 ≤ most_files → ⊥) → at ≡ 0 → IsWrongHeader header at
   NoName : (count : ℕ) (names : List (List ℕ)) (rest : List ℕ) → AreFirstNames count names → length names < count → header ≡ (count ∷ flat_map sized_name names) ++ rest
@@ -99,8 +102,8 @@ pub data IsWrongHeader (header : List ℕ) (at : ℕ) : Type 0 where
 
 -- ---- in a journal
 
--- what stands behind the header gate isn't a whole header: its length is too much, told there; or its bytes go wrong, told where they do; or they
--- are a header's, but fewer than the length, told at their end
+-- what stands behind the header gate isn't a whole header: its length is too much, told there; or its bytes go wrong,
+-- told where they do; or they are a header's, but fewer than the length, told at their end
 pub data IsHeadBadAt (c : List ℕ) (at : ℕ) : Type 0 where
   TooLong : longest_header < header_size c → at ≡ 2 → IsHeadBadAt c at
   WrongHeader : header_size c ≤ longest_header → (there : ℕ) → IsWrongHeader (header_of c) there → at ≡ head_start + there → IsHeadBadAt c at

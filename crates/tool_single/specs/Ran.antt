@@ -1,4 +1,5 @@
--- What a run did on a calm disk: all of it by the one answer that it worked out, if it worked one out. (This project's own.)
+-- What a run did on a calm disk: all of it by the one answer that it worked out, if it worked one out. (This project's
+-- own.)
 use Rattle.std.specs.Prelude.{◌≡◌, ◌⊎◌, ℕ, List, [], Option}
 use Rattle.intent_journal.specs.Opened.{opened_files}
 use Rattle.journal_steps.specs.Moments.{LeavesOnly}
@@ -26,11 +27,13 @@ pub record Follows {D : Type 0} (g : Ghosts D) (files : Image) (doubt : Option (
   pub ended : (status ≡ answer.report.status) ⊎ LosesSink status out err
   -- however the run ends, out has gained a front of what the answer puts there
   pub prefix : GainsFront out.held_before out.held_now answer.report.out
-  -- at every moment since the call began a crash leaves the files as they were found, or these with all that the answer stores
+  -- at every moment since the call began a crash leaves the files as they were found, or these with all that the answer
+  -- stores
   pub crash : LeavesOnly g disk end (MayBeLeft files doubt (opened_files (g.seen disk)) answer.stored)
   -- what the answer stored outlasts every crash behind the call, whatever failed then
   pub lasting : EveryImage (g.may_leave end) (MayRemain files doubt (opened_files (g.seen disk)) answer.stored)
-  -- without a fault of the disk the files show what the answer stores, and no others change, whatever becomes of out and err
+  -- without a fault of the disk the files show what the answer stores, and no others change, whatever becomes of out
+  -- and err
   pub shown : ¬ HasRisen (g.faults disk) (g.faults end) → Shows answer.stored (opened_files (g.seen disk)) (g.seen disk) (g.seen end)
   -- and the disk is calm again, for the next run
   pub calm : ¬ HasRisen (g.faults disk) (g.faults end) → StaysCalm g files doubt answer.stored disk end
@@ -41,8 +44,9 @@ pub record EndsUnstored {D : Type 0} (g : Ghosts D) (files : Image) (doubt : Opt
   pub prefix : GainsFront out.held_before out.held_now []
   pub unstored : serving.Unstored g files doubt Answered disk end
 
--- none was, for want of memory or a fault: out has gained nothing, and a crash leaves the files as they were found. A disk that didn't fail was only read
--- where the opening had nothing to write, shows the files of the opening or those that it showed before, and is calm again
+-- none was, for want of memory or a fault: out has gained nothing, and a crash leaves the files as they were found. A
+-- disk that didn't fail was only read where the opening had nothing to write, shows the files of the opening or those
+-- that it showed before, and is calm again
 pub record EndsWithout {D : Type 0} (g : Ghosts D) (files : Image) (doubt : Option (List FileText)) (input_failed : Type 0) (disk end : D) (status : ℕ) (out err : Change) : Type 0 where
   pub cause : (status ≡ 70) ⊎ (status ≡ 74)
   pub prefix : GainsFront out.held_before out.held_now []

@@ -1,5 +1,6 @@
--- Many runs of the tool, one after the other, with crashes between them: what each finds, and what they have stored. (This project's own. After
--- durable linearizability: behind a crash all is there that was acknowledged before it, and what was cut off is there whole or not at all.)
+-- Many runs of the tool, one after the other, with crashes between them: what each finds, and what they have stored.
+-- (This project's own. After durable linearizability: behind a crash all is there that was acknowledged before it, and
+-- what was cut off is there whole or not at all.)
 use Rattle.std.specs.Prelude.{◌≡◌, ◌≢◌, ◌⊎◌, ℕ, ◌-◌, ◌^◌, ◌<◌, List, [], ◌∷◌, length, drop, Option, Some, None, true}
 use Rattle.journal_lists.specs.Grammar.{head_size}
 use Rattle.journal_lists.specs.Heads.{head_start}
@@ -30,8 +31,8 @@ pub data Ending : Type 0 where
   ThenCrashed : Ending
   CutOff : Ending
 
--- one run: its command line and input, the disk that it found, and how it ended. Of a run that was cut off the disk that it left, its status and
--- what out and err gained are those that it would have had
+-- one run: its command line and input, the disk that it found, and how it ended. Of a run that was cut off the disk
+-- that it left, its status and what out and err gained are those that it would have had
 pub record OneRun (D : Type 0) : Type 0 where
   pub words : List (List ℕ)
   pub input : List ℕ
@@ -74,8 +75,8 @@ HasOneImage g disk = (file : List ℕ) → Only (g.seen disk file) (g.may_leave 
 abbrev pub MetNoFault : ℕ → ℕ → Type 0
 MetNoFault before now = (now ≡ before) × (before < 2 ^ 64 - 1)
 
--- the next run finds the disk that this one gave back, which met no fault of it, or gave its answer and left it at rest; or it finds what a
--- crash left of it, behind the end or at some moment since the run began
+-- the next run finds the disk that this one gave back, which met no fault of it, or gave its answer and left it at
+-- rest; or it finds what a crash left of it, behind the end or at some moment since the run began
 abbrev pub Finds : {D : Type 0} → Ghosts D → OneRun D → D → Ending → Type 0
 Finds g run next Ended =
     (next ≡ run.left) × (MetNoFault (g.faults run.found) (g.faults run.left) ⊎ (IsAnswered run.status × IsAtRest g run.left))
@@ -102,13 +103,15 @@ pub record IsGiven {D : Type 0} (g : Ghosts D) (run : OneRun D) (texts : Texts) 
   pub gives : Gives answer.report run.status run.out run.err
   pub stored : texts ≡ answer.stored
 
--- a run found these files and has stored this: all that its answer stores, if it was acknowledged, and else all of it or nothing
+-- a run found these files and has stored this: all that its answer stores, if it was acknowledged, and else all of it
+-- or nothing
 pub record HasStored {D : Type 0} (g : Ghosts D) (files : Image) (run : OneRun D) (texts : Texts) : Type 0 where
   pub found : SameFiles (opened_files (g.seen run.found)) files
   pub acknowledged : IsAcknowledged run → IsGiven g run texts
   pub whole : (texts ≡ []) ⊎ IsStored g run texts
 
--- what runs have stored, each in its turn: each found the first files with all that was stored before it, and in the end all of it is there
+-- what runs have stored, each in its turn: each found the first files with all that was stored before it, and in the
+-- end all of it is there
 abbrev pub IsHistory : {D : Type 0} → Ghosts D → Image → List (OneRun D) → List Texts → D → Type 0
 IsHistory g files [] [] last = SameFiles (opened_files (g.seen last)) files
 IsHistory g files (run ∷ runs) (texts ∷ stored) last = HasStored g files run texts × IsHistory g (with_stored texts files) runs stored last
@@ -119,7 +122,8 @@ IsHistory g files [] (texts ∷ stored) last = ⊥
 abbrev pub IsClear : ℕ → List ℕ → Type 0
 IsClear least bytes = (length bytes < least) ⊎ (gate bytes ≡ 0) ⊎ (gate bytes ≡ 1)
 
--- each gate that a reading of the journals comes to is so: those of the list of `journal`, the header gate of `journal2`, and those of the list behind it
+-- each gate that a reading of the journals comes to is so: those of the list of `journal`, the header gate of
+-- `journal2`, and those of the list behind it
 pub record IsDecided (image : Image) : Type 0 where
   pub former : (at : ℕ) → HasGate plain (image journal_name) at → IsClear head_size (drop at (image journal_name))
   pub head : IsClear head_start (image journal2_name)
@@ -137,7 +141,8 @@ AreDecided g (run ∷ runs) last = (run.ending ≡ CutOff → IsDecided (g.seen 
 
 -- ---- and where a crash tore a gate
 
--- behind a run the files are those that it found, with what it stored, and nothing is in doubt; where it stored nothing all stands as before
+-- behind a run the files are those that it found, with what it stored, and nothing is in doubt; where it stored nothing
+-- all stands as before
 abbrev pub files_behind : Image → Image → Texts → Image
 files_behind files opened [] = files
 files_behind files opened (text ∷ texts) = with_stored (text ∷ texts) opened
@@ -146,8 +151,9 @@ abbrev pub doubt_behind : Option (List FileText) → Texts → Option (List File
 doubt_behind doubt [] = doubt
 doubt_behind doubt (text ∷ texts) = None
 
--- these files stand before some runs, with one entry in doubt at most: each run finds them, or them with the entry. Behind it all stands that it
--- stored; or, where it was cut off, what stood before, or what it found, with all that it stores in doubt
+-- these files stand before some runs, with one entry in doubt at most: each run finds them, or them with the entry.
+-- Behind it all stands that it stored; or, where it was cut off, what stood before, or what it found, with all that it
+-- stores in doubt
 abbrev pub AreFound : {D : Type 0} → Ghosts D → Image → Option (List FileText) → List (OneRun D) → D → Type 0
 AreFound g files doubt [] last = IsEither files doubt (opened_files (g.seen last))
 AreFound g files doubt (run ∷ runs) last = IsEither files doubt (opened_files (g.seen run.found))

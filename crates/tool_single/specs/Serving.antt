@@ -1,4 +1,5 @@
--- What a command does to a store, by how it ended: on the open store, and on the disk from the opening to the close. (This project's own.)
+-- What a command does to a store, by how it ended: on the open store, and on the disk from the opening to the close.
+-- (This project's own.)
 use Rattle.std.specs.Prelude.{◌≡◌, ◌≢◌, ℕ, true, List, [], ◌∷◌, length, Option, None, Result, Ok, Err}
 use Rattle.intent_journal.specs.Opened.{opened_files}
 use Rattle.intent_journal.specs.Journal.{JournalValue}
@@ -73,8 +74,9 @@ abbrev pub run_with : Run → Texts → Run
 run_with run [] = run
 run_with run (text ∷ texts) = after_commit run (entry_of (text ∷ texts))
 
--- an answer was given over mounted files, and what it stores is committed, by a command that was done; where it stores nothing the store is as it
--- was. Any run that the journal stood for, under a head that names these files, goes on by it
+-- an answer was given over mounted files, and what it stores is committed, by a command that was done; where it stores
+-- nothing the store is as it was. Any run that the journal stood for, under a head that names these files, goes on by
+-- it
 pub record Serves {D P : Type 0} (g : Ghosts D) (mounted : List MountedFile) (Answered : Answer → Type 0) (report : Report) (before after : Core D P) : Type 0 where
   pub answer : Answer
   pub answers : Answered answer
@@ -103,8 +105,9 @@ Serving g mounted Answered (Err stops.Memory) before after = IsUnwritten before 
 Serving g mounted Answered (Err stops.DiskFault) before after = FailsToStore g mounted Answered before after
 Serving g mounted Answered (Err stops.ReadFault) before after = ⊥
 
--- the texts that may have been refused as patterns, by the counts of the matcher's refusals: where an answer was given none unless its count has
--- risen, since it counts the texts that are no patterns too, and where no answer was given any
+-- the texts that may have been refused as patterns, by the counts of the matcher's refusals: where an answer was given
+-- none unless its count has risen, since it counts the texts that are no patterns too, and where no answer was given
+-- any
 abbrev pub MayRefuse : Result code.Report Stop → ℕ → ℕ → List ℕ → Type 0
 MayRefuse (Ok report) before now pattern = HasRisen before now
 MayRefuse (Err stop) before now pattern = Unit {0}
@@ -132,8 +135,9 @@ pub record Served {D : Type 0} (g : Ghosts D) (files : Image) (doubt : Option (L
   pub shown : ¬ HasRisen (g.faults before) (g.faults after) → Shows answer.stored (opened_files (g.seen before)) (g.seen before) (g.seen after)
   pub calm : ¬ HasRisen (g.faults before) (g.faults after) → StaysCalm g files doubt answer.stored before after
 
--- nothing was stored: a crash amid the call leaves the files as they were found, and where the opening had nothing to write the disk was only read; where it
--- didn't fail it shows the files of the opening, or those that it showed before, and is calm
+-- nothing was stored: a crash amid the call leaves the files as they were found, and where the opening had nothing to
+-- write the disk was only read; where it didn't fail it shows the files of the opening, or those that it showed before,
+-- and is calm
 pub record Unserved {D : Type 0} (g : Ghosts D) (files : Image) (doubt : Option (List FileText)) (before after : D) : Type 0 where
   pub crash : LeavesOnly g before after (HasOnly (IsEither files doubt))
   pub untouched : HasNothingToWrite (g.seen before) → OnlyReads g before after

@@ -1,5 +1,5 @@
--- What becomes of the keys that a command sets: the verdict of a store on the one set of a handle that got its parent before anything
--- was committed. (This project's own.)
+-- What becomes of the keys that a command sets: the verdict of a store on the one set of a handle that got its parent
+-- before anything was committed. (This project's own.)
 use Rattle.std.specs.Prelude.{◌≡◌, ℕ, T, List, [], Some, None, IsSomeAnd}
 use Rattle.std.specs.FinMap as map
 use Rattle.all_formats.specs.Meanings as all
@@ -42,8 +42,8 @@ IsRefusal (fault.NotStorable mount key) answer = answer ≡ refused 5 (not_stora
 IsRefusal (fault.BadTable why) answer = answer ≡ refused 5 (bad_table why)
 IsRefusal fault.Memory answer = ⊥
 
--- what the history and the rules make of a set, where nothing was committed before: nothing blocks it, and its files were found small enough. A violation that goes by a refused pattern is told
--- only of a text that may be refused as one
+-- what the history and the rules make of a set, where nothing was committed before: nothing blocks it, and its files
+-- were found small enough. A violation that goes by a refused pattern is told only of a text that may be refused as one
 abbrev pub IsJudgement : (List ℕ → Type 0) → Store → KeyMap → List ℕ → Late → Answer → Type 0
 IsJudgement MayRefuse store keys out (Same aside) answer = answer ≡ done out
 IsJudgement MayRefuse store keys out (Conflict mount by) answer = ⊥

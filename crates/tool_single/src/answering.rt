@@ -156,7 +156,8 @@ fn tell_text<D: Disk, P: Patterns + Drop>(
     }
 }
 
-/// The keys at or below a name, of those that a get of it gave, under the names that lead there. They are within the limits of a file.
+/// The keys at or below a name, of those that a get of it gave, under the names that lead there. They are within the
+/// limits of a file.
 fn keys_below(
     alloc: Global,
     mounted: &Mounted,

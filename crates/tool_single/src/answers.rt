@@ -21,7 +21,8 @@ impl From<AllocError> for Stop {
     }
 }
 
-/// What is told, or why nothing is, and the disk and the matcher that were handed in. What an answer stores is stored by then.
+/// What is told, or why nothing is, and the disk and the matcher that were handed in. What an answer stores is stored
+/// by then.
 #[derive(Drop)]
 pub struct Ended<D, P> {
     pub answer: Result<Report, Stop>,

@@ -60,7 +60,8 @@ pub fn answer_question<D: Disk, P: Patterns + Drop>(
     }
 }
 
-/// Says that a disk is done with, before the answer is put out: a reader of the output that waits for another run then keeps none waiting.
+/// Says that a disk is done with, before the answer is put out: a reader of the output that waits for another run then
+/// keeps none waiting.
 pub fn given_back<D: Disk>(disk: D) -> D
     ensures { result ≡ disk }
 {

@@ -16,7 +16,8 @@ use regex_check::Patterns;
 use std::alloc::Global;
 use tool_commands::Status;
 
-/// Carries out a single command as `run_one` does, and says of it what `runs_have_one_history` asks of each of many runs.
+/// Carries out a single command as `run_one` does, and says of it what `runs_have_one_history` asks of each of many
+/// runs.
 pub fn one_run<S: Source, K: Sink, E: Sink, D: Disk, P: Patterns + Drop>(
     alloc: Global,
     words: &[Text],
@@ -43,15 +44,17 @@ pub fn one_run<S: Source, K: Sink, E: Sink, D: Disk, P: Patterns + Drop>(
     run_one(alloc, words, input, out, err, disk, patterns)
 }
 
-/// Runs of single commands have one history, whatever they carry out and wherever crashes come between them or cut them off: there is one list of
-/// what they have stored, in their order, so that each run worked its answer out over the first files with all that was stored before it, and the last
-/// files are those with all of it. A run that was acknowledged has stored all that its answer stores; any other has stored all of it, or nothing. The
-/// run of a batch is none of these, since it may store many commits. Nothing runs here: the function stands for its contract.
+/// Runs of single commands have one history, whatever they carry out and wherever crashes come between them or cut them
+/// off: there is one list of what they have stored, in their order, so that each run worked its answer out over the
+/// first files with all that was stored before it, and the last files are those with all of it. A run that was
+/// acknowledged has stored all that its answer stores; any other has stored all of it, or nothing. The run of a batch
+/// is none of these, since it may store many commits. Nothing runs here: the function stands for its contract.
 pub fn runs_have_one_history<D: Disk>(disk: &D)
     ensures one { (files : Image) (runs : List (OneRun D)) (last : D) → IsCalm (D.seen disk.now) (D.may_leave disk.now) files None
         → AreRuns D.Disk disk.now runs last → AreDecided D.Disk runs last → (stored : List Texts) × IsHistory D.Disk files runs stored last }
-    // A crash may tear a gate of the journal, so that it is neither closed nor open. Then what one run that was cut off stores is in doubt: the runs
-    // behind it find it whole or not at all, until one stores something, and nothing else is in doubt.
+    // A crash may tear a gate of the journal, so that it is neither closed nor open. Then what one run that was cut off
+    // stores is in doubt: the runs behind it find it whole or not at all, until one stores something, and nothing else
+    // is in doubt.
     ensures torn { (files : Image) (doubt : Option (List Item)) (runs : List (OneRun D)) (last : D)
         → IsCalm (D.seen disk.now) (D.may_leave disk.now) files doubt → AreRuns D.Disk disk.now runs last → AreFound D.Disk files doubt runs last }
 {}

@@ -1,4 +1,5 @@
-//! The run of a single command. What it stores is stored as one commit of an open store, once all else that it tells is made.
+//! The run of a single command. What it stores is stored as one commit of an open store, once all else that it tells is
+//! made.
 ghost use Rattle.tool_single.specs.RunsOne.{RunsOne};
 
 use crate::answers::Ended;
@@ -10,7 +11,8 @@ use regex_check::Patterns;
 use std::alloc::Global;
 use tool_commands::Status;
 
-/// Carries out the command line of a single command, whose words come without the program's name, and gives the disk and the matcher back.
+/// Carries out the command line of a single command, whose words come without the program's name, and gives the disk
+/// and the matcher back.
 ///
 /// The record `RunsOne` tells in words what each of its fields says.
 pub fn run_one<S: Source, K: Sink, E: Sink, D: Disk, P: Patterns + Drop>(

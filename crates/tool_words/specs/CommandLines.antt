@@ -1,5 +1,6 @@
--- The commands as `clap` sees them, and what it makes of the words behind a command's word: an argument for each place, and
--- perhaps an option. The names that stand for them here are never shown. (This project's own, by the definitions of `clap`.)
+-- The commands as `clap` sees them, and what it makes of the words behind a command's word: an argument for each place,
+-- and perhaps an option. The names that stand for them here are never shown. (This project's own, by the definitions of
+-- `clap`.)
 use Rattle.std.specs.Prelude.{true, false, Bool, ℕ, List, [], ◌∷◌, codes, unwrap_or, Option, Some}
 use Rattle.clap.specs.Words.{App, Kinds, Row, Rule, fault_of, first_of, matches_of, new_app, new_rule, with_rule}
 use Rattle.clap.specs.declared.builder.action.ArgAction.TheVariants.{SetTrue}
@@ -69,7 +70,8 @@ values app words = matches_of app words
 abbrev pub given_value : List ℕ → List Row → Option (List ℕ)
 given_value id rows = first_of id rows
 
--- the value of one that may not, or that has a default. Words that leave it out are refused, so the empty text stands for none
+-- the value of one that may not, or that has a default. Words that leave it out are refused, so the empty text stands
+-- for none
 abbrev pub value : List ℕ → List Row → List ℕ
 value id rows = unwrap_or (given_value id rows) []
 

@@ -24,9 +24,9 @@ use Rattle.tool_words.specs.Uses.{bars}
 use Rattle.tool_words.specs.Lines.{argument, options_refused, no_name}
 
 -- what is done with a key: it is looked up, gets a value, is taken out, or is listed with all below it; its metadata
--- is looked up, set or listed; it is brought to another name; its name becomes or ceases to be a mountpoint; all keys at or
--- below it are replaced by others, or by what those at or below three names are merged into: ours, theirs, and their base. Any other
--- key of the action is given by its name
+-- is looked up, set or listed; it is brought to another name; its name becomes or ceases to be a mountpoint; all keys
+-- at or below it are replaced by others, or by what those at or below three names are merged into: ours, theirs, and
+-- their base. Any other key of the action is given by its name
 pub data Action : Type 0 where
   Get : Action
   Set : List ℕ → Action
@@ -41,8 +41,8 @@ pub data Action : Type 0 where
   Replace : KeyMap → Action
   Merge : Strategy → Name → Name → Name → Action
 
--- what is asked of a store: its mounts, the file of a key, the text of the keys at or below a name, the rules that these break, or an action
--- on a key
+-- what is asked of a store: its mounts, the file of a key, the text of the keys at or below a name, the rules that
+-- these break, or an action on a key
 pub data Question : Type 0 where
   Mounts : Question
   FileOf : Name → Question
@@ -58,8 +58,8 @@ NamesFiles (TextOf name kind) = Unit {0}
 NamesFiles (ViolationsOf name) = Unit {0}
 NamesFiles (On name action) = Unit {0}
 
--- a question, keys that the input holds in a format and that are to replace those at or below a name, a name that can't be used
--- so, or a status with the text of its line
+-- a question, keys that the input holds in a format and that are to replace those at or below a name, a name that can't
+-- be used so, or a status with the text of its line
 pub data Request : Type 0 where
   Refuses : ℕ → List ℕ → Request
   Bars : Name → Request

@@ -1,5 +1,5 @@
--- The commands, a row each: a word, and what the words behind it ask for by its options, its arguments and the names that it
--- takes. (This project's own.)
+-- The commands, a row each: a word, and what the words behind it ask for by its options, its arguments and the names
+-- that it takes. (This project's own.)
 use Rattle.std.specs.Prelude.{ℕ, List, [], ◌∷◌, codes, if◌then◌else◌}
 use Rattle.general_words.specs.Texts.{is_text}
 use Rattle.tool_words.specs.declared.uses.Use.TheVariants.{Looks, Writes}

@@ -66,8 +66,8 @@ pub enum Question<'a> {
     On { name: KeyName, action: Action<'a> },
 }
 
-/// What words ask for, which may be that keys of the input replace those at or below a name, a name that no file holds, or why
-/// there is neither.
+/// What words ask for, which may be that keys of the input replace those at or below a name, a name that no file holds,
+/// or why there is neither.
 #[derive(Drop)]
 pub enum Request<'a> {
     Refuses(Refusal<'a>),

@@ -39,7 +39,8 @@ count_commits : (commits : List Commit) → length commits ≤ history_weight co
 count_commits [] = omega arith
 count_commits (c ∷ cs) = omega (arith, count_commits cs, sum_by-cons weight_of_commit c cs)
 
--- A watch that has missed and keeps no more changes than the commits that it has looked at may have, looks at the commits behind them.
+-- A watch that has missed and keeps no more changes than the commits that it has looked at may have, looks at the
+-- commits behind them.
 module _ (parent : Name) (history : List Commit) (front missed : ℕ) (ring told : List Changed)
     (within : front ≤ length history) (light : history_weight history ≤ heaviest_history) (told_is : told ≡ news_from parent (front + 1) (drop front history))
     (few : missed + length ring ≤ front * heaviest_history) where

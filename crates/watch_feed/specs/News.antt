@@ -11,7 +11,8 @@ use Rattle.watch_feed.specs.declared.news.Changed.{Changed}
 abbrev pub told_of : ℕ → Change → Changed
 told_of number change = record { number = number; name = change.0; removed = is_none change.1 }
 
--- some changes of the commit of a number: those at or below a parent, in their order. A cascading parent stands for its path in every namespace
+-- some changes of the commit of a number: those at or below a parent, in their order. A cascading parent stands for its
+-- path in every namespace
 abbrev pub news_in : Name → ℕ → List Change → List Changed
 news_in parent number changes = over (told_of number) (filter (λ change. is_within parent change.0) changes)
 

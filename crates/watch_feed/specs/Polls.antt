@@ -20,7 +20,8 @@ abbrev pub last_front : ℕ → List ℕ → ℕ
 last_front from [] = from
 last_front from (front ∷ fronts) = last_front front fronts
 
--- of some changes a poll counts the first as missed, tells those behind them, and leaves the rest for later. It misses none where it has room for more
+-- of some changes a poll counts the first as missed, tells those behind them, and leaves the rest for later. It misses
+-- none where it has room for more
 pub record IsTold (room : ℕ) (changes missed rest : List Changed) (poll : News) : Type 0 where
   pub all : changes ≡ missed ++ (poll.changes ++ rest)
   pub count : poll.missed ≡ length missed

@@ -12,8 +12,8 @@ use Rattle.watch_feed.specs.declared.news.News.{News}
 abbrev pub most_room : ℕ
 most_room = 4096
 
--- which names it is told of, how many changes it has room for, how many commits it has looked at, what it has to tell, and how many changes it
--- left out
+-- which names it is told of, how many changes it has room for, how many commits it has looked at, what it has to tell,
+-- and how many changes it left out
 pub record WatchValue : Type 0 where
   pub parent : Name
   pub room : ℕ

@@ -1,4 +1,5 @@
-//! Laws of news, and of watches that look at a history as it goes on. Nothing here runs: each function stands for its contract.
+//! Laws of news, and of watches that look at a history as it goes on. Nothing here runs: each function stands for its
+//! contract.
 ghost use Rattle.std.specs.Prelude.{◌≡◌, ℕ, ◌≤◌, ◌++◌, List, length};
 ghost use mathlib.Core.List.{IsPrefix};
 ghost use Rattle.model_history.specs.History.{Commit};
@@ -17,7 +18,8 @@ pub fn two_collects_are_one()
     ensures { (watch : WatchValue) (before after : List Commit) → watch.front ≤ length before → IsPrefix before after → collected (collected watch before) after ≡ collected watch after }
 {}
 
-/// Polls one after the other tell each change once, in order, or count it as missed. None misses a change while it has room.
+/// Polls one after the other tell each change once, in order, or count it as missed. None misses a change while it has
+/// room.
 pub fn polls_tell_each_change_once()
     ensures { (history : List Commit) (parent : Name) (room from : ℕ) (fronts : List ℕ) → AreFronts history from fronts → AreTold room (news history from (last_front from fronts) parent) (polls history (watching parent room from) fronts) }
 {}

@@ -11,7 +11,8 @@ pub struct Changed {
     pub removed: bool,
 }
 
-/// What a watch has to tell: how many commits it has looked at, how many changes it had no room for, and those that came last.
+/// What a watch has to tell: how many commits it has looked at, how many changes it had no room for, and those that
+/// came last.
 #[derive(Drop)]
 pub struct News {
     pub front: u64,

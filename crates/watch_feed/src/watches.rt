@@ -1,4 +1,5 @@
-//! A watch: which changes at or below a parent were not told yet. A ring keeps the last ones, and the others are counted.
+//! A watch: which changes at or below a parent were not told yet. A ring keeps the last ones, and the others are
+//! counted.
 ghost use Rattle.std.specs.Prelude.{◌≡◌, ◌≤◌, IfOk, OnErr, OnOk, length};
 ghost use Rattle.watch_feed.specs.Watches.{collected, most_room, news_of, polled, watching};
 
@@ -61,8 +62,8 @@ impl Watch {
         self.front
     }
 
-    /// Looks at the commits behind its front. Of what it has to tell it keeps the last changes, as many as it has room for, and counts
-    /// those that it leaves out.
+    /// Looks at the commits behind its front. Of what it has to tell it keeps the last changes, as many as it has room
+    /// for, and counts those that it leaves out.
     pub fn collect(&mut self, history: &History) -> Result<(), Memory>
         requires { self.old.front ≤ length history.now.commits }
         ensures ok { OnOk result (self.new ≡ collected self.old history.now.commits) }

@@ -15,10 +15,11 @@ use key_meta::List;
 use std::alloc::Global;
 
 impl<D: Disk> Journal<D> {
-    /// Opens the journal of a disk: retires that of the former program, and brings open entries into their files; without either the disk is
-    /// only read. Then the list is empty, and the header gate in doubt, since what was read may be pending. A refusal hands the disk back:
-    /// BadJournal where an open entry or the head isn't whole, UnknownVersion where the journal has another version, DiskFault where the
-    /// disk failed, Memory where memory is out.
+    /// Opens the journal of a disk: retires that of the former program, and brings open entries into their files;
+    /// without either the disk is only read. Then the list is empty, and the header gate in doubt, since what was read
+    /// may be pending. A refusal hands the disk back: BadJournal where an open entry or the head isn't whole,
+    /// UnknownVersion where the journal has another version, DiskFault where the disk failed, Memory where memory is
+    /// out.
     pub fn open(alloc: Global, disk: D) -> Result<Journal<D>, JournalRefused<D>>
         ensures { OpensJournal D.Disk disk result }
     {

@@ -1,4 +1,5 @@
--- `merge`: three trees of keys become one. (After Elektra's `kdb merge`; its arguments and lines are this project's own.)
+-- `merge`: three trees of keys become one. (After Elektra's `kdb merge`; its arguments and lines are this project's
+-- own.)
 use Rattle.std.specs.Prelude.{List, [], ◌∷◌, None, Some}
 use Rattle.std.specs.FinMap as map
 use Rattle.std.specs.List.{flat_map}
@@ -33,7 +34,8 @@ abbrev pub conflicts_told : Name → List Name → Step
 conflicts_told into names =
     elim (first_some (λ name. bytes_over (joined into name)) names) [ None ↦ Tells (met (flat_map (λ name. line_of_conflict (joined into name)) names)) | Some bytes ↦ Tells (warned 2 (no_name (TooLong bytes))) ]
 
--- by the conflicts that are told; without one, keys take the place of all at or below the name, behind which they stand then
+-- by the conflicts that are told; without one, keys take the place of all at or below the name, behind which they stand
+-- then
 abbrev pub by_conflicts : Name → KeyMap → KeyMap → List Name → Step
 by_conflicts into made keys [] = brought_over way_root into (map.entries made) (not_below into keys)
 by_conflicts into made keys (name ∷ names) = conflicts_told into (name ∷ names)

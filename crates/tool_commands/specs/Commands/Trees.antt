@@ -47,7 +47,8 @@ is_listed above name = is_at_or_below above name || is_at_or_below above (cascad
 abbrev pub listed : KeyMap → Name → Report
 listed keys name = told (flat_map (λ key. line_of_name key.0) (filter (λ key. is_listed name key.0) (map.entries keys)))
 
--- where a key is brought from one name to another: it has the other's parts, and behind them what it had behind the first's
+-- where a key is brought from one name to another: it has the other's parts, and behind them what it had behind the
+-- first's
 abbrev pub brought : Name → Name → Name → Name
 brought from to name = record { namespace = to.namespace; parts = to.parts ++ drop (length from.parts) name.parts }
 

@@ -1,4 +1,5 @@
--- The closure has references alone, and of these only the one to the store is no plain fact: `store_sync` says that threads may share it.
+-- The closure has references alone, and of these only the one to the store is no plain fact: `store_sync` says that
+-- threads may share it.
 use mathlib.Core.List.{[], ◌∷◌}
 use mir.Syntax.{named}
 use denote.Param.{param}

@@ -1,4 +1,5 @@
--- The flusher's closure goes to another thread: it has references alone, and of these only the ones to the store and to the flusher are no plain facts.
+-- The flusher's closure goes to another thread: it has references alone, and of these only the ones to the store and to
+-- the flusher are no plain facts.
 use mathlib.Core.List.{[], ◌∷◌}
 use mir.Syntax.{named, of_param}
 use denote.Builtin.{u64}

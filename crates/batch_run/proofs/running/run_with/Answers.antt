@@ -1,4 +1,5 @@
--- The sessions begin with handles that were just opened, stand where the phases brought them, and their rooms are shown.
+-- The sessions begin with handles that were just opened, stand where the phases brought them, and their rooms are
+-- shown.
 use Rattle.std.proofs.Common.{◌≡◌, ◌∙◌, ℕ, ◌+◌, ◌<◌, List, [], ap, arith, get_or, length, map as over, subst, sym}
 use Rattle.std.proofs.lemmas.List.{length-map, with_items_is}
 use Rattle.batch_run.specs.Rooms.{ArePhaseRooms, AreWide, row_in}

@@ -1,4 +1,5 @@
--- A key behind the last is behind all; one that ties with it stands there, and one before it is searched for after one comparison.
+-- A key behind the last is behind all; one that ties with it stands there, and one before it is searched for after one
+-- comparison.
 use Rattle.std.proofs.Common.{◌≡◌, ◌<◌, ◌-◌, suc, length, arith}
 use Rattle.chunked_map.proofs.ChunkLemmas.{behind_none}
 use Rattle.chunked_map.proofs.SearchLemmas.{next_before, home_tied}

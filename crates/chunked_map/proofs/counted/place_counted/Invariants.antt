@@ -1,4 +1,5 @@
--- The keys before the lower bound are before the key, and those from the upper bound on behind it; each comparison halves what is left.
+-- The keys before the lower bound are before the key, and those from the upper bound on behind it; each comparison
+-- halves what is left.
 use Rattle.std.proofs.Common.{◌≡◌, ℕ, ◌-◌, ◌+◌, ◌*◌, ◌^◌, ◌<◌, ◌≤◌, length, get_or}
 use Rattle.std.specs.declared.cmp.Ordering.TheVariants.{Less, Greater}
 use Rattle.chunked_map.proofs.counted.place_counted.Given as goal

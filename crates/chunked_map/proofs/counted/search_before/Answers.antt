@@ -1,4 +1,5 @@
--- The last key of the chunk in the middle tells of the chunks up to it, or of those behind it; each comparison halves what is left.
+-- The last key of the chunk in the middle tells of the chunks up to it, or of those behind it; each comparison halves
+-- what is left.
 use Rattle.std.proofs.Common.{◌≡◌, ◌<◌, ◌≤◌, ◌+◌, ◌-◌, ◌/◌, [], suc, length, get_or, sym, ap, ◌∙◌, subst, arith}
 use Rattle.general_words.proofs.Lists.{same_default}
 use Rattle.chunked_map.specs.Chunks.{IsBeforeLast, IsSized}

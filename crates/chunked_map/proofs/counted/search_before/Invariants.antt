@@ -1,5 +1,5 @@
--- The key is behind the chunks before the lower bound, and before the last key of the one at the upper bound; each comparison halves what
--- is left.
+-- The key is behind the chunks before the lower bound, and before the last key of the one at the upper bound; each
+-- comparison halves what is left.
 use Rattle.std.proofs.Common.{◌-◌, ◌+◌, ◌*◌, ◌^◌, ◌<◌, ◌≤◌, [], T, length, take, get_or}
 use Rattle.chunked_map.specs.Chunks.{joined, all_before, IsBeforeLast}
 use Rattle.chunked_map.proofs.counted.search_before.Given as goal

@@ -1,4 +1,5 @@
--- The keys after the set are judged, by the mounted files of the plan, and by a history that only became ready to be asked for names.
+-- The keys after the set are judged, by the mounted files of the plan, and by a history that only became ready to be
+-- asked for names.
 use Rattle.std.proofs.Common.{◌≡◌, List, None, sym, subst}
 use Rattle.commit_log.specs.Log.{Log}
 use Rattle.model_maps.specs.KeyMap.{KeyMap}

@@ -1,4 +1,5 @@
--- Each name that was read is the one that is asked for, and what is wrong with one comes before what is wrong with a later one.
+-- Each name that was read is the one that is asked for, and what is wrong with one comes before what is wrong with a
+-- later one.
 use Rattle.std.proofs.Common.{◌∙◌, sym, subst, ℕ, List}
 use Rattle.std.proofs.lemmas.Result.{IfOk-weaker}
 use Rattle.model_names.specs.Name.{Name}
